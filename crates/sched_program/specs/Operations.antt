@@ -1,0 +1,59 @@
+-- Operations and trees are one and the same where they compare as equal.
+use Rattle.std.specs.Prelude.{◌≡◌, ℕ, Bool, true, false, nat_eq, ◌&&◌, refl}
+use Rattle.std.proofs.Common.{ap}
+use Rattle.sched_program.specs.Exact.{IsExact, nat_exact, both}
+use Rattle.sched_program.specs.declared.operation.Op.{Op}
+use Rattle.sched_program.specs.declared.operation.Op.TheVariants.{Insert, Delete, Find}
+use Rattle.sched_program.specs.contracts.operation.OpPartialEq.TheImpl.{eq-value as op_eq}
+use Rattle.sched_program.specs.contracts.operation.TreePartialEq.TheImpl.{eq-value as tree_eq}
+use Rattle.sched_program.specs.declared.operation.Tree.{Tree}
+use Rattle.sched_program.specs.declared.operation.Tree.TheVariants.{Atomic, Ellen, EllenNoMark, EllenNoIflag, Nm, NmNoTag}
+
+pub op_exact : IsExact op_eq.it
+op_exact (Insert a) (Insert b) h = ap Insert (nat_exact a b h)
+op_exact (Insert a) (Delete b) h = cc
+op_exact (Insert a) (Find b) h = cc
+op_exact (Delete a) (Insert b) h = cc
+op_exact (Delete a) (Delete b) h = ap Delete (nat_exact a b h)
+op_exact (Delete a) (Find b) h = cc
+op_exact (Find a) (Insert b) h = cc
+op_exact (Find a) (Delete b) h = cc
+op_exact (Find a) (Find b) h = ap Find (nat_exact a b h)
+
+pub tree_exact : IsExact tree_eq.it
+tree_exact Atomic Atomic h = refl
+tree_exact Atomic Ellen h = cc
+tree_exact Atomic EllenNoMark h = cc
+tree_exact Atomic EllenNoIflag h = cc
+tree_exact Atomic Nm h = cc
+tree_exact Atomic NmNoTag h = cc
+tree_exact Ellen Atomic h = cc
+tree_exact Ellen Ellen h = refl
+tree_exact Ellen EllenNoMark h = cc
+tree_exact Ellen EllenNoIflag h = cc
+tree_exact Ellen Nm h = cc
+tree_exact Ellen NmNoTag h = cc
+tree_exact EllenNoMark Atomic h = cc
+tree_exact EllenNoMark Ellen h = cc
+tree_exact EllenNoMark EllenNoMark h = refl
+tree_exact EllenNoMark EllenNoIflag h = cc
+tree_exact EllenNoMark Nm h = cc
+tree_exact EllenNoMark NmNoTag h = cc
+tree_exact EllenNoIflag Atomic h = cc
+tree_exact EllenNoIflag Ellen h = cc
+tree_exact EllenNoIflag EllenNoMark h = cc
+tree_exact EllenNoIflag EllenNoIflag h = refl
+tree_exact EllenNoIflag Nm h = cc
+tree_exact EllenNoIflag NmNoTag h = cc
+tree_exact Nm Atomic h = cc
+tree_exact Nm Ellen h = cc
+tree_exact Nm EllenNoMark h = cc
+tree_exact Nm EllenNoIflag h = cc
+tree_exact Nm Nm h = refl
+tree_exact Nm NmNoTag h = cc
+tree_exact NmNoTag Atomic h = cc
+tree_exact NmNoTag Ellen h = cc
+tree_exact NmNoTag EllenNoMark h = cc
+tree_exact NmNoTag EllenNoIflag h = cc
+tree_exact NmNoTag Nm h = cc
+tree_exact NmNoTag NmNoTag h = refl

@@ -1,0 +1,19 @@
+//! Programs of a few threads that call a search tree, and the histories of their runs.
+#![tactic(auto)]
+
+mod exact;
+mod history;
+mod operation;
+mod program;
+mod sequence;
+mod short_list;
+
+pub use crate::exact::{Exact, same};
+pub use crate::history::{History, Note};
+pub use crate::operation::{Op, OpId, Tree};
+pub use crate::program::Program;
+pub use crate::sequence::Sequence;
+pub use crate::short_list::{Blank, ShortList};
+
+/// A growth was refused.
+pub use std::alloc::AllocError as OutOfMemory;
