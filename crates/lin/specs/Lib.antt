@@ -1,0 +1,6 @@
+pub mod Keys
+pub mod KeySet
+pub mod Linearization
+pub mod Completion
+pub mod OpSet
+pub mod Configuration

@@ -1,0 +1,16 @@
+//! Judging histories: is there a linearization of the operations, and which one?
+#![tactic(auto)]
+
+mod configuration;
+mod history;
+mod key_set;
+mod order;
+#[cfg(test)]
+mod plain;
+mod place;
+#[cfg(test)]
+mod pruned;
+mod searcher;
+
+pub use order::check_order;
+pub use searcher::{judge, judge_counted};

@@ -1,0 +1,83 @@
+//! Linearizations.
+
+ghost use Rattle.std.specs.Prelude.{◌≡◌, ◌↔◌, IsTrue, true, MatchBool, MatchOption};
+ghost use Rattle.sched_program.specs.Program.{IsWithinLimits};
+ghost use Rattle.lin.specs.Keys.{Keys};
+ghost use Rattle.lin.specs.KeySet.{keys_in};
+ghost use Rattle.sched_program.specs.History.{EndedBefore};
+ghost use Rattle.lin.specs.Linearization.{IsLinearization};
+ghost use Rattle.lin.specs.Completion.{listed_in, with_name, EveryFinishedIsListed, StandsNext};
+
+use crate::history::{ended_before, is_begun, reply_of};
+use crate::key_set::KeySet;
+use sched_program::{History, OpId, Program};
+
+/// Whether the list is a linearization.
+pub fn check_order(program: &Program, history: &History, order: &[OpId]) -> bool
+    ensures { IsTrue result ↔ IsLinearization program.now history.now order.now }
+{
+    let mut keys = KeySet::of(program.initial());
+    for (i, name) in order.iter().enumerate() {
+        match keys_after_next(program, history, &order[..i], keys, *name) {
+            Some(next) => keys = next,
+            None => return false,
+        }
+    }
+    lists_every_finished(history, order)
+}
+
+/// The keys after this operation, if it may stand next.
+pub fn keys_after_next(
+    program: &Program,
+    history: &History,
+    listed: &[OpId],
+    keys: KeySet,
+    name: OpId,
+) -> Option<KeySet>
+    requires { IsWithinLimits program.now }
+    ensures { MatchOption result
+        ((next : Keys) → StandsNext program.now history.now (listed_in listed.now) (keys_in keys) name next → ⊥)
+        (λ next. StandsNext program.now history.now (listed_in listed.now) (keys_in keys) name (keys_in next)) }
+{
+    if !is_begun(history, name)
+        || listed.contains(&name)
+        || ended_before_any(history, name, listed)
+    {
+        return None;
+    }
+    let operation = program.op(name)?;
+    let told = keys.reply_to(operation);
+    match reply_of(history, name) {
+        Some(reply) if reply != told => None,
+        _ => Some(keys.after(operation)),
+    }
+}
+
+/// Whether the operation ended before itself or one that is listed began.
+fn ended_before_any(history: &History, name: OpId, listed: &[OpId]) -> bool
+    ensures { MatchBool result
+        ((b : OpId) × (with_name (listed_in listed.now) name b ≡ true) × EndedBefore history.now name b)
+        ((b : OpId) → with_name (listed_in listed.now) name b ≡ true → EndedBefore history.now name b → ⊥) }
+{
+    if ended_before(history, name, name) {
+        return true;
+    }
+    for other in listed {
+        if ended_before(history, name, *other) {
+            return true;
+        }
+    }
+    false
+}
+
+/// Whether every finished operation is listed.
+pub fn lists_every_finished(history: &History, listed: &[OpId]) -> bool
+    ensures { IsTrue result ↔ EveryFinishedIsListed history.now (listed_in listed.now) }
+{
+    for (name, _) in history.finished() {
+        if !listed.contains(name) {
+            return false;
+        }
+    }
+    true
+}
