@@ -5,12 +5,14 @@ mod configuration;
 mod history;
 mod key_set;
 mod order;
+mod place;
 #[cfg(test)]
 mod plain;
-mod place;
 #[cfg(test)]
 mod pruned;
 mod searcher;
+#[cfg(test)]
+mod tests;
 
 pub use order::check_order;
 pub use searcher::{judge, judge_counted};

@@ -47,6 +47,15 @@ impl<T> Sequence<T> {
         }
     }
 
+    /// The empty list, with room for so many values.
+    pub fn with_capacity(alloc: Global, capacity: usize) -> Result<Self, AllocError>
+        ensures { IfOk result (λ list. list ≡ []) }
+    {
+        Ok(Sequence {
+            items: Vec::with_capacity(alloc, capacity)?,
+        })
+    }
+
     /// An equal list.
     pub fn copy(&self, alloc: Global) -> Result<Self, AllocError>
     where

@@ -43,11 +43,11 @@ module _ {A : Type 0} where
   all_named_at t [] k e h = cc
   all_named_at t (xs ∷ all) k e h =
       elim (get-append_cases (named t 0 xs) (all_named (t + 1) all) k e h) [
-          inl l ↦ let at = named_at t 0 xs k e l in (0, k, xs, refl, at.0, (let z : e.0.thread ≡ t = at.1 in omega arith), (let z : e.0.index ≡ 0 + k = at.2 in omega arith))
+        | inl l ↦ let at = named_at t 0 xs k e l in (0, k, xs, refl, at.0, (let z : e.0.thread ≡ t = at.1 in omega arith), (let z : e.0.index ≡ 0 + k = at.2 in omega arith))
         | inr r ↦
             let rest = all_named_at (t + 1) all r.0 e r.2 in
             (suc rest.0, rest.1, rest.2, rest.3, rest.4, (let z : e.0.thread ≡ (t + 1) + rest.0 = rest.5 in omega arith), rest.6)
-        ]
+      ]
 
   -- one operation of a thread is in the list of all
   pub all_named_there : (t : ℕ) (all : List (List A)) (u i : ℕ) (xs : List A) (x : A) → slice_get all u ≡ Some xs → slice_get xs i ≡ Some x
@@ -72,25 +72,25 @@ module _ {A : Type 0} where
       → ((i j : ℕ) (a b : OpId × A) → slice_get xs i ≡ Some a → slice_get ys j ≡ Some b → IsBefore a.0 b.0) → Ascend (xs ++ ys)
   append_ascend xs ys front back apart k a b at_a at_b =
       elim (get-append_cases xs ys k a at_a) [
-          inl l ↦ elim (get-append_cases xs ys (k + 1) b at_b) [
-              inl m ↦ front k a b l m
-            | inr m ↦ apart k m.0 a b l m.2
-            ]
-        | inr r ↦ elim (get-append_cases xs ys (k + 1) b at_b) [
-              inl m ↦ (let p : k ≡ length xs + r.0 = r.1 in let q = slice_get_within xs (k + 1) b m in absurd (omega arith))
-            | inr m ↦ (let p : k ≡ length xs + r.0 = r.1 in let q : k + 1 ≡ length xs + m.0 = m.1 in
-                let e : m.0 ≡ r.0 + 1 = omega arith in back r.0 a b r.2 (subst (λ n. slice_get ys n ≡ Some b) e m.2))
-            ]
+        | inl l ↦ elim (get-append_cases xs ys (k + 1) b at_b) [
+          | inl m ↦ front k a b l m
+          | inr m ↦ apart k m.0 a b l m.2
         ]
+        | inr r ↦ elim (get-append_cases xs ys (k + 1) b at_b) [
+          | inl m ↦ (let p : k ≡ length xs + r.0 = r.1 in let q = slice_get_within xs (k + 1) b m in absurd (omega arith))
+          | inr m ↦ (let p : k ≡ length xs + r.0 = r.1 in let q : k + 1 ≡ length xs + m.0 = m.1 in
+              let e : m.0 ≡ r.0 + 1 = omega arith in back r.0 a b r.2 (subst (λ n. slice_get ys n ≡ Some b) e m.2))
+        ]
+      ]
 
   pub all_named_ascend : (t : ℕ) (all : List (List A)) → Ascend (all_named t all)
   all_named_ascend t [] = λ k a b at_a at_b. cc
   all_named_ascend t (xs ∷ all) =
       append_ascend (named t 0 xs) (all_named (t + 1) all) (named_ascend t 0 xs) (all_named_ascend (t + 1) all)
-        (λ i j a b at_a at_b.
-          let first = named_at t 0 xs i a at_a in
-          let second = all_named_at (t + 1) all j b at_b in
-          inl (let p : a.0.thread ≡ t = first.1 in let q : b.0.thread ≡ (t + 1) + second.0 = second.5 in omega arith))
+      (λ i j a b at_a at_b.
+      let first = named_at t 0 xs i a at_a in
+      let second = all_named_at (t + 1) all j b at_b in
+      inl (let p : a.0.thread ≡ t = first.1 in let q : b.0.thread ≡ (t + 1) + second.0 = second.5 in omega arith))
 
   -- a name that stands in a list has a value there
   value_or_later : (b : Bool) (v : A) (later : Option A) → (b ≡ true) ⊎ (IsSome later) → IsSome (if b then Some v else later)
@@ -138,9 +138,11 @@ module _ {Machine Memory Place : Type 0} (rules : Rules Memory Place) (program :
   begun_at k e h =
       let at = all_named_at 0 all_notes k e h in
       let thread = get-map (λ thread. thread.notes) state.threads at.0 at.2 at.3 in
-      let same : e.0.thread ≡ at.0 = (let z : e.0.thread ≡ 0 + at.0 = at.5 in omega arith) in
-      (thread.0, ap (slice_get state.threads) same ∙ thread.1,
-        ap (slice_get thread.0.notes) at.6 ∙ subst (λ notes. slice_get notes at.1 ≡ Some e.1) thread.2 at.4)
+      let same : e.0.thread ≡ at.0 = (let z : e.0.thread ≡ 0 + at.0 = at.5 in omega arith) in (
+        thread.0,
+        ap (slice_get state.threads) same ∙ thread.1,
+        ap (slice_get thread.0.notes) at.6 ∙ subst (λ notes. slice_get notes at.1 ≡ Some e.1) thread.2 at.4,
+      )
 
   reply_begun : (k : ℕ) (e : OpId × Bool) → slice_get (all_named 0 all_replies) k ≡ Some e → IsSome (value_at (all_named 0 all_notes) e.0)
   reply_begun k e h =
@@ -154,18 +156,18 @@ module _ {Machine Memory Place : Type 0} (rules : Rules Memory Place) (program :
 
   pub is_history_of : IsHistoryOf program (history_of state)
   is_history_of = record {
-      names = λ k d within.
+    names = λ k d within.
         let e = get_or (all_named 0 all_notes) k d in
         let at = begun_at k e (slice_get-get_or (all_named 0 all_notes) k d within) in
         op_there e.0.thread e.0.index at.0 e.1 at.1 at.2;
-      notes = λ k d within.
+    notes = λ k d within.
         let e = get_or (all_named 0 all_notes) k d in
         let at = begun_at k e (slice_get-get_or (all_named 0 all_notes) k d within) in
         note_counts e.0.thread e.0.index at.0 e.1 at.1 at.2;
-      begun_ascend = all_named_ascend 0 all_notes;
-      finished_are_begun = λ k d within. reply_begun k (get_or (all_named 0 all_replies) k d) (slice_get-get_or (all_named 0 all_replies) k d within);
-      finished_ascend = all_named_ascend 0 all_replies;
-    }
+    begun_ascend = all_named_ascend 0 all_notes;
+    finished_are_begun = λ k d within. reply_begun k (get_or (all_named 0 all_replies) k d) (slice_get-get_or (all_named 0 all_replies) k d within);
+    finished_ascend = all_named_ascend 0 all_replies;
+  }
 
   pub is_history : (begun : List (OpId × List ℕ)) (finished : List (OpId × Bool)) → begun ≡ all_named 0 all_notes → finished ≡ all_named 0 all_replies
       → IsHistoryOf program (record { begun = begun; finished = finished })
