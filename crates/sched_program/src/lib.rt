@@ -2,13 +2,17 @@
 #![tactic(auto)]
 
 mod exact;
+mod fault;
 mod history;
 mod operation;
 mod program;
+mod reader;
 mod sequence;
 mod short_list;
+mod text;
 
 pub use crate::exact::{Exact, same};
+pub use crate::fault::ProgramFault;
 pub use crate::history::{History, Note};
 pub use crate::operation::{Op, OpId, Tree};
 pub use crate::program::Program;

@@ -1,0 +1,68 @@
+#!/usr/bin/env python3
+"""Runs a fixed list of programs with any explorer that takes treesched's words, and prints a table.
+
+usage: bench/run.py [--only WORD] [--repeat N] BINARY [BINARY ..]
+
+For each program and binary: the states that it reports, wall seconds, CPU seconds (user and system), states per
+second of CPU, peak memory in MB and in bytes a state. Of N repeats the one with the least CPU time is told.
+"""
+import argparse
+import os
+import re
+import sys
+import time
+
+HERE = os.path.dirname(os.path.abspath(__file__))
+
+# a program of bench/programs, and the words after it
+RUNS = [
+    ("atomic-4x2.json", ["--steps", "400"]),
+    ("atomic-2x6.json", ["--steps", "400"]),
+    ("atomic-3x4.json", ["--steps", "400"]),
+    ("atomic-4x3.json", ["--steps", "400", "--states", "2000000"]),
+]
+
+
+def run(binary, program, words):
+    """One run: its standard output, exit status, wall seconds, CPU seconds and peak memory in bytes."""
+    out_read, out_write = os.pipe()
+    begun = time.monotonic()
+    child = os.fork()
+    if child == 0:
+        os.dup2(out_write, 1)
+        os.close(out_read)
+        path = os.path.join(HERE, "programs", program)
+        os.execv(binary, [binary, "explore", path] + words)
+    os.close(out_write)
+    with os.fdopen(out_read) as pipe:
+        text = pipe.read()
+    _, status, usage = os.wait4(child, 0)
+    wall = time.monotonic() - begun
+    return text, os.waitstatus_to_exitcode(status), wall, usage.ru_utime + usage.ru_stime, usage.ru_maxrss * 1024
+
+
+def main():
+    parser = argparse.ArgumentParser(description=__doc__, formatter_class=argparse.RawDescriptionHelpFormatter)
+    parser.add_argument("--only", default="", help="the programs whose names have this word")
+    parser.add_argument("--repeat", type=int, default=1)
+    parser.add_argument("binary", nargs="+")
+    options = parser.parse_args()
+    row = "{:<28} {:<24} {:>9} {:>8} {:>8} {:>10} {:>8} {:>8}"
+    print(row.format("program", "binary", "states", "seconds", "cpu", "states/s", "MB", "B/state"))
+    for program, words in RUNS:
+        if options.only not in program:
+            continue
+        for binary in options.binary:
+            tries = [run(os.path.abspath(binary), program, words) for _ in range(options.repeat)]
+            text, status, wall, cpu, memory = min(tries, key=lambda one: one[3])
+            found = re.search(r"^states (\d+)$", text, re.MULTILINE)
+            if not found:
+                print(f"{program}: {binary}: status {status}, no line 'states N'", file=sys.stderr)
+                continue
+            states = int(found.group(1))
+            print(row.format(program, os.path.basename(binary), states, f"{wall:.2f}", f"{cpu:.2f}",
+                             int(states / max(cpu, 0.001)), f"{memory / 1e6:.0f}", memory // states))
+
+
+if __name__ == "__main__":
+    main()

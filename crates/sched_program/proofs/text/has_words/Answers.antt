@@ -1,0 +1,4 @@
+use Rattle.sched_program.proofs.text.has_words.Goals as goal
+
+pub returns-in-None : goal.returns-in-None
+returns-in-None c = λ has. (rw c.in-None.is at c.in_ok-_words.ensures.none) has.0 has.1
