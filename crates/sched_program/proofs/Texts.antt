@@ -1,5 +1,5 @@
 -- A value is the text of one program at most, and a text has no fault.
-use Rattle.std.proofs.Common.{◌≡◌, ℕ, ◌≤◌, ◌⊎◌, inl, inr, List, length, get_or, map, arith, subst, refl, sym, ap, ◌∙◌, Some, Result, Ok, Err, IfOk, IfErr, codes, sum}
+use Rattle.std.proofs.Common.{◌≡◌, ◌≢◌, ℕ, ◌≤◌, List, length, get_or, map, arith, subst, refl, sym, ap, ◌∙◌, Some, Result, Ok, Err, IfOk, IfErr, codes, sum}
 use Rattle.std.proofs.lemmas.Option.{same_Some}
 use Rattle.std.proofs.lemmas.List.Sums.{sum-map}
 use Rattle.std.proofs.lemmas.List.Elements.{All-map}
@@ -120,10 +120,16 @@ no_fault value program told is first = not_both value told (passes_all value pro
 pub same_value : (bytes : List ℕ) (value other : Data) → read bytes ≡ Some value → IsJsonOf bytes other → other ≡ value
 same_value bytes value other is json = same_Some _ _ (sym json.reads ∙ is)
 
--- an answer for a value is the only one for its bytes
-pub only_answer : (bytes : List ℕ) (value : Data) (answer : Result Program ProgramFault) → read bytes ≡ Some value → IfOk answer (IsTextOf value) → IfErr answer (IsFirstFault value)
-    → (program : Program) → IsJsonTextOf bytes program → (answer ≡ Ok program) ⊎ (answer ≡ Err fault.OutOfMemory)
-only_answer bytes value (Ok answer) is ok err program text =
-    inl (ap Ok (same_program value answer program ok (subst (λ v. IsTextOf v program) (same_value bytes value text.0 is text.1) text.2)))
-only_answer bytes value (Err told) is ok err program text =
-    inr (ap Err (no_fault value program told (subst (λ v. IsTextOf v program) (same_value bytes value text.0 is text.1) text.2) err))
+module _ (bytes : List ℕ) (value : Data) (is : read bytes ≡ Some value) where
+  of_value : (program : Program) → IsJsonTextOf bytes program → IsTextOf value program
+  of_value program text = subst (λ v. IsTextOf v program) (same_value bytes value text.0 is text.1) text.2
+
+  -- a program of the value is the only one of the bytes
+  pub only_program : (answer : Result Program ProgramFault) → IfOk answer (IsTextOf value) → IfOk answer (λ program. (other : Program) → IsJsonTextOf bytes other → other ≡ program)
+  only_program (Ok program) has = λ other text. same_program value other program (of_value other text) has
+  only_program (Err told) has = tt
+
+  -- bytes whose value has a fault are the text of no program
+  pub no_program : (answer : Result Program ProgramFault) → IfErr answer (IsFirstFault value) → IfErr answer (λ told. told ≢ fault.OutOfMemory → (program : Program) → ¬ IsJsonTextOf bytes program)
+  no_program (Ok program) first = tt
+  no_program (Err told) first = λ other program text. other (no_fault value program told (of_value program text) first)

@@ -207,9 +207,10 @@ impl Program {
     /// The first fault of the text in the order of [`ProgramFault`], or `OutOfMemory` where a growth was refused.
     pub fn from_json(alloc: Global, text: &[u8]) -> Result<Program, ProgramFault>
         ensures program { IfOk result (IsJsonTextOf text.now) }
+        ensures only { IfOk result (λ program. (other : Program) → IsJsonTextOf text.now other → other ≡ program) }
         ensures fault { IfErr result (IsFirstFaultOf text.now) }
-        ensures accepts { (program : Program) → IsJsonTextOf text.now program
-            → (result ≡ Ok program) ⊎ (result ≡ Err ProgramFault.OutOfMemory) }
+        ensures refused { IfErr result (λ fault. fault ≢ ProgramFault.OutOfMemory
+            → (program : Program) → ¬ IsJsonTextOf text.now program) }
     {
         match Value::from_slice(alloc, text) {
             Ok(value) => program_of(alloc, &value),
