@@ -1,12 +1,10 @@
 -- Operations and trees are one and the same where they compare as equal.
-use Rattle.std.specs.Prelude.{◌≡◌, ℕ, Bool, true, false, nat_eq, ◌&&◌, refl}
+use Rattle.std.specs.Prelude.{refl}
 use Rattle.std.proofs.Common.{ap}
-use Rattle.sched_program.specs.Exact.{IsExact, nat_exact, both}
-use Rattle.sched_program.specs.declared.operation.Op.{Op}
+use Rattle.sched_program.specs.Exact.{IsExact, nat_exact}
 use Rattle.sched_program.specs.declared.operation.Op.TheVariants.{Insert, Delete, Find}
 use Rattle.sched_program.specs.contracts.operation.OpPartialEq.TheImpl.{eq-value as op_eq}
 use Rattle.sched_program.specs.contracts.operation.TreePartialEq.TheImpl.{eq-value as tree_eq}
-use Rattle.sched_program.specs.declared.operation.Tree.{Tree}
 use Rattle.sched_program.specs.declared.operation.Tree.TheVariants.{Atomic, Ellen, EllenNoMark, EllenNoIflag, Nm, NmNoTag}
 
 pub op_exact : IsExact op_eq.it
