@@ -1,12 +1,12 @@
 -- The history of a state that fits a program is a history of that program.
 use Rattle.std.specs.Prelude.{option_and_then}
-use Rattle.std.proofs.Common.{◌≡◌, ℕ, zero, suc, ◌+◌, ◌<◌, ◌≤◌, ◌⊎◌, inl, inr, Bool, true, false, List, [], ◌∷◌, ◌++◌, length, map, Option, Some, None, is_some, IsSome, All, refl, sym, ap, ◌∙◌, subst, arith, slice_get, get_or, if◌then◌else◌, ◌==◌, ◌&&◌}
-use Rattle.std.proofs.lemmas.Option.{slice_get_within, slice_get-get_or, get_or_from_slice_get, option_and_then_some, same_Some}
+use Rattle.std.proofs.Common.{◌≡◌, ℕ, zero, suc, ◌+◌, ◌<◌, ◌⊎◌, inl, inr, Bool, true, false, List, [], ◌∷◌, ◌++◌, length, map, Option, Some, is_some, IsSome, refl, sym, ap, ◌∙◌, subst, arith, slice_get, get_or, if◌then◌else◌, ◌==◌, ◌&&◌}
+use Rattle.std.proofs.lemmas.Option.{slice_get_within, slice_get-get_or, get_or_from_slice_get, same_Some}
 use Rattle.std.proofs.lemmas.Bool.{eq-eqb}
 use Rattle.sched_program.specs.declared.operation.Op.{Op}
 use Rattle.sched_program.specs.declared.operation.OpId.{OpId}
 use Rattle.sched_program.specs.Name.{same_name, value_at, IsBefore, Ascend}
-use Rattle.sched_program.specs.History.{History, IsHistoryOf}
+use Rattle.sched_program.specs.History.{IsHistoryOf}
 use Rattle.sched_program.specs.Program.{Program, op_at}
 use Rattle.tree_machine.specs.History.{named, all_named, history_of}
 use Rattle.tree_machine.specs.Rules.{Rules}
