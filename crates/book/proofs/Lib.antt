@@ -1,0 +1,15 @@
+pub mod EntryLemmas
+pub mod Unknown
+pub mod Coverage
+pub mod Kept
+pub mod Next
+pub mod LawfulBooks
+pub mod Exact
+pub mod Entering
+pub mod Growth
+pub mod Counts
+pub mod Ways
+mod Expanding
+mod SlotLemmas
+mod Cursors
+pub mod Machines

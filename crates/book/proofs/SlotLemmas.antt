@@ -1,0 +1,153 @@
+-- Rows put under keys that are new.
+use Rattle.std.proofs.Common.{◌≡◌, ℕ, zero, suc, Bool, true, false, cond, Some, None, is_some, unwrap_or, List, [], ◌∷◌, ◌++◌, length, map, take, refl, sym, ap, ◌∙◌, append-nil, append_assoc, slice_get, ◌||◌}
+use Rattle.std.specs.List.{list_any}
+use Rattle.std.specs.Map.{lookup, keys_of, values_of}
+use Rattle.std.specs.declared.sync.Arc.{Arc}
+use Rattle.std.proofs.Math.ListN.{length-map}
+use Rattle.std.proofs.lemmas.List.{map-append}
+use Rattle.std.proofs.lemmas.Map.Made.{is_some-lookup}
+use Rattle.indexmap.specs.IndexMap.{insert_entry, set_value_at}
+use Rattle.book.specs.declared.entry.Mark.{Mark}
+use Rattle.book.specs.declared.entry.Mark.TheVariants.{Open}
+use Rattle.book.specs.declared.entry.Row.{Row}
+use Rattle.book.specs.declared.finding.Finding.{Finding}
+use Rattle.book.specs.Entries.{Entry, Successor, with_mark, knows, unknown, opened, states}
+use Rattle.book.specs.Slots.{unlisted, entry_of, entries_of}
+
+module _ {K V : Type 0} (eq : K → K → Bool) where
+  -- a key that is there is written with its own value, and one that is new goes last
+  inserted : (es : List (K × V)) (k : K) (v w : V) → w ≡ unwrap_or (lookup (eq k) es) v
+      → insert_entry eq es k w ≡ es ++ cond (is_some (lookup (eq k) es)) [] ((k, v) ∷ [])
+  inserted [] k v w h = ap (λ x. (k, x) ∷ []) h
+  inserted (e ∷ es) k v w h =
+      by (eq k e.0) refl (λ r. inserted es k v w r)
+    where
+      by : (b : Bool) → eq k e.0 ≡ b → (w ≡ unwrap_or (lookup (eq k) es) v → insert_entry eq es k w ≡ es ++ cond (is_some (lookup (eq k) es)) [] ((k, v) ∷ [])) → insert_entry eq (e ∷ es) k w ≡ (e ∷ es) ++ cond (is_some (lookup (eq k) (e ∷ es))) [] ((k, v) ∷ [])
+      by true t again =
+          let own : w ≡ e.1 = h ∙ ap (λ b. unwrap_or (cond b (Some e.1) (lookup (eq k) es)) v) t in
+          ap (λ b. cond b ((e.0, w) ∷ es) (e ∷ insert_entry eq es k w)) t ∙ ap (λ x. (e.0, x) ∷ es) own ∙ sym (append-nil (e ∷ es))
+          ∙ sym (ap (λ b. (e ∷ es) ++ cond (is_some (cond b (Some e.1) (lookup (eq k) es))) [] ((k, v) ∷ [])) t)
+      by false f again =
+          let rest : w ≡ unwrap_or (lookup (eq k) es) v = h ∙ ap (λ b. unwrap_or (cond b (Some e.1) (lookup (eq k) es)) v) f in
+          ap (λ b. cond b ((e.0, w) ∷ es) (e ∷ insert_entry eq es k w)) f ∙ ap (λ xs. e ∷ xs) (again rest)
+          ∙ sym (ap (λ b. (e ∷ es) ++ cond (is_some (cond b (Some e.1) (lookup (eq k) es))) [] ((k, v) ∷ [])) f)
+
+  pub put_one : (es : List (K × V)) (k : K) (v w : V) → w ≡ unwrap_or (lookup (eq k) es) v
+      → insert_entry eq es k w ≡ es ++ unlisted eq (keys_of es) ((k, v) ∷ [])
+  put_one es k v w h = inserted es k v w h ∙ ap (λ b. es ++ cond b [] ((k, v) ∷ [])) (is_some-lookup (eq k) es)
+
+-- the front is what stood there before
+pub take-front : {X : Type 0} (xs ys : List X) → take (length xs) (xs ++ ys) ≡ xs
+take-front [] [] = refl
+take-front [] (y ∷ ys) = refl
+take-front (x ∷ xs) ys = ap (λ zs. x ∷ zs) (take-front xs ys)
+
+-- what stood in front before something was put behind it still does
+pub take_kept : {X : Type 0} (old mid new rest : List X) → take (length old) mid ≡ old → new ≡ mid ++ rest → take (length old) new ≡ old
+take_kept {X} [] mid new rest h e = none new
+  where
+    none : (xs : List X) → take 0 xs ≡ []
+    none [] = refl
+    none (x ∷ xs) = refl
+take_kept (x ∷ old) [] new rest h e = absurd (let q : [] ≡ x ∷ old = h in cc)
+take_kept (x ∷ old) (y ∷ mid) new rest h e =
+    let q : y ∷ take (length old) mid ≡ x ∷ old = h in
+    let head : y ≡ x = cc in
+    let tail : take (length old) mid ≡ old = cc in
+    ap (take (suc (length old))) e ∙ ap (λ xs. y ∷ xs) (take_kept old mid (mid ++ rest) rest tail refl) ∙ ap (λ z. z ∷ old) head
+
+module _ {S A : Type 0} where
+  -- a row written with another mark
+  pub write_mark_at : (es : List (Arc S A × Row)) (i : ℕ) (r w : Row) (mark : Mark) → slice_get (values_of es) i ≡ Some r → w ≡ record r { mark = mark }
+      → entries_of (set_value_at es i w) ≡ with_mark (entries_of es) i mark
+  write_mark_at [] i r w mark at is = refl
+  write_mark_at (p ∷ es) zero r w mark at is =
+      let same : r ≡ p.1 = cc in
+      ap (λ (x : Row). entry_of (p.0, x) ∷ entries_of es) (is ∙ ap (λ (x : Row). record x { mark = mark }) same)
+  write_mark_at (p ∷ es) (suc i) r w mark at is = ap (λ xs. entry_of p ∷ xs) (write_mark_at es i r w mark at is)
+
+  -- where there is no row, none is marked
+  pub no_mark_at : (es : List (Arc S A × Row)) (i : ℕ) (mark : Mark) → slice_get (values_of es) i ≡ None → entries_of es ≡ with_mark (entries_of es) i mark
+  no_mark_at [] i mark none = refl
+  no_mark_at (e ∷ es) zero mark none = absurd (let q : Some e.1 ≡ None = none in cc)
+  no_mark_at (e ∷ es) (suc i) mark none = ap (λ xs. entry_of e ∷ xs) (no_mark_at es i mark none)
+
+  pub entry_at : (es : List (Arc S A × Row)) (i : ℕ) (p : Arc S A × Row) → slice_get es i ≡ Some p → slice_get (entries_of es) i ≡ Some (entry_of p)
+  entry_at [] i p h = absurd (let q : None ≡ Some p = h in cc)
+  entry_at (e ∷ es) zero p h = let q : e ≡ p = cc in ap (λ x. Some (entry_of x)) q
+  entry_at (e ∷ es) (suc i) p h = entry_at es i p h
+
+  pub no_entry_at : (es : List (Arc S A × Row)) (i : ℕ) → slice_get es i ≡ None → slice_get (entries_of es) i ≡ None
+  no_entry_at [] i h = refl
+  no_entry_at (e ∷ es) zero h = absurd (let q : Some e ≡ None = h in cc)
+  no_entry_at (e ∷ es) (suc i) h = no_entry_at es i h
+
+  pub length-entries : (es : List (Arc S A × Row)) → length (entries_of es) ≡ length es
+  length-entries es = length-map es entry_of
+
+  pub entries_of-append : (es fs : List (Arc S A × Row)) → entries_of (es ++ fs) ≡ entries_of es ++ entries_of fs
+  entries_of-append es fs = map-append entry_of es fs
+
+module _ {S A : Type 0} (eq : Arc S A → Arc S A → Bool) (same : S → S → Bool) (as_same : (k l : Arc S A) → eq k l ≡ same l.value k.value) where
+  known_as : (es : List (Arc S A × Row)) (k : Arc S A) → list_any (eq k) (keys_of es) ≡ knows same (states (entries_of es)) k.value
+  known_as [] k = refl
+  known_as (p ∷ es) k =
+      ap (λ b. b || list_any (eq k) (keys_of es)) (as_same k p.0) ∙ ap (λ b. same p.0.value k.value || b) (known_as es k)
+
+  opens_by : (i : ℕ) (x : Successor S) (k : Arc S A) (w : Row) (b : Bool) → entry_of (k, w) ≡ opened i x
+      → entries_of (cond b [] ((k, w) ∷ [])) ≡ map (opened i) (cond b [] (x ∷ []))
+  opens_by i x k w true is = refl
+  opens_by i x k w false is = ap (λ e. e ∷ []) is
+
+  -- a row that is put in for a step
+  pub put_step : (es new : List (Arc S A × Row)) (i : ℕ) (x : Successor S) (k : Arc S A) (w : Row)
+      → new ≡ es ++ unlisted eq (keys_of es) ((k, w) ∷ []) → entry_of (k, w) ≡ opened i x
+      → entries_of new ≡ entries_of es ++ map (opened i) (unknown same (states (entries_of es)) (x ∷ []))
+  put_step es new i x k w put is =
+      ap entries_of put ∙ entries_of-append es (unlisted eq (keys_of es) ((k, w) ∷ []))
+      ∙ ap (λ xs. entries_of es ++ xs)
+      (opens_by i x k w (list_any (eq k) (keys_of es)) is
+      ∙ ap (λ b. map (opened i) (cond b [] (x ∷ []))) (known_as es k ∙ ap (λ (e : Entry S). knows same (states (entries_of es)) e.state) is))
+
+-- ---- step after step
+module _ {S : Type 0} (same : S → S → Bool) where
+  push_by : (known : List S) (x y : Successor S) (us vs us' vs' : List (Successor S)) (b : Bool)
+      → us' ≡ us ++ unknown same (known ++ map (λ (z : Successor S). z.state) us) (x ∷ [])
+      → vs' ≡ vs ++ unknown same ((known ++ y.state ∷ []) ++ map (λ (z : Successor S). z.state) vs) (x ∷ [])
+      → cond b us' (y ∷ vs') ≡ cond b us (y ∷ vs) ++ unknown same (known ++ map (λ (z : Successor S). z.state) (cond b us (y ∷ vs))) (x ∷ [])
+  push_by known x y us vs us' vs' true p q = p
+  push_by known x y us vs us' vs' false p q =
+      ap (λ ws. y ∷ ws) (q ∙ ap (λ ks. vs ++ unknown same ks (x ∷ [])) (append_assoc known (y.state ∷ []) (map (λ (z : Successor S). z.state) vs)))
+
+  unknown_push : (known : List S) (xs : List (Successor S)) (x : Successor S)
+      → unknown same known (xs ++ x ∷ []) ≡ unknown same known xs ++ unknown same (known ++ map (λ (y : Successor S). y.state) (unknown same known xs)) (x ∷ [])
+  unknown_push known [] x = ap (λ ks. unknown same ks (x ∷ [])) (sym (append-nil known))
+  unknown_push known (y ∷ xs) x =
+      push_by known x y (unknown same known xs) (unknown same (known ++ y.state ∷ []) xs) (unknown same known (xs ++ x ∷ [])) (unknown same (known ++ y.state ∷ []) (xs ++ x ∷ []))
+      (knows same known y.state) (unknown_push known xs x) (unknown_push (known ++ y.state ∷ []) xs x)
+
+  states_of_opened : (i : ℕ) (xs : List (Successor S)) → states (map (opened i) xs) ≡ map (λ (y : Successor S). y.state) xs
+  states_of_opened i [] = refl
+  states_of_opened i (x ∷ xs) = ap (λ ss. x.state ∷ ss) (states_of_opened i xs)
+
+  -- a turn of the loop
+  pub put_turn : (old mid new : List (Entry S)) (i : ℕ) (xs : List (Successor S)) (x : Successor S)
+      → mid ≡ old ++ map (opened i) (unknown same (states old) xs)
+      → new ≡ mid ++ map (opened i) (unknown same (states mid) (x ∷ []))
+      → new ≡ old ++ map (opened i) (unknown same (states old) (xs ++ x ∷ []))
+  put_turn old mid new i xs x so_far put =
+      let us : List (Successor S) = unknown same (states old) xs in
+      let known : states mid ≡ states old ++ map (λ (y : Successor S). y.state) us =
+      ap states so_far ∙ map-append (λ (e : Entry S). e.state) old (map (opened i) us) ∙ ap (λ ss. states old ++ ss) (states_of_opened i us) in
+      put ∙ ap (λ es. es ++ map (opened i) (unknown same (states mid) (x ∷ []))) so_far
+      ∙ append_assoc old (map (opened i) us) (map (opened i) (unknown same (states mid) (x ∷ [])))
+      ∙ ap (λ ys. old ++ ys)
+      (sym (map-append (opened i) us (unknown same (states mid) (x ∷ [])))
+      ∙ ap (λ ks. map (opened i) (us ++ unknown same ks (x ∷ []))) known
+      ∙ ap (map (opened i)) (sym (unknown_push (states old) xs x)))
+
+-- the row that is made of a step's parts
+pub step_row : {S A : Type 0} (i : ℕ) (x : Successor S) (k : Arc S A) (t : ℕ) (f : Finding) → t ≡ x.thread → k.value ≡ x.state → f ≡ x.finding
+    → entry_of (k, record { finding = f; origin = Some (record { parent = i; thread = t }); mark = Open }) ≡ opened i x
+step_row {S} i x k t f p q r =
+    let e : Entry S = record { state = k.value; finding = f; origin = Some (record { parent = i; thread = t }); mark = Open } in cc

@@ -1,0 +1,44 @@
+use Rattle.std.proofs.Common.{◌≡◌, sym, ap, ◌∙◌}
+use Rattle.tree_machine.specs.declared.state.State.{State}
+use Rattle.book.specs.declared.entry.Mark.TheVariants.{Taken}
+use Rattle.book.specs.Books.{machine_in, right_in, counted_as_one}
+use Rattle.book.specs.Entries.{Contents, is_taken}
+use Rattle.std.proofs.lemmas.Bool.{true≢false}
+use Rattle.book.proofs.Entering.{taken_from, own_from}
+use Rattle.book.proofs.book.Book.admits.Goals as goal
+
+pub returns-then-is_of-clause-admitted : goal.returns-then-is_of-clause-admitted
+returns-then-is_of-clause-admitted g c =
+    let s = c.self.inside in
+    let b : Contents g.row.M.Denot (State g.row.M.Denot g.row.M-Mem.Denot g.row.M-Loc.Denot) =
+    record { machine = s.machine; program = s.program; merge = s.merge; limit = s.limit; entries = s.table; met = s.met } in
+    let m = machine_in g.M.Machine.rules b in
+    let right = right_in g.M.Machine.rules b in
+    let same = counted_as_one {Machine = g.row.M.Denot} g.M.Loc.PartialEq.eq g.M.Mem.PartialEq.eq s.merge in
+    let book = c.self.invariant in
+    let at = c.in-Some.ensures.some in
+    let there = c.state.ensures in
+    let taken : at.0.mark ≡ Taken = taken_from at.0.mark (ap is_taken at.4 ∙ sym c.is_taken.ensures ∙ c.if-not-is_taken.false) in
+    let own = c.is_of.ensures.0 c.if-is_of.true in
+    rw (← c.self.view_is) (
+      (at.0, at.1, taken),
+      own_from {X = g.row.M.Denot} b c.args.id there.0 c.args.expansion.now.machine c.args.expansion.now.program c.args.expansion.now.source c.deref.result.now there.1
+          (c.deref.ensures ∙ sym there.2) own.0 own.1 own.2,
+    )
+
+pub returns-else-is_of-clause-refused : goal.returns-else-is_of-clause-refused
+returns-else-is_of-clause-refused g c =
+    let s = c.self.inside in
+    let b : Contents g.row.M.Denot (State g.row.M.Denot g.row.M-Mem.Denot g.row.M-Loc.Denot) =
+    record { machine = s.machine; program = s.program; merge = s.merge; limit = s.limit; entries = s.table; met = s.met } in
+    let m = machine_in g.M.Machine.rules b in
+    let right = right_in g.M.Machine.rules b in
+    let same = counted_as_one {Machine = g.row.M.Denot} g.M.Loc.PartialEq.eq g.M.Mem.PartialEq.eq s.merge in
+    let book = c.self.invariant in
+    let at = c.in-Some.ensures.some in
+    let there = c.state.ensures in
+    let taken : at.0.mark ≡ Taken = taken_from at.0.mark (ap is_taken at.4 ∙ sym c.is_taken.ensures ∙ c.if-not-is_taken.false) in
+    rw (← c.self.view_is) (
+      (at.0, at.1, taken),
+      (λ own. true≢false (sym (c.is_of.ensures.1 (own.machine, own.program, own.source there.0 there.1 ∙ there.2 ∙ sym c.deref.ensures)) ∙ c.if-is_of.false)),
+    )

@@ -1,0 +1,4 @@
+use Rattle.book.proofs.table.Table.origin.Goals as goal
+
+pub returns : goal.returns
+returns g c = rw (← c.self.view_is) (c.row_at.ensures.0, c.row_at.ensures.1, c.row_at.ensures.3)

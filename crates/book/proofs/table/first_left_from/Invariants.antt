@@ -1,0 +1,8 @@
+use Rattle.std.proofs.Common.{◌≡◌, ℕ, ◌<◌}
+use Rattle.book.specs.declared.entry.Mark.TheVariants.{Expanded}
+use Rattle.book.specs.Entries.{Entry, At}
+use Rattle.book.specs.Slots.{entries_of}
+use Rattle.book.proofs.table.first_left_from.Given as goal
+
+abbrev pub invariant-loop-index : goal.invariant-loop-index
+invariant-loop-index g l = (i : ℕ) (e : Entry g.row.S.Denot) → At (entries_of l.slots.entries) i e → i < l.index → e.mark ≡ Expanded

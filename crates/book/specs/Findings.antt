@@ -1,0 +1,44 @@
+-- What is found of a state.
+use Rattle.std.specs.Prelude.{◌≡◌, Bool, true, false, None, IsSome, length}
+use Rattle.sched_program.specs.Program.{Program}
+use Rattle.tree_machine.specs.Rules.{Rules}
+use Rattle.tree_machine.specs.Step.{start, step, Fits}
+use Rattle.tree_machine.specs.History.{history_of}
+use Rattle.tree_machine.specs.declared.state.State.{State}
+use Rattle.lin.specs.Linearization.{IsLinearization, IsLinearizable}
+use Rattle.book.specs.declared.finding.Finding.{Finding}
+use Rattle.book.specs.declared.finding.Finding.TheVariants.{Astray, Order, History, Sound}
+use Rattle.book.specs.Schedule.{StepMachine}
+
+-- every finding but `Sound` is a fault
+abbrev pub is_sound : Finding → Bool
+is_sound Astray = false
+is_sound Order = false
+is_sound History = false
+is_sound (Sound order) = true
+
+-- some finding that is right shows the state sound
+abbrev pub IsSound : {S : Type 0} → (S → Finding → Type 0) → S → Type 0
+IsSound right s = (finding : Finding) × right s finding × (is_sound finding ≡ true)
+
+module _ {Machine Memory Place : Type 0} (rules : Rules Memory Place) (program : Program) where
+  -- a machine that runs a program, with its steps
+  abbrev pub machine_of : StepMachine (State Machine Memory Place)
+  machine_of =
+      record {
+        start = start rules program;
+        step = step rules program;
+        steps = λ state. state.steps;
+        threads = length program.threads;
+        Fits = Fits rules program;
+      }
+
+  -- The finding of a state is the first that applies: it is astray; its memory does not keep search order;
+  -- its history has no linearization; else it is sound, with a linearization.
+  abbrev pub IsFindingOf : State Machine Memory Place → Finding → Type 0
+  IsFindingOf state Astray = IsSome state.astray
+  IsFindingOf state Order = (state.astray ≡ None) × (rules.IsOrdered state.memory → ⊥)
+  IsFindingOf state History =
+      (state.astray ≡ None) × rules.IsOrdered state.memory × (IsLinearizable program (history_of state) → ⊥)
+  IsFindingOf state (Sound order) =
+      (state.astray ≡ None) × rules.IsOrdered state.memory × IsLinearization program (history_of state) order.items

@@ -1,0 +1,9 @@
+pub mod Schedule
+pub mod Findings
+pub mod Entries
+pub mod Law
+pub mod Layers
+pub mod Counts
+pub mod Books
+pub mod Replay
+pub mod Slots

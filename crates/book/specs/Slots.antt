@@ -1,0 +1,39 @@
+-- Rows under keys.
+use Rattle.std.specs.Prelude.{◌≡◌, ◌≢◌, ℕ, ◌<◌, ◌≤◌, Bool, not, Option, position, List, [], ◌∷◌, ◌++◌, length, map, if◌then◌else◌}
+use Rattle.std.specs.List.{list_any}
+use Rattle.std.specs.declared.sync.Arc.{Arc}
+use Rattle.book.specs.declared.entry.Row.{Row}
+use Rattle.book.specs.declared.entry.Mark.TheVariants.{Open, Expanded}
+use Rattle.book.specs.Entries.{Entry, At}
+use Rattle.book.specs.Findings.{is_sound}
+
+module _ {K V : Type 0} (eq : K → K → Bool) where
+  -- the pairs, in order, whose keys are neither known nor those of earlier ones
+  abbrev pub unlisted : List K → List (K × V) → List (K × V)
+  unlisted known [] = []
+  unlisted known (x ∷ xs) =
+      if list_any (eq x.0) known
+      then unlisted known xs
+      else x ∷ unlisted (known ++ x.0 ∷ []) xs
+
+-- a shared state with its row, as an entry
+abbrev pub entry_of : {S A : Type 0} → Arc S A × Row → Entry S
+entry_of slot = record { state = slot.0.value; finding = slot.1.finding; origin = slot.1.origin; mark = slot.1.mark }
+
+abbrev pub entries_of : {S A : Type 0} → List (Arc S A × Row) → List (Entry S)
+entries_of slots = map entry_of slots
+
+-- `left` is the number of the first entry that is not expanded, or the length
+pub record IsFirstLeft {S : Type 0} (entries : List (Entry S)) (left : ℕ) : Type 0 where
+  pub expanded : (i : ℕ) (e : Entry S) → At entries i e → i < left → e.mark ≡ Expanded
+  pub stops : (e : Entry S) → At entries left e → e.mark ≢ Expanded
+  pub within : left ≤ length entries
+
+-- The entries from `next_open` on are open and those below it are not, `left` is the first that is not expanded,
+-- and `fault` the first that is not sound
+pub record AreCursors {S : Type 0} (entries : List (Entry S)) (next_open first_left : ℕ) (fault : Option ℕ) : Type 0 where
+  pub below : (i : ℕ) (e : Entry S) → At entries i e → i < next_open → e.mark ≢ Open
+  pub above : (i : ℕ) (e : Entry S) → At entries i e → next_open ≤ i → e.mark ≡ Open
+  pub within : next_open ≤ length entries
+  pub left : IsFirstLeft entries first_left
+  pub first_fault : fault ≡ position (λ e. not (is_sound e.finding)) entries

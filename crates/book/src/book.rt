@@ -1,0 +1,367 @@
+//! The book of states.
+ghost use Rattle.std.specs.Prelude.{◌≡◌, ◌≢◌, ℕ, ◌+◌, ◌-◌, ◌^◌, ◌<◌, ◌≤◌, ◌↔◌, List, [], ◌∷◌, ◌++◌, ◌⊎◌, length, IfOk, IfSome, IfNone, OnOk, OnErr, IfErr, Some, None, not, position, true, false, count_by, nat_le, slice_get};
+ghost use Rattle.std.specs.Option.{option_copied, option_map};
+ghost use Rattle.sched_program.specs.Program.{IsWithinLimits};
+ghost use Rattle.tree_machine.specs.Step.{Fits};
+ghost use Rattle.tree_machine.specs.declared.state.State.{State};
+ghost use Rattle.std.specs.Cmp.{IsEquivalence};
+ghost use Rattle.sched_program.specs.Exact.{IsExact};
+ghost use Rattle.book.specs.Entries.{Entry, At, Enters, IsNext, IsOwn, IsTaken, Refuses, Takes, is_open, states, unknown, with_successors};
+ghost use Rattle.book.specs.Findings.{is_sound, IsSound};
+ghost use Rattle.book.specs.Books.{counted_as_one, machine_in, right_in, totals_of, IsLawfulIn};
+ghost use Rattle.book.specs.Law.{IsExpansion};
+ghost use Rattle.book.specs.Counts.{IsCount};
+ghost use Rattle.book.specs.Layers.{IsExpandedTo, IsExpandedBelow, IsLeftTo};
+ghost use Rattle.book.specs.Schedule.{after, IsMachine, Merges};
+
+use crate::entry::{Mark, Row};
+use crate::expansion::{Expansion, Stepped};
+use crate::finding::{Finding, find};
+use crate::table::{Table, TableFault};
+use sched_program::{Exact, OutOfMemory, Program, same};
+use std::alloc::Global;
+use std::marker::Model;
+use std::sync::Arc;
+use tree_machine::{Machine, State};
+
+/// Which states a book counts as one.
+#[derive(Clone, Copy, Debug, PartialEq, Eq)]
+pub enum Merge {
+    /// Equal states, their step counts included.
+    Exact,
+}
+
+/// How many entries a book has, and what became of the steps that were entered.
+#[derive(Clone, Copy, Debug, PartialEq, Eq)]
+pub struct Totals {
+    /// All entries.
+    pub entries: usize,
+    /// The open entries.
+    pub fresh: usize,
+    /// The taken entries.
+    pub taken: usize,
+    /// The expanded entries.
+    pub expanded: usize,
+    /// The steps that led to new entries: one for each entry but the start.
+    pub entered: usize,
+    /// The steps that led to known states.
+    pub met: usize,
+}
+
+/// How many of an expansion's steps led to new entries, and how many to known states.
+#[derive(Clone, Copy, Debug, PartialEq, Eq)]
+pub struct Entered {
+    pub entered: usize,
+    pub met: usize,
+}
+
+/// Why an expansion was not entered.
+#[derive(Clone, Copy, Debug, PartialEq, Eq)]
+pub enum EnterFault {
+    /// The entry's number is no entry's, or the entry is open or expanded.
+    NotTaken,
+    /// The expansion's machine or program is not the book's, or its source is not the entry's state.
+    Stranger,
+    /// The entries with the new ones would exceed the limit.
+    Full,
+    /// A growth was refused.
+    OutOfMemory,
+}
+
+/// The states that were reached, each with the step that led to it and what was found of it.
+#[derive(Drop)]
+pub struct Book<M: Machine> {
+    machine: M,
+    program: Program,
+    merge: Merge,
+    limit: usize,
+    table: Table<State<M>>,
+    met: usize,
+}
+
+impl<M: Machine> Model for Book<M> {
+    ghost use Rattle.tree_machine.specs.declared.state.State.{State};
+    ghost use Rattle.book.specs.Entries.{Contents};
+    ghost use Rattle.book.specs.Books.{IsBook};
+
+    ghost Value = { Contents M (State M M.Mem M.Loc) };
+
+    ghost view = { λ b. record { machine = b.machine; program = b.program; merge = b.merge; limit = b.limit; entries = b.table; met = b.met } };
+
+    ghost invariant = { λ b. IsBook M.rules M.Loc.PartialEq.eq M.Mem.PartialEq.eq (record { machine = b.machine; program = b.program; merge = b.merge; limit = b.limit; entries = b.table; met = b.met }) };
+}
+
+/// How many steps the state of an entry has behind it.
+fn steps_at<M: Machine>(table: &Table<State<M>>, index: usize) -> u64
+    requires { index < length table.now }
+    ensures { (e : Entry (State M M.Mem M.Loc)) × At table.now index e × (e.state.steps ≡ result) }
+{
+    table.state(index).steps()
+}
+
+/// Values of such a type test equal exactly if they are equal.
+fn tests_exactly<T: Exact>()
+    ensures exact { IsExact T.PartialEq.eq }
+    ensures laws { IsEquivalence T.PartialEq.eq }
+{}
+
+impl<M: Machine> Book<M> {
+    /// A book with the start alone, which is open. The limit is 1 to 2,000,000 entries.
+    pub fn open(
+        alloc: Global,
+        machine: M,
+        program: Program,
+        limit: usize,
+        merge: Merge,
+    ) -> Result<Book<M>, OutOfMemory>
+        requires some { 1 ≤ limit }
+        requires few { limit ≤ 2000000 }
+        ensures start { IfOk result (λ b. (e : Entry (State M M.Mem M.Loc)) × (b.entries ≡ e ∷ []) × (e.state ≡ (machine_in M.rules b).start) × (e.mark ≡ Mark.Open)) }
+        ensures machine { IfOk result (λ b. b.machine ≡ machine) }
+        ensures program { IfOk result (λ b. b.program ≡ program) }
+        ensures limit { IfOk result (λ b. b.limit ≡ limit) }
+        ensures merge { IfOk result (λ b. b.merge ≡ merge) }
+    {
+        tests_exactly::<State<M>>();
+        let state = State::start(alloc, machine, &program)?;
+        let finding = find(alloc, machine, &program, &state)?;
+        let state = Arc::new(alloc, state)?;
+        let table = Table::new(alloc, state, finding)?;
+        Ok(Book {
+            machine,
+            program,
+            merge,
+            limit,
+            table,
+            met: 0,
+        })
+    }
+
+    /// A book is lawful at every moment, its machine is a step machine, states that it counts as one step alike, and
+    /// where one of two such states is sound the other is.
+    pub fn law(&self)
+        ensures law { IsLawfulIn M.rules M.Loc.PartialEq.eq M.Mem.PartialEq.eq self.now }
+        ensures machine { IsMachine (machine_in M.rules self.now) }
+        ensures merges { Merges (machine_in M.rules self.now) (counted_as_one M.Loc.PartialEq.eq M.Mem.PartialEq.eq self.now.merge) }
+        ensures alike { (r s : State M M.Mem M.Loc) → counted_as_one M.Loc.PartialEq.eq M.Mem.PartialEq.eq self.now.merge r s ≡ true
+            → IsSound (right_in M.rules self.now) r → IsSound (right_in M.rules self.now) s }
+        ensures limits { IsWithinLimits self.now.program }
+    {
+        let _ = &self.table;
+    }
+
+    /// The number of the next entry to take.
+    fn next_open(&self) -> Option<usize>
+        ensures next { IfSome result (λ i. (e : Entry (State M M.Mem M.Loc)) × IsNext (machine_in M.rules self.now).steps self.now.entries i e) }
+        ensures open { IfSome result (λ i. position (λ e. is_open e.mark) self.now.entries ≡ Some i) }
+        ensures none { IfNone result ((i : ℕ) (e : Entry (State M M.Mem M.Loc)) → IsNext (machine_in M.rules self.now).steps self.now.entries i e → ⊥) }
+    {
+        let first = self.table.first_left()?;
+        let open = self.table.first_open()?;
+        if steps_at(&self.table, open) == steps_at(&self.table, first) {
+            Some(open)
+        } else {
+            None
+        }
+    }
+
+    /// Takes the next entry: the lowest-numbered open one among those of the fewest steps that are not expanded.
+    pub fn take(&mut self) -> Result<Option<(usize, Arc<State<M>>)>, OutOfMemory>
+        ensures taken { IfOk result (λ o. IfSome o (λ p. Takes (machine_in M.rules self.old).steps self.old.entries self.new.entries p.0 p.1.value)) }
+        ensures none { IfOk result (λ o. IfNone o ((i : ℕ) (e : Entry (State M M.Mem M.Loc)) → IsNext (machine_in M.rules self.old).steps self.old.entries i e → ⊥)) }
+        ensures unchanged { IfOk result (λ o. IfNone o (self.new ≡ self.old)) }
+        ensures fits { IfOk result (λ o. IfSome o (λ p. Fits (M.rules self.old.machine) self.old.program p.1.value)) }
+        ensures few { IfOk result (λ o. IfSome o (λ p. p.1.value.steps < self.old.limit)) }
+        ensures same { self.new ≡ record self.old { entries = self.new.entries } }
+        ensures err { OnErr result (self.new ≡ self.old) }
+    {
+        let Some(id) = self.next_open() else {
+            return Ok(None);
+        };
+        let state = Arc::try_clone(self.table.state(id))?;
+        self.table.mark_taken(id);
+        Ok(Some((id, state)))
+    }
+
+    /// Whether an expansion may be entered: its entry is taken, and it is that entry's.
+    fn admits(&self, id: usize, expansion: &Expansion<'_, M>) -> Result<(), EnterFault>
+        ensures admitted { OnOk result (IsTaken self.now.entries id × IsOwn self.now id expansion.now.machine expansion.now.program expansion.now.source) }
+        ensures refused { IfErr result (Refuses (counted_as_one M.Loc.PartialEq.eq M.Mem.PartialEq.eq self.now.merge) self.now id expansion.now) }
+    {
+        let Some(row) = self.table.row(id) else {
+            return Err(EnterFault::NotTaken);
+        };
+        if !row.is_taken() {
+            return Err(EnterFault::NotTaken);
+        }
+        if expansion.is_of(&self.machine, &self.program, &**self.table.state(id)) {
+            Ok(())
+        } else {
+            Err(EnterFault::Stranger)
+        }
+    }
+
+    /// Puts the new ones of a taken entry's steps at the end, and marks the entry expanded.
+    fn put(&mut self, id: usize, successors: Vec<Stepped<State<M>>>) -> Result<Entered, EnterFault>
+        requires taken { (e : Entry (State M M.Mem M.Loc)) × At self.old.entries id e × (e.mark ≡ Mark.Taken) × IsExpansion (machine_in M.rules self.old) (right_in M.rules self.old) e.state successors.items }
+        ensures entries { OnOk result (self.new.entries ≡ with_successors (counted_as_one M.Loc.PartialEq.eq M.Mem.PartialEq.eq self.old.merge) self.old.entries id successors.items) }
+        ensures counts { IfOk result (λ r. (r.entered ≡ length (unknown (counted_as_one M.Loc.PartialEq.eq M.Mem.PartialEq.eq self.old.merge) (states self.old.entries) successors.items)) × (r.entered + r.met ≡ length successors.items) × (self.new.met ≡ self.old.met + r.met)) }
+        ensures room { IfOk result (λ r. length self.old.entries + r.entered ≤ self.old.limit) }
+        ensures same { (self.new.machine ≡ self.old.machine) × (self.new.program ≡ self.old.program) × (self.new.merge ≡ self.old.merge) × (self.new.limit ≡ self.old.limit) }
+        ensures full { IfErr result (λ fault. (fault ≡ EnterFault.OutOfMemory) ⊎ ((fault ≡ EnterFault.Full) × (self.old.limit < length self.old.entries + length (unknown (counted_as_one M.Loc.PartialEq.eq M.Mem.PartialEq.eq self.old.merge) (states self.old.entries) successors.items)))) }
+        ensures err { OnErr result (self.new ≡ self.old) }
+    {
+        let was = self.table.len();
+        let steps = successors.len();
+        match self.table.append_new(self.limit, id, successors) {
+            Err(TableFault::Full) => Err(EnterFault::Full),
+            Err(TableFault::OutOfMemory) => Err(EnterFault::OutOfMemory),
+            Ok(()) => {
+                let entered = self.table.len() - was;
+                let met = steps - entered;
+                self.table.mark_expanded(id);
+                self.met += met;
+                Ok(Entered { entered, met })
+            }
+        }
+    }
+
+    /// Enters the steps of a taken entry, and marks it expanded: appends, in thread order, each state that is not in
+    /// the book yet, as an open entry. After a refusal the book is unchanged.
+    pub fn enter(&mut self, id: usize, expansion: Expansion<'_, M>) -> Result<Entered, EnterFault>
+        ensures entered { IfOk result (λ r. Enters (counted_as_one M.Loc.PartialEq.eq M.Mem.PartialEq.eq self.old.merge) self.old self.new id expansion.entry r.entered r.met) }
+        ensures refused { IfErr result (Refuses (counted_as_one M.Loc.PartialEq.eq M.Mem.PartialEq.eq self.old.merge) self.old id expansion.entry) }
+        ensures err { OnErr result (self.new ≡ self.old) }
+    {
+        match self.admits(id, &expansion) {
+            Err(fault) => Err(fault),
+            Ok(()) => self.put(id, expansion.into_successors()),
+        }
+    }
+
+    /// The lowest-numbered entry that is not sound.
+    pub fn first_fault(&self) -> Option<usize>
+        ensures { result ≡ position (λ e. not (is_sound e.finding)) self.now.entries }
+    {
+        self.table.first_fault()
+    }
+
+    /// What was found of an entry's state; none if there is no such entry.
+    pub fn finding_of(&self, id: usize) -> Option<&Finding>
+        ensures { option_copied result ≡ option_map (λ e. e.finding) (slice_get self.now.entries id) }
+    {
+        match self.table.row(id) {
+            Some(row) => Some(&row.finding),
+            None => None,
+        }
+    }
+
+    /// The threads on the way from entry 0 to an entry.
+    pub fn schedule_of(&self, alloc: Global, id: usize) -> Result<Vec<u8>, OutOfMemory>
+        requires { id < length self.now.entries }
+        ensures { IfOk result (λ c. (e : Entry (State M M.Mem M.Loc)) × At self.now.entries id e
+            × (after (machine_in M.rules self.now) c.items ≡ Some e.state) × (length c.items ≡ e.state.steps)) }
+    {
+        let mut schedule = Vec::new(alloc);
+        let mut at = id;
+        while let Some(origin) = self.table.origin(at) {
+            schedule.push(origin.thread)?;
+            at = origin.parent;
+        }
+        schedule.reverse();
+        Ok(schedule)
+    }
+
+    /// How many entries there are, and what became of the steps that were entered.
+    pub fn totals(&self) -> Totals
+        ensures totals { result ≡ totals_of self.now }
+        ensures marks { result.entries ≡ result.fresh + result.taken + result.expanded }
+        ensures entered { result.entries ≡ result.entered + 1 }
+    {
+        let entries = self.table.len();
+        Totals {
+            entries,
+            fresh: self.table.count_open(),
+            taken: self.table.count_taken(),
+            expanded: self.table.count_expanded(),
+            entered: entries - 1,
+            met: self.met,
+        }
+    }
+
+    /// The number of the first entry of more than so many steps, or the number of entries. Step counts never fall along the entries.
+    fn first_above(&self, steps: u64) -> usize
+        ensures below { (i : ℕ) (e : Entry (State M M.Mem M.Loc)) → At self.now.entries i e → i < result → e.state.steps ≤ steps }
+        ensures above { (i : ℕ) (e : Entry (State M M.Mem M.Loc)) → At self.now.entries i e → result ≤ i → steps < e.state.steps }
+        ensures within { result ≤ length self.now.entries }
+    {
+        let mut low = 0;
+        let mut high = self.table.len();
+        while low < high {
+            let middle = low + (high - low) / 2;
+            if steps_at(&self.table, middle) <= steps {
+                low = middle + 1;
+            } else {
+                high = middle;
+            }
+        }
+        low
+    }
+
+    /// How many entries have at most so many steps. Once all of fewer steps are expanded, so many states are reached by so many steps.
+    pub fn count_to(&self, steps: u64) -> usize
+        ensures value { result ≡ count_by (λ e. nat_le e.state.steps steps) self.now.entries }
+        ensures within { result ≤ length self.now.entries }
+        ensures count { IsExpandedBelow (machine_in M.rules self.now).steps self.now.entries steps
+            → IsCount (machine_in M.rules self.now) (counted_as_one M.Loc.PartialEq.eq M.Mem.PartialEq.eq self.now.merge) steps result }
+    {
+        self.law();
+        self.first_above(steps)
+    }
+
+    /// Whether an entry of at most so many steps is not expanded.
+    pub fn is_left_to(&self, steps: u64) -> bool
+        ensures left { result ≡ true → IsLeftTo (machine_in M.rules self.now).steps self.now.entries steps }
+        ensures none { result ≡ false → IsExpandedTo (machine_in M.rules self.now).steps self.now.entries steps }
+    {
+        match self.table.first_left() {
+            None => false,
+            Some(first) => steps_at(&self.table, first) <= steps,
+        }
+    }
+
+    /// The number of entries.
+    pub fn len(&self) -> usize
+        ensures { result ≡ length self.now.entries }
+    {
+        self.table.len()
+    }
+
+    /// The machine of the states.
+    pub fn machine(&self) -> M
+        ensures { result ≡ self.now.machine }
+    {
+        self.machine
+    }
+
+    /// The program of the states.
+    pub fn program(&self) -> &Program
+        ensures { result.now ≡ self.now.program }
+    {
+        &self.program
+    }
+
+    /// How many entries there may be.
+    pub fn limit(&self) -> usize
+        ensures { result ≡ self.now.limit }
+    {
+        self.limit
+    }
+
+    /// Which states count as one.
+    pub fn merge(&self) -> Merge
+        ensures { result ≡ self.now.merge }
+    {
+        self.merge
+    }
+}

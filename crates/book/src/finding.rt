@@ -1,0 +1,54 @@
+//! What is found of a state.
+ghost use Rattle.std.specs.Prelude.{◌≡◌, IfOk};
+ghost use Rattle.tree_machine.specs.Step.{Fits};
+ghost use Rattle.book.specs.Findings.{is_sound, IsFindingOf};
+
+use lin::judge;
+use sched_program::{OpId, OutOfMemory, Program};
+use std::alloc::Global;
+use tree_machine::{Machine, State};
+
+/// What was found of a state: the first of these that applies. All but `Sound` are faults.
+#[derive(Drop)]
+pub enum Finding {
+    /// A thread met what the machine's tables do not have.
+    Astray,
+    /// The memory does not keep search order.
+    Order,
+    /// The history has no linearization.
+    History,
+    /// No fault: a linearization of the history (Herlihy and Wing, TOPLAS 1990).
+    Sound(Vec<OpId>),
+}
+
+impl Finding {
+    /// Whether it is no fault.
+    pub fn is_sound(&self) -> bool
+        ensures { result ≡ is_sound self.now }
+    {
+        matches!(self, Finding::Sound(_))
+    }
+}
+
+/// The finding of a state, judged from nothing.
+pub(crate) fn find<M: Machine>(
+    alloc: Global,
+    machine: M,
+    program: &Program,
+    state: &State<M>,
+) -> Result<Finding, OutOfMemory>
+    requires { Fits (M.rules machine) program.now state.now }
+    ensures { IfOk result (IsFindingOf (M.rules machine) program.now state.now) }
+{
+    if state.astray().is_some() {
+        return Ok(Finding::Astray);
+    }
+    if !machine.ordered(state.memory()) {
+        return Ok(Finding::Order);
+    }
+    let history = state.history(alloc, program)?;
+    match judge(alloc, program, &history)? {
+        None => Ok(Finding::History),
+        Some(order) => Ok(Finding::Sound(order)),
+    }
+}

@@ -1,0 +1,19 @@
+//! The book of the states of a bounded exploration, each with the step that led to it and what was found of it,
+//! and the replay of a schedule.
+#![tactic(auto)]
+
+mod book;
+mod entry;
+mod expansion;
+mod finding;
+mod replayed;
+mod replaying;
+mod slots;
+mod table;
+
+pub use crate::book::{Book, EnterFault, Entered, Merge, Totals};
+pub use crate::entry::{Mark, Origin};
+pub use crate::expansion::{Expansion, Stepped};
+pub use crate::finding::Finding;
+pub use crate::replayed::{Replay, ReplayFault};
+pub use crate::replaying::replay;

@@ -1,0 +1,36 @@
+//! The replay of a schedule, without a book.
+ghost use Rattle.std.specs.Prelude.{◌≡◌, ◌+◌, ◌^◌, ◌<◌, ◌≤◌, length, IfOk, IfErr, Some, None, take};
+ghost use Rattle.tree_machine.specs.Step.{Fits};
+ghost use Rattle.book.specs.Schedule.{after};
+ghost use Rattle.book.specs.Findings.{machine_of, IsFindingOf};
+ghost use Rattle.book.specs.Replay.{StopsAt};
+
+use crate::finding::find;
+use crate::replayed::{Replay, ReplayFault};
+use sched_program::{OutOfMemory, Program};
+use std::alloc::Global;
+use tree_machine::{Machine, State, StepFault};
+
+/// The state after a schedule, with its finding. A refusal names the first step whose thread is not enabled.
+pub fn replay<M: Machine>(
+    alloc: Global,
+    machine: M,
+    program: &Program,
+    schedule: &[u8],
+) -> Result<Replay<M>, ReplayFault>
+    ensures state { IfOk result (λ r. after (machine_of (M.rules machine) program.now) schedule.now ≡ Some r.state) }
+    ensures finding { IfOk result (λ r. IsFindingOf (M.rules machine) program.now r.state r.finding) }
+    ensures fits { IfOk result (λ r. Fits (M.rules machine) program.now r.state) }
+    ensures not_enabled { IfErr result (StopsAt (machine_of {Machine = M} (M.rules machine) program.now) schedule.now) }
+{
+    let mut state = State::start(alloc, machine, program)?;
+    for (i, t) in schedule.iter().enumerate() {
+        state = match state.step(alloc, machine, program, *t) {
+            Ok(next) => next,
+            Err(StepFault::NotEnabled) => return Err(ReplayFault::NotEnabled(i + 1)),
+            Err(StepFault::OutOfMemory) => return Err(ReplayFault::OutOfMemory),
+        };
+    }
+    let finding = find(alloc, machine, program, &state)?;
+    Ok(Replay { state, finding })
+}

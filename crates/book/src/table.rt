@@ -1,0 +1,294 @@
+//! The entries by number and by state, and the places among them that are looked for again and again.
+ghost use Rattle.std.specs.Prelude.{◌≡◌, ℕ, ◌+◌, ◌^◌, ◌<◌, ◌≤◌, ◌++◌, ◌∷◌, [], count_by, length, map, not, position, true, OnOk, OnErr, IfOk, IfErr, IfSome, IfNone, Some, None, Option, slice_get, take};
+ghost use Rattle.indexmap.specs.IndexMap.{values};
+ghost use Rattle.book.specs.Entries.{Entry, At, IsTaken, is_open, is_taken, is_expanded, opened, states, unknown, with_mark};
+ghost use Rattle.book.specs.Findings.{is_sound};
+ghost use Rattle.book.specs.Slots.{entry_of, entries_of, IsFirstLeft};
+
+use crate::entry::{Mark, Origin, Row};
+use crate::expansion::Stepped;
+use crate::finding::Finding;
+use crate::slots::put_new;
+use indexmap::IndexMap;
+use std::alloc::{AllocError, Global};
+use std::hash::Hash;
+use std::marker::Model;
+use std::sync::Arc;
+
+/// Why rows were not put in.
+#[derive(Clone, Copy, PartialEq, Eq)]
+pub enum TableFault {
+    Full,
+    OutOfMemory,
+}
+
+/// The entries of a book: states, each with its row. The key of a row is the shared state itself.
+#[derive(Drop)]
+pub struct Table<S: Eq + Hash + Drop> {
+    slots: IndexMap<Arc<S>, Row>,
+    next_open: usize,
+    first_left: usize,
+    fault: Option<usize>,
+}
+
+impl<S: Eq + Hash + Drop> Model for Table<S> {
+    ghost use Rattle.std.specs.Prelude.{List};
+    ghost use Rattle.book.specs.Entries.{Entry};
+    ghost use Rattle.book.specs.Slots.{entries_of, AreCursors};
+
+    ghost Value = { List (Entry S) };
+
+    ghost view = { λ t. entries_of t.slots.entries };
+
+    ghost invariant = { λ t. AreCursors (entries_of t.slots.entries) t.next_open t.first_left t.fault };
+}
+
+/// Marks the row at an index.
+fn mark_at<S: Eq + Hash>(slots: &mut IndexMap<Arc<S>, Row>, index: usize, mark: Mark)
+    ensures { entries_of slots.new.entries ≡ with_mark (entries_of slots.old.entries) index mark }
+{
+    if let Some(row) = slots.get_index_mut(index) {
+        row.mark = mark;
+    }
+}
+
+/// Puts in, in their order, open rows for the steps that lead to new states.
+fn put_steps<S: Eq + Hash + Drop>(
+    slots: &mut IndexMap<Arc<S>, Row>,
+    parent: usize,
+    successors: Vec<Stepped<S>>,
+) -> Result<(), AllocError>
+    ensures put { OnOk result (entries_of slots.new.entries ≡ entries_of slots.old.entries ++ map (opened parent) (unknown S.eq (states (entries_of slots.old.entries)) successors.items)) }
+    ensures kept { take (length slots.old.entries) slots.new.entries ≡ slots.old.entries }
+{
+    for step in successors {
+        let (thread, state, finding) = step.into_parts();
+        let row = Row {
+            finding,
+            origin: Some(Origin { parent, thread }),
+            mark: Mark::Open,
+        };
+        put_new(slots, state, row)?;
+    }
+    Ok(())
+}
+
+/// The row at an index.
+fn row_at<S: Eq + Hash>(slots: &IndexMap<Arc<S>, Row>, index: usize) -> &Row
+    requires { index < length slots.now.entries }
+    ensures { (e : Entry S) × At (entries_of slots.now.entries) index e × (e.finding ≡ result.now.finding) × (e.origin ≡ result.now.origin) × (e.mark ≡ result.now.mark) }
+{
+    let Some((_, row)) = slots.get_index(index) else {
+        unreachable!();
+    };
+    row
+}
+
+/// The first row that is not sound, where all before `start` are.
+fn first_fault_from<S: Eq + Hash>(slots: &IndexMap<Arc<S>, Row>, start: usize) -> Option<usize>
+    requires { (i : ℕ) (e : Entry S) → At (entries_of slots.now.entries) i e → i < start → is_sound e.finding ≡ true }
+    ensures { result ≡ position (λ e. not (is_sound e.finding)) (entries_of slots.now.entries) }
+{
+    for index in start..slots.len() {
+        if !row_at(slots, index).is_sound() {
+            return Some(index);
+        }
+    }
+    None
+}
+
+/// The first row that is not expanded, where all before `start` are, or the number of rows.
+fn first_left_from<S: Eq + Hash>(slots: &IndexMap<Arc<S>, Row>, start: usize) -> usize
+    requires before { (i : ℕ) (e : Entry S) → At (entries_of slots.now.entries) i e → i < start → e.mark ≡ Mark.Expanded }
+    requires within { start ≤ length slots.now.entries }
+    ensures { IsFirstLeft (entries_of slots.now.entries) result }
+{
+    for index in start..slots.len() {
+        if !row_at(slots, index).is_expanded() {
+            return index;
+        }
+    }
+    slots.len()
+}
+
+/// The number of open rows.
+fn open_rows<S: Eq + Hash>(slots: &IndexMap<Arc<S>, Row>) -> usize
+    ensures { result ≡ count_by (λ row. is_open row.mark) (values slots.now) }
+{
+    slots.values().filter(|row| row.is_open()).count()
+}
+
+/// The number of taken rows.
+fn taken_rows<S: Eq + Hash>(slots: &IndexMap<Arc<S>, Row>) -> usize
+    ensures { result ≡ count_by (λ row. is_taken row.mark) (values slots.now) }
+{
+    slots.values().filter(|row| row.is_taken()).count()
+}
+
+/// The number of expanded rows.
+fn expanded_rows<S: Eq + Hash>(slots: &IndexMap<Arc<S>, Row>) -> usize
+    ensures { result ≡ count_by (λ row. is_expanded row.mark) (values slots.now) }
+{
+    slots.values().filter(|row| row.is_expanded()).count()
+}
+
+impl<S: Eq + Hash + Drop> Table<S> {
+    /// A table with one open entry, which has no parent.
+    pub fn new(alloc: Global, state: Arc<S>, finding: Finding) -> Result<Table<S>, AllocError>
+        ensures { IfOk result (λ t. t ≡ record { state = state.value; finding = finding; origin = None; mark = Mark.Open } ∷ []) }
+    {
+        let fault = if finding.is_sound() { None } else { Some(0) };
+        let row = Row {
+            finding,
+            origin: None,
+            mark: Mark::Open,
+        };
+        let mut slots = IndexMap::new(alloc);
+        put_new(&mut slots, state, row)?;
+        Ok(Table {
+            slots,
+            next_open: 0,
+            first_left: 0,
+            fault,
+        })
+    }
+
+    /// The number of entries.
+    pub fn len(&self) -> usize
+        ensures { result ≡ length self.now }
+    {
+        self.slots.len()
+    }
+
+    /// The row of an entry.
+    pub fn row(&self, index: usize) -> Option<&Row>
+        ensures some { IfSome result (λ row. (e : Entry S) × At self.now index e × (e.finding ≡ row.now.finding) × (e.origin ≡ row.now.origin) × (e.mark ≡ row.now.mark)) }
+        ensures none { IfNone result (slice_get self.now index ≡ None) }
+    {
+        if index < self.slots.len() {
+            Some(row_at(&self.slots, index))
+        } else {
+            None
+        }
+    }
+
+    /// The shared state of an entry.
+    pub fn state(&self, index: usize) -> &Arc<S>
+        requires { index < length self.now }
+        ensures { (e : Entry S) × At self.now index e × (e.state ≡ result.now.value) }
+    {
+        let Some((state, _)) = self.slots.get_index(index) else {
+            unreachable!();
+        };
+        state
+    }
+
+    /// The first open entry.
+    pub fn first_open(&self) -> Option<usize>
+        ensures { result ≡ position (λ e. is_open e.mark) self.now }
+    {
+        if self.next_open < self.slots.len() {
+            Some(self.next_open)
+        } else {
+            None
+        }
+    }
+
+    /// The first entry that is not expanded.
+    pub fn first_left(&self) -> Option<usize>
+        ensures { result ≡ position (λ e. not (is_expanded e.mark)) self.now }
+    {
+        if self.first_left < self.slots.len() {
+            Some(self.first_left)
+        } else {
+            None
+        }
+    }
+
+    /// The first entry that is not sound.
+    pub fn first_fault(&self) -> Option<usize>
+        ensures { result ≡ position (λ e. not (is_sound e.finding)) self.now }
+    {
+        self.fault
+    }
+
+    /// Marks the first open entry taken.
+    pub fn mark_taken(&mut self, index: usize)
+        requires first { position (λ e. is_open e.mark) self.old ≡ Some index }
+        requires few { length self.old < 2 ^ 63 }
+        ensures { self.new ≡ with_mark self.old index Mark.Taken }
+    {
+        mark_at(&mut self.slots, index, Mark::Taken);
+        self.next_open = index + 1;
+    }
+
+    /// Marks a taken entry expanded.
+    pub fn mark_expanded(&mut self, index: usize)
+        requires { IsTaken self.old index }
+        ensures { self.new ≡ with_mark self.old index Mark.Expanded }
+    {
+        mark_at(&mut self.slots, index, Mark::Expanded);
+        self.first_left = first_left_from(&self.slots, self.first_left);
+    }
+
+    /// Appends, in their order, open entries for the steps that lead to new states, or, if they have no room or
+    /// memory is refused, none.
+    pub fn append_new(
+        &mut self,
+        limit: usize,
+        parent: usize,
+        successors: Vec<Stepped<S>>,
+    ) -> Result<(), TableFault>
+        requires { length self.old ≤ limit }
+        ensures put { OnOk result (self.new ≡ self.old ++ map (opened parent) (unknown S.eq (states self.old) successors.items)) }
+        ensures full { IfErr result (λ fault. fault ≡ TableFault.Full → limit < length self.old + length (unknown S.eq (states self.old) successors.items)) }
+        ensures room { OnOk result (length self.new ≤ limit) }
+        ensures err { OnErr result (self.new ≡ self.old) }
+    {
+        let was = self.slots.len();
+        let Ok(()) = put_steps(&mut self.slots, parent, successors) else {
+            self.slots.truncate(was);
+            return Err(TableFault::OutOfMemory);
+        };
+        if self.slots.len() > limit {
+            self.slots.truncate(was);
+            return Err(TableFault::Full);
+        }
+        match self.fault {
+            Some(_) => Ok(()),
+            None => {
+                self.fault = first_fault_from(&self.slots, was);
+                Ok(())
+            }
+        }
+    }
+
+    /// The step that an entry is.
+    pub fn origin(&self, index: usize) -> Option<Origin>
+        requires { index < length self.now }
+        ensures { (e : Entry S) × At self.now index e × (e.origin ≡ result) }
+    {
+        row_at(&self.slots, index).origin
+    }
+
+    /// The number of open entries.
+    pub fn count_open(&self) -> usize
+        ensures { result ≡ count_by (λ e. is_open e.mark) self.now }
+    {
+        open_rows(&self.slots)
+    }
+
+    /// The number of taken entries.
+    pub fn count_taken(&self) -> usize
+        ensures { result ≡ count_by (λ e. is_taken e.mark) self.now }
+    {
+        taken_rows(&self.slots)
+    }
+
+    /// The number of expanded entries.
+    pub fn count_expanded(&self) -> usize
+        ensures { result ≡ count_by (λ e. is_expanded e.mark) self.now }
+    {
+        expanded_rows(&self.slots)
+    }
+}
