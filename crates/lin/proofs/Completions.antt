@@ -1,6 +1,7 @@
 -- A list is a linearization exactly if it completes one from nothing.
-use Rattle.std.proofs.Common.{◌≡◌, ◌≢◌, ℕ, zero, suc, ◌+◌, ◌<◌, ◌≤◌, ◌||◌, ◌⊎◌, inl, inr, Bool, true, false, true≢false, List, [], ◌∷◌, length, get_or, take, drop, Some, IsSome, IfSome, All, AllPairs, Contains, slice_get, refl, sym, ◌∙◌, ap, arith, subst, subst₂, ◌↔◌}
+use Rattle.std.proofs.Common.{◌≡◌, ◌≢◌, ℕ, zero, suc, ◌+◌, ◌<◌, ◌≤◌, ◌⊎◌, inl, inr, true, false, true≢false, List, [], ◌∷◌, length, get_or, take, drop, Some, IsSome, IfSome, All, AllPairs, Contains, slice_get, refl, sym, ◌∙◌, ap, arith, subst, subst₂, ◌↔◌}
 use mathlib.Core.Path.{fun_ext}
+use Rattle.std.proofs.lemmas.Bool.{or_cases, or_parts, or_from, or_left, or_right, false_from_ne_true}
 use Rattle.std.proofs.lemmas.List.Elements.{All-head, All-tail, All-cons}
 use Rattle.std.proofs.lemmas.List.{drop_more, take_all, drop_all}
 use Rattle.std.proofs.lemmas.List.Folds.{list_any_more}
@@ -16,30 +17,6 @@ use Rattle.lin.specs.Linearization.{GivesReplies, IsLinearization}
 use Rattle.lin.specs.Completion.{Listed, listed_in, with_name, StandsNext, Completes, EveryFinishedIsListed}
 use Rattle.lin.proofs.Names.{same_name_self, same_name-is}
 use Rattle.lin.proofs.Lists.{IsSomeAnd-value, IsSomeAnd-of, Contains-head, Contains-tail, Contains-cases, not-Contains-nil, slice_get-Contains, Contains-slice_get, AllPairs-tail, AllPairs-first, AllPairs-cons}
-
-either : (a b : Bool) → (a || b) ≡ true → (a ≡ true) ⊎ (b ≡ true)
-either true b h = inl refl
-either false b h = inr h
-
-or_left : (a b : Bool) → a ≡ true → (a || b) ≡ true
-or_left true b h = refl
-or_left false b h = absurd cc
-
-or_right : (a b : Bool) → b ≡ true → (a || b) ≡ true
-or_right true b h = refl
-or_right false b h = h
-
-or_false : (a b : Bool) → a ≡ false → b ≡ false → (a || b) ≡ false
-or_false true b h k = absurd cc
-or_false false b h k = k
-
-not_either : (a b : Bool) → (a || b) ≡ false → (a ≡ false) × (b ≡ false)
-not_either true b h = absurd cc
-not_either false b h = (refl, h)
-
-is_false : (b : Bool) → (b ≡ true → ⊥) → b ≡ false
-is_false true h = absurd (h refl)
-is_false false h = refl
 
 -- the facts of a linearization, of a list that follows a set of operations
 pub record IsLinearizationAfter (program : Program) (history : History) (listed : Listed) (keys : Keys) (rest : List OpId) : Type 0 where
@@ -57,7 +34,7 @@ module _ (program : Program) (history : History) where
   stands listed keys x xs o is gives l = record {
     begun = All-head (IsBegun history) x xs l.begun;
     new = l.new x (Contains-head x xs);
-    in_time = λ b among ended. elim (either (listed b) (same_name x b) among) [
+    in_time = λ b among ended. elim (or_cases (listed b) (same_name x b) among) [
       | inl earlier ↦ l.after x b (Contains-head x xs) earlier ended
       | inr same ↦ not_itself (subst (EndedBefore history x) (sym (same_name-is x b same)) ended)
     ];
@@ -72,8 +49,8 @@ module _ (program : Program) (history : History) where
   rest_of listed keys next x xs gives l = record {
     begun = All-tail (IsBegun history) x xs l.begun;
     distinct = AllPairs-tail (λ a b. a ≢ b) x xs l.distinct;
-    new = λ a among. or_false (listed a) (same_name x a) (l.new a (Contains-tail x xs a among))
-        (is_false (same_name x a) (λ same. AllPairs-first (λ a b. a ≢ b) x xs l.distinct a among (same_name-is x a same)));
+    new = λ a among. or_from (listed a) (same_name x a) (l.new a (Contains-tail x xs a among))
+        (false_from_ne_true (same_name x a) (λ same. AllPairs-first (λ a b. a ≢ b) x xs l.distinct a among (same_name-is x a same)));
     complete = λ a finished. elim (l.complete a finished) [
       | inl earlier ↦ inl (or_left (listed a) (same_name x a) earlier)
       | inr among ↦ elim (Contains-cases x xs a among) [
@@ -82,7 +59,7 @@ module _ (program : Program) (history : History) where
       ]
     ];
     in_time = λ i j a b at_i at_j ended. let below : suc i < suc j = l.in_time (suc i) (suc j) a b at_i at_j ended in omega arith;
-    after = λ a b among earlier ended. elim (either (listed b) (same_name x b) earlier) [
+    after = λ a b among earlier ended. elim (or_cases (listed b) (same_name x b) earlier) [
       | inl before ↦ l.after a b (Contains-tail x xs a among) before ended
       | inr same ↦ not_before a (slice_get-Contains xs a among) (subst (EndedBefore history a) (sym (same_name-is x b same)) ended)
     ];
@@ -118,10 +95,10 @@ module _ (program : Program) (history : History) where
         distinct = AllPairs-cons (λ a b. a ≢ b) x xs different l.distinct;
         new = λ a among. elim (Contains-cases x xs a among) [
           | inl same ↦ subst (λ b. listed b ≡ false) same s.new
-          | inr later ↦ (not_either (listed a) (same_name x a) (l.new a later)).0
+          | inr later ↦ (or_parts (listed a) (same_name x a) (l.new a later)).0
         ];
         complete = λ a finished. elim (l.complete a finished) [
-          | inl earlier ↦ elim (either (listed a) (same_name x a) earlier) [
+          | inl earlier ↦ elim (or_cases (listed a) (same_name x a) earlier) [
             | inl before ↦ inl before
             | inr same ↦ inr (subst (Contains (x ∷ xs)) (same_name-is x a same) (Contains-head x xs))
           ]
@@ -140,7 +117,7 @@ module _ (program : Program) (history : History) where
 
           different : (y : OpId) → Contains xs y → x ≢ y
           different y among same =
-              let other = (not_either (listed y) (same_name x y) (l.new y among)).1 in
+              let other = (or_parts (listed y) (same_name x y) (l.new y among)).1 in
               let equal : same_name x y ≡ true = subst (λ b. same_name x b ≡ true) same (same_name_self x) in
               true≢false (sym equal ∙ other)
 

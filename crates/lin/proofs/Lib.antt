@@ -1,7 +1,10 @@
 pub mod Names
 pub mod Lists
 pub mod Bits
+pub mod OpBits
 pub mod Completions
 pub mod Extensions
 pub mod Search
 pub mod Configurations
+pub mod Timelines
+pub mod Steps

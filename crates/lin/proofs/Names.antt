@@ -1,19 +1,16 @@
 -- Names of operations, and the values beside them.
-use Rattle.std.proofs.Common.{◌≡◌, ℕ, zero, suc, ◌+◌, ◌<◌, ◌≤◌, ◌&&◌, ◌⊎◌, inl, inr, Bool, true, false, cond, List, [], ◌∷◌, ◌++◌, length, get_or, take, Option, Some, None, IsSome, refl, sym, ◌∙◌, ap₂, eqb, eqb-true, eq-eqb, arith, subst}
+use Rattle.std.proofs.Common.{◌≡◌, ℕ, zero, suc, ◌+◌, ◌<◌, ◌≤◌, ◌⊎◌, inl, inr, Bool, true, false, cond, List, [], ◌∷◌, ◌++◌, length, get_or, take, Option, Some, None, IsSome, refl, sym, ◌∙◌, ap₂, eqb, eqb-true, eq-eqb, arith, subst}
+use Rattle.std.proofs.lemmas.Bool.{and_parts}
 use Rattle.std.proofs.lemmas.List.{take_more, take_all}
 use Rattle.sched_program.specs.declared.operation.OpId.{OpId}
 use Rattle.sched_program.specs.Name.{same_name, value_at}
-
-both : (a b : Bool) → (a && b) ≡ true → (a ≡ true) × (b ≡ true)
-both true b h = (refl, h)
-both false b h = cc
 
 pub same_name_self : (a : OpId) → same_name a a ≡ true
 same_name_self a = rw (eq-eqb a.thread a.thread refl, eq-eqb a.index a.index refl)
 
 pub same_name-is : (a b : OpId) → same_name a b ≡ true → a ≡ b
 same_name-is a b h =
-    let parts = both (eqb a.thread b.thread) (eqb a.index b.index) h in
+    let parts = and_parts (eqb a.thread b.thread) (eqb a.index b.index) h in
     let threads : a.thread ≡ b.thread = eqb-true a.thread b.thread parts.0 in
     let indices : a.index ≡ b.index = eqb-true a.index b.index parts.1 in
     let make : ℕ → ℕ → OpId = λ t i. record { thread = t; index = i } in

@@ -1,5 +1,6 @@
 -- What a search place by place knows of the operations that it tried.
 use Rattle.std.proofs.Common.{◌≡◌, ℕ, ◌+◌, ◌<◌, ◌≤◌, ◌||◌, inl, inr, Bool, true, false, cond, true≢false, List, [], ◌∷◌, ◌++◌, length, get_or, take, Option, Some, None, IsSome, MatchOption, refl, sym, ◌∙◌, ap, arith, subst, subst₂, append_assoc}
+use Rattle.std.proofs.lemmas.Bool.{or_right}
 use mathlib.Core.Path.{fun_ext}
 use Rattle.std.specs.Option.{option_to_list}
 use Rattle.std.proofs.lemmas.List.{length_push, same_from_push}
@@ -116,12 +117,8 @@ module _ (program : Program) (history : History) where
       let l = completes_linearization_after program history (with_name listed a) c.0 rest c.2 in
       elim (l.complete w.0 w.1) [
         | inl earlier ↦ true≢false (sym earlier ∙ w.2.0)
-        | inr later ↦ l.after w.0 a later (or_true (listed a) (same_name_self a)) w.2.1
+        | inr later ↦ l.after w.0 a later (or_right (listed a) (same_name a a) (same_name_self a)) w.2.1
       ]
-    where
-      or_true : (b : Bool) → same_name a a ≡ true → (b || same_name a a) ≡ true
-      or_true true h = refl
-      or_true false h = h
 
   -- where each begun operation was tried, nothing completes
   pub nothing_left : (listed : Listed) (keys : Keys) → (EveryFinishedIsListed history listed → ⊥)
@@ -147,6 +144,6 @@ module _ (program : Program) (history : History) where
   -- and where nothing completes it there is none
   pub none_linearization : (empty : List OpId) (keys : Keys) → empty ≡ [] → keys ≡ keys_of program.initial
       → IsHopeless program history (listed_in empty) keys → (order : List OpId) → IsLinearization program history order → ⊥
-  none_linearization empty keys e k none order lawful =
+  none_linearization empty keys e k none order linearization =
       let H : List OpId → Keys → Type 0 = λ o s. IsHopeless program history (listed_in o) s in
-      subst₂ H e k none order (IsLinearization-completes program history order lawful)
+      subst₂ H e k none order (IsLinearization-completes program history order linearization)

@@ -1,7 +1,7 @@
 use Rattle.lin.specs.Completion.{IsHopeless}
 use Rattle.lin.specs.KeySet.{keys_in}
 use Rattle.lin.specs.OpSet.{operations_in}
-use Rattle.lin.specs.declared.configuration.Configuration.{Configuration}
+use Rattle.lin.specs.declared.progress.Configuration.{Configuration}
 use Rattle.sched_program.specs.Program.{Program}
 use Rattle.sched_program.specs.History.{History}
 

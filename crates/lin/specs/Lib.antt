@@ -4,3 +4,5 @@ pub mod Linearization
 pub mod Completion
 pub mod OpSet
 pub mod Configuration
+pub mod Timeline
+pub mod Progress

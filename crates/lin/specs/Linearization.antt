@@ -6,14 +6,14 @@ use Rattle.sched_program.specs.declared.operation.OpId.{OpId}
 use Rattle.sched_program.specs.Program.{Program}
 use Rattle.sched_program.specs.History.{History}
 
--- run one after the other from a set of keys, each operation that is finished gives its reply
+-- Run one after the other from a set of keys, the operations that are finished give their replies.
 abbrev pub GivesReplies : Program → History → Keys → List OpId → Type 0
 GivesReplies program history keys [] = Unit {0}
 GivesReplies program history keys (a ∷ rest) =
     IsSomeAnd (op_at program a.thread a.index) (λ o.
     IfSome (reply history a) (λ r. r ≡ reply_on o keys) × GivesReplies program history (keys_after o keys) rest)
 
--- a linearization of the operations of a history
+-- an order of operations that explains a history
 pub record IsLinearization (program : Program) (history : History) (order : List OpId) : Type 0 where
   -- it lists distinct operations that began ..
   pub begun : All (IsBegun history) order

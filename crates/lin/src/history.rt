@@ -5,6 +5,7 @@ ghost use Rattle.sched_program.specs.History.{reply, IsBegun, EndedBefore};
 
 use sched_program::{History, OpId};
 
+/// Whether an operation began.
 pub fn is_begun(history: &History, name: OpId) -> bool
     ensures { IsTrue result ↔ IsBegun history.now name }
 {

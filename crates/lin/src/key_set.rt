@@ -1,4 +1,4 @@
-//! A set of keys.
+//! Sets of keys.
 
 ghost use Rattle.std.specs.Prelude.{◌≡◌, ◌<◌, All};
 ghost use Rattle.sched_program.specs.Program.{key_of};
@@ -15,12 +15,14 @@ pub struct KeySet {
 impl KeySet {
     ghost use Rattle.lin.specs.KeySet.{keys_in};
 
+    /// No key.
     pub fn empty() -> Self
         ensures { keys_in result ≡ no_keys }
     {
         KeySet { bits: 0 }
     }
 
+    /// Whether the key is in this set.
     pub fn contains(&self, key: u8) -> bool
         requires { key < 128 }
         ensures { result ≡ keys_in self.now key }

@@ -1,18 +1,25 @@
 //! Judging histories: is there a linearization of the operations, and which one?
+//!
+//! A linearization is an order of operations that explains their replies and keeps to real time (Herlihy and Wing,
+//! "Linearizability: a correctness condition for concurrent objects", TOPLAS 1990). `check_order` decides whether a
+//! list is one, and `judge` searches for one.
 #![tactic(auto)]
 
-mod configuration;
 mod history;
 mod key_set;
+mod op_set;
 mod order;
+#[cfg(test)]
 mod place;
 #[cfg(test)]
 mod plain;
+mod progress;
 #[cfg(test)]
 mod pruned;
 mod searcher;
 #[cfg(test)]
 mod tests;
+mod timeline;
 
 pub use order::check_order;
 pub use searcher::{judge, judge_counted};

@@ -1,4 +1,4 @@
-//! Linearizations.
+//! The definition of a linearization, decided for a given list.
 
 ghost use Rattle.std.specs.Prelude.{◌≡◌, ◌↔◌, IsTrue, true, MatchBool, MatchOption};
 ghost use Rattle.sched_program.specs.Program.{IsWithinLimits};
@@ -12,7 +12,7 @@ use crate::history::{ended_before, is_begun, reply_of};
 use crate::key_set::KeySet;
 use sched_program::{History, OpId, Program};
 
-/// Whether the list is a linearization.
+/// Whether the list is a linearization of the history. It takes no memory, and any list may be asked about.
 pub fn check_order(program: &Program, history: &History, order: &[OpId]) -> bool
     ensures { IsTrue result ↔ IsLinearization program.now history.now order.now }
 {

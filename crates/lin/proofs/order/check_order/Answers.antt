@@ -7,8 +7,8 @@ returns-in-None c =
     let history = c.args.history.now in
     let order = c.args.order.now in (
       λ h. absurd cc,
-      λ lawful. absurd (Completes-stuck program history order c.loop-i.i _ c.loop-i-test.true _ c.in-None.ensures
-          (c.loop-i.invariant.0 (IsLinearization-completes program history order lawful))),
+      λ linearization. absurd (Completes-stuck program history order c.loop-i.i _ c.loop-i-test.true _ c.in-None.ensures
+          (c.loop-i.invariant.0 (IsLinearization-completes program history order linearization))),
     )
 
 pub loop-i-preserved : goal.loop-i-preserved
@@ -22,4 +22,4 @@ returns c =
     let order = c.args.order.now in
     let ends = Completes-end program history order c.loop-i.i c.loop-i-test.false _ _ c.loop-i.invariant in
     let told = c.lists_every_finished.ensures in
-    (λ yes. Completes-linearization program history order (ends.1 (told.0 yes)), λ lawful. told.1 (ends.0 (IsLinearization-completes program history order lawful)))
+    (λ yes. Completes-linearization program history order (ends.1 (told.0 yes)), λ linearization. told.1 (ends.0 (IsLinearization-completes program history order linearization)))

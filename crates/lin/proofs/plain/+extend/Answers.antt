@@ -51,6 +51,6 @@ returns t c =
     let Fails : OpId → Type 0 = λ a. (rest : List OpId) → IsLinearization program history (old ++ a ∷ rest) → ⊥ in (
       c.loop-name.invariant.same,
       none_longer program history old
-          (λ lawful. true≢false (sym (c.check_order.ensures.1 (subst (IsLinearization program history) (sym c.deref.ensures.value) lawful)) ∙ c.if-check_order.false))
+          (λ linearization. true≢false (sym (c.check_order.ensures.1 (subst (IsLinearization program history) (sym c.deref.ensures.value) linearization)) ∙ c.if-check_order.false))
           (each_all Fails c.begun-name-items.result.now history.begun c.loop-name.name-index c.begun-name-items.ensures.value c.loop-name-test.false c.loop-name.invariant.tried),
     )

@@ -1,20 +1,13 @@
 use Rattle.std.proofs.Common.{◌≡◌, ◌≢◌, ℕ, ◌+◌, ◌*◌, ◌^◌, ◌%◌, ◌<◌, ◌&&◌, ◌||◌, Bool, true, false, eqb, ltb, lt-ltb, eq-eqb, w32, refl, sym, ◌∙◌, ap, ap₂, subst, arith, true≢false, ltb-true}
 use mathlib.Core.Path.{fun_ext}
+use Rattle.std.proofs.Math.Bool.{or-true, or-false}
 use Rattle.std.specs.Int.{bit_at}
 use Rattle.std.specs.Int.RustNames.{bit_or}
 use Rattle.std.proofs.lemmas.Nat.Bits.{bit_at_set_same, bit_at_set_other}
 use Rattle.sched_program.specs.declared.operation.OpId.{OpId}
 use Rattle.sched_program.specs.Name.{same_name}
 use Rattle.lin.proofs.Names.{same_name-is}
-use Rattle.lin.proofs.configuration.OpSet.with.Goals as goal
-
-or_false : (x : Bool) → x ≡ (x || false)
-or_false true = refl
-or_false false = refl
-
-or_true : (x : Bool) → true ≡ (x || true)
-or_true true = refl
-or_true false = refl
+use Rattle.lin.proofs.op_set.OpSet.with.Goals as goal
 
 module _ (bits : ℕ) (a : OpId) (few : a.thread < 4) (short : a.index < 8) where
   abbrev set : ℕ
@@ -39,9 +32,9 @@ module _ (bits : ℕ) (a : OpId) (few : a.thread < 4) (short : a.index < 8) wher
       let is : a ≡ b = same_name-is a b e in
       let below : l ≡ true = sym h ∙ ap (λ c. ltb c.index 8) (sym is) ∙ lt-ltb a.index 8 short in
       let here : eqb (bit_at set (8 * b.thread + b.index)) 1 ≡ true = subst (λ c. eqb (bit_at set (8 * c.thread + c.index)) 1 ≡ true) is (eq-eqb _ _ at_same) in
-      ap₂ ◌&&◌ below here ∙ or_true _
+      ap₂ ◌&&◌ below here ∙ sym (or-true _)
   cases b false true e h =
-      ap (λ n. eqb n 1) (at_other (8 * b.thread + b.index) (other b e (ltb-true b.index 8 h))) ∙ or_false _
+      ap (λ n. eqb n 1) (at_other (8 * b.thread + b.index) (other b e (ltb-true b.index 8 h))) ∙ sym (or-false _)
   cases b false false e h = refl
 
   with_bit : (b : OpId) → (ltb b.index 8 && eqb (bit_at set (8 * b.thread + b.index)) 1) ≡ ((ltb b.index 8 && eqb (bit_at bits (8 * b.thread + b.index)) 1) || same_name a b)
