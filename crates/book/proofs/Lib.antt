@@ -13,3 +13,4 @@ mod Expanding
 mod SlotLemmas
 mod Cursors
 pub mod Machines
+mod Loans

@@ -1,21 +1,23 @@
 -- What is found of a state.
-use Rattle.std.specs.Prelude.{◌≡◌, Bool, true, false, None, IsSome, length}
+use Rattle.std.specs.Prelude.{◌≡◌, Bool, true, false, Option, Some, None, IsSome, length, Vec}
+use Rattle.sched_program.specs.History.{History}
 use Rattle.sched_program.specs.Program.{Program}
+use Rattle.sched_program.specs.declared.operation.OpId.{OpId}
 use Rattle.tree_machine.specs.Rules.{Rules}
 use Rattle.tree_machine.specs.Step.{start, step, Fits}
 use Rattle.tree_machine.specs.History.{history_of}
 use Rattle.tree_machine.specs.declared.state.State.{State}
 use Rattle.lin.specs.Linearization.{IsLinearization, IsLinearizable}
 use Rattle.book.specs.declared.finding.Finding.{Finding}
-use Rattle.book.specs.declared.finding.Finding.TheVariants.{Astray, Order, History, Sound}
+use Rattle.book.specs.declared.finding.Finding.TheVariants as found
 use Rattle.book.specs.Schedule.{StepMachine}
 
 -- every finding but `Sound` is a fault
 abbrev pub is_sound : Finding → Bool
-is_sound Astray = false
-is_sound Order = false
-is_sound History = false
-is_sound (Sound order) = true
+is_sound found.Astray = false
+is_sound found.Order = false
+is_sound found.History = false
+is_sound (found.Sound order) = true
 
 -- some finding that is right shows the state sound
 abbrev pub IsSound : {S : Type 0} → (S → Finding → Type 0) → S → Type 0
@@ -36,9 +38,15 @@ module _ {Machine Memory Place : Type 0} (rules : Rules Memory Place) (program :
   -- The finding of a state is the first that applies: it is astray; its memory does not keep search order;
   -- its history has no linearization; else it is sound, with a linearization.
   abbrev pub IsFindingOf : State Machine Memory Place → Finding → Type 0
-  IsFindingOf state Astray = IsSome state.astray
-  IsFindingOf state Order = (state.astray ≡ None) × (rules.IsOrdered state.memory → ⊥)
-  IsFindingOf state History =
+  IsFindingOf state found.Astray = IsSome state.astray
+  IsFindingOf state found.Order = (state.astray ≡ None) × (rules.IsOrdered state.memory → ⊥)
+  IsFindingOf state found.History =
       (state.astray ≡ None) × rules.IsOrdered state.memory × (IsLinearizable program (history_of state) → ⊥)
-  IsFindingOf state (Sound order) =
+  IsFindingOf state (found.Sound order) =
       (state.astray ≡ None) × rules.IsOrdered state.memory × IsLinearization program (history_of state) order.items
+
+-- what was sought of a history: where a list was found, it is a linearization
+abbrev pub IsLoan : {A : Type 0} → Program → History → Option (Option (Vec OpId A)) → Type 0
+IsLoan program history None = Unit {0}
+IsLoan program history (Some None) = Unit {0}
+IsLoan program history (Some (Some order)) = IsLinearization program history order.items

@@ -2,9 +2,11 @@
 ghost use Rattle.std.specs.Prelude.{◌≡◌, ℕ, ◌+◌, ◌^◌, ◌<◌, ◌↔◌, length, IsTrue, IfOk, IfSome, IfNone, Some, None};
 ghost use Rattle.tree_machine.specs.Step.{Fits, step};
 ghost use Rattle.book.specs.Books.{HoldsSteps};
-ghost use Rattle.book.specs.Findings.{IsFindingOf};
+ghost use Rattle.tree_machine.specs.History.{history_of};
+ghost use Rattle.book.specs.Findings.{IsFindingOf, IsLoan};
 
-use crate::finding::{Finding, find};
+use crate::finding::Finding;
+use crate::lending::{Loan, find_after};
 use sched_program::{Exact, OutOfMemory, Program, same};
 use std::alloc::Global;
 use std::marker::Model;
@@ -63,9 +65,12 @@ fn step_of<M: Machine>(
     program: &Program,
     source: &State<M>,
     thread: u8,
+    loan: &mut Loan,
 ) -> Result<Option<Stepped<State<M>>>, OutOfMemory>
     requires fits { Fits (M.rules machine) program.now source.now }
     requires room { source.now.steps + 1 < 2 ^ 64 }
+    requires loan { IsLoan program.now (history_of source.now) loan.old }
+    ensures loan { IfOk result (λ _. IsLoan program.now (history_of source.now) loan.new) }
     ensures thread { IfOk result (λ o. IfSome o (λ x. x.thread ≡ thread)) }
     ensures step { IfOk result (λ o. IfSome o (λ x. step (M.rules machine) program.now source.now thread ≡ Some x.state)) }
     ensures finding { IfOk result (λ o. IfSome o (λ x. IsFindingOf (M.rules machine) program.now x.state x.finding)) }
@@ -77,7 +82,7 @@ fn step_of<M: Machine>(
         Err(StepFault::NotEnabled) => return Ok(None),
         Err(StepFault::OutOfMemory) => return Err(OutOfMemory),
     };
-    let finding = find(alloc, machine, program, &next)?;
+    let finding = find_after(alloc, machine, program, source, &next, thread, loan)?;
     let state = Arc::new(alloc, next)?;
     Ok(Some(Stepped {
         thread,
@@ -121,9 +126,10 @@ impl<'a, M: Machine> Expansion<'a, M> {
         ensures program { IfOk result (λ x. x.program ≡ program.now) }
         ensures source { IfOk result (λ x. x.source ≡ state.now) }
     {
+        let mut loan = None;
         let mut successors = Vec::new(alloc);
         for thread in 0..program.threads().len() as u8 {
-            if let Some(next) = step_of(alloc, machine, program, state, thread)? {
+            if let Some(next) = step_of(alloc, machine, program, state, thread, &mut loan)? {
                 successors.push(next)?;
             }
         }

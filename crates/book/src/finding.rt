@@ -1,5 +1,7 @@
 //! What is found of a state.
-ghost use Rattle.std.specs.Prelude.{◌≡◌, IfOk};
+ghost use Rattle.std.specs.Prelude.{◌≡◌, IfOk, IfSome, IfNone};
+ghost use Rattle.lin.specs.Linearization.{IsLinearization, IsLinearizable};
+ghost use Rattle.tree_machine.specs.History.{history_of};
 ghost use Rattle.tree_machine.specs.Step.{Fits};
 ghost use Rattle.book.specs.Findings.{is_sound, IsFindingOf};
 
@@ -30,6 +32,20 @@ impl Finding {
     }
 }
 
+/// A linearization of the history of a state, if there is one.
+pub(crate) fn judge_anew<M: Machine>(
+    alloc: Global,
+    program: &Program,
+    state: &State<M>,
+) -> Result<Option<Vec<OpId>>, OutOfMemory>
+    requires { (machine : M) × Fits (M.rules machine) program.now state.now }
+    ensures found { IfOk result (λ answer. IfSome answer (λ order. IsLinearization program.now (history_of state.now) order.items)) }
+    ensures none { IfOk result (λ answer. IfNone answer (IsLinearizable program.now (history_of state.now) → ⊥)) }
+{
+    let history = state.history(alloc, program)?;
+    judge(alloc, program, &history)
+}
+
 /// The finding of a state, judged from nothing.
 pub(crate) fn find<M: Machine>(
     alloc: Global,
@@ -46,8 +62,7 @@ pub(crate) fn find<M: Machine>(
     if !machine.ordered(state.memory()) {
         return Ok(Finding::Order);
     }
-    let history = state.history(alloc, program)?;
-    match judge(alloc, program, &history)? {
+    match judge_anew(alloc, program, state)? {
         None => Ok(Finding::History),
         Some(order) => Ok(Finding::Sound(order)),
     }

@@ -6,14 +6,17 @@ mod book;
 mod entry;
 mod expansion;
 mod finding;
+mod lending;
 mod replayed;
 mod replaying;
 mod slots;
 mod table;
+#[cfg(test)]
+mod tests;
 
 pub use crate::book::{Book, EnterFault, Entered, Merge, Totals};
 pub use crate::entry::{Mark, Origin};
-pub use crate::expansion::{Expansion, Stepped};
+pub use crate::expansion::{Expansion, Stepped, same_program};
 pub use crate::finding::Finding;
 pub use crate::replayed::{Replay, ReplayFault};
 pub use crate::replaying::replay;

@@ -18,9 +18,9 @@ pub record IsPutIn (before after : ℕ → Option Shape) (key : ℕ) (end : End)
   pub left : (m l r : ℕ) → before end.parent ≡ Some (Internal m l r) → key < m → after end.parent ≡ Some (Internal m new r)
   pub right : (m l r : ℕ) → before end.parent ≡ Some (Internal m l r) → m ≤ key → after end.parent ≡ Some (Internal m l new)
   -- the new node is over the key and that of the leaf, in order
-  pub over : (j low high : ℕ) → before end.leaf ≡ Some (Leaf j) → key ≢ j → low ≤ key → key < high → low ≤ j → j < high → IsOrderedWithin after 2 low high new
+  pub over : (m l r j low high : ℕ) → before end.parent ≡ Some (Internal m l r) → before end.leaf ≡ Some (Leaf j) → key ≢ j → low ≤ key → key < high → low ≤ j → j < high → IsOrderedWithin after 2 low high new
   -- no leaf came with a third key
-  pub leaves : (i j x : ℕ) → before end.leaf ≡ Some (Leaf j) → after x ≡ Some (Leaf i) → (i ≡ key) ⊎ ((y : ℕ) × (before y ≡ Some (Leaf i)))
+  pub leaves : (m l r i j x : ℕ) → before end.parent ≡ Some (Internal m l r) → before end.leaf ≡ Some (Leaf j) → after x ≡ Some (Leaf i) → (i ≡ key) ⊎ ((y : ℕ) × (before y ≡ Some (Leaf i)))
 
 -- node x after a key was put in below it
 record IsGrown (before after : ℕ → Option Shape) (end : End) (levels low high x : ℕ) : Type 0 where
@@ -82,7 +82,7 @@ module _ (before after : ℕ → Option Shape) (key : ℕ) (end : End) (put : Is
         let here : before end.parent ≡ Some (Internal m l r) = subst (λ y. before y ≡ Some (Internal m l r)) p e in
         let leaf : before end.leaf ≡ Some (Leaf t.leaf_key) = subst (λ y. before y ≡ Some (Leaf t.leaf_key)) q t.leaf_is in
         let there : after x ≡ Some (Internal m put.new r) = subst (λ y. after y ≡ Some (Internal m put.new r)) (sym p) (put.left m l r here under) in
-        let over = put.over t.leaf_key low (min m high) leaf (fresh l t.leaf_key t.leaf_is) from (omega arith) t.from_low t.under_high in
+        let over = put.over m l r t.leaf_key low (min m high) here leaf (fresh l t.leaf_key t.leaf_is) from (omega arith) t.from_low t.under_high in
         let left = more_levels after 2 (suc n) low (min m high) put.new (omega arith) over in
         let right = more_levels after n (suc n) (max m low) high r (omega arith) (frame m l r here n (max m low) high r (λ u v. absurd (omega arith)) o1) in
         record {
@@ -138,7 +138,7 @@ module _ (before after : ℕ → Option Shape) (key : ℕ) (end : End) (put : Is
         let here : before end.parent ≡ Some (Internal m l r) = subst (λ y. before y ≡ Some (Internal m l r)) p e in
         let leaf : before end.leaf ≡ Some (Leaf t.leaf_key) = subst (λ y. before y ≡ Some (Leaf t.leaf_key)) q t.leaf_is in
         let there : after x ≡ Some (Internal m l put.new) = subst (λ y. after y ≡ Some (Internal m l put.new)) (sym p) (put.right m l r here over) in
-        let both = put.over t.leaf_key (max m low) high leaf (fresh r t.leaf_key t.leaf_is) (omega arith) under t.from_low t.under_high in
+        let both = put.over m l r t.leaf_key (max m low) high here leaf (fresh r t.leaf_key t.leaf_is) (omega arith) under t.from_low t.under_high in
         let right = more_levels after 2 (suc n) (max m low) high put.new (omega arith) both in
         let left = more_levels after n (suc n) low (min m high) l (omega arith) (frame m l r here n low (min m high) l (λ u v. absurd (omega arith)) o0) in
         record {
@@ -239,7 +239,7 @@ module _ {Memory : Type 0} (shapes : Memory → ℕ → Option Shape) (count : M
         root_left = t.now_left;
         root_right = t.now_right;
         root = t.now_is;
-        absent = λ x j is i d below. elim (put.leaves j t.leaf_key x t.leaf_is is) [
+        absent = λ x j is i d below. elim (put.leaves t.parent_key t.parent_left t.parent_right j t.leaf_key x t.parent_is t.leaf_is is) [
           | inl same ↦ subst (λ k. slice_index_or keys i d ≢ k) (sym same) (apart_from i d below)
           | inr old ↦ h.absent old.0 j old.1 (suc i) d (omega arith)
         ];

@@ -1,0 +1,43 @@
+-- Where schedules end.
+use Rattle.std.proofs.Common.{◌≡◌, ℕ, ◌<◌, zero, suc, Bool, IfSome, IfNone, Option, Some, None, List, [], ◌∷◌, take, refl, sym, ap, ◌∙◌, subst}
+use Rattle.std.specs.Option.{option_and_then}
+use Rattle.std.proofs.lemmas.Option.{option_and_then_some}
+use Rattle.sched_program.specs.Program.{Program}
+use Rattle.tree_machine.specs.Rules.{Rules}
+use Rattle.tree_machine.specs.declared.state.State.{State}
+use Rattle.book.specs.Schedule.{StepMachine, run}
+use Rattle.book.specs.Findings.{machine_of, IsFindingOf}
+use Rattle.book.specs.Entries.{Contents}
+use Rattle.book.specs.Books.{counted_as_one, machine_in, right_in}
+use Rattle.crew.specs.Driving.{IsKept}
+use Rattle.crew.specs.Reading.{IsCutAt}
+
+-- where each thread of a schedule is enabled in its turn, so is each of its beginnings
+pub beginning_runs : {S : Type 0} (m : StepMachine S) (c : List ℕ) (k : ℕ) (s r : S) → run m s c ≡ Some r → run m s (take k c) ≡ None → ⊥
+beginning_runs m c zero s r leads stops = cc
+beginning_runs m [] (suc k) s r leads stops = cc
+beginning_runs {S} m (t ∷ c) (suc k) s r leads stops =
+    option_and_then_some (λ (u : S). run m u c) (m.step s t) r leads (λ (u : S) (first : m.step s t ≡ Some u) (rest : run m u c ≡ Some r).
+    beginning_runs m c k u r rest (ap (λ o. option_and_then (λ (v : S). run m v (take k c)) o) (sym first) ∙ stops))
+
+-- a fact on the machine and the program that were given is one on the book's
+pub given_own : {X : Type 0} (P : X → Program → Type 0) (x y : X) (p q : Program) → x ≡ y → p ≡ q → P x p → P y q
+given_own P x y p q machine program h = subst (λ r. P y r) program (subst (λ z. P z p) machine h)
+
+-- what was driven can be read
+pub is_answered : (W A : Type 0) (n l : ℕ) (K L : ℕ → ℕ → Type 0) → n ≡ l → ((d i : ℕ) → K d i → L d i)
+    → (o : Option ℕ) → IfNone o W → IfSome o (λ i. (d : ℕ) × (d < n) × K d i)
+    → (o ≡ None → W → A) → IfSome o (λ i. (d : ℕ) → d < l → L d i → A) → A
+is_answered W A n l K L is turn None worked cut finished stopped = finished refl worked
+is_answered W A n l K L is turn (Some i) worked cut finished stopped =
+    stopped cut.0 (subst (λ k. cut.0 < k) is cut.1) (turn cut.0 i cut.2)
+
+-- a layer that is cut in a book of one machine, program and merge is cut in one of the same
+pub cut_kept : {X Memory Place : Type 0} (rules : X → Rules Memory Place) (place_eq : Place → Place → Bool) (memory_eq : Memory → Memory → Bool)
+    (old new b : Contents X (State X Memory Place)) (d i : ℕ) → IsKept old new
+    → IsCutAt (machine_in rules old) (counted_as_one place_eq memory_eq old.merge) (right_in rules old) b d i
+    → IsCutAt (machine_in rules new) (counted_as_one place_eq memory_eq new.merge) (right_in rules new) b d i
+cut_kept {X} rules place_eq memory_eq old new b d i kept cut =
+    subst (λ k. IsCutAt (machine_of {Machine = X} (rules new.machine) new.program) (counted_as_one place_eq memory_eq k) (IsFindingOf (rules new.machine) new.program) b d i) (sym kept.merge)
+    (given_own (λ x p. IsCutAt (machine_of {Machine = X} (rules x) p) (counted_as_one place_eq memory_eq old.merge) (IsFindingOf (rules x) p) b d i) old.machine new.machine old.program new.program
+    (sym kept.machine) (sym kept.program) cut)

@@ -1,0 +1,126 @@
+-- What the steps of one more entry show of the entries and of the number of states.
+use Rattle.std.proofs.Common.{◌≡◌, ◌≢◌, ℕ, ◌+◌, ◌<◌, ◌≤◌, inl, inr, Bool, true, false, Some, None, List, zero, suc, [], ◌∷◌, ◌++◌, length, map, refl, sym, ap, ◌∙◌, arith, slice_get, length-append, count_by, leb}
+use Rattle.std.proofs.Math.ListN.{length-map}
+use Rattle.std.proofs.lemmas.Bool.{true≢false}
+use Rattle.std.proofs.lemmas.List.{length_push}
+use Rattle.std.proofs.lemmas.List.Sums.{count_by-le-length}
+use Rattle.book.specs.declared.finding.Finding.{Finding}
+use Rattle.book.specs.declared.entry.Mark.{Mark}
+use Rattle.book.specs.declared.entry.Mark.TheVariants.{Taken, Expanded}
+use Rattle.book.specs.Schedule.{StepMachine, IsMachine, Merges, IsReachableWithin}
+use Rattle.book.specs.Entries.{Entry, Successor, At, with_mark, with_successors, unknown, opened, states}
+use Rattle.book.specs.Law.{IsLawful, IsExpansion}
+use Rattle.book.specs.Layers.{IsShallow, IsExpandedBelow}
+use Rattle.book.specs.Counts.{IsCount, IsMoreThan}
+use Rattle.book.proofs.EntryLemmas.{get-append_cases, at-with_mark, get_within}
+use Rattle.book.proofs.Unknown.{at-states, unknown_is, unknown_apart, list_any-false}
+use Rattle.book.proofs.Counts.{recorded, run_push, count_is, count_to_is}
+use Rattle.book.proofs.Ways.{steps_after}
+use Rattle.crew.proofs.Crowding.{count_above}
+
+-- an element of a mapped list is one of the list, mapped
+pub at-map : {X Y : Type 0} (f : X → Y) (xs : List X) (k : ℕ) (y : Y) → slice_get (map f xs) k ≡ Some y → (x : X) × (slice_get xs k ≡ Some x) × (f x ≡ y)
+at-map f [] k y h = absurd (let q : None ≡ Some y = h in cc)
+at-map f (x ∷ xs) zero y h = (x, refl, (cc))
+at-map f (x ∷ xs) (suc k) y h = at-map f xs k y h
+
+not_expanded : (k : Mark) → k ≡ Taken → k ≢ Expanded
+not_expanded k h e = let q : Taken ≡ Expanded = sym h ∙ e in cc
+
+module _ {S : Type 0} (m : StepMachine S) (same : S → S → Bool) (right : S → Finding → Type 0) (machine : IsMachine m) (merges : Merges m same)
+    (es : List (Entry S)) (law : IsLawful m same right es) (i : ℕ) (d : Entry S) (at : At es i d) (taken : d.mark ≡ Taken)
+    (xs : List (Successor S)) (expansion : IsExpansion m right d.state xs) (n : ℕ) (few : m.steps d.state ≤ n) where
+  pub no_deeper : IsShallow m.steps es (n + 1)
+  no_deeper j f there = let q : m.steps f.state ≤ m.steps d.state + 1 = law.near i j d f at (not_expanded d.mark taken) there in omega arith
+
+  new_steps : (k : ℕ) (y : Successor S) → slice_get (unknown same (states es) xs) k ≡ Some y → m.step d.state y.thread ≡ Some y.state
+  new_steps k y there = let w = unknown_is m same merges (states es) xs k y there in expansion.steps w.0.0 y w.0.1
+
+  -- no entry is deeper once the steps are entered
+  pub shallow_entered : IsShallow m.steps (with_successors same es i xs) (n + 1)
+  shallow_entered j f there =
+      elim (get-append_cases (with_mark es i Expanded) (map (opened i) (unknown same (states es) xs)) j f there) [
+        | inl l ↦ (
+            let o = at-with_mark es i Expanded j f l in
+            let q : m.steps o.0.state ≤ n + 1 = no_deeper j o.0 o.1 in
+            let p : m.steps f.state ≡ m.steps o.0.state = ap m.steps o.2.state in omega arith)
+        | inr r ↦ (
+            let y = at-map (opened i) (unknown same (states es) xs) r.0 f r.2 in
+            let up : m.steps y.0.state ≡ m.steps d.state + 1 = machine.one_more d.state y.0.state y.0.thread (new_steps r.0 y.0 y.1) in
+            let p : m.steps y.0.state ≡ m.steps f.state = ap (λ (e : Entry S). m.steps e.state) y.2 in omega arith)
+      ]
+
+  abbrev all_states : List S
+  all_states = states es ++ map (λ (x : Successor S). x.state) (unknown same (states es) xs)
+
+  all_reached : (k : ℕ) (x : S) → slice_get all_states k ≡ Some x → IsReachableWithin m (n + 1) x
+  all_reached k x there =
+      elim (get-append_cases (states es) (map (λ (x : Successor S). x.state) (unknown same (states es) xs)) k x there) [
+        | inl l ↦ (
+            let e = at-states es k x l in
+            let c = recorded m same right machine merges es law k e.0 e.1 in
+            let q : m.steps e.0.state ≤ n + 1 = no_deeper k e.0 e.1 in
+            let p : length c.0 ≡ m.steps e.0.state = c.2 in
+            (c.0, omega arith, c.1 ∙ ap Some e.2))
+        | inr r ↦ (
+            let y = at-map (λ (x : Successor S). x.state) (unknown same (states es) xs) r.0 x r.2 in
+            let c = recorded m same right machine merges es law i d at in
+            let p : length c.0 ≡ m.steps d.state = c.2 in
+            let l : length (c.0 ++ y.0.thread ∷ []) ≡ length c.0 + 1 = length_push c.0 y.0.thread in
+            (c.0 ++ y.0.thread ∷ [], omega arith, run_push m c.0 m.start d.state y.0.state y.0.thread c.1 (new_steps r.0 y.0 y.1) ∙ ap Some y.2))
+      ]
+
+  all_apart : (j k : ℕ) (x y : S) → slice_get all_states j ≡ Some x → slice_get all_states k ≡ Some y → same x y ≡ true → j ≡ k
+  all_apart j k x y at_j at_k h =
+      let news = unknown same (states es) xs in
+      let state_of : Successor S → S = λ z. z.state in
+      elim (get-append_cases (states es) (map state_of news) j x at_j) [
+        | inl l ↦ elim (get-append_cases (states es) (map state_of news) k y at_k) [
+          | inl r ↦ (let a = at-states es j x l in let b = at-states es k y r in
+              law.distinct j k a.0 b.0 a.1 b.1 (let p : a.0.state ≡ x = a.2 in let q : b.0.state ≡ y = b.2 in cc))
+          | inr r ↦ absurd (let b = at-map state_of news r.0 y r.2 in
+              let u = unknown_is m same merges (states es) xs r.0 b.0 b.1 in
+              let v : same x b.0.state ≡ false = list_any-false (λ (s : S). same s b.0.state) (states es) u.1 j x l in
+              let w : b.0.state ≡ y = b.2 in true≢false (sym h ∙ ap (λ s. same x s) (sym w) ∙ v))
+        ]
+        | inr l ↦ elim (get-append_cases (states es) (map state_of news) k y at_k) [
+          | inl r ↦ absurd (let a = at-map state_of news l.0 x l.2 in
+              let u = unknown_is m same merges (states es) xs l.0 a.0 a.1 in
+              let v : same y a.0.state ≡ false = list_any-false (λ (s : S). same s a.0.state) (states es) u.1 k y r in
+              let w : a.0.state ≡ x = a.2 in true≢false (sym (merges.turned x y h) ∙ ap (λ s. same y s) (sym w) ∙ v))
+          | inr r ↦ (let a = at-map state_of news l.0 x l.2 in let b = at-map state_of news r.0 y r.2 in
+              let p : a.0.state ≡ x = a.2 in let q : b.0.state ≡ y = b.2 in
+              let e : l.0 ≡ r.0 = unknown_apart m same merges (states es) xs l.0 r.0 a.0 b.0 a.1 b.1 (let t : same x y ≡ true = h in cc) in
+              let f : j ≡ length (states es) + l.0 = l.1 in let g : k ≡ length (states es) + r.0 = r.1 in omega arith)
+        ]
+      ]
+
+  -- where the book has no room for the steps, more states are reached than it may have entries
+  pub more_than : (limit : ℕ) → limit < length es + length (unknown same (states es) xs) → IsMoreThan m same (n + 1) limit
+  more_than limit full = record {
+    states = all_states;
+    many = (let a : length all_states ≡ length (states es) + length (map (λ (x : Successor S). x.state) (unknown same (states es) xs)) =
+        length-append (states es) (map (λ (x : Successor S). x.state) (unknown same (states es) xs)) in
+        let b : length (states es) ≡ length es = length-map es (λ (e : Entry S). e.state) in
+        let c : length (map (λ (x : Successor S). x.state) (unknown same (states es) xs)) ≡ length (unknown same (states es) xs) = length-map (unknown same (states es) xs) (λ (x : Successor S). x.state) in
+        omega arith);
+    apart = all_apart;
+    reached = all_reached;
+  }
+
+module _ {S : Type 0} (m : StepMachine S) (same : S → S → Bool) (right : S → Finding → Type 0) (machine : IsMachine m) (merges : Merges m same)
+    (es : List (Entry S)) (law : IsLawful m same right es) where
+  -- a book that is expanded below n has an entry for each state of at most n steps, so these are no more than its entries
+  pub not_above : (n limit : ℕ) → IsExpandedBelow m.steps es n → length es ≤ limit → (j : ℕ) → j ≤ n → IsMoreThan m same j limit → ⊥
+  not_above n limit done room j le more =
+      let few : count_by (λ (e : Entry S). leb (m.steps e.state) j) es ≤ length es = count_by-le-length (λ (e : Entry S). leb (m.steps e.state) j) es in
+      let count : IsCount m same j (count_by (λ (e : Entry S). leb (m.steps e.state) j) es) =
+      count_to_is m same right machine merges es law j (λ i e at less. done i e at (omega arith)) (λ s c leads. steps_after m machine c s leads) in
+      let above : limit < count_by (λ (e : Entry S). leb (m.steps e.state) j) es = count_above m same merges j (count_by (λ (e : Entry S). leb (m.steps e.state) j) es) limit count more in
+      omega arith
+
+  -- where no entry has more than n steps, all entries count the states of at most n steps
+  pub count_all : (n : ℕ) → IsExpandedBelow m.steps es n → IsShallow m.steps es n → IsCount m same n (length es)
+  count_all n done shallow =
+      count_is m same right machine merges es law n (length es) done (omega arith)
+      (λ i e at _. shallow i e at) (λ i e at _. get_within es i e at) (λ s c leads. steps_after m machine c s leads)

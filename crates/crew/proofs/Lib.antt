@@ -1,0 +1,10 @@
+pub mod Crowding
+pub mod Counting
+pub mod Findings
+pub mod Soundness
+pub mod Growing
+pub mod Answers
+pub mod Expansions
+pub mod Ends
+pub mod Drives
+pub mod WorkedOff

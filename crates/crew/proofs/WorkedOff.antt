@@ -1,0 +1,24 @@
+-- Where the layers are worked off, the last one is at hand.
+use Rattle.std.proofs.Common.{◌≡◌, ℕ, ◌≤◌, inl, inr, false, None, List, sym, ◌∙◌, arith, subst}
+use Rattle.std.proofs.lemmas.Bool.{true≢false, cases_lt}
+use Rattle.book.specs.Findings.{is_sound}
+use Rattle.book.specs.Entries.{Entry, At}
+use Rattle.crew.specs.Reading.{first_fault, IsLastLayer, IsWorkedOff}
+
+module _ {S : Type 0} (steps : S → ℕ) (es : List (Entry S)) (n : ℕ) (worked : IsWorkedOff steps es n) where
+  pub last_of_all : first_fault es ≡ None → IsLastLayer steps es n
+  last_of_all none = (
+    worked.all none,
+    (λ i e at. let few : steps e.state ≤ worked.layer = worked.stands.shallow i e at in let le : worked.layer ≤ n = worked.within in omega arith),
+  )
+
+  pub last_of_fault : (i : ℕ) (e : Entry S) → At es i e → is_sound e.finding ≡ false → (steps e.state ≤ n) × IsLastLayer steps es (steps e.state)
+  last_of_fault i e at fault =
+      let few : steps e.state ≤ worked.layer = worked.stands.shallow i e at in
+      let le : worked.layer ≤ n = worked.within in
+      let many : worked.layer ≤ steps e.state = elim (cases_lt (steps e.state) worked.layer) [
+        | inl l ↦ absurd (true≢false (sym (worked.stands.sound i e at l) ∙ fault))
+        | inr ge ↦ ge
+      ] in
+      let is : worked.layer ≡ steps e.state = omega arith in
+      (omega arith, subst (λ d. IsLastLayer steps es d) is (worked.stands.done, worked.stands.shallow))

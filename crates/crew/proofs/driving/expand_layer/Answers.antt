@@ -1,0 +1,20 @@
+use Rattle.std.proofs.Common.{◌≤◌, refl, arith}
+use Rattle.crew.proofs.Soundness.{none_unsound}
+use Rattle.crew.proofs.driving.expand_layer.Goals as goal
+
+pub layer-init : goal.layer-init
+layer-init g c =
+    let b = c.args.book.now in
+    let stands = c.requires.stands in
+    record {
+      kept = record { machine = refl; program = refl; merge = refl; limit = refl };
+      ledger = c.requires.ledger;
+      in_layer = record {
+        none_taken = stands.none_taken;
+        through = record {
+          done = stands.done;
+          sound = (λ i e at _. none_unsound b.entries c.requires.sound i e at);
+        };
+        shallow = (λ i e at. let few : e.state.steps ≤ c.args.depth = stands.shallow i e at in omega arith);
+      };
+    }

@@ -1,0 +1,30 @@
+-- The answer that is due.
+use Rattle.std.specs.Prelude.{◌≡◌, ℕ, ◌+◌, ◌<◌, ◌≤◌, Bool, length}
+use Rattle.book.specs.declared.finding.Finding.{Finding}
+use Rattle.book.specs.Schedule.{StepMachine}
+use Rattle.book.specs.Counts.{IsCount, IsMoreThan}
+use Rattle.crew.specs.declared.answer.Answer.{Answer}
+use Rattle.crew.specs.declared.answer.Answer.TheVariants as answer
+use Rattle.crew.specs.Faults.{LeadsToFault, IsLeastFault}
+
+-- j is the least number of steps, up to n, by which more states are reached than the limit
+pub record IsFirstAbove {S : Type 0} (m : StepMachine S) (same : S → S → Bool) (n limit j : ℕ) : Type 0 where
+  pub within : j ≤ n
+  pub above : IsMoreThan m same j limit
+  pub first : (i : ℕ) → IsMoreThan m same i limit → j ≤ i
+
+-- The answer that is due for schedules of at most n steps and a limit of states, with the number of states that it tells of.
+-- Let F be the least length of a schedule that leads to a fault, and J the least number of steps, up to n, by which more
+-- states are reached than the limit; either may not exist. The first case that fits decides.
+module _ {S : Type 0} (m : StepMachine S) (same : S → S → Bool) (right : S → Finding → Type 0) (n limit : ℕ) where
+  abbrev pub IsDue : ℕ → Answer → Type 0
+  -- J exists, and F does not or J is at most F: stopped, one step before J
+  IsDue count (answer.Stopped at holds_to) =
+      (at ≡ limit) × IsFirstAbove m same n limit (holds_to + 1) × ((F : ℕ) → IsLeastFault m right F → holds_to + 1 ≤ F)
+  -- F exists and is at most n: a schedule of F steps that leads to a fault, with the number of states that F steps reach
+  IsDue count (answer.Fault finding schedule) =
+      LeadsToFault m right schedule.items finding × IsLeastFault m right (length schedule.items) × (length schedule.items ≤ n)
+      × ((J : ℕ) → IsFirstAbove m same n limit J → length schedule.items < J) × IsCount m same (length schedule.items) count
+  -- otherwise: holds, with the number of states that n steps reach
+  IsDue count (answer.Holds steps) =
+      (steps ≡ n) × ((F : ℕ) → IsLeastFault m right F → n < F) × ((J : ℕ) → IsFirstAbove m same n limit J → ⊥) × IsCount m same n count

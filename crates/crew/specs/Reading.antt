@@ -1,0 +1,56 @@
+-- When an answer can be read off a book.
+use Rattle.std.specs.Prelude.{◌≡◌, ℕ, ◌+◌, ◌<◌, ◌≤◌, Bool, true, Option, None, Some, List, length, not, position}
+use Rattle.book.specs.declared.finding.Finding.{Finding}
+use Rattle.book.specs.declared.entry.Mark.TheVariants.{Taken}
+use Rattle.book.specs.Schedule.{StepMachine, after}
+use Rattle.book.specs.Findings.{is_sound}
+use Rattle.book.specs.Entries.{Entry, Successor, Contents, At, states, unknown}
+use Rattle.book.specs.Law.{IsExpansion}
+use Rattle.book.specs.Layers.{IsExpandedBelow, IsShallow, IsThrough, NoneTaken}
+use Rattle.crew.specs.declared.answer.Answer.{Answer}
+use Rattle.crew.specs.declared.answer.Answer.TheVariants as answer
+
+-- the number of the lowest-numbered entry that is not sound
+abbrev pub first_fault : {S : Type 0} → List (Entry S) → Option ℕ
+first_fault entries = position (λ e. not (is_sound e.finding)) entries
+
+-- layer n is the last: every entry of fewer than n steps is expanded, and none has more
+abbrev pub IsLastLayer : {S : Type 0} → (S → ℕ) → List (Entry S) → ℕ → Type 0
+IsLastLayer steps entries n = IsExpandedBelow steps entries n × IsShallow steps entries n
+
+-- the layers below d are expanded, their entries are sound, and no layer after d is begun
+pub record StandsAt {S : Type 0} (steps : S → ℕ) (entries : List (Entry S)) (d : ℕ) : Type 0 where
+  pub none_taken : NoneTaken entries
+  pub done : IsExpandedBelow steps entries d
+  pub shallow : IsShallow steps entries d
+  pub sound : (i : ℕ) (e : Entry S) → At entries i e → steps e.state < d → is_sound e.finding ≡ true
+
+-- the layers below n are expanded, or those below the first with a fault
+pub record IsWorkedOff {S : Type 0} (steps : S → ℕ) (entries : List (Entry S)) (n : ℕ) : Type 0 where
+  pub layer : ℕ
+  pub within : layer ≤ n
+  pub stands : StandsAt steps entries layer
+  pub all : first_fault entries ≡ None → IsExpandedBelow steps entries n
+
+module _ {X S : Type 0} (m : StepMachine S) (same : S → S → Bool) (right : S → Finding → Type 0) (book : Contents X S) where
+  -- entry i is taken, and the book has no room for its steps
+  pub record IsFullAt (i : ℕ) : Type 0 where
+    pub entry : Entry S
+    pub at : At book.entries i entry
+    pub taken : entry.mark ≡ Taken
+    pub successors : List (Successor S)
+    pub expansion : IsExpansion m right entry.state successors
+    pub full : book.limit < length book.entries + length (unknown same (states book.entries) successors)
+
+  -- layer d is cut at its entry i: the book has no room for the entry's steps, and every entry of at most d steps is sound
+  pub record IsCutAt (d i : ℕ) : Type 0 where
+    pub no_room : IsFullAt i
+    pub layer : m.steps no_room.entry.state ≡ d
+    pub through : IsThrough m.steps book.entries d
+
+-- the fault that is told is that of the lowest-numbered entry that is not sound
+abbrev pub TellsFirst : {S : Type 0} → StepMachine S → List (Entry S) → Answer → Type 0
+TellsFirst m entries (answer.Holds steps) = first_fault entries ≡ None
+TellsFirst {S} m entries (answer.Fault finding schedule) =
+    (i : ℕ) × (e : Entry S) × (first_fault entries ≡ Some i) × At entries i e × (e.finding ≡ finding) × (after m schedule.items ≡ Some e.state)
+TellsFirst m entries (answer.Stopped limit holds_to) = Unit {0}

@@ -1,0 +1,200 @@
+//! The due answer, read off the book in hand.
+ghost use Rattle.std.specs.Prelude.{◌≡◌, ℕ, ◌+◌, ◌<◌, ◌≤◌, ◌↔◌, IsTrue, IsSome, IfOk, IfSome, IfNone, Some, None, length, false, true};
+ghost use Rattle.book.specs.Books.{counted_as_one, machine_in, right_in};
+ghost use Rattle.tree_machine.specs.declared.state.State.{State};
+ghost use Rattle.book.specs.Entries.{At, Entry};
+ghost use Rattle.book.specs.Schedule.{after};
+ghost use Rattle.book.specs.Findings.{is_sound};
+ghost use Rattle.book.specs.Layers.{IsExpandedBelow};
+ghost use Rattle.crew.specs.Due.{IsDue};
+ghost use Rattle.crew.specs.Headline.{IsTrueOf};
+ghost use Rattle.crew.specs.Reading.{first_fault, IsCutAt, IsFullAt, IsLastLayer, IsWorkedOff, TellsFirst};
+
+use crate::answer::Answer;
+use crate::options::Options;
+use book::{Book, EnterFault, Expansion, Finding, ReplayFault, replay};
+use sched_program::{OutOfMemory, Program};
+use std::alloc::{AllocError, Global};
+use tree_machine::Machine;
+
+/// What was found of the first entry that is not sound.
+fn fault_at<M: Machine>(book: &Book<M>, id: usize) -> Finding
+    requires { first_fault book.now.entries ≡ Some id }
+    ensures { (e : Entry (State M M.Mem M.Loc)) × At book.now.entries id e × (e.finding ≡ result) }
+{
+    match book.finding_of(id) {
+        Some(Finding::Astray) => Finding::Astray,
+        Some(Finding::Order) => Finding::Order,
+        Some(Finding::History) => Finding::History,
+        Some(Finding::Sound(_)) => unreachable!(),
+        None => unreachable!(),
+    }
+}
+
+/// Whether an entry of fewer steps is not expanded.
+fn is_left_below<M: Machine>(book: &Book<M>, steps: u64) -> bool
+    ensures none { result ≡ false → IsExpandedBelow (machine_in M.rules book.now).steps book.now.entries steps }
+    ensures left { result ≡ true → IsExpandedBelow (machine_in M.rules book.now).steps book.now.entries steps → ⊥ }
+{
+    match steps.checked_sub(1) {
+        Some(before) => book.is_left_to(before),
+        None => false,
+    }
+}
+
+/// Whether every entry of fewer steps is expanded, and none has more.
+fn is_last_layer<M: Machine>(book: &Book<M>, steps: u64) -> bool
+    ensures { IsTrue result ↔ IsLastLayer (machine_in M.rules book.now).steps book.now.entries steps }
+{
+    !is_left_below(book, steps) && book.count_to(steps) == book.len()
+}
+
+/// Whether every entry of at most so many steps is sound.
+fn is_sound_to<M: Machine>(alloc: Global, book: &Book<M>, steps: usize) -> Result<bool, OutOfMemory>
+    ensures { IfOk result (λ yes. IsTrue yes ↔ ((i : ℕ) (e : Entry (State M M.Mem M.Loc)) → At book.now.entries i e → e.state.steps ≤ steps → is_sound e.finding ≡ true)) }
+{
+    book.law();
+    match book.first_fault() {
+        None => Ok(true),
+        Some(id) => Ok(book.schedule_of(alloc, id)?.len() > steps),
+    }
+}
+
+/// The answer where the layers below that of a fault are expanded: its schedule. None where they are not, or where the
+/// fault lies beyond the steps that are asked for.
+fn tell_fault<M: Machine>(
+    alloc: Global,
+    book: &Book<M>,
+    steps: u16,
+    id: usize,
+) -> Result<Option<Answer>, OutOfMemory>
+    requires { first_fault book.now.entries ≡ Some id }
+    ensures due { IfOk result (λ o. IfSome o (IsDue (machine_in M.rules book.now) (counted_as_one M.Loc.PartialEq.eq M.Mem.PartialEq.eq book.now.merge) (right_in M.rules book.now) steps book.now.limit (length book.now.entries))) }
+    ensures headline { IfOk result (λ o. IfSome o (IsTrueOf M (M.rules book.now.machine) book.now.program)) }
+    ensures first { IfOk result (λ o. IfSome o (TellsFirst (machine_in M.rules book.now) book.now.entries)) }
+    ensures some { IsWorkedOff (machine_in M.rules book.now).steps book.now.entries steps → IfOk result (λ o. IsSome o) }
+{
+    book.law();
+    let schedule = book.schedule_of(alloc, id)?;
+    let length = schedule.len();
+    if length > usize::from(steps) || !is_last_layer(book, length as u64) {
+        return Ok(None);
+    }
+    let finding = fault_at(book, id);
+    Ok(Some(Answer::Fault { finding, schedule }))
+}
+
+/// The answer where the layers are expanded, up to the first with a fault. None where they are not.
+fn read_finished<M: Machine>(
+    alloc: Global,
+    book: &Book<M>,
+    steps: u16,
+) -> Result<Option<Answer>, OutOfMemory>
+    ensures due { IfOk result (λ o. IfSome o (IsDue (machine_in M.rules book.now) (counted_as_one M.Loc.PartialEq.eq M.Mem.PartialEq.eq book.now.merge) (right_in M.rules book.now) steps book.now.limit (length book.now.entries))) }
+    ensures headline { IfOk result (λ o. IfSome o (IsTrueOf M (M.rules book.now.machine) book.now.program)) }
+    ensures first { IfOk result (λ o. IfSome o (TellsFirst (machine_in M.rules book.now) book.now.entries)) }
+    ensures some { IsWorkedOff (machine_in M.rules book.now).steps book.now.entries steps → IfOk result (λ o. IsSome o) }
+{
+    match book.first_fault() {
+        Some(id) => tell_fault(alloc, book, steps, id),
+        None => {
+            book.law();
+            if is_last_layer(book, u64::from(steps)) {
+                Ok(Some(Answer::Holds { steps }))
+            } else {
+                Ok(None)
+            }
+        }
+    }
+}
+
+/// Whether the book has no room for the steps of an entry, which is taken. The steps are made anew, and entered where
+/// there is room.
+fn is_full_at<M: Machine>(
+    alloc: Global,
+    program: &Program,
+    book: &mut Book<M>,
+    id: usize,
+    schedule: &[u8],
+) -> Result<bool, OutOfMemory>
+    requires program { program.now ≡ book.old.program }
+    requires way { (e : Entry (State M M.Mem M.Loc)) × At book.old.entries id e × (after (machine_in M.rules book.old) schedule.now ≡ Some e.state) }
+    ensures full { IfOk result (λ yes. yes ≡ true → IsFullAt (machine_in M.rules book.old) (counted_as_one M.Loc.PartialEq.eq M.Mem.PartialEq.eq book.old.merge) (right_in M.rules book.old) book.old id) }
+    ensures yes { IsFullAt (machine_in M.rules book.old) (counted_as_one M.Loc.PartialEq.eq M.Mem.PartialEq.eq book.old.merge) (right_in M.rules book.old) book.old id → IfOk result (λ yes. yes ≡ true) }
+    ensures same { IfOk result (λ yes. yes ≡ true → book.new ≡ book.old) }
+{
+    book.law();
+    let state = match replay(alloc, book.machine(), program, schedule) {
+        Ok(end) => end.state,
+        Err(ReplayFault::OutOfMemory) => return Err(AllocError),
+        Err(ReplayFault::NotEnabled(_)) => return Ok(false),
+    };
+    let expansion = Expansion::of(alloc, book.machine(), program, &state)?;
+    expansion.law();
+    match book.enter(id, expansion) {
+        Err(EnterFault::Full) => Ok(true),
+        Err(EnterFault::OutOfMemory) => Err(AllocError),
+        Err(EnterFault::NotTaken) => Ok(false),
+        Err(EnterFault::Stranger) => Ok(false),
+        Ok(_) => Ok(false),
+    }
+}
+
+/// The answer where the book has no room for the steps of an entry. None where it has room, or where that entry's layer
+/// is not due to be expanded.
+fn read_stopped<M: Machine>(
+    alloc: Global,
+    program: &Program,
+    book: &mut Book<M>,
+    options: Options,
+    id: usize,
+) -> Result<Option<Answer>, OutOfMemory>
+    requires program { program.now ≡ book.old.program }
+    requires limit { book.old.limit ≡ options.limit }
+    ensures due { IfOk result (λ o. IfSome o (IsDue (machine_in M.rules book.old) (counted_as_one M.Loc.PartialEq.eq M.Mem.PartialEq.eq book.old.merge) (right_in M.rules book.old) options.steps book.old.limit (length book.old.entries))) }
+    ensures headline { IfOk result (λ o. IfSome o (IsTrueOf M (M.rules book.old.machine) book.old.program)) }
+    ensures first { IfOk result (λ o. IfSome o (TellsFirst (machine_in M.rules book.old) book.old.entries)) }
+    ensures same { IfOk result (λ o. IfSome o (λ _. book.new ≡ book.old)) }
+    ensures some { (d : ℕ) → d < options.steps → IsCutAt (machine_in M.rules book.old) (counted_as_one M.Loc.PartialEq.eq M.Mem.PartialEq.eq book.old.merge) (right_in M.rules book.old) book.old d id → IfOk result (λ o. IsSome o) }
+{
+    if id >= book.len() {
+        return Ok(None);
+    }
+    let schedule = book.schedule_of(alloc, id)?;
+    let holds_to = schedule.len();
+    if holds_to >= usize::from(options.steps()) || !is_sound_to(alloc, book, holds_to)? {
+        return Ok(None);
+    }
+    book.law();
+    if !is_full_at(alloc, program, book, id, schedule.as_slice())? {
+        return Ok(None);
+    }
+    Ok(Some(Answer::Stopped {
+        limit: options.limit(),
+        holds_to: holds_to as u16,
+    }))
+}
+
+/// The due answer, if it can be read off the book: where an entry is named, by this that the book has no room for its
+/// steps, else by this that the layers are expanded.
+pub(crate) fn read_answer<M: Machine>(
+    alloc: Global,
+    program: &Program,
+    book: &mut Book<M>,
+    options: Options,
+    cut: Option<usize>,
+) -> Result<Option<Answer>, OutOfMemory>
+    requires program { program.now ≡ book.old.program }
+    requires limit { book.old.limit ≡ options.limit }
+    ensures due { IfOk result (λ o. IfSome o (IsDue (machine_in M.rules book.old) (counted_as_one M.Loc.PartialEq.eq M.Mem.PartialEq.eq book.old.merge) (right_in M.rules book.old) options.steps book.old.limit (length book.old.entries))) }
+    ensures headline { IfOk result (λ o. IfSome o (IsTrueOf M (M.rules book.old.machine) book.old.program)) }
+    ensures first { IfOk result (λ o. IfSome o (TellsFirst (machine_in M.rules book.old) book.old.entries)) }
+    ensures same { IfOk result (λ o. IfSome o (λ _. book.new ≡ book.old)) }
+    ensures finished { cut ≡ None → IsWorkedOff (machine_in M.rules book.old).steps book.old.entries options.steps → IfOk result (λ o. IsSome o) }
+    ensures stopped { IfSome cut (λ id. (d : ℕ) → d < options.steps → IsCutAt (machine_in M.rules book.old) (counted_as_one M.Loc.PartialEq.eq M.Mem.PartialEq.eq book.old.merge) (right_in M.rules book.old) book.old d id → IfOk result (λ o. IsSome o)) }
+{
+    match cut {
+        None => read_finished(alloc, book, options.steps()),
+        Some(id) => read_stopped(alloc, program, book, options, id),
+    }
+}

@@ -1,0 +1,169 @@
+-- Machines, memories and places are one and the same where they compare as equal.
+use Rattle.std.specs.Prelude.{◌≡◌, refl}
+use Rattle.std.proofs.Common.{ap}
+use Rattle.sched_program.specs.Exact.{IsExact, nat_exact, bool_exact, list_exact, option_exact, both}
+use Rattle.tree_machine.specs.SideExact.{side_exact}
+use Rattle.ellen.specs.contracts.machine.EllenPartialEq.TheImpl.{eq-value as machine_eq}
+use Rattle.ellen.specs.contracts.memory.UpdateWordPartialEq.TheImpl.{eq-value as word_eq}
+use Rattle.ellen.specs.contracts.memory.NodePartialEq.TheImpl.{eq-value as node_eq}
+use Rattle.ellen.specs.contracts.memory.InsertRecordPartialEq.TheImpl.{eq-value as insert_eq}
+use Rattle.ellen.specs.contracts.memory.DeleteRecordPartialEq.TheImpl.{eq-value as delete_eq}
+use Rattle.ellen.specs.contracts.memory.RecordPartialEq.TheImpl.{eq-value as record_eq}
+use Rattle.ellen.specs.contracts.memory.EllenMemPartialEq.TheImpl.{eq-value as memory_eq}
+use Rattle.ellen.specs.contracts.place.AbovePartialEq.TheImpl.{eq-value as above_eq}
+use Rattle.ellen.specs.contracts.place.BasePartialEq.TheImpl.{eq-value as base_eq}
+use Rattle.ellen.specs.contracts.place.ResumePartialEq.TheImpl.{eq-value as resume_eq}
+use Rattle.ellen.specs.contracts.place.SearchLocPartialEq.TheImpl.{eq-value as search_eq}
+use Rattle.ellen.specs.contracts.place.HelpLocPartialEq.TheImpl.{eq-value as help_eq}
+use Rattle.ellen.specs.contracts.place.EllenLocPartialEq.TheImpl.{eq-value as place_eq}
+use Rattle.ellen.specs.declared.memory.UpdateWord.TheVariants as word
+use Rattle.ellen.specs.declared.memory.Node.TheVariants.{Leaf, Internal}
+use Rattle.ellen.specs.declared.memory.Record.TheVariants.{Ins, Del}
+use Rattle.ellen.specs.declared.place.Base.TheVariants.{Again, Insert, Delete}
+use Rattle.ellen.specs.declared.place.EllenLoc.TheVariants.{Search, Help}
+use Rattle.ellen.specs.declared.place.SearchLoc.TheVariants.{Update, Child, IFlag, InsOnly, DFlag}
+use Rattle.ellen.specs.declared.place.HelpLoc.TheVariants.{InsChild, InsClean, Mark, Right, Other, Splice, DelClean, Back}
+
+pub machine_exact : IsExact machine_eq.it
+machine_exact a b h =
+    let t = both _ _ h in
+    let mark : a.mark ≡ b.mark = bool_exact a.mark b.mark t.0 in
+    let iflag : a.iflag ≡ b.iflag = bool_exact a.iflag b.iflag t.1 in
+    λ i. record { mark = mark i; iflag = iflag i }
+
+pub word_exact : IsExact word_eq.it
+word_exact word.Untouched word.Untouched h = refl
+word_exact (word.Clean r) (word.Clean s) h = ap word.Clean (nat_exact r s h)
+word_exact (word.InsertFlag r) (word.InsertFlag s) h = ap word.InsertFlag (nat_exact r s h)
+word_exact (word.DeleteFlag r) (word.DeleteFlag s) h = ap word.DeleteFlag (nat_exact r s h)
+word_exact (word.Mark r) (word.Mark s) h = ap word.Mark (nat_exact r s h)
+word_exact a b h = cc
+
+pub node_exact : IsExact node_eq.it
+node_exact (Leaf k) (Leaf j) h = ap Leaf (nat_exact k j h)
+node_exact (Internal k u l r) (Internal j v x y) h =
+    let t = both _ _ h in
+    let s = both _ _ t.1 in
+    let q = both _ _ s.1 in
+    let key : k ≡ j = nat_exact k j t.0 in
+    let update : u ≡ v = word_exact u v s.0 in
+    let left : l ≡ x = nat_exact l x q.0 in
+    let right : r ≡ y = nat_exact r y q.1 in
+    λ i. Internal (key i) (update i) (left i) (right i)
+node_exact a b h = cc
+
+pub insert_exact : IsExact insert_eq.it
+insert_exact a b h =
+    let t = both _ _ h in
+    let s = both _ _ t.1 in
+    let parent : a.parent ≡ b.parent = nat_exact a.parent b.parent t.0 in
+    let leaf : a.leaf ≡ b.leaf = nat_exact a.leaf b.leaf s.0 in
+    let new : a.new ≡ b.new = nat_exact a.new b.new s.1 in
+    λ i. record { parent = parent i; leaf = leaf i; new = new i }
+
+pub delete_exact : IsExact delete_eq.it
+delete_exact a b h =
+    let t = both _ _ h in
+    let s = both _ _ t.1 in
+    let q = both _ _ s.1 in
+    let grandparent : a.grandparent ≡ b.grandparent = nat_exact a.grandparent b.grandparent t.0 in
+    let parent : a.parent ≡ b.parent = nat_exact a.parent b.parent s.0 in
+    let leaf : a.leaf ≡ b.leaf = nat_exact a.leaf b.leaf q.0 in
+    let update : a.parent_update ≡ b.parent_update = word_exact a.parent_update b.parent_update q.1 in
+    λ i. record { grandparent = grandparent i; parent = parent i; leaf = leaf i; parent_update = update i }
+
+pub record_exact : IsExact record_eq.it
+record_exact (Ins a) (Ins b) h = ap Ins (insert_exact a b h)
+record_exact (Del a) (Del b) h = ap Del (delete_exact a b h)
+record_exact a b h = cc
+
+pub memory_exact : IsExact memory_eq.it
+memory_exact a b h =
+    let t = both _ _ h in
+    let nodes : a.nodes ≡ b.nodes = list_exact node_exact a.nodes b.nodes t.0 in
+    let records : a.records ≡ b.records = list_exact record_exact a.records b.records t.1 in
+    λ i. record { nodes = nodes i; records = records i }
+
+pub above_exact : IsExact above_eq.it
+above_exact a b h =
+    let t = both _ _ h in
+    let node : a.node ≡ b.node = nat_exact a.node b.node t.0 in
+    let update : a.update ≡ b.update = word_exact a.update b.update t.1 in
+    λ i. record { node = node i; update = update i }
+
+pub base_exact : IsExact base_eq.it
+base_exact Again Again h = refl
+base_exact Insert Insert h = refl
+base_exact Delete Delete h = refl
+base_exact a b h = cc
+
+pub resume_exact : IsExact resume_eq.it
+resume_exact a b h =
+    let t = both _ _ h in
+    let stack : a.stack ≡ b.stack = list_exact nat_exact a.stack b.stack t.0 in
+    let base : a.base ≡ b.base = base_exact a.base b.base t.1 in
+    λ i. record { stack = stack i; base = base i }
+
+pub search_exact : IsExact search_eq.it
+search_exact (Update a p) (Update b q) h =
+    let t = both _ _ h in
+    let above : a ≡ b = option_exact above_exact a b t.0 in
+    let parent : p ≡ q = nat_exact p q t.1 in
+    λ i. Update (above i) (parent i)
+search_exact (Child a p u) (Child b q v) h =
+    let t = both _ _ h in
+    let s = both _ _ t.1 in
+    let above : a ≡ b = option_exact above_exact a b t.0 in
+    let parent : p ≡ q = nat_exact p q s.0 in
+    let update : u ≡ v = word_exact u v s.1 in
+    λ i. Child (above i) (parent i) (update i)
+search_exact (IFlag p u l) (IFlag q v k) h =
+    let t = both _ _ h in
+    let s = both _ _ t.1 in
+    let parent : p ≡ q = nat_exact p q t.0 in
+    let update : u ≡ v = word_exact u v s.0 in
+    let leaf : l ≡ k = nat_exact l k s.1 in
+    λ i. IFlag (parent i) (update i) (leaf i)
+search_exact (InsOnly p l) (InsOnly q k) h =
+    let t = both _ _ h in
+    let parent : p ≡ q = nat_exact p q t.0 in
+    let leaf : l ≡ k = nat_exact l k t.1 in
+    λ i. InsOnly (parent i) (leaf i)
+search_exact (DFlag a p u l) (DFlag b q v k) h =
+    let t = both _ _ h in
+    let s = both _ _ t.1 in
+    let r = both _ _ s.1 in
+    let above : a ≡ b = above_exact a b t.0 in
+    let parent : p ≡ q = nat_exact p q s.0 in
+    let update : u ≡ v = word_exact u v r.0 in
+    let leaf : l ≡ k = nat_exact l k r.1 in
+    λ i. DFlag (above i) (parent i) (update i) (leaf i)
+search_exact a b h = cc
+
+pub help_exact : IsExact help_eq.it
+help_exact (InsChild r) (InsChild s) h = ap InsChild (nat_exact r s h)
+help_exact (InsClean r) (InsClean s) h = ap InsClean (nat_exact r s h)
+help_exact (Mark r) (Mark s) h = ap Mark (nat_exact r s h)
+help_exact (Right r) (Right s) h = ap Right (nat_exact r s h)
+help_exact (Other r d) (Other s e) h =
+    let t = both _ _ h in
+    let number : r ≡ s = nat_exact r s t.0 in
+    let side : d ≡ e = side_exact d e t.1 in
+    λ i. Other (number i) (side i)
+help_exact (Splice r c) (Splice s d) h =
+    let t = both _ _ h in
+    let number : r ≡ s = nat_exact r s t.0 in
+    let other : c ≡ d = nat_exact c d t.1 in
+    λ i. Splice (number i) (other i)
+help_exact (DelClean r) (DelClean s) h = ap DelClean (nat_exact r s h)
+help_exact (Back r) (Back s) h = ap Back (nat_exact r s h)
+help_exact a b h = cc
+
+pub place_exact : IsExact place_eq.it
+place_exact (Search a) (Search b) h = ap Search (search_exact a b h)
+place_exact (Help a r) (Help b s) h =
+    let t = both _ _ h in
+    let at : a ≡ b = help_exact a b t.0 in
+    let resume : r ≡ s = resume_exact r s t.1 in
+    λ i. Help (at i) (resume i)
+place_exact a b h = cc

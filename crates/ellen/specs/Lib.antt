@@ -1,0 +1,10 @@
+pub mod AstrayLaws
+pub mod EllenExact
+pub mod EllenLaws
+pub mod EllenRules
+pub mod Initial
+pub mod InitialLaws
+pub mod Memory
+pub mod Range
+pub mod RangeLaws
+pub mod Table

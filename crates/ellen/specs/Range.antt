@@ -1,0 +1,70 @@
+-- Each number of a node or record names one of the memory.
+use Rattle.std.specs.Prelude.{ℕ, ◌<◌, length, IfSome, All}
+use Rattle.ellen.specs.declared.memory.UpdateWord.{UpdateWord}
+use Rattle.ellen.specs.declared.memory.UpdateWord.TheVariants as word
+use Rattle.ellen.specs.declared.memory.Node.{Node}
+use Rattle.ellen.specs.declared.memory.Node.TheVariants.{Leaf, Internal}
+use Rattle.ellen.specs.declared.memory.Record.{Record}
+use Rattle.ellen.specs.declared.memory.Record.TheVariants.{Ins, Del}
+use Rattle.ellen.specs.declared.memory.EllenMem.{EllenMem}
+use Rattle.ellen.specs.declared.place.Above.{Above}
+use Rattle.ellen.specs.declared.place.Resume.{Resume}
+use Rattle.ellen.specs.declared.place.EllenLoc.{EllenLoc}
+use Rattle.ellen.specs.declared.place.EllenLoc.TheVariants.{Search, Help}
+use Rattle.ellen.specs.declared.place.SearchLoc.{SearchLoc}
+use Rattle.ellen.specs.declared.place.SearchLoc.TheVariants.{Update, Child, IFlag, InsOnly, DFlag}
+use Rattle.ellen.specs.declared.place.HelpLoc.{HelpLoc}
+use Rattle.ellen.specs.declared.place.HelpLoc.TheVariants.{InsChild, InsClean, Mark, Right, Other, Splice, DelClean, Back}
+
+-- with so many records
+abbrev pub IsWordIn : ℕ → UpdateWord → Type 0
+IsWordIn records word.Untouched = Unit {0}
+IsWordIn records (word.Clean r) = r < records
+IsWordIn records (word.InsertFlag r) = r < records
+IsWordIn records (word.DeleteFlag r) = r < records
+IsWordIn records (word.Mark r) = r < records
+
+abbrev pub IsResumeIn : ℕ → Resume → Type 0
+IsResumeIn records resume = All (λ r. r < records) resume.stack
+
+-- with so many nodes and records
+abbrev pub IsNodeIn : ℕ → ℕ → Node → Type 0
+IsNodeIn nodes records (Leaf k) = Unit {0}
+IsNodeIn nodes records (Internal k u l r) = IsWordIn records u × (l < nodes) × (r < nodes)
+
+abbrev pub IsRecordIn : ℕ → ℕ → Record → Type 0
+IsRecordIn nodes records (Ins i) = (i.parent < nodes) × (i.leaf < nodes) × (i.new < nodes)
+IsRecordIn nodes records (Del d) = (d.grandparent < nodes) × (d.parent < nodes) × (d.leaf < nodes) × IsWordIn records d.parent_update
+
+abbrev pub IsAboveIn : ℕ → ℕ → Above → Type 0
+IsAboveIn nodes records above = (above.node < nodes) × IsWordIn records above.update
+
+abbrev pub IsSearchIn : ℕ → ℕ → SearchLoc → Type 0
+IsSearchIn n m (Update above p) = IfSome above (IsAboveIn n m) × (p < n)
+IsSearchIn n m (Child above p u) = IfSome above (IsAboveIn n m) × (p < n) × IsWordIn m u
+IsSearchIn n m (IFlag p u l) = (p < n) × IsWordIn m u × (l < n)
+IsSearchIn n m (InsOnly p l) = (p < n) × (l < n)
+IsSearchIn n m (DFlag above p u l) = IsAboveIn n m above × (p < n) × IsWordIn m u × (l < n)
+
+abbrev pub IsHelpIn : ℕ → ℕ → HelpLoc → Type 0
+IsHelpIn n m (InsChild r) = r < m
+IsHelpIn n m (InsClean r) = r < m
+IsHelpIn n m (Mark r) = r < m
+IsHelpIn n m (Right r) = r < m
+IsHelpIn n m (Other r s) = r < m
+IsHelpIn n m (Splice r o) = (r < m) × (o < n)
+IsHelpIn n m (DelClean r) = r < m
+IsHelpIn n m (Back r) = r < m
+
+abbrev pub IsPlaceIn : ℕ → ℕ → EllenLoc → Type 0
+IsPlaceIn n m (Search at) = IsSearchIn n m at
+IsPlaceIn n m (Help at resume) = IsHelpIn n m at × IsResumeIn m resume
+
+-- in a memory, which has the root
+pub record IsInRange (memory : EllenMem) : Type 0 where
+  pub root : 0 < length memory.nodes
+  pub nodes : All (IsNodeIn (length memory.nodes) (length memory.records)) memory.nodes
+  pub records : All (IsRecordIn (length memory.nodes) (length memory.records)) memory.records
+
+abbrev pub IsPlaceInRange : EllenMem → EllenLoc → Type 0
+IsPlaceInRange memory place = IsPlaceIn (length memory.nodes) (length memory.records) place

@@ -1,0 +1,407 @@
+-- Every access keeps the numbers of nodes and records in range.
+use Rattle.std.specs.Prelude.{◌≡◌, ℕ, zero, suc, ◌+◌, ◌<◌, ◌≤◌, Bool, true, false, if◌then◌else◌, nat_eq, nat_lt, List, [], ◌∷◌, length, refl, Option, Some, None, IfSome, unwrap_or, slice_get, slice_set, All}
+use Rattle.std.proofs.Common.{arith, sym, subst, length-append}
+use Rattle.std.proofs.lemmas.List.{length-set}
+use Rattle.std.proofs.lemmas.List.Elements.{All-nil, All-cons, All-head, All-tail, All-append, All-set, All-push, All-weaker}
+use Rattle.sched_program.specs.Program.{key_of}
+use Rattle.sched_program.specs.declared.operation.Op.{Op}
+use Rattle.sched_program.specs.declared.operation.Op.TheVariants.{Insert, Delete, Find}
+use Rattle.tree_machine.specs.declared.machine.Outcome.{Outcome}
+use Rattle.tree_machine.specs.declared.machine.Outcome.TheVariants.{Goes, Replies, Astray}
+use Rattle.tree_machine.specs.declared.search_order.Side.{Side}
+use Rattle.tree_machine.specs.declared.search_order.Side.TheVariants as side
+use Rattle.tree_machine.specs.SearchOrder.{side_of}
+use Rattle.ellen.specs.declared.memory.UpdateWord.{UpdateWord}
+use Rattle.ellen.specs.declared.memory.UpdateWord.TheVariants as word
+use Rattle.ellen.specs.declared.memory.Node.{Node}
+use Rattle.ellen.specs.declared.memory.Node.TheVariants.{Leaf, Internal}
+use Rattle.ellen.specs.declared.memory.InsertRecord.{InsertRecord}
+use Rattle.ellen.specs.declared.memory.DeleteRecord.{DeleteRecord}
+use Rattle.ellen.specs.declared.memory.Record.{Record}
+use Rattle.ellen.specs.declared.memory.Record.TheVariants.{Ins, Del}
+use Rattle.ellen.specs.declared.memory.EllenMem.{EllenMem}
+use Rattle.ellen.specs.declared.place.Above.{Above}
+use Rattle.ellen.specs.declared.place.Base.{Base}
+use Rattle.ellen.specs.declared.place.Base.TheVariants as base
+use Rattle.ellen.specs.declared.place.Resume.{Resume}
+use Rattle.ellen.specs.declared.place.EllenLoc.{EllenLoc}
+use Rattle.ellen.specs.declared.place.EllenLoc.TheVariants.{Search, Help}
+use Rattle.ellen.specs.declared.place.SearchLoc.{SearchLoc}
+use Rattle.ellen.specs.declared.place.SearchLoc.TheVariants.{Update, Child, IFlag, InsOnly, DFlag}
+use Rattle.ellen.specs.declared.place.HelpLoc.{HelpLoc}
+use Rattle.ellen.specs.declared.place.HelpLoc.TheVariants.{InsChild, InsClean, Mark, Right, Other, Splice, DelClean, Back}
+use Rattle.ellen.specs.declared.machine.Ellen.{Ellen}
+use Rattle.ellen.specs.Memory.{update_of, child_on, with_update, with_child, is_word, is_clean, node_at, record_at, key_at, set_node, set_update, set_child, internal_over, with_internal, new_internal, add_record}
+use Rattle.ellen.specs.Table.{After, found, read_update, read_child, exchange_update, exchange_child, with_insert, with_delete, first_place, with_base, awaiting, settled, top_taken, unwound, returned, marking, help, help_first, flagging, decide, arrived, search_act, help_act, act}
+use Rattle.ellen.specs.Range.{IsWordIn, IsResumeIn, IsNodeIn, IsRecordIn, IsAboveIn, IsSearchIn, IsHelpIn, IsPlaceIn, IsInRange, IsPlaceInRange}
+
+-- ---- what is in range stays so where there are more nodes and records
+
+word_more : (m more : ℕ) → m ≤ more → (u : UpdateWord) → IsWordIn m u → IsWordIn more u
+word_more m more le word.Untouched h = tt
+word_more m more le (word.Clean r) h = omega arith
+word_more m more le (word.InsertFlag r) h = omega arith
+word_more m more le (word.DeleteFlag r) h = omega arith
+word_more m more le (word.Mark r) h = omega arith
+
+stack_more : (m more : ℕ) → m ≤ more → (stack : List ℕ) → All (λ r. r < m) stack → All (λ r. r < more) stack
+stack_more m more le stack h = All-weaker (λ r. r < m) (λ r. r < more) (λ r below. omega arith) stack h
+
+module _ (n m nodes records : ℕ) (len : n ≤ nodes) (lem : m ≤ records) where
+  node_more : (node : Node) → IsNodeIn n m node → IsNodeIn nodes records node
+  node_more (Leaf k) h = tt
+  node_more (Internal k u l r) h = let a = h.1 in let b = h.2 in (word_more m records lem u h.0, omega arith, omega arith)
+
+  record_more : (one : Record) → IsRecordIn n m one → IsRecordIn nodes records one
+  record_more (Ins i) h = let a = h.0 in let b = h.1 in let c = h.2 in (omega arith, omega arith, omega arith)
+  record_more (Del d) h = let a = h.0 in let b = h.1 in let c = h.2 in (omega arith, omega arith, omega arith, word_more m records lem d.parent_update h.3)
+
+  above_more : (above : Above) → IsAboveIn n m above → IsAboveIn nodes records above
+  above_more above h = let a = h.0 in (omega arith, word_more m records lem above.update h.1)
+
+  above_more_if : (above : Option Above) → IfSome above (IsAboveIn n m) → IfSome above (IsAboveIn nodes records)
+  above_more_if None h = tt
+  above_more_if (Some above) h = above_more above h
+
+  search_more : (at : SearchLoc) → IsSearchIn n m at → IsSearchIn nodes records at
+  search_more (Update above p) h = let a = h.1 in (above_more_if above h.0, omega arith)
+  search_more (Child above p u) h = let a = h.1 in (above_more_if above h.0, omega arith, word_more m records lem u h.2)
+  search_more (IFlag p u l) h = let a = h.0 in let b = h.2 in (omega arith, word_more m records lem u h.1, omega arith)
+  search_more (InsOnly p l) h = let a = h.0 in let b = h.1 in (omega arith, omega arith)
+  search_more (DFlag above p u l) h = let a = h.1 in let b = h.3 in (above_more above h.0, omega arith, word_more m records lem u h.2, omega arith)
+
+  help_more : (at : HelpLoc) → IsHelpIn n m at → IsHelpIn nodes records at
+  help_more (InsChild r) h = omega arith
+  help_more (InsClean r) h = omega arith
+  help_more (Mark r) h = omega arith
+  help_more (Right r) h = omega arith
+  help_more (Other r s) h = omega arith
+  help_more (Splice r o) h = let a = h.0 in let b = h.1 in (omega arith, omega arith)
+  help_more (DelClean r) h = omega arith
+  help_more (Back r) h = omega arith
+
+  pub place_more : (place : EllenLoc) → IsPlaceIn n m place → IsPlaceIn nodes records place
+  place_more (Search at) h = search_more at h
+  place_more (Help at resume) h = (help_more at h.0, stack_more m records lem resume.stack h.1)
+
+-- ---- outcomes
+
+abbrev IsOutcomeIn : ℕ → ℕ → Outcome EllenLoc → Type 0
+IsOutcomeIn n m (Goes place) = IsPlaceIn n m place
+IsOutcomeIn n m (Replies reply) = Unit {0}
+IsOutcomeIn n m Astray = Unit {0}
+
+module _ (n m : ℕ) (root : 0 < n) where
+  settled_in : (done : Bool) (b : Base) → IsOutcomeIn n m (settled done b)
+  settled_in done base.Again = (tt, root)
+  settled_in done base.Insert = tt
+  settled_in true base.Delete = tt
+  settled_in false base.Delete = (tt, root)
+
+  top_in : (r : ℕ) (stack : List ℕ) → All (λ s. s < m) (r ∷ stack) → All (λ s. s < m) (top_taken r stack).0 × ((top_taken r stack).1 < m)
+  top_in r [] h = (All-nil (λ s. s < m), All-head (λ s. s < m) r [] h)
+  top_in r (s ∷ stack) h =
+      let rest = top_in s stack (All-tail (λ s. s < m) r (s ∷ stack) h) in
+      (All-cons (λ s. s < m) r (top_taken s stack).0 (All-head (λ s. s < m) r (s ∷ stack) h) rest.0, rest.1)
+
+  unwound_in : (done : Bool) (b : Base) (stack : List ℕ) → All (λ s. s < m) stack → IsOutcomeIn n m (unwound done b stack)
+  unwound_in done b [] h = settled_in done b
+  unwound_in done b (r ∷ stack) h = let t = top_in r stack h in (t.1, t.0)
+
+  returned_in : (done : Bool) (resume : Resume) → IsResumeIn m resume → IsOutcomeIn n m (returned done resume)
+  returned_in done resume h = unwound_in done resume.base resume.stack h
+
+  marking_in : (machine : Ellen) (r : ℕ) → r < m → IsHelpIn n m (marking machine r)
+  marking_in machine r below = elim machine.mark as (λ b. IsHelpIn n m (if b then Mark r else Right r)) [ true ↦ below | false ↦ below ]
+
+  help_in : (machine : Ellen) (u : UpdateWord) (resume : Resume) → IsWordIn m u → IsResumeIn m resume → IsOutcomeIn n m (help machine u resume)
+  help_in machine word.Untouched resume w h = returned_in true resume h
+  help_in machine (word.Clean r) resume w h = returned_in true resume h
+  help_in machine (word.InsertFlag r) resume w h = (w, h)
+  help_in machine (word.DeleteFlag r) resume w h = (marking_in machine r w, h)
+  help_in machine (word.Mark r) resume w h = (w, h)
+
+  help_first_in : (machine : Ellen) (u : UpdateWord) → IsWordIn m u → IsOutcomeIn n m (help_first machine u)
+  help_first_in machine u w = help_in machine u (with_base base.Again) w (All-nil (λ r. r < m))
+
+  flagging_in : (machine : Ellen) (p : ℕ) (u : UpdateWord) (l : ℕ) → p < n → IsWordIn m u → l < n → IsSearchIn n m (flagging machine p u l)
+  flagging_in machine p u l a w b = elim machine.iflag as (λ c. IsSearchIn n m (if c then IFlag p u l else InsOnly p l)) [ true ↦ (a, w, b) | false ↦ (a, b) ]
+
+  either : (b : Bool) (first second : Outcome EllenLoc) → IsOutcomeIn n m first → IsOutcomeIn n m second → IsOutcomeIn n m (if b then first else second)
+  either true first second h k = h
+  either false first second h k = k
+
+  decide_in : (machine : Ellen) (op : Op) (above : Option Above) (p : ℕ) (u : UpdateWord) (l j : ℕ) → IfSome above (IsAboveIn n m) → p < n → IsWordIn m u → l < n → IsOutcomeIn n m (decide machine op above p u l j)
+  decide_in machine (Find k) above p u l j a b w c = tt
+  decide_in machine (Insert k) above p u l j a b w c =
+      either (nat_eq j k) _ _ tt (either (is_clean u) _ _ (flagging_in machine p u l b w c) (help_first_in machine u w))
+  decide_in machine (Delete k) None p u l j a b w c = either (nat_eq j k) Astray (Replies false) tt tt
+  decide_in machine (Delete k) (Some above) p u l j a b w c =
+      either (nat_eq j k) _ _ (either (is_clean above.update) _ _ (either (is_clean u) (Goes (Search (DFlag above p u l))) _ (a, b, w, c) (help_first_in machine u w)) (help_first_in machine above.update a.1)) tt
+
+  arrived_in : (machine : Ellen) (op : Op) (above : Option Above) (p : ℕ) (u : UpdateWord) (c : ℕ) (node : Node) → IfSome above (IsAboveIn n m) → p < n → IsWordIn m u → c < n → IsOutcomeIn n m (arrived machine op above p u c node)
+  arrived_in machine op above p u c (Internal j v l r) a b w d = ((b, w), d)
+  arrived_in machine op above p u c (Leaf j) a b w d = decide_in machine op above p u c j a b w d
+
+-- ---- what is read of a memory
+
+at_all : {A : Type 0} (P : A → Type 0) (xs : List A) (x : ℕ) (d : A) → All P xs → P d → P (unwrap_or (slice_get xs x) d)
+at_all P [] x d h p = p
+at_all P (a ∷ xs) zero d h p = All-head P a xs h
+at_all P (a ∷ xs) (suc x) d h p = at_all P xs x d (All-tail P a xs h) p
+
+get_all : {A : Type 0} (P : A → Type 0) (xs : List A) (x : ℕ) (a : A) → All P xs → slice_get xs x ≡ Some a → P a
+get_all P [] x a h e = cc
+get_all P (b ∷ xs) zero a h e = let same : b ≡ a = cc in subst P same (All-head P b xs h)
+get_all P (b ∷ xs) (suc x) a h e = get_all P xs x a (All-tail P b xs h) e
+
+word_in : (n m : ℕ) (node : Node) (u : UpdateWord) → IsNodeIn n m node → update_of node ≡ Some u → IsWordIn m u
+word_in n m (Leaf k) u h e = cc
+word_in n m (Internal k v l r) u h e = let same : v ≡ u = cc in subst (IsWordIn m) same h.0
+
+child_in : (n m : ℕ) (s : Side) (node : Node) (c : ℕ) → IsNodeIn n m node → child_on s node ≡ Some c → c < n
+child_in n m s (Leaf k) c h e = cc
+child_in n m side.Left (Internal k v l r) c h e = let same : l ≡ c = cc in subst (λ x. x < n) same h.1
+child_in n m side.Right (Internal k v l r) c h e = let same : r ≡ c = cc in subst (λ x. x < n) same h.2
+
+with_update_in : (n m : ℕ) (u : UpdateWord) (node : Node) → IsNodeIn n m node → IsWordIn m u → IsNodeIn n m (with_update u node)
+with_update_in n m u (Leaf k) h w = tt
+with_update_in n m u (Internal k v l r) h w = (w, h.1, h.2)
+
+pub with_child_in : (n m : ℕ) (s : Side) (c : ℕ) (node : Node) → IsNodeIn n m node → c < n → IsNodeIn n m (with_child s c node)
+with_child_in n m s c (Leaf k) h b = tt
+with_child_in n m side.Left c (Internal k v l r) h b = (h.0, b, h.2)
+with_child_in n m side.Right c (Internal k v l r) h b = (h.0, h.1, b)
+
+pub node_in : (memory : EllenMem) (x : ℕ) → IsInRange memory → IsNodeIn (length memory.nodes) (length memory.records) (node_at memory x)
+node_in memory x h = at_all (IsNodeIn (length memory.nodes) (length memory.records)) memory.nodes x (Leaf 0) h.nodes tt
+
+-- ---- what an access leaves
+
+pub record IsKept (memory : EllenMem) (after : After) : Type 0 where
+  pub nodes : length memory.nodes ≤ length after.0.nodes
+  pub records : length memory.records ≤ length after.0.records
+  pub memory_in : IsInRange after.0
+  pub outcome_in : IsOutcomeIn (length after.0.nodes) (length after.0.records) after.1
+
+stays : (memory : EllenMem) (outcome : Outcome EllenLoc) → IsInRange memory → IsOutcomeIn (length memory.nodes) (length memory.records) outcome → IsKept memory (memory, outcome)
+stays memory outcome h o = record { nodes = omega arith; records = omega arith; memory_in = h; outcome_in = o }
+
+pub set_in : (memory : EllenMem) (x : ℕ) (node : Node) → IsInRange memory → IsNodeIn (length memory.nodes) (length memory.records) node → IsInRange (set_node memory x node)
+set_in memory x node h k =
+    let same : length (slice_set memory.nodes x node) ≡ length memory.nodes = length-set memory.nodes x node in
+    let all = All-set (IsNodeIn (length memory.nodes) (length memory.records)) memory.nodes x node k h.nodes in
+    record {
+      root = subst (λ n. 0 < n) (sym same) h.root;
+      nodes = subst (λ n. All (IsNodeIn n (length memory.records)) (slice_set memory.nodes x node)) (sym same) all;
+      records = subst (λ n. All (IsRecordIn n (length memory.records)) memory.records) (sym same) h.records;
+    }
+
+set_kept : (memory appended : EllenMem) (x : ℕ) (node : Node) (outcome : Outcome EllenLoc)
+    → length memory.nodes ≤ length appended.nodes → length memory.records ≤ length appended.records
+    → IsInRange appended → IsNodeIn (length appended.nodes) (length appended.records) node → IsOutcomeIn (length appended.nodes) (length appended.records) outcome
+    → IsKept memory (set_node appended x node, outcome)
+set_kept memory appended x node outcome more_nodes more_records h k o =
+    let same : length (slice_set appended.nodes x node) ≡ length appended.nodes = length-set appended.nodes x node in
+    record {
+      nodes = subst (λ n. length memory.nodes ≤ n) (sym same) more_nodes;
+      records = more_records;
+      memory_in = set_in appended x node h k;
+      outcome_in = subst (λ n. IsOutcomeIn n (length appended.records) outcome) (sym same) o;
+    }
+
+found_kept : {A : Type 0} (memory : EllenMem) (o : Option A) (goes : A → After) → IsInRange memory → ((a : A) → o ≡ Some a → IsKept memory (goes a)) → IsKept memory (found memory o goes)
+found_kept memory None goes h f = stays memory Astray h tt
+found_kept memory (Some a) goes h f = f a refl
+
+cond_kept : (memory : EllenMem) (b : Bool) (first second : After) → IsKept memory first → IsKept memory second → IsKept memory (if b then first else second)
+cond_kept memory true first second h k = h
+cond_kept memory false first second h k = k
+
+module _ (memory : EllenMem) (h : IsInRange memory) where
+  read_update_kept : (x : ℕ) (goes : UpdateWord → Outcome EllenLoc) → ((u : UpdateWord) → IsWordIn (length memory.records) u → IsOutcomeIn (length memory.nodes) (length memory.records) (goes u)) → IsKept memory (read_update memory x goes)
+  read_update_kept x goes f =
+      found_kept memory (update_of (node_at memory x)) (λ u. (memory, goes u)) h
+      (λ u e. stays memory (goes u) h (f u (word_in (length memory.nodes) (length memory.records) (node_at memory x) u (node_in memory x h) e)))
+
+  read_child_kept : (x : ℕ) (s : Side) (goes : ℕ → Outcome EllenLoc) → ((c : ℕ) → c < length memory.nodes → IsOutcomeIn (length memory.nodes) (length memory.records) (goes c)) → IsKept memory (read_child memory x s goes)
+  read_child_kept x s goes f =
+      found_kept memory (child_on s (node_at memory x)) (λ c. (memory, goes c)) h
+      (λ c e. stays memory (goes c) h (f c (child_in (length memory.nodes) (length memory.records) s (node_at memory x) c (node_in memory x h) e)))
+
+  with_insert_kept : (r : ℕ) (row : InsertRecord → After) → ((i : InsertRecord) → IsRecordIn (length memory.nodes) (length memory.records) (Ins i) → IsKept memory (row i)) → IsKept memory (with_insert memory (record_at memory r) row)
+  with_insert_kept r row f = go (record_at memory r) refl
+    where
+      go : (o : Option Record) → record_at memory r ≡ o → IsKept memory (with_insert memory o row)
+      go None e = stays memory Astray h tt
+      go (Some (Ins i)) e = f i (get_all (IsRecordIn (length memory.nodes) (length memory.records)) memory.records r (Ins i) h.records e)
+      go (Some (Del d)) e = stays memory Astray h tt
+
+  with_delete_kept : (r : ℕ) (row : DeleteRecord → After) → ((d : DeleteRecord) → IsRecordIn (length memory.nodes) (length memory.records) (Del d) → IsKept memory (row d)) → IsKept memory (with_delete memory (record_at memory r) row)
+  with_delete_kept r row f = go (record_at memory r) refl
+    where
+      go : (o : Option Record) → record_at memory r ≡ o → IsKept memory (with_delete memory o row)
+      go None e = stays memory Astray h tt
+      go (Some (Ins i)) e = stays memory Astray h tt
+      go (Some (Del d)) e = f d (get_all (IsRecordIn (length memory.nodes) (length memory.records)) memory.records r (Del d) h.records e)
+
+  module _ (appended : EllenMem) (more_nodes : length memory.nodes ≤ length appended.nodes) (more_records : length memory.records ≤ length appended.records) (k : IsInRange appended) where
+    exchange_update_kept : (x : ℕ) (expected desired : UpdateWord) (success : Outcome EllenLoc) (failure : UpdateWord → Outcome EllenLoc)
+        → IsWordIn (length appended.records) desired → IsOutcomeIn (length appended.nodes) (length appended.records) success
+        → ((w : UpdateWord) → IsWordIn (length memory.records) w → IsOutcomeIn (length memory.nodes) (length memory.records) (failure w))
+        → IsKept memory (exchange_update memory x expected desired appended success failure)
+    exchange_update_kept x expected desired success failure d o f =
+        found_kept memory (update_of (node_at memory x)) (λ w. if is_word w expected then (set_update appended x desired, success) else (memory, failure w)) h
+        (λ w e. cond_kept memory (is_word w expected) (set_update appended x desired, success) (memory, failure w)
+        (set_kept memory appended x (with_update desired (node_at appended x)) success more_nodes more_records k (with_update_in (length appended.nodes) (length appended.records) desired (node_at appended x) (node_in appended x k) d) o)
+        (stays memory (failure w) h (f w (word_in (length memory.nodes) (length memory.records) (node_at memory x) w (node_in memory x h) e))))
+
+    exchange_child_kept : (x a b : ℕ) (success failure : Outcome EllenLoc)
+        → b < length appended.nodes → IsOutcomeIn (length appended.nodes) (length appended.records) success → IsOutcomeIn (length memory.nodes) (length memory.records) failure
+        → IsKept memory (exchange_child memory x a b appended success failure)
+    exchange_child_kept x a b success failure d o f =
+        let s = side_of (key_at appended b) (key_at memory x) in
+        found_kept memory (child_on s (node_at memory x)) (λ c. if nat_eq c a then (set_child appended x s b, success) else (memory, failure)) h
+        (λ c e. cond_kept memory (nat_eq c a) (set_child appended x s b, success) (memory, failure)
+        (set_kept memory appended x (with_child s b (node_at appended x)) success more_nodes more_records k (with_child_in (length appended.nodes) (length appended.records) s b (node_at appended x) (node_in appended x k) d) o)
+        (stays memory failure h f))
+
+-- ---- what is appended
+
+over_in : (n m k j x y : ℕ) → x < n → y < n → IsNodeIn n m (internal_over k j x y)
+over_in n m k j x y a b = elim (nat_lt k j) as (λ c. IsNodeIn n m (if c then Internal j word.Untouched x y else Internal k word.Untouched y x)) [ true ↦ (tt, a, b) | false ↦ (tt, b, a) ]
+
+pub three_more : (memory : EllenMem) (k l : ℕ) → length (with_internal memory k l).nodes ≡ length memory.nodes + 3
+three_more memory k l = length-append memory.nodes (Leaf k ∷ Leaf (key_at memory l) ∷ internal_over k (key_at memory l) (length memory.nodes) (length memory.nodes + 1) ∷ [])
+
+pub with_internal_in : (memory : EllenMem) (k l : ℕ) → IsInRange memory → IsInRange (with_internal memory k l)
+with_internal_in memory k l h =
+    let n = length memory.nodes in
+    let m = length memory.records in
+    let new = internal_over k (key_at memory l) n (n + 1) in
+    let P = IsNodeIn (n + 3) m in
+    let same : length (with_internal memory k l).nodes ≡ n + 3 = three_more memory k l in
+    let old : All P memory.nodes = All-weaker (IsNodeIn n m) P (node_more n m (n + 3) m (omega arith) (omega arith)) memory.nodes h.nodes in
+    let fresh : All P (Leaf k ∷ Leaf (key_at memory l) ∷ new ∷ []) =
+    All-cons P (Leaf k) (Leaf (key_at memory l) ∷ new ∷ []) tt (All-cons P (Leaf (key_at memory l)) (new ∷ []) tt (All-cons P new [] (over_in (n + 3) m k (key_at memory l) n (n + 1) (omega arith) (omega arith)) (All-nil P))) in
+    let both = All-append P memory.nodes (Leaf k ∷ Leaf (key_at memory l) ∷ new ∷ []) old fresh in
+    let records = All-weaker (IsRecordIn n m) (IsRecordIn (n + 3) m) (record_more n m (n + 3) m (omega arith) (omega arith)) memory.records h.records in
+    record {
+      root = subst (λ c. 0 < c) (sym same) (omega arith);
+      nodes = subst (λ c. All (IsNodeIn c m) (with_internal memory k l).nodes) (sym same) both;
+      records = subst (λ c. All (IsRecordIn c m) memory.records) (sym same) records;
+    }
+
+one_more : (memory : EllenMem) (new : Record) → length (add_record memory new).records ≡ length memory.records + 1
+one_more memory new = length-append memory.records (new ∷ [])
+
+add_record_in : (memory : EllenMem) (new : Record) → IsInRange memory → IsRecordIn (length memory.nodes) (length memory.records + 1) new → IsInRange (add_record memory new)
+add_record_in memory new h k =
+    let n = length memory.nodes in
+    let m = length memory.records in
+    let same : length (add_record memory new).records ≡ m + 1 = one_more memory new in
+    let nodes = All-weaker (IsNodeIn n m) (IsNodeIn n (m + 1)) (node_more n m n (m + 1) (omega arith) (omega arith)) memory.nodes h.nodes in
+    let old = All-weaker (IsRecordIn n m) (IsRecordIn n (m + 1)) (record_more n m n (m + 1) (omega arith) (omega arith)) memory.records h.records in
+    let records = All-push (IsRecordIn n (m + 1)) memory.records new old k in
+    record {
+      root = h.root;
+      nodes = subst (λ c. All (IsNodeIn n c) memory.nodes) (sym same) nodes;
+      records = subst (λ c. All (IsRecordIn n c) (add_record memory new).records) (sym same) records;
+    }
+
+-- ---- the rows of the table
+
+module _ (machine : Ellen) (op : Op) (memory : EllenMem) (h : IsInRange memory) where
+  insert_flag_kept : (p : ℕ) (u : UpdateWord) (l : ℕ) → IsSearchIn (length memory.nodes) (length memory.records) (IFlag p u l) → IsKept memory (search_act machine op (IFlag p u l) memory)
+  insert_flag_kept p u l at =
+      let n = length memory.nodes in
+      let m = length memory.records in
+      let a = at.0 in
+      let b = at.2 in
+      let new : Record = Ins (record { parent = p; leaf = l; new = new_internal memory }) in
+      let nodes = with_internal memory (key_of op) l in
+      let appended = add_record nodes new in
+      let more : length appended.nodes ≡ n + 3 = three_more memory (key_of op) l in
+      let one : length appended.records ≡ m + 1 = one_more nodes new in
+      let below : m < length appended.records = omega arith in
+      let in_range : IsInRange appended = add_record_in nodes new (with_internal_in memory (key_of op) l h) (omega arith, omega arith, omega arith) in
+      exchange_update_kept memory h appended (omega arith) (omega arith) in_range p u (word.InsertFlag m) (Goes (Help (InsChild m) (with_base base.Insert))) (λ w. help_first machine w)
+      below (below, All-nil (λ r. r < length appended.records)) (λ w k. help_first_in n m h.root machine w k)
+
+  insert_only_kept : (p l : ℕ) → IsKept memory (search_act machine op (InsOnly p l) memory)
+  insert_only_kept p l =
+      let more = three_more memory (key_of op) l in
+      exchange_child_kept memory h (with_internal memory (key_of op) l) (omega arith) (omega arith) (with_internal_in memory (key_of op) l h) p l (new_internal memory) (Replies true) (Goes first_place)
+      (omega arith) tt (tt, h.root)
+
+  delete_flag_kept : (above : Above) (p : ℕ) (u : UpdateWord) (l : ℕ) → IsSearchIn (length memory.nodes) (length memory.records) (DFlag above p u l) → IsKept memory (search_act machine op (DFlag above p u l) memory)
+  delete_flag_kept above p u l at =
+      let n = length memory.nodes in
+      let m = length memory.records in
+      let new : Record = Del (record { grandparent = above.node; parent = p; leaf = l; parent_update = u }) in
+      let appended = add_record memory new in
+      let one : length appended.records ≡ m + 1 = one_more memory new in
+      let below : m < length appended.records = omega arith in
+      let in_range : IsInRange appended = add_record_in memory new h (at.0.0, at.1, at.3, word_more m (m + 1) (omega arith) u at.2) in
+      exchange_update_kept memory h appended (omega arith) (omega arith) in_range above.node above.update (word.DeleteFlag m) (Goes (Help (marking machine m) (with_base base.Delete))) (λ w. help_first machine w)
+      below (marking_in n (length appended.records) h.root machine m below, All-nil (λ r. r < length appended.records)) (λ w k. help_first_in n m h.root machine w k)
+
+  search_kept : (at : SearchLoc) → IsSearchIn (length memory.nodes) (length memory.records) at → IsKept memory (search_act machine op at memory)
+  search_kept (Update above p) at = read_update_kept memory h p _ (λ u w. (at.0, at.1, w))
+  search_kept (Child above p u) at =
+      read_child_kept memory h p _ _ (λ c below. arrived_in (length memory.nodes) (length memory.records) h.root machine op above p u c (node_at memory c) at.0 at.1 at.2 below)
+  search_kept (IFlag p u l) at = insert_flag_kept p u l at
+  search_kept (InsOnly p l) at = insert_only_kept p l
+  search_kept (DFlag above p u l) at = delete_flag_kept above p u l at
+
+module _ (machine : Ellen) (memory : EllenMem) (h : IsInRange memory) (resume : Resume) (held : IsResumeIn (length memory.records) resume) where
+  -- an exchange that appends nothing
+  update_kept : (x : ℕ) (expected desired : UpdateWord) (success : Outcome EllenLoc) (failure : UpdateWord → Outcome EllenLoc)
+      → IsWordIn (length memory.records) desired → IsOutcomeIn (length memory.nodes) (length memory.records) success
+      → ((w : UpdateWord) → IsWordIn (length memory.records) w → IsOutcomeIn (length memory.nodes) (length memory.records) (failure w))
+      → IsKept memory (exchange_update memory x expected desired memory success failure)
+  update_kept = exchange_update_kept memory h memory (omega arith) (omega arith) h
+
+  child_kept : (x a b : ℕ) (success failure : Outcome EllenLoc)
+      → b < length memory.nodes → IsOutcomeIn (length memory.nodes) (length memory.records) success → IsOutcomeIn (length memory.nodes) (length memory.records) failure
+      → IsKept memory (exchange_child memory x a b memory success failure)
+  child_kept = exchange_child_kept memory h memory (omega arith) (omega arith) h
+
+  back_in : (done : Bool) → IsOutcomeIn (length memory.nodes) (length memory.records) (returned done resume)
+  back_in done = returned_in (length memory.nodes) (length memory.records) h.root done resume held
+
+  mark_kept : (r : ℕ) → r < length memory.records → IsKept memory (help_act machine (Mark r) resume memory)
+  mark_kept r at =
+      let n = length memory.nodes in
+      let m = length memory.records in
+      with_delete_kept memory h r _ (λ d in_range.
+      update_kept d.parent d.parent_update (word.Mark r) (Goes (Help (Right r) resume)) (λ w. if is_word w (word.Mark r) then Goes (Help (Right r) resume) else help machine w (awaiting r resume))
+      at (at, held)
+      (λ w k. either n m h.root (is_word w (word.Mark r)) (Goes (Help (Right r) resume)) (help machine w (awaiting r resume)) (at, held)
+      (help_in n m h.root machine w (awaiting r resume) k (All-push (λ s. s < m) resume.stack r held at))))
+
+  right_kept : (r : ℕ) → r < length memory.records → IsKept memory (help_act machine (Right r) resume memory)
+  right_kept r at =
+      with_delete_kept memory h r _ (λ d in_range.
+      read_child_kept memory h d.parent side.Right (λ c. if nat_eq c d.leaf then Goes (Help (Other r side.Left) resume) else Goes (Help (Other r side.Right) resume))
+      (λ c below. either (length memory.nodes) (length memory.records) h.root (nat_eq c d.leaf) (Goes (Help (Other r side.Left) resume)) (Goes (Help (Other r side.Right) resume)) (at, held) (at, held)))
+
+  help_kept : (at : HelpLoc) → IsHelpIn (length memory.nodes) (length memory.records) at → IsKept memory (help_act machine at resume memory)
+  help_kept (InsChild r) at =
+      with_insert_kept memory h r _ (λ i in_range. child_kept i.parent i.leaf i.new (Goes (Help (InsClean r) resume)) (Goes (Help (InsClean r) resume)) in_range.2 (at, held) (at, held))
+  help_kept (InsClean r) at =
+      with_insert_kept memory h r _ (λ i in_range. update_kept i.parent (word.InsertFlag r) (word.Clean r) (returned true resume) (λ w. returned true resume) at (back_in true) (λ w k. back_in true))
+  help_kept (Mark r) at = mark_kept r at
+  help_kept (Right r) at = right_kept r at
+  help_kept (Other r s) at =
+      with_delete_kept memory h r _ (λ d in_range. read_child_kept memory h d.parent s (λ o. Goes (Help (Splice r o) resume)) (λ o below. ((at, below), held)))
+  help_kept (Splice r o) at =
+      with_delete_kept memory h r _ (λ d in_range. child_kept d.grandparent d.parent o (Goes (Help (DelClean r) resume)) (Goes (Help (DelClean r) resume)) at.1 (at.0, held) (at.0, held))
+  help_kept (DelClean r) at =
+      with_delete_kept memory h r _ (λ d in_range. update_kept d.grandparent (word.DeleteFlag r) (word.Clean r) (returned true resume) (λ w. returned true resume) at (back_in true) (λ w k. back_in true))
+  help_kept (Back r) at =
+      with_delete_kept memory h r _ (λ d in_range. update_kept d.grandparent (word.DeleteFlag r) (word.Clean r) (returned false resume) (λ w. returned false resume) at (back_in false) (λ w k. back_in false))
+
+pub act_kept : (machine : Ellen) (op : Op) (memory : EllenMem) → IsInRange memory → (place : EllenLoc) → IsPlaceInRange memory place → IsKept memory (act machine op place memory)
+act_kept machine op memory h (Search at) in_range = search_kept machine op memory h at in_range
+act_kept machine op memory h (Help at resume) in_range = help_kept machine memory h resume in_range.1 at in_range.0

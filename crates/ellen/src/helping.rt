@@ -1,0 +1,365 @@
+//! The rows of the table at which an operation carries out what a record says.
+ghost use Rattle.std.specs.Prelude.{◌≡◌, IfOk, OnErr};
+ghost use Rattle.ellen.specs.declared.place.HelpLoc.TheVariants as place;
+ghost use Rattle.ellen.specs.Table.{help_act, returned, settled, marking, help, help_first, first_place, awaiting, with_base};
+
+use crate::machine::Ellen;
+use crate::memory::{EllenMem, Record, UpdateWord, child_on, is_word, key_in, update_of};
+use crate::place::{Base, EllenLoc, HelpLoc, Resume, SearchLoc};
+use sched_program::{OutOfMemory, Sequence};
+use std::alloc::Global;
+use tree_machine::{Outcome, Side, side_of};
+
+/// The first place of an operation, and that of one that begins again.
+pub fn first_place() -> EllenLoc
+    ensures { result ≡ first_place }
+{
+    EllenLoc::Search(SearchLoc::Update {
+        above: None,
+        parent: 0,
+    })
+}
+
+/// What is done where no backtrack is awaited any more.
+fn settled(done: bool, base: Base) -> Outcome<EllenLoc>
+    ensures { result ≡ settled done base }
+{
+    match base {
+        Base::Again => Outcome::Goes(first_place()),
+        Base::Insert => Outcome::Replies(true),
+        Base::Delete => {
+            if done {
+                Outcome::Replies(true)
+            } else {
+                Outcome::Goes(first_place())
+            }
+        }
+    }
+}
+
+/// Ends one helping: the last backtrack that is awaited, or what is done behind it.
+#[tactic(auto, using(crate::proofs::Stack::returned_is))]
+fn returned(alloc: Global, done: bool, resume: &Resume) -> Result<Outcome<EllenLoc>, OutOfMemory>
+    ensures { IfOk result (λ outcome. outcome ≡ returned done resume.now) }
+{
+    let mut stack = resume.stack.copy(alloc)?.into_vec();
+    match stack.pop() {
+        Some(number) => {
+            let stack = Sequence::from_vec(stack);
+            let resume = Resume {
+                stack,
+                base: resume.base,
+            };
+            Ok(Outcome::Goes(EllenLoc::Help(HelpLoc::Back(number), resume)))
+        }
+        None => Ok(settled(done, resume.base)),
+    }
+}
+
+/// The place that marks the parent of a delete, or the one behind it in the variant without the mark.
+pub fn marking(machine: Ellen, number: usize) -> HelpLoc
+    ensures { result ≡ marking machine number }
+{
+    if machine.mark {
+        HelpLoc::Mark(number)
+    } else {
+        HelpLoc::Right(number)
+    }
+}
+
+/// Begins to help what an update word tells of.
+fn help(
+    alloc: Global,
+    machine: Ellen,
+    word: UpdateWord,
+    resume: Resume,
+) -> Result<Outcome<EllenLoc>, OutOfMemory>
+    ensures { IfOk result (λ outcome. outcome ≡ help machine word resume) }
+{
+    match word {
+        UpdateWord::InsertFlag(number) => Ok(Outcome::Goes(EllenLoc::Help(
+            HelpLoc::InsChild(number),
+            resume,
+        ))),
+        UpdateWord::DeleteFlag(number) => Ok(Outcome::Goes(EllenLoc::Help(
+            marking(machine, number),
+            resume,
+        ))),
+        UpdateWord::Mark(number) => Ok(Outcome::Goes(EllenLoc::Help(
+            HelpLoc::Right(number),
+            resume,
+        ))),
+        UpdateWord::Untouched | UpdateWord::Clean(_) => returned(alloc, true, &resume),
+    }
+}
+
+/// No backtrack awaited, and what is done then.
+pub fn with_base(alloc: Global, base: Base) -> Resume
+    ensures { result ≡ with_base base }
+{
+    Resume {
+        stack: Sequence::new(alloc),
+        base,
+    }
+}
+
+/// Helps a word found in the way of a search, which begins again then.
+pub fn help_first(
+    alloc: Global,
+    machine: Ellen,
+    word: UpdateWord,
+) -> Result<Outcome<EllenLoc>, OutOfMemory>
+    ensures { IfOk result (λ outcome. outcome ≡ help_first machine word) }
+{
+    help(alloc, machine, word, with_base(alloc, Base::Again))
+}
+
+/// The stack with one more delete whose backtrack is awaited.
+fn awaiting(alloc: Global, number: usize, resume: &Resume) -> Result<Resume, OutOfMemory>
+    ensures { IfOk result (λ more. more ≡ awaiting number resume.now) }
+{
+    let mut stack = resume.stack.copy(alloc)?;
+    stack.push(number)?;
+    Ok(Resume {
+        stack,
+        base: resume.base,
+    })
+}
+
+#[tactic(auto, using(crate::proofs::Present::has_update, crate::proofs::Present::has_child))]
+fn insert_child_row(
+    alloc: Global,
+    machine: Ellen,
+    mem: &mut EllenMem,
+    number: usize,
+    resume: &Resume,
+) -> Result<Outcome<EllenLoc>, OutOfMemory>
+    ensures ok { IfOk result (λ outcome. help_act machine (place.InsChild number) resume.now mem.old ≡ (mem.new, outcome)) }
+    ensures err { OnErr result (mem.new ≡ mem.old) }
+{
+    let Some(Record::Ins(info)) = mem.record(number) else {
+        return Ok(Outcome::Astray);
+    };
+    let node = mem.node(info.parent);
+    let side = side_of(key_in(mem.node(info.new)), key_in(node));
+    let Some(child) = child_on(side, node) else {
+        return Ok(Outcome::Astray);
+    };
+    let goal = EllenLoc::Help(HelpLoc::InsClean(number), resume.copy(alloc)?);
+    if child == info.leaf {
+        mem.set_child(info.parent, side, info.new);
+    }
+    Ok(Outcome::Goes(goal))
+}
+
+#[tactic(auto, using(crate::proofs::Present::has_update, crate::proofs::Present::has_child))]
+fn insert_clean_row(
+    alloc: Global,
+    machine: Ellen,
+    mem: &mut EllenMem,
+    number: usize,
+    resume: &Resume,
+) -> Result<Outcome<EllenLoc>, OutOfMemory>
+    ensures ok { IfOk result (λ outcome. help_act machine (place.InsClean number) resume.now mem.old ≡ (mem.new, outcome)) }
+    ensures err { OnErr result (mem.new ≡ mem.old) }
+{
+    let Some(Record::Ins(info)) = mem.record(number) else {
+        return Ok(Outcome::Astray);
+    };
+    let Some(found) = update_of(mem.node(info.parent)) else {
+        return Ok(Outcome::Astray);
+    };
+    let outcome = returned(alloc, true, resume)?;
+    if is_word(found, UpdateWord::InsertFlag(number)) {
+        mem.set_update(info.parent, UpdateWord::Clean(number));
+    }
+    Ok(outcome)
+}
+
+#[tactic(auto, using(crate::proofs::Present::has_update, crate::proofs::Present::has_child))]
+fn mark_row(
+    alloc: Global,
+    machine: Ellen,
+    mem: &mut EllenMem,
+    number: usize,
+    resume: &Resume,
+) -> Result<Outcome<EllenLoc>, OutOfMemory>
+    ensures ok { IfOk result (λ outcome. help_act machine (place.Mark number) resume.now mem.old ≡ (mem.new, outcome)) }
+    ensures err { OnErr result (mem.new ≡ mem.old) }
+{
+    let Some(Record::Del(info)) = mem.record(number) else {
+        return Ok(Outcome::Astray);
+    };
+    let Some(found) = update_of(mem.node(info.parent)) else {
+        return Ok(Outcome::Astray);
+    };
+    let mark = UpdateWord::Mark(number);
+    if is_word(found, info.parent_update) {
+        let goal = EllenLoc::Help(HelpLoc::Right(number), resume.copy(alloc)?);
+        mem.set_update(info.parent, mark);
+        return Ok(Outcome::Goes(goal));
+    }
+    if is_word(found, mark) {
+        let goal = EllenLoc::Help(HelpLoc::Right(number), resume.copy(alloc)?);
+        return Ok(Outcome::Goes(goal));
+    }
+    help(alloc, machine, found, awaiting(alloc, number, resume)?)
+}
+
+fn right_row(
+    alloc: Global,
+    machine: Ellen,
+    mem: &EllenMem,
+    number: usize,
+    resume: &Resume,
+) -> Result<Outcome<EllenLoc>, OutOfMemory>
+    ensures { IfOk result (λ outcome. help_act machine (place.Right number) resume.now mem.now ≡ (mem.now, outcome)) }
+{
+    let Some(Record::Del(info)) = mem.record(number) else {
+        return Ok(Outcome::Astray);
+    };
+    let Some(child) = child_on(Side::Right, mem.node(info.parent)) else {
+        return Ok(Outcome::Astray);
+    };
+    let resume = resume.copy(alloc)?;
+    if child == info.leaf {
+        let at = HelpLoc::Other {
+            record: number,
+            side: Side::Left,
+        };
+        Ok(Outcome::Goes(EllenLoc::Help(at, resume)))
+    } else {
+        let at = HelpLoc::Other {
+            record: number,
+            side: Side::Right,
+        };
+        Ok(Outcome::Goes(EllenLoc::Help(at, resume)))
+    }
+}
+
+fn other_row(
+    alloc: Global,
+    machine: Ellen,
+    mem: &EllenMem,
+    number: usize,
+    side: Side,
+    resume: &Resume,
+) -> Result<Outcome<EllenLoc>, OutOfMemory>
+    ensures { IfOk result (λ outcome. help_act machine (place.Other number side) resume.now mem.now ≡ (mem.now, outcome)) }
+{
+    let Some(Record::Del(info)) = mem.record(number) else {
+        return Ok(Outcome::Astray);
+    };
+    let Some(other) = child_on(side, mem.node(info.parent)) else {
+        return Ok(Outcome::Astray);
+    };
+    let at = HelpLoc::Splice {
+        record: number,
+        other,
+    };
+    Ok(Outcome::Goes(EllenLoc::Help(at, resume.copy(alloc)?)))
+}
+
+#[tactic(auto, using(crate::proofs::Present::has_update, crate::proofs::Present::has_child))]
+fn splice_row(
+    alloc: Global,
+    machine: Ellen,
+    mem: &mut EllenMem,
+    number: usize,
+    other: usize,
+    resume: &Resume,
+) -> Result<Outcome<EllenLoc>, OutOfMemory>
+    ensures ok { IfOk result (λ outcome. help_act machine (place.Splice number other) resume.now mem.old ≡ (mem.new, outcome)) }
+    ensures err { OnErr result (mem.new ≡ mem.old) }
+{
+    let Some(Record::Del(info)) = mem.record(number) else {
+        return Ok(Outcome::Astray);
+    };
+    let node = mem.node(info.grandparent);
+    let side = side_of(key_in(mem.node(other)), key_in(node));
+    let Some(child) = child_on(side, node) else {
+        return Ok(Outcome::Astray);
+    };
+    let goal = EllenLoc::Help(HelpLoc::DelClean(number), resume.copy(alloc)?);
+    if child == info.parent {
+        mem.set_child(info.grandparent, side, other);
+    }
+    Ok(Outcome::Goes(goal))
+}
+
+#[tactic(auto, using(crate::proofs::Present::has_update, crate::proofs::Present::has_child))]
+fn delete_clean_row(
+    alloc: Global,
+    machine: Ellen,
+    mem: &mut EllenMem,
+    number: usize,
+    resume: &Resume,
+) -> Result<Outcome<EllenLoc>, OutOfMemory>
+    ensures ok { IfOk result (λ outcome. help_act machine (place.DelClean number) resume.now mem.old ≡ (mem.new, outcome)) }
+    ensures err { OnErr result (mem.new ≡ mem.old) }
+{
+    let Some(Record::Del(info)) = mem.record(number) else {
+        return Ok(Outcome::Astray);
+    };
+    let Some(found) = update_of(mem.node(info.grandparent)) else {
+        return Ok(Outcome::Astray);
+    };
+    let outcome = returned(alloc, true, resume)?;
+    if is_word(found, UpdateWord::DeleteFlag(number)) {
+        mem.set_update(info.grandparent, UpdateWord::Clean(number));
+    }
+    Ok(outcome)
+}
+
+#[tactic(auto, using(crate::proofs::Present::has_update, crate::proofs::Present::has_child))]
+fn back_row(
+    alloc: Global,
+    machine: Ellen,
+    mem: &mut EllenMem,
+    number: usize,
+    resume: &Resume,
+) -> Result<Outcome<EllenLoc>, OutOfMemory>
+    ensures ok { IfOk result (λ outcome. help_act machine (place.Back number) resume.now mem.old ≡ (mem.new, outcome)) }
+    ensures err { OnErr result (mem.new ≡ mem.old) }
+{
+    let Some(Record::Del(info)) = mem.record(number) else {
+        return Ok(Outcome::Astray);
+    };
+    let Some(found) = update_of(mem.node(info.grandparent)) else {
+        return Ok(Outcome::Astray);
+    };
+    let outcome = returned(alloc, false, resume)?;
+    if is_word(found, UpdateWord::DeleteFlag(number)) {
+        mem.set_update(info.grandparent, UpdateWord::Clean(number));
+    }
+    Ok(outcome)
+}
+
+/// One access at a place that carries out what a record says.
+pub fn help_act(
+    alloc: Global,
+    machine: Ellen,
+    at: HelpLoc,
+    resume: &Resume,
+    mem: &mut EllenMem,
+) -> Result<Outcome<EllenLoc>, OutOfMemory>
+    ensures ok { IfOk result (λ outcome. help_act machine at resume.now mem.old ≡ (mem.new, outcome)) }
+    ensures err { OnErr result (mem.new ≡ mem.old) }
+{
+    match at {
+        HelpLoc::InsChild(number) => insert_child_row(alloc, machine, mem, number, resume),
+        HelpLoc::InsClean(number) => insert_clean_row(alloc, machine, mem, number, resume),
+        HelpLoc::Mark(number) => mark_row(alloc, machine, mem, number, resume),
+        HelpLoc::Right(number) => right_row(alloc, machine, mem, number, resume),
+        HelpLoc::Other {
+            record: number,
+            side,
+        } => other_row(alloc, machine, mem, number, side, resume),
+        HelpLoc::Splice {
+            record: number,
+            other,
+        } => splice_row(alloc, machine, mem, number, other, resume),
+        HelpLoc::DelClean(number) => delete_clean_row(alloc, machine, mem, number, resume),
+        HelpLoc::Back(number) => back_row(alloc, machine, mem, number, resume),
+    }
+}

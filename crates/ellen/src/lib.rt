@@ -1,0 +1,13 @@
+//! The step machine of Ellen, Fatourou, Ruppert and van Breugel's tree, and its variants.
+#![tactic(auto)]
+
+mod build;
+mod helping;
+mod machine;
+mod memory;
+mod place;
+mod searching;
+
+pub use crate::machine::Ellen;
+pub use crate::memory::{DeleteRecord, EllenMem, InsertRecord, Node, Record, UpdateWord};
+pub use crate::place::{Above, Base, EllenLoc, HelpLoc, Resume, SearchLoc};

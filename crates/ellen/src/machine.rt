@@ -1,0 +1,144 @@
+//! The machine and its variants.
+
+use crate::build::build;
+use crate::helping::{first_place, help_act};
+use crate::memory::{DeleteRecord, EllenMem, InsertRecord, Node, Record, UpdateWord};
+use crate::place::{Above, Base, EllenLoc, HelpLoc, Resume, SearchLoc};
+use crate::searching::search_act;
+use sched_program::{Exact, Op, OutOfMemory};
+use std::alloc::Global;
+use tree_machine::{Machine, Outcome, keeps_search_order};
+
+/// The machine of Ellen, Fatourou, Ruppert and van Breugel (Non-blocking binary search trees, PODC 2010), whole where
+/// both are true. Where one is false, that step is left out.
+#[derive(Clone, Copy, Debug, PartialEq, Eq, Hash)]
+pub struct Ellen {
+    /// A delete marks the parent before it splices it out.
+    pub mark: bool,
+    /// An insert flags the parent before it writes its child.
+    pub iflag: bool,
+}
+
+impl Machine for Ellen {
+    ghost use Rattle.ellen.specs.EllenRules.{ellen_rules};
+    ghost use Rattle.ellen.specs.EllenLaws.{ellen_lawful};
+
+    type Mem = EllenMem;
+
+    type Loc = EllenLoc;
+
+    ghost rules = { ellen_rules };
+
+    fn copy_mem(&self, alloc: Global, mem: &EllenMem) -> Result<EllenMem, OutOfMemory> {
+        mem.copy(alloc)
+    }
+
+    fn copy_loc(&self, alloc: Global, loc: &EllenLoc) -> Result<EllenLoc, OutOfMemory> {
+        loc.copy(alloc)
+    }
+
+    fn build(&self, alloc: Global, initial: &[u8]) -> Result<EllenMem, OutOfMemory> {
+        build(alloc, initial)
+    }
+
+    fn begin(&self, _op: Op) -> EllenLoc {
+        first_place()
+    }
+
+    fn act(
+        &self,
+        alloc: Global,
+        op: Op,
+        loc: &EllenLoc,
+        mem: &mut EllenMem,
+    ) -> Result<Outcome<EllenLoc>, OutOfMemory> {
+        match loc {
+            EllenLoc::Search(at) => search_act(alloc, *self, op, *at, mem),
+            EllenLoc::Help(at, resume) => help_act(alloc, *self, *at, resume, mem),
+        }
+    }
+
+    fn ordered(&self, mem: &EllenMem) -> bool {
+        keeps_search_order(mem)
+    }
+
+    ghost lawful = { ellen_lawful };
+}
+
+impl Exact for Ellen {
+    ghost use Rattle.ellen.specs.EllenExact.{machine_exact};
+
+    ghost exact = { machine_exact };
+}
+
+impl Exact for EllenMem {
+    ghost use Rattle.ellen.specs.EllenExact.{memory_exact};
+
+    ghost exact = { memory_exact };
+}
+
+impl Exact for EllenLoc {
+    ghost use Rattle.ellen.specs.EllenExact.{place_exact};
+
+    ghost exact = { place_exact };
+}
+
+impl Exact for SearchLoc {
+    ghost use Rattle.ellen.specs.EllenExact.{search_exact};
+
+    ghost exact = { search_exact };
+}
+
+impl Exact for HelpLoc {
+    ghost use Rattle.ellen.specs.EllenExact.{help_exact};
+
+    ghost exact = { help_exact };
+}
+
+impl Exact for UpdateWord {
+    ghost use Rattle.ellen.specs.EllenExact.{word_exact};
+
+    ghost exact = { word_exact };
+}
+
+impl Exact for Node {
+    ghost use Rattle.ellen.specs.EllenExact.{node_exact};
+
+    ghost exact = { node_exact };
+}
+
+impl Exact for InsertRecord {
+    ghost use Rattle.ellen.specs.EllenExact.{insert_exact};
+
+    ghost exact = { insert_exact };
+}
+
+impl Exact for DeleteRecord {
+    ghost use Rattle.ellen.specs.EllenExact.{delete_exact};
+
+    ghost exact = { delete_exact };
+}
+
+impl Exact for Record {
+    ghost use Rattle.ellen.specs.EllenExact.{record_exact};
+
+    ghost exact = { record_exact };
+}
+
+impl Exact for Above {
+    ghost use Rattle.ellen.specs.EllenExact.{above_exact};
+
+    ghost exact = { above_exact };
+}
+
+impl Exact for Base {
+    ghost use Rattle.ellen.specs.EllenExact.{base_exact};
+
+    ghost exact = { base_exact };
+}
+
+impl Exact for Resume {
+    ghost use Rattle.ellen.specs.EllenExact.{resume_exact};
+
+    ghost exact = { resume_exact };
+}

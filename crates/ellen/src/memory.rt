@@ -1,0 +1,329 @@
+//! The nodes and the records that the threads share.
+ghost use Rattle.std.specs.Prelude.{◌≡◌, ◌+◌, ◌<◌, length, IfOk, OnErr, Some};
+ghost use Rattle.ellen.specs.declared.memory.Record.TheVariants.{Ins};
+ghost use Rattle.tree_machine.specs.SearchOrder.{side_of};
+ghost use Rattle.ellen.specs.Memory.{node_at, record_at, key_at, update_of, child_on, is_word, key_in, shape_in, shapes, set_update, set_child, with_internal, new_internal, internal_over, add_record};
+
+use sched_program::{OutOfMemory, Sequence};
+use std::alloc::Global;
+use tree_machine::{Shape, Shapes, Side, extended, side_of};
+
+/// An update word: its state, with the number of the record that was written there last.
+#[derive(Clone, Copy, Debug, PartialEq, Eq, Hash)]
+pub enum UpdateWord {
+    /// CLEAN, and no record was written yet.
+    Untouched,
+    /// CLEAN: what the record describes is over.
+    Clean(usize),
+    /// IFLAG: an insert below the node is under way.
+    InsertFlag(usize),
+    /// DFLAG: a delete of a child of the node is under way.
+    DeleteFlag(usize),
+    /// MARK: the node is to be spliced out, for good.
+    Mark(usize),
+}
+
+/// A node of the tree; the children are node numbers.
+#[derive(Clone, Copy, Debug, PartialEq, Eq, Hash)]
+pub enum Node {
+    /// A leaf with its key.
+    Leaf {
+        key: u8,
+    },
+    /// An internal node: keys below its own are on the left.
+    Internal {
+        key: u8,
+        update: UpdateWord,
+        left: usize,
+        right: usize,
+    },
+}
+
+/// What an insert is about to do: to put the node `new` in the place of the leaf.
+#[derive(Clone, Copy, Debug, PartialEq, Eq, Hash)]
+pub struct InsertRecord {
+    pub parent: usize,
+    pub leaf: usize,
+    pub new: usize,
+}
+
+/// What a delete is about to do: to put the leaf's sibling in the place of the parent.
+#[derive(Clone, Copy, Debug, PartialEq, Eq, Hash)]
+pub struct DeleteRecord {
+    pub grandparent: usize,
+    pub parent: usize,
+    pub leaf: usize,
+    pub parent_update: UpdateWord,
+}
+
+/// What an operation is about to do, so that others can help it.
+#[derive(Clone, Copy, Debug, PartialEq, Eq, Hash)]
+pub enum Record {
+    Ins(InsertRecord),
+    Del(DeleteRecord),
+}
+
+/// The shared memory: nodes and records, by number. The root is node 0.
+#[derive(Drop, PartialEq, Eq, Hash)]
+pub struct EllenMem {
+    pub nodes: Sequence<Node>,
+    pub records: Sequence<Record>,
+}
+
+/// The key of a node.
+pub fn key_in(node: Node) -> u8
+    ensures { result ≡ key_in node }
+{
+    match node {
+        Node::Leaf { key } => key,
+        Node::Internal { key, .. } => key,
+    }
+}
+
+/// What a search sees of a node.
+fn shape_in(node: Node) -> Shape
+    ensures { result ≡ shape_in node }
+{
+    match node {
+        Node::Leaf { key } => Shape::Leaf { key },
+        Node::Internal {
+            key,
+            left,
+            right,
+            ..
+        } => Shape::Internal { key, left, right },
+    }
+}
+
+/// The update word of a node; a leaf has none.
+pub fn update_of(node: Node) -> Option<UpdateWord>
+    ensures { result ≡ update_of node }
+{
+    match node {
+        Node::Leaf { .. } => None,
+        Node::Internal { update, .. } => Some(update),
+    }
+}
+
+/// The child of a node on a side; a leaf has none.
+pub fn child_on(side: Side, node: Node) -> Option<usize>
+    ensures { result ≡ child_on side node }
+{
+    match (side, node) {
+        (_, Node::Leaf { .. }) => None,
+        (Side::Left, Node::Internal { left, .. }) => Some(left),
+        (Side::Right, Node::Internal { right, .. }) => Some(right),
+    }
+}
+
+/// Whether an update word is the one that an exchange expects, its record too.
+pub fn is_word(found: UpdateWord, expected: UpdateWord) -> bool
+    ensures { result ≡ is_word found expected }
+{
+    match (found, expected) {
+        (UpdateWord::Untouched, UpdateWord::Untouched) => true,
+        (UpdateWord::Clean(r), UpdateWord::Clean(s)) => r == s,
+        (UpdateWord::InsertFlag(r), UpdateWord::InsertFlag(s)) => r == s,
+        (UpdateWord::DeleteFlag(r), UpdateWord::DeleteFlag(s)) => r == s,
+        (UpdateWord::Mark(r), UpdateWord::Mark(s)) => r == s,
+        _ => false,
+    }
+}
+
+/// A new internal node over the new leaf `x` of key `key` and the copy `y` of a leaf of key `other`.
+fn internal_over(key: u8, other: u8, x: usize, y: usize) -> Node
+    ensures { result ≡ internal_over key other x y }
+{
+    let update = UpdateWord::Untouched;
+    if key < other {
+        Node::Internal {
+            key: other,
+            update,
+            left: x,
+            right: y,
+        }
+    } else {
+        Node::Internal {
+            key,
+            update,
+            left: y,
+            right: x,
+        }
+    }
+}
+
+impl EllenMem {
+    /// A node by its number.
+    pub fn node(&self, x: usize) -> Node
+        ensures { result ≡ node_at self.now x }
+    {
+        match self.nodes.get(x) {
+            Some(node) => *node,
+            None => Node::Leaf { key: 0 },
+        }
+    }
+
+    /// A record by its number.
+    pub fn record(&self, r: usize) -> Option<Record>
+        ensures { result ≡ record_at self.now r }
+    {
+        self.records.get(r).copied()
+    }
+
+    /// Puts an update word into a node.
+    pub fn set_update(&mut self, x: usize, word: UpdateWord)
+        requires { x < length self.old.nodes }
+        ensures { self.new ≡ set_update self.old x word }
+    {
+        let node = match self.node(x) {
+            Node::Leaf { key } => Node::Leaf { key },
+            Node::Internal {
+                key,
+                left,
+                right,
+                ..
+            } => Node::Internal {
+                key,
+                update: word,
+                left,
+                right,
+            },
+        };
+        self.nodes.set(x, node);
+    }
+
+    /// Puts a child into a node.
+    pub fn set_child(&mut self, x: usize, side: Side, child: usize)
+        requires { x < length self.old.nodes }
+        ensures { self.new ≡ set_child self.old x side child }
+    {
+        let node = match (side, self.node(x)) {
+            (_, Node::Leaf { key }) => Node::Leaf { key },
+            (
+                Side::Left,
+                Node::Internal {
+                    key,
+                    update,
+                    right,
+                    ..
+                },
+            ) => Node::Internal {
+                key,
+                update,
+                left: child,
+                right,
+            },
+            (
+                Side::Right,
+                Node::Internal {
+                    key,
+                    update,
+                    left,
+                    ..
+                },
+            ) => Node::Internal {
+                key,
+                update,
+                left,
+                right: child,
+            },
+        };
+        self.nodes.set(x, node);
+    }
+
+    /// The nodes with a new internal node for a key at a leaf, behind its two new leaves.
+    #[tactic(auto, using(crate::proofs::Appended::three, crate::proofs::Appended::two_more))]
+    fn with_internal(
+        &self,
+        alloc: Global,
+        key: u8,
+        leaf: usize,
+    ) -> Result<Sequence<Node>, OutOfMemory>
+        ensures nodes { IfOk result (λ nodes. nodes ≡ (with_internal self.now key leaf).nodes) }
+        ensures count { IfOk result (λ nodes. length nodes ≡ length self.now.nodes + 3) }
+    {
+        let other = key_in(self.node(leaf));
+        let leaves = [Node::Leaf { key }, Node::Leaf { key: other }];
+        let mut nodes = extended(alloc, &self.nodes, &leaves)?;
+        let copy = nodes.len() - 1;
+        nodes.push(internal_over(key, other, copy - 1, copy))?;
+        Ok(nodes)
+    }
+
+    /// Appends a new internal node for a key at a leaf, and tells its number. Where memory is refused nothing is appended.
+    pub fn add_internal(
+        &mut self,
+        alloc: Global,
+        key: u8,
+        leaf: usize,
+    ) -> Result<usize, OutOfMemory>
+        ensures ok { IfOk result (λ new. self.new ≡ with_internal self.old key leaf) }
+        ensures number { IfOk result (λ new. new ≡ new_internal self.old) }
+        ensures err { OnErr result (self.new ≡ self.old) }
+    {
+        let nodes = self.with_internal(alloc, key, leaf)?;
+        let new = nodes.len() - 1;
+        self.nodes = nodes;
+        Ok(new)
+    }
+
+    /// The key of a new internal node for a key at a leaf.
+    #[tactic(auto, using(crate::proofs::Appended::key_of_leaf, crate::proofs::Appended::key_of_new))]
+    fn new_key(&self, key: u8, leaf: usize) -> u8
+        ensures { result ≡ key_at (with_internal self.now key leaf) (new_internal self.now) }
+    {
+        let other = key_in(self.node(leaf));
+        if key < other { other } else { key }
+    }
+
+    /// The side of a node on which a new internal node for a key at a leaf is put.
+    pub fn side_of_new(&self, parent: usize, key: u8, leaf: usize) -> Side
+        ensures { result ≡ side_of (key_at (with_internal self.now key leaf) (new_internal self.now)) (key_at self.now parent) }
+    {
+        side_of(self.new_key(key, leaf), key_in(self.node(parent)))
+    }
+
+    /// Appends a record.
+    pub fn add_record(&mut self, new: Record) -> Result<(), OutOfMemory>
+        ensures ok { IfOk result (λ _. self.new ≡ add_record self.old new) }
+        ensures err { OnErr result (self.new ≡ self.old) }
+    {
+        self.records.push(new)
+    }
+
+    /// Appends a new internal node for a key at a leaf, and a record of that insert. Where memory is refused nothing is appended.
+    pub fn add_insert(
+        &mut self,
+        alloc: Global,
+        key: u8,
+        parent: usize,
+        leaf: usize,
+    ) -> Result<(), OutOfMemory>
+        ensures ok { IfOk result (λ _. self.new ≡ add_record (with_internal self.old key leaf) (Ins (record { parent = parent; leaf = leaf; new = new_internal self.old }))) }
+        ensures err { OnErr result (self.new ≡ self.old) }
+    {
+        let nodes = self.with_internal(alloc, key, leaf)?;
+        let new = nodes.len() - 1;
+        self.add_record(Record::Ins(InsertRecord { parent, leaf, new }))?;
+        self.nodes = nodes;
+        Ok(())
+    }
+
+    /// An equal memory.
+    pub fn copy(&self, alloc: Global) -> Result<EllenMem, OutOfMemory>
+        ensures { IfOk result (λ copy. copy ≡ self.now) }
+    {
+        let nodes = self.nodes.copy(alloc)?;
+        let records = self.records.copy(alloc)?;
+        Ok(EllenMem { nodes, records })
+    }
+}
+
+impl Shapes for EllenMem {
+    ghost shapes = { shapes };
+
+    fn shape(&self, x: usize) -> Option<Shape> {
+        let node = self.nodes.get(x)?;
+        Some(shape_in(*node))
+    }
+}

@@ -1,0 +1,119 @@
+//! Where an operation stands: its next access to the memory, and the locals that it holds.
+ghost use Rattle.std.specs.Prelude.{◌≡◌, IfOk};
+
+use crate::memory::UpdateWord;
+use sched_program::{OutOfMemory, Sequence};
+use std::alloc::Global;
+use tree_machine::Side;
+
+/// A grandparent, with the update word that was read of it.
+#[derive(Clone, Copy, Debug, PartialEq, Eq, Hash)]
+pub struct Above {
+    pub node: usize,
+    pub update: UpdateWord,
+}
+
+/// A place of an operation that searches, or has decided what it will write first.
+#[derive(Clone, Copy, Debug, PartialEq, Eq, Hash)]
+pub enum SearchLoc {
+    /// Reads the update word of the node that becomes the parent.
+    Update {
+        above: Option<Above>,
+        parent: usize,
+    },
+    /// Reads the parent's child on the side of the key.
+    Child {
+        above: Option<Above>,
+        parent: usize,
+        update: UpdateWord,
+    },
+    /// Flags the parent for an insert at the leaf.
+    IFlag {
+        parent: usize,
+        update: UpdateWord,
+        leaf: usize,
+    },
+    /// Writes the parent's child without a flag, in the variant that has none.
+    InsOnly {
+        parent: usize,
+        leaf: usize,
+    },
+    /// Flags the grandparent for a delete of the leaf.
+    DFlag {
+        above: Above,
+        parent: usize,
+        update: UpdateWord,
+        leaf: usize,
+    },
+}
+
+/// A place of an operation that carries out what a record says, its own or another's.
+#[derive(Clone, Copy, Debug, PartialEq, Eq, Hash)]
+pub enum HelpLoc {
+    /// Puts the new node of an insert below its parent.
+    InsChild(usize),
+    /// Takes the flag of an insert back.
+    InsClean(usize),
+    /// Marks the parent of a delete.
+    Mark(usize),
+    /// Reads the right child of the parent of a delete.
+    Right(usize),
+    /// Reads the child of that parent on the side where the leaf is not.
+    Other { record: usize, side: Side },
+    /// Puts that other child in the place of the parent.
+    Splice { record: usize, other: usize },
+    /// Takes the flag of a delete back, which is done.
+    DelClean(usize),
+    /// Takes the flag of a delete back, which could not mark its parent.
+    Back(usize),
+}
+
+/// What an operation does once its helping has ended.
+#[derive(Clone, Copy, Debug, PartialEq, Eq, Hash)]
+pub enum Base {
+    /// It begins its search again.
+    Again,
+    /// Its own insert is done.
+    Insert,
+    /// Its own delete is done, or begins again.
+    Delete,
+}
+
+/// The delete records whose backtrack is awaited, the last one on top, and what is done behind them.
+#[derive(Drop, PartialEq, Eq, Hash)]
+pub struct Resume {
+    pub stack: Sequence<usize>,
+    pub base: Base,
+}
+
+/// A place of the machine.
+#[derive(Drop, PartialEq, Eq, Hash)]
+pub enum EllenLoc {
+    Search(SearchLoc),
+    Help(HelpLoc, Resume),
+}
+
+impl Resume {
+    /// An equal value.
+    pub fn copy(&self, alloc: Global) -> Result<Resume, OutOfMemory>
+        ensures { IfOk result (λ copy. copy ≡ self.now) }
+    {
+        let stack = self.stack.copy(alloc)?;
+        Ok(Resume {
+            stack,
+            base: self.base,
+        })
+    }
+}
+
+impl EllenLoc {
+    /// An equal place.
+    pub fn copy(&self, alloc: Global) -> Result<EllenLoc, OutOfMemory>
+        ensures { IfOk result (λ copy. copy ≡ self.now) }
+    {
+        match self {
+            EllenLoc::Search(at) => Ok(EllenLoc::Search(*at)),
+            EllenLoc::Help(at, resume) => Ok(EllenLoc::Help(*at, resume.copy(alloc)?)),
+        }
+    }
+}

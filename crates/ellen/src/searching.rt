@@ -1,0 +1,304 @@
+//! The rows of the table at which an operation searches, and those of its first write.
+ghost use Rattle.std.specs.Prelude.{◌≡◌, IfOk, OnErr, Some};
+ghost use Rattle.sched_program.specs.Program.{key_of};
+ghost use Rattle.sched_program.specs.declared.operation.Op.TheVariants as op_of;
+ghost use Rattle.ellen.specs.declared.place.SearchLoc.TheVariants as place;
+ghost use Rattle.ellen.specs.Memory.{is_clean};
+ghost use Rattle.ellen.specs.Table.{search_act, flagging, decide, arrived};
+
+use crate::helping::{first_place, help_first, marking, with_base};
+use crate::machine::Ellen;
+use crate::memory::{
+    DeleteRecord, EllenMem, Node, Record, UpdateWord, child_on, is_word, key_in, update_of,
+};
+use crate::place::{Above, Base, EllenLoc, HelpLoc, SearchLoc};
+use sched_program::{Op, OutOfMemory};
+use std::alloc::Global;
+use tree_machine::{Outcome, side_of};
+
+/// The place that flags the parent of an insert, or the one that writes without a flag.
+fn flagging(machine: Ellen, parent: usize, update: UpdateWord, leaf: usize) -> SearchLoc
+    ensures { result ≡ flagging machine parent update leaf }
+{
+    if machine.iflag {
+        SearchLoc::IFlag {
+            parent,
+            update,
+            leaf,
+        }
+    } else {
+        SearchLoc::InsOnly { parent, leaf }
+    }
+}
+
+fn is_clean(word: UpdateWord) -> bool
+    ensures { result ≡ is_clean word }
+{
+    match word {
+        UpdateWord::Untouched | UpdateWord::Clean(_) => true,
+        _ => false,
+    }
+}
+
+/// What a delete does at a leaf with its key, below a parent that has one above it.
+fn decide_delete(
+    alloc: Global,
+    machine: Ellen,
+    above: Above,
+    parent: usize,
+    update: UpdateWord,
+    leaf: usize,
+    key: u8,
+) -> Result<Outcome<EllenLoc>, OutOfMemory>
+    ensures { IfOk result (λ outcome. outcome ≡ decide machine (op_of.Delete key) (Some above) parent update leaf key) }
+{
+    if !is_clean(above.update) {
+        return help_first(alloc, machine, above.update);
+    }
+    if !is_clean(update) {
+        return help_first(alloc, machine, update);
+    }
+    Ok(Outcome::Goes(EllenLoc::Search(SearchLoc::DFlag {
+        above,
+        parent,
+        update,
+        leaf,
+    })))
+}
+
+/// What an operation does at a leaf.
+fn decide(
+    alloc: Global,
+    machine: Ellen,
+    op: Op,
+    above: Option<Above>,
+    parent: usize,
+    update: UpdateWord,
+    leaf: usize,
+    key: u8,
+) -> Result<Outcome<EllenLoc>, OutOfMemory>
+    ensures { IfOk result (λ outcome. outcome ≡ decide machine op above parent update leaf key) }
+{
+    match op {
+        Op::Find(wanted) => Ok(Outcome::Replies(key == wanted)),
+        Op::Insert(wanted) => {
+            if key == wanted {
+                Ok(Outcome::Replies(false))
+            } else if is_clean(update) {
+                let at = flagging(machine, parent, update, leaf);
+                Ok(Outcome::Goes(EllenLoc::Search(at)))
+            } else {
+                help_first(alloc, machine, update)
+            }
+        }
+        Op::Delete(wanted) => {
+            if key != wanted {
+                return Ok(Outcome::Replies(false));
+            }
+            match above {
+                Some(above) => decide_delete(alloc, machine, above, parent, update, leaf, key),
+                None => Ok(Outcome::Astray),
+            }
+        }
+    }
+}
+
+/// Where an operation goes from the child that it read: on down, or to what it does at a leaf.
+fn arrived(
+    alloc: Global,
+    machine: Ellen,
+    op: Op,
+    above: Option<Above>,
+    parent: usize,
+    update: UpdateWord,
+    child: usize,
+    node: Node,
+) -> Result<Outcome<EllenLoc>, OutOfMemory>
+    ensures { IfOk result (λ outcome. outcome ≡ arrived machine op above parent update child node) }
+{
+    match node {
+        Node::Internal { .. } => {
+            let above = Above {
+                node: parent,
+                update,
+            };
+            Ok(Outcome::Goes(EllenLoc::Search(SearchLoc::Update {
+                above: Some(above),
+                parent: child,
+            })))
+        }
+        Node::Leaf { key } => decide(alloc, machine, op, above, parent, update, child, key),
+    }
+}
+
+fn key_of(op: Op) -> u8
+    ensures { result ≡ key_of op }
+{
+    match op {
+        Op::Insert(key) | Op::Delete(key) | Op::Find(key) => key,
+    }
+}
+
+fn update_row(
+    machine: Ellen,
+    op: Op,
+    mem: &EllenMem,
+    above: Option<Above>,
+    parent: usize,
+) -> Outcome<EllenLoc>
+    ensures { search_act machine op (place.Update above parent) mem.now ≡ (mem.now, result) }
+{
+    match update_of(mem.node(parent)) {
+        Some(update) => Outcome::Goes(EllenLoc::Search(SearchLoc::Child {
+            above,
+            parent,
+            update,
+        })),
+        None => Outcome::Astray,
+    }
+}
+
+fn child_row(
+    alloc: Global,
+    machine: Ellen,
+    op: Op,
+    mem: &EllenMem,
+    above: Option<Above>,
+    parent: usize,
+    update: UpdateWord,
+) -> Result<Outcome<EllenLoc>, OutOfMemory>
+    ensures { IfOk result (λ outcome. search_act machine op (place.Child above parent update) mem.now ≡ (mem.now, outcome)) }
+{
+    let node = mem.node(parent);
+    match child_on(side_of(key_of(op), key_in(node)), node) {
+        Some(child) => arrived(
+            alloc,
+            machine,
+            op,
+            above,
+            parent,
+            update,
+            child,
+            mem.node(child),
+        ),
+        None => Ok(Outcome::Astray),
+    }
+}
+
+#[tactic(auto, using(crate::proofs::Present::has_update, crate::proofs::Present::has_child, crate::proofs::Present::more_nodes))]
+fn insert_flag_row(
+    alloc: Global,
+    machine: Ellen,
+    op: Op,
+    mem: &mut EllenMem,
+    parent: usize,
+    update: UpdateWord,
+    leaf: usize,
+) -> Result<Outcome<EllenLoc>, OutOfMemory>
+    ensures ok { IfOk result (λ outcome. search_act machine op (place.IFlag parent update leaf) mem.old ≡ (mem.new, outcome)) }
+    ensures err { OnErr result (mem.new ≡ mem.old) }
+{
+    let Some(found) = update_of(mem.node(parent)) else {
+        return Ok(Outcome::Astray);
+    };
+    if !is_word(found, update) {
+        return help_first(alloc, machine, found);
+    }
+    let record = mem.records.len();
+    mem.add_insert(alloc, key_of(op), parent, leaf)?;
+    mem.set_update(parent, UpdateWord::InsertFlag(record));
+    let resume = with_base(alloc, Base::Insert);
+    Ok(Outcome::Goes(EllenLoc::Help(HelpLoc::InsChild(record), resume)))
+}
+
+#[tactic(auto, using(crate::proofs::Present::has_update, crate::proofs::Present::has_child, crate::proofs::Present::more_nodes))]
+fn insert_only_row(
+    alloc: Global,
+    machine: Ellen,
+    op: Op,
+    mem: &mut EllenMem,
+    parent: usize,
+    leaf: usize,
+) -> Result<Outcome<EllenLoc>, OutOfMemory>
+    ensures ok { IfOk result (λ outcome. search_act machine op (place.InsOnly parent leaf) mem.old ≡ (mem.new, outcome)) }
+    ensures err { OnErr result (mem.new ≡ mem.old) }
+{
+    let key = key_of(op);
+    let side = mem.side_of_new(parent, key, leaf);
+    let Some(child) = child_on(side, mem.node(parent)) else {
+        return Ok(Outcome::Astray);
+    };
+    if child != leaf {
+        return Ok(Outcome::Goes(first_place()));
+    }
+    let new = mem.add_internal(alloc, key, leaf)?;
+    mem.set_child(parent, side, new);
+    Ok(Outcome::Replies(true))
+}
+
+#[tactic(auto, using(crate::proofs::Present::has_update, crate::proofs::Present::has_child, crate::proofs::Present::more_nodes))]
+fn delete_flag_row(
+    alloc: Global,
+    machine: Ellen,
+    op: Op,
+    mem: &mut EllenMem,
+    above: Above,
+    parent: usize,
+    update: UpdateWord,
+    leaf: usize,
+) -> Result<Outcome<EllenLoc>, OutOfMemory>
+    ensures ok { IfOk result (λ outcome. search_act machine op (place.DFlag above parent update leaf) mem.old ≡ (mem.new, outcome)) }
+    ensures err { OnErr result (mem.new ≡ mem.old) }
+{
+    let Some(found) = update_of(mem.node(above.node)) else {
+        return Ok(Outcome::Astray);
+    };
+    if !is_word(found, above.update) {
+        return help_first(alloc, machine, found);
+    }
+    let record = mem.records.len();
+    mem.add_record(Record::Del(DeleteRecord {
+        grandparent: above.node,
+        parent,
+        leaf,
+        parent_update: update,
+    }))?;
+    mem.set_update(above.node, UpdateWord::DeleteFlag(record));
+    let resume = with_base(alloc, Base::Delete);
+    Ok(Outcome::Goes(EllenLoc::Help(marking(machine, record), resume)))
+}
+
+/// One access at a place that searches, or of an operation's first write.
+pub fn search_act(
+    alloc: Global,
+    machine: Ellen,
+    op: Op,
+    at: SearchLoc,
+    mem: &mut EllenMem,
+) -> Result<Outcome<EllenLoc>, OutOfMemory>
+    ensures ok { IfOk result (λ outcome. search_act machine op at mem.old ≡ (mem.new, outcome)) }
+    ensures err { OnErr result (mem.new ≡ mem.old) }
+{
+    match at {
+        SearchLoc::Update { above, parent } => Ok(update_row(machine, op, mem, above, parent)),
+        SearchLoc::Child {
+            above,
+            parent,
+            update,
+        } => child_row(alloc, machine, op, mem, above, parent, update),
+        SearchLoc::IFlag {
+            parent,
+            update,
+            leaf,
+        } => insert_flag_row(alloc, machine, op, mem, parent, update, leaf),
+        SearchLoc::InsOnly { parent, leaf } => insert_only_row(
+            alloc, machine, op, mem, parent, leaf,
+        ),
+        SearchLoc::DFlag {
+            above,
+            parent,
+            update,
+            leaf,
+        } => delete_flag_row(alloc, machine, op, mem, above, parent, update, leaf),
+    }
+}

@@ -1,0 +1,37 @@
+-- Each number of a node names one of the memory.
+use Rattle.std.specs.Prelude.{ℕ, ◌<◌, length, All}
+use Rattle.natmit.specs.declared.memory.Node.{Node}
+use Rattle.natmit.specs.declared.memory.Node.TheVariants.{Leaf, Internal}
+use Rattle.natmit.specs.declared.memory.NatMitMem.{NatMitMem}
+use Rattle.natmit.specs.declared.place.Mode.{Mode}
+use Rattle.natmit.specs.declared.place.Mode.TheVariants.{Plain, Owner}
+use Rattle.natmit.specs.declared.place.NatMitLoc.{NatMitLoc}
+use Rattle.natmit.specs.declared.place.NatMitLoc.TheVariants.{Begin, Down, Put, Flag, Look, CleanRead, Tag, Sibling, Swing}
+
+-- with so many nodes
+abbrev pub IsNodeIn : ℕ → Node → Type 0
+IsNodeIn n (Leaf k) = Unit {0}
+IsNodeIn n (Internal k l r) = (l.node < n) × (r.node < n)
+
+abbrev pub IsModeIn : ℕ → Mode → Type 0
+IsModeIn n Plain = Unit {0}
+IsModeIn n (Owner o) = o < n
+
+abbrev pub IsPlaceIn : ℕ → NatMitLoc → Type 0
+IsPlaceIn n (Begin mode) = IsModeIn n mode
+IsPlaceIn n (Down a s p l t mode) = (a < n) × (s < n) × (p < n) × (l < n) × IsModeIn n mode
+IsPlaceIn n (Put a s p l) = (a < n) × (s < n) × (p < n) × (l < n)
+IsPlaceIn n (Flag a s p l) = (a < n) × (s < n) × (p < n) × (l < n)
+IsPlaceIn n (Look a s p l) = (a < n) × (s < n) × (p < n) × (l < n)
+IsPlaceIn n (CleanRead a s p mode) = (a < n) × (s < n) × (p < n) × IsModeIn n mode
+IsPlaceIn n (Tag a s p d mode) = (a < n) × (s < n) × (p < n) × IsModeIn n mode
+IsPlaceIn n (Sibling a s p d mode) = (a < n) × (s < n) × (p < n) × IsModeIn n mode
+IsPlaceIn n (Swing a s f x mode) = (a < n) × (s < n) × (x < n) × IsModeIn n mode
+
+-- in a memory, which has the root and node 1, where each search begins
+pub record IsInRange (memory : NatMitMem) : Type 0 where
+  pub first_nodes : 1 < length memory.nodes
+  pub nodes : All (IsNodeIn (length memory.nodes)) memory.nodes
+
+abbrev pub IsPlaceInRange : NatMitMem → NatMitLoc → Type 0
+IsPlaceInRange memory place = IsPlaceIn (length memory.nodes) place

@@ -1,0 +1,275 @@
+-- Every access keeps the numbers of nodes in range; one that goes astray leaves the memory.
+use Rattle.std.specs.Prelude.{◌≡◌, ℕ, zero, suc, ◌+◌, ◌<◌, ◌≤◌, Bool, true, false, ◌&&◌, ◌||◌, if◌then◌else◌, nat_eq, nat_lt, List, [], ◌∷◌, length, refl, Option, Some, None, unwrap_or, slice_get, slice_set, All}
+use Rattle.std.proofs.Common.{arith, sym, subst, length-append}
+use Rattle.std.proofs.lemmas.List.{length-set}
+use Rattle.std.proofs.lemmas.List.Elements.{All-nil, All-cons, All-head, All-tail, All-append, All-set, All-weaker}
+use Rattle.sched_program.specs.Program.{key_of}
+use Rattle.sched_program.specs.declared.operation.Op.{Op}
+use Rattle.sched_program.specs.declared.operation.Op.TheVariants.{Insert, Delete, Find}
+use Rattle.tree_machine.specs.declared.machine.Outcome.{Outcome}
+use Rattle.tree_machine.specs.declared.machine.Outcome.TheVariants.{Goes, Replies, Astray}
+use Rattle.tree_machine.specs.declared.search_order.Side.{Side}
+use Rattle.tree_machine.specs.declared.search_order.Side.TheVariants.{Left, Right}
+use Rattle.natmit.specs.declared.memory.Word.{Word}
+use Rattle.natmit.specs.declared.memory.Node.{Node}
+use Rattle.natmit.specs.declared.memory.Node.TheVariants.{Leaf, Internal}
+use Rattle.natmit.specs.declared.memory.NatMitMem.{NatMitMem}
+use Rattle.natmit.specs.declared.place.Mode.{Mode}
+use Rattle.natmit.specs.declared.place.Mode.TheVariants.{Plain, Owner}
+use Rattle.natmit.specs.declared.place.NatMitLoc.{NatMitLoc}
+use Rattle.natmit.specs.declared.place.NatMitLoc.TheVariants.{Begin, Down, Put, Flag, Look, CleanRead, Tag, Sibling, Swing}
+use Rattle.natmit.specs.declared.machine.NatMit.{NatMit}
+use Rattle.natmit.specs.Memory.{plain, is_plain, word_on, with_word, node_at, key_at, side_at, set_node, set_word, internal_over, with_internal, new_internal}
+use Rattle.natmit.specs.Table.{After, found, after_read, after_exchange, after_tag, other_side, arrived, went_down, looked, tagging, clean_read, swung, not_swung, act}
+use Rattle.natmit.specs.Range.{IsNodeIn, IsModeIn, IsPlaceIn, IsInRange, IsPlaceInRange}
+
+-- ---- what is in range stays so where there are more nodes
+
+module _ (n more : ℕ) (le : n ≤ more) where
+  node_more : (node : Node) → IsNodeIn n node → IsNodeIn more node
+  node_more (Leaf k) h = tt
+  node_more (Internal k l r) h = let a = h.0 in let b = h.1 in (omega arith, omega arith)
+
+  mode_more : (mode : Mode) → IsModeIn n mode → IsModeIn more mode
+  mode_more Plain h = tt
+  mode_more (Owner o) h = omega arith
+
+  three_and_mode : (a s p : ℕ) (mode : Mode) → (a < n) × (s < n) × (p < n) × IsModeIn n mode → (a < more) × (s < more) × (p < more) × IsModeIn more mode
+  three_and_mode a s p mode h = let x = h.0 in let y = h.1 in let z = h.2 in (omega arith, omega arith, omega arith, mode_more mode h.3)
+
+  four : (a s p l : ℕ) → (a < n) × (s < n) × (p < n) × (l < n) → (a < more) × (s < more) × (p < more) × (l < more)
+  four a s p l h = let x = h.0 in let y = h.1 in let z = h.2 in let w = h.3 in (omega arith, omega arith, omega arith, omega arith)
+
+  pub place_more : (place : NatMitLoc) → IsPlaceIn n place → IsPlaceIn more place
+  place_more (Begin mode) h = mode_more mode h
+  place_more (Down a s p l t mode) h = let x = h.0 in let y = h.1 in let z = h.2 in let w = h.3 in (omega arith, omega arith, omega arith, omega arith, mode_more mode h.4)
+  place_more (Put a s p l) h = four a s p l h
+  place_more (Flag a s p l) h = four a s p l h
+  place_more (Look a s p l) h = four a s p l h
+  place_more (CleanRead a s p mode) h = three_and_mode a s p mode h
+  place_more (Tag a s p d mode) h = three_and_mode a s p mode h
+  place_more (Sibling a s p d mode) h = three_and_mode a s p mode h
+  place_more (Swing a s f x mode) h = three_and_mode a s x mode h
+
+-- ---- outcomes
+
+abbrev pub IsOutcomeIn : ℕ → Outcome NatMitLoc → Type 0
+IsOutcomeIn n (Goes place) = IsPlaceIn n place
+IsOutcomeIn n (Replies reply) = Unit {0}
+IsOutcomeIn n Astray = Unit {0}
+
+module _ (n : ℕ) where
+  either : (b : Bool) (first second : Outcome NatMitLoc) → IsOutcomeIn n first → IsOutcomeIn n second → IsOutcomeIn n (if b then first else second)
+  either true first second h k = h
+  either false first second h k = k
+
+  swung_in : (mode : Mode) → IsOutcomeIn n (swung mode)
+  swung_in Plain = tt
+  swung_in (Owner o) = tt
+
+  arrived_in : (op : Op) (a s p l : ℕ) (t : Bool) (mode : Mode) (node : Node) → a < n → s < n → p < n → l < n → IsModeIn n mode → IsOutcomeIn n (arrived op a s p l t mode node)
+  arrived_in op a s p l t mode (Internal j left right) x y z w h = (x, y, z, w, h)
+  arrived_in (Find k) a s p l t mode (Leaf j) x y z w h = tt
+  arrived_in (Insert k) a s p l t mode (Leaf j) x y z w h = either (nat_eq j k) (Replies false) (Goes (Put a s p l)) tt (x, y, z, w)
+  arrived_in (Delete k) a s p l t Plain (Leaf j) x y z w h = either (nat_eq j k) (Goes (Flag a s p l)) (Replies false) (x, y, z, w) tt
+  arrived_in (Delete k) a s p l t (Owner o) (Leaf j) x y z w h = either (nat_eq l o) (Goes (CleanRead a s p (Owner o))) (Replies true) (x, y, z, h) tt
+
+  tagging_in : (machine : NatMit) (a s p : ℕ) (d : Side) (mode : Mode) → (a < n) × (s < n) × (p < n) × IsModeIn n mode → IsPlaceIn n (tagging machine a s p d mode)
+  tagging_in machine a s p d mode h = elim machine.tag as (λ b. IsPlaceIn n (if b then Tag a s p d mode else Sibling a s p d mode)) [ true ↦ h | false ↦ h ]
+
+-- ---- what is read of a memory
+
+at_all : {A : Type 0} (P : A → Type 0) (xs : List A) (x : ℕ) (d : A) → All P xs → P d → P (unwrap_or (slice_get xs x) d)
+at_all P [] x d h p = p
+at_all P (a ∷ xs) zero d h p = All-head P a xs h
+at_all P (a ∷ xs) (suc x) d h p = at_all P xs x d (All-tail P a xs h) p
+
+pub node_in : (memory : NatMitMem) (x : ℕ) → IsInRange memory → IsNodeIn (length memory.nodes) (node_at memory x)
+node_in memory x h = at_all (IsNodeIn (length memory.nodes)) memory.nodes x (Leaf 0) h.nodes tt
+
+word_in : (n : ℕ) (d : Side) (node : Node) (w : Word) → IsNodeIn n node → word_on d node ≡ Some w → w.node < n
+word_in n d (Leaf k) w h e = cc
+word_in n Left (Internal k l r) w h e = let same : l ≡ w = cc in subst (λ v. v.node < n) same h.0
+word_in n Right (Internal k l r) w h e = let same : r ≡ w = cc in subst (λ v. v.node < n) same h.1
+
+with_word_in : (n : ℕ) (d : Side) (w : Word) (node : Node) → IsNodeIn n node → w.node < n → IsNodeIn n (with_word d w node)
+with_word_in n d w (Leaf k) h b = tt
+with_word_in n Left w (Internal k l r) h b = (b, h.1)
+with_word_in n Right w (Internal k l r) h b = (h.0, b)
+
+set_in : (memory : NatMitMem) (x : ℕ) (node : Node) → IsInRange memory → IsNodeIn (length memory.nodes) node → IsInRange (set_node memory x node)
+set_in memory x node h k =
+    let same : length (slice_set memory.nodes x node) ≡ length memory.nodes = length-set memory.nodes x node in
+    let all = All-set (IsNodeIn (length memory.nodes)) memory.nodes x node k h.nodes in
+    record {
+      first_nodes = subst (λ n. 1 < n) (sym same) h.first_nodes;
+      nodes = subst (λ n. All (IsNodeIn n) (slice_set memory.nodes x node)) (sym same) all;
+    }
+
+pub set_word_in : (memory : NatMitMem) (x : ℕ) (d : Side) (w : Word) → IsInRange memory → w.node < length memory.nodes → IsInRange (set_word memory x d w)
+set_word_in memory x d w h b =
+    set_in memory x (with_word d w (node_at memory x)) h (with_word_in (length memory.nodes) d w (node_at memory x) (node_in memory x h) b)
+
+-- ---- what is appended
+
+over_in : (n k j x l : ℕ) → x < n → l < n → IsNodeIn n (internal_over k j x l)
+over_in n k j x l a b = elim (nat_lt k j) as (λ c. IsNodeIn n (if c then Internal j (plain x) (plain l) else Internal k (plain l) (plain x))) [ true ↦ (a, b) | false ↦ (b, a) ]
+
+pub two_more : (memory : NatMitMem) (k l : ℕ) → length (with_internal memory k l).nodes ≡ length memory.nodes + 2
+two_more memory k l = length-append memory.nodes (Leaf k ∷ internal_over k (key_at memory l) (length memory.nodes) l ∷ [])
+
+pub with_internal_in : (memory : NatMitMem) (k l : ℕ) → IsInRange memory → l < length memory.nodes → IsInRange (with_internal memory k l)
+with_internal_in memory k l h below =
+    let n = length memory.nodes in
+    let new = internal_over k (key_at memory l) n l in
+    let P = IsNodeIn (n + 2) in
+    let same : length (with_internal memory k l).nodes ≡ n + 2 = two_more memory k l in
+    let old : All P memory.nodes = All-weaker (IsNodeIn n) P (node_more n (n + 2) (omega arith)) memory.nodes h.nodes in
+    let fresh : All P (Leaf k ∷ new ∷ []) = All-cons P (Leaf k) (new ∷ []) tt (All-cons P new [] (over_in (n + 2) k (key_at memory l) n l (omega arith) (omega arith)) (All-nil P)) in
+    let both = All-append P memory.nodes (Leaf k ∷ new ∷ []) old fresh in
+    record {
+      first_nodes = subst (λ c. 1 < c) (sym same) (omega (arith, h.first_nodes));
+      nodes = subst (λ c. All (IsNodeIn c) (with_internal memory k l).nodes) (sym same) both;
+    }
+
+-- ---- what an access leaves
+
+pub record IsKept (memory : NatMitMem) (after : After) : Type 0 where
+  pub nodes : length memory.nodes ≤ length after.0.nodes
+  pub memory_in : IsInRange after.0
+  pub outcome_in : IsOutcomeIn (length after.0.nodes) after.1
+
+stays : (memory : NatMitMem) (outcome : Outcome NatMitLoc) → IsInRange memory → IsOutcomeIn (length memory.nodes) outcome → IsKept memory (memory, outcome)
+stays memory outcome h o = record { nodes = omega arith; memory_in = h; outcome_in = o }
+
+set_kept : (memory appended : NatMitMem) (x : ℕ) (d : Side) (w : Word) (outcome : Outcome NatMitLoc)
+    → length memory.nodes ≤ length appended.nodes → IsInRange appended → w.node < length appended.nodes → IsOutcomeIn (length appended.nodes) outcome
+    → IsKept memory (set_word appended x d w, outcome)
+set_kept memory appended x d w outcome more h b o =
+    let same : length (set_word appended x d w).nodes ≡ length appended.nodes = length-set appended.nodes x (with_word d w (node_at appended x)) in
+    record {
+      nodes = subst (λ n. length memory.nodes ≤ n) (sym same) more;
+      memory_in = set_word_in appended x d w h b;
+      outcome_in = subst (λ n. IsOutcomeIn n outcome) (sym same) o;
+    }
+
+found_kept : (memory : NatMitMem) (o : Option Word) (goes : Word → After) → IsInRange memory → ((w : Word) → o ≡ Some w → IsKept memory (goes w)) → IsKept memory (found memory o goes)
+found_kept memory None goes h f = stays memory Astray h tt
+found_kept memory (Some w) goes h f = f w refl
+
+cond_kept : (memory : NatMitMem) (b : Bool) (first second : After) → IsKept memory first → IsKept memory second → IsKept memory (if b then first else second)
+cond_kept memory true first second h k = h
+cond_kept memory false first second h k = k
+
+module _ (memory : NatMitMem) (h : IsInRange memory) where
+  read_kept : (x : ℕ) (d : Side) (goes : Word → Outcome NatMitLoc) → ((w : Word) → w.node < length memory.nodes → IsOutcomeIn (length memory.nodes) (goes w)) → IsKept memory (after_read memory x d goes)
+  read_kept x d goes f =
+      found_kept memory (word_on d (node_at memory x)) (λ w. (memory, goes w)) h
+      (λ w e. stays memory (goes w) h (f w (word_in (length memory.nodes) d (node_at memory x) w (node_in memory x h) e)))
+
+  exchange_kept : (appended : NatMitMem) → length memory.nodes ≤ length appended.nodes → IsInRange appended → (x : ℕ) (d : Side) (l : ℕ) (desired : Word) (success failure : Outcome NatMitLoc)
+      → desired.node < length appended.nodes → IsOutcomeIn (length appended.nodes) success → IsOutcomeIn (length memory.nodes) failure
+      → IsKept memory (after_exchange memory x d l appended desired success failure)
+  exchange_kept appended more k x d l desired success failure b o f =
+      found_kept memory (word_on d (node_at memory x)) (λ w. if is_plain l w then (set_word appended x d desired, success) else (memory, failure)) h
+      (λ w e. cond_kept memory (is_plain l w) (set_word appended x d desired, success) (memory, failure)
+      (set_kept memory appended x d desired success more k b o)
+      (stays memory failure h f))
+
+  tag_kept : (x : ℕ) (d : Side) (place : NatMitLoc) → IsPlaceIn (length memory.nodes) place → IsKept memory (after_tag memory x d (Goes place))
+  tag_kept x d place o =
+      found_kept memory (word_on d (node_at memory x)) (λ w. (set_word memory x d (record { flag = w.flag; tag = true; node = w.node }), Goes place)) h
+      (λ w e. set_kept memory memory x d (record { flag = w.flag; tag = true; node = w.node }) (Goes place) (omega arith) h
+      (word_in (length memory.nodes) d (node_at memory x) w (node_in memory x h) e) o)
+
+  -- ---- the rows of the table
+
+  begin_kept : (op : Op) (mode : Mode) → IsModeIn (length memory.nodes) mode → (w : Word) → w.node < length memory.nodes → IsOutcomeIn (length memory.nodes) (arrived op 0 1 1 w.node w.tag mode (node_at memory w.node))
+  begin_kept op mode at w below =
+      let first = h.first_nodes in
+      arrived_in (length memory.nodes) op 0 1 1 w.node w.tag mode (node_at memory w.node) (omega arith) first first below at
+
+  down_kept : (op : Op) (a s p l : ℕ) (t : Bool) (mode : Mode) → IsPlaceInRange memory (Down a s p l t mode) → (w : Word) → w.node < length memory.nodes → IsOutcomeIn (length memory.nodes) (went_down op a s p l t mode memory w)
+  down_kept op a s p l t mode at w below =
+      let n = length memory.nodes in
+      either n t _ _
+      (arrived_in n op a s l w.node w.tag mode (node_at memory w.node) at.0 at.1 at.3 below at.4)
+      (arrived_in n op p l l w.node w.tag mode (node_at memory w.node) at.2 at.3 at.3 below at.4)
+
+  pub act_kept : (machine : NatMit) (op : Op) (place : NatMitLoc) → IsPlaceInRange memory place → IsKept memory (act machine op place memory)
+  act_kept machine op (Begin mode) at = read_kept 1 Left _ (begin_kept op mode at)
+  act_kept machine op (Down a s p l t mode) at = read_kept l (side_at (key_of op) memory l) _ (down_kept op a s p l t mode at)
+  act_kept machine op (Put a s p l) at =
+      let more = two_more memory (key_of op) l in
+      exchange_kept (with_internal memory (key_of op) l) (omega arith) (with_internal_in memory (key_of op) l h at.3) p (side_at (key_of op) memory p) l (plain (new_internal memory)) (Replies true) (Goes (Look a s p l)) (omega arith) tt at
+  act_kept machine op (Flag a s p l) at =
+      exchange_kept memory (omega arith) h p (side_at (key_of op) memory p) l (record { flag = true; tag = false; node = l }) (Goes (CleanRead a s p (Owner l))) (Goes (Look a s p l)) at.3 at at
+  act_kept machine op (Look a s p l) at =
+      read_kept p (side_at (key_of op) memory p) (looked a s p l)
+      (λ w below. either (length memory.nodes) (nat_eq w.node l && (w.flag || w.tag)) (Goes (CleanRead a s p Plain)) (Goes (Begin Plain)) (at.0, at.1, at.2, tt) tt)
+  act_kept machine op (CleanRead a s p mode) at =
+      let d = side_at (key_of op) memory p in
+      read_kept p d (clean_read machine a s p d mode)
+      (λ w below. either (length memory.nodes) w.flag (Goes (tagging machine a s p (other_side d) mode)) (Goes (tagging machine a s p d mode))
+      (tagging_in (length memory.nodes) machine a s p (other_side d) mode at) (tagging_in (length memory.nodes) machine a s p d mode at))
+  act_kept machine op (Tag a s p d mode) at = tag_kept p d (Sibling a s p d mode) at
+  act_kept machine op (Sibling a s p d mode) at =
+      read_kept p d (λ w. Goes (Swing a s w.flag w.node mode)) (λ w below. (at.0, at.1, below, at.3))
+  act_kept machine op (Swing a s f x mode) at =
+      exchange_kept memory (omega arith) h a (side_at (key_of op) memory a) s (record { flag = f; tag = false; node = x }) (swung mode) (not_swung mode) at.2 (swung_in (length memory.nodes) mode) at.3
+
+-- ---- an access that goes astray leaves the memory
+
+-- an outcome other than astray
+abbrev IsSure : Outcome NatMitLoc → Type 0
+IsSure (Goes place) = Unit {0}
+IsSure (Replies reply) = Unit {0}
+IsSure Astray = ⊥
+
+never_astray : (outcome : Outcome NatMitLoc) → IsSure outcome → outcome ≡ Astray → ⊥
+never_astray (Goes place) h e = cc
+never_astray (Replies reply) h e = cc
+never_astray Astray h e = h
+
+swung_sure : (mode : Mode) → IsSure (swung mode)
+swung_sure Plain = tt
+swung_sure (Owner o) = tt
+
+abbrev LeavesMemory : NatMitMem → After → Type 0
+LeavesMemory memory after = after.1 ≡ Astray → after.0 ≡ memory
+
+found_leaves : (memory : NatMitMem) (o : Option Word) (goes : Word → After) → ((w : Word) → LeavesMemory memory (goes w)) → LeavesMemory memory (found memory o goes)
+found_leaves memory None goes f = λ _. refl
+found_leaves memory (Some w) goes f = f w
+
+cond_leaves : (memory changed : NatMitMem) (b : Bool) (success failure : Outcome NatMitLoc) → IsSure success → LeavesMemory memory (if b then (changed, success) else (memory, failure))
+cond_leaves memory changed true success failure sure = λ e. absurd (never_astray success sure e)
+cond_leaves memory changed false success failure sure = λ _. refl
+
+module _ (memory : NatMitMem) where
+  read_leaves : (x : ℕ) (d : Side) (goes : Word → Outcome NatMitLoc) → LeavesMemory memory (after_read memory x d goes)
+  read_leaves x d goes = found_leaves memory (word_on d (node_at memory x)) (λ w. (memory, goes w)) (λ w _. refl)
+
+  exchange_leaves : (x : ℕ) (d : Side) (l : ℕ) (appended : NatMitMem) (desired : Word) (success failure : Outcome NatMitLoc) → IsSure success → LeavesMemory memory (after_exchange memory x d l appended desired success failure)
+  exchange_leaves x d l appended desired success failure sure =
+      found_leaves memory (word_on d (node_at memory x)) (λ w. if is_plain l w then (set_word appended x d desired, success) else (memory, failure))
+      (λ w. cond_leaves memory (set_word appended x d desired) (is_plain l w) success failure sure)
+
+  tag_leaves : (x : ℕ) (d : Side) (goes : Outcome NatMitLoc) → IsSure goes → LeavesMemory memory (after_tag memory x d goes)
+  tag_leaves x d goes sure =
+      found_leaves memory (word_on d (node_at memory x)) (λ w. (set_word memory x d (record { flag = w.flag; tag = true; node = w.node }), goes))
+      (λ w e. absurd (never_astray goes sure e))
+
+  pub act_leaves : (machine : NatMit) (op : Op) (place : NatMitLoc) → (act machine op place memory).1 ≡ Astray → (act machine op place memory).0 ≡ memory
+  act_leaves machine op (Begin mode) = read_leaves 1 Left _
+  act_leaves machine op (Down a s p l t mode) = read_leaves l (side_at (key_of op) memory l) _
+  act_leaves machine op (Put a s p l) =
+      exchange_leaves p (side_at (key_of op) memory p) l (with_internal memory (key_of op) l) (plain (new_internal memory)) (Replies true) (Goes (Look a s p l)) tt
+  act_leaves machine op (Flag a s p l) =
+      exchange_leaves p (side_at (key_of op) memory p) l memory (record { flag = true; tag = false; node = l }) (Goes (CleanRead a s p (Owner l))) (Goes (Look a s p l)) tt
+  act_leaves machine op (Look a s p l) = read_leaves p (side_at (key_of op) memory p) _
+  act_leaves machine op (CleanRead a s p mode) = read_leaves p (side_at (key_of op) memory p) _
+  act_leaves machine op (Tag a s p d mode) = tag_leaves p d (Goes (Sibling a s p d mode)) tt
+  act_leaves machine op (Sibling a s p d mode) = read_leaves p d _
+  act_leaves machine op (Swing a s f x mode) =
+      exchange_leaves a (side_at (key_of op) memory a) s memory (record { flag = f; tag = false; node = x }) (swung mode) (not_swung mode) (swung_sure mode)

@@ -1,0 +1,56 @@
+//! The initial memory.
+ghost use Rattle.std.specs.Prelude.{◌≡◌, ◌<◌, length, IfOk};
+ghost use Rattle.natmit.specs.Initial.{empty_tree, put_in, initial_memory};
+
+use crate::memory::{NatMitMem, Node, number_of, plain};
+use sched_program::{OutOfMemory, Sequence};
+use std::alloc::Global;
+use tree_machine::search_end;
+
+/// The root, node 1, and three leaves of keys above all that programs name.
+fn empty_tree(alloc: Global) -> Result<NatMitMem, OutOfMemory>
+    ensures { IfOk result (λ memory. memory ≡ empty_tree) }
+{
+    let nodes = vec![in alloc;
+        Node::Internal {
+            key: 102,
+            left: plain(1),
+            right: plain(2),
+        },
+        Node::Internal {
+            key: 101,
+            left: plain(3),
+            right: plain(4),
+        },
+        Node::Leaf { key: 102 },
+        Node::Leaf { key: 100 },
+        Node::Leaf { key: 101 },
+    ]?;
+    Ok(NatMitMem {
+        nodes: Sequence::from_vec(nodes),
+    })
+}
+
+/// Puts a key in at the leaf to which it leads.
+fn put_in(alloc: Global, mem: &mut NatMitMem, key: u8) -> Result<(), OutOfMemory>
+    requires { 0 < length mem.old.nodes }
+    ensures { IfOk result (λ _. mem.new ≡ put_in mem.old key) }
+{
+    let levels = mem.nodes.len();
+    let end = search_end(mem, key, levels);
+    let parent = number_of(end.parent)?;
+    let leaf = number_of(end.leaf)?;
+    mem.put_at(alloc, key, parent, leaf)
+}
+
+/// The memory with these keys, put in in their order.
+#[tactic(auto, using(crate::proofs::Present::has_first))]
+pub fn build(alloc: Global, initial: &[u8]) -> Result<NatMitMem, OutOfMemory>
+    ensures { IfOk result (λ memory. memory ≡ initial_memory initial.now) }
+{
+    let mut mem = empty_tree(alloc)?;
+    for key in initial {
+        put_in(alloc, &mut mem, *key)?;
+    }
+    Ok(mem)
+}

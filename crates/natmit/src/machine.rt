@@ -1,0 +1,69 @@
+//! The machine and its variant.
+ghost use Rattle.natmit.specs.Exact.{machine_exact, memory_exact, place_exact};
+ghost use Rattle.natmit.specs.NatMitRules.{natmit_rules, natmit_lawful};
+
+use crate::initial::build;
+use crate::memory::NatMitMem;
+use crate::place::{Mode, NatMitLoc};
+use sched_program::{Exact, Op, OutOfMemory};
+use std::alloc::Global;
+use tree_machine::{Machine, Outcome, keeps_search_order};
+
+/// The machine of Natarajan and Mittal (PPoPP 2014), whole where `tag` is true.
+#[derive(Clone, Copy, Debug, PartialEq, Eq, Hash)]
+pub struct NatMit {
+    /// A delete tags the sibling of its leaf before it cuts off their parent.
+    pub tag: bool,
+}
+
+impl Exact for NatMit {
+    ghost exact = { machine_exact };
+}
+
+impl Exact for NatMitMem {
+    ghost exact = { memory_exact };
+}
+
+impl Exact for NatMitLoc {
+    ghost exact = { place_exact };
+}
+
+impl Machine for NatMit {
+    type Mem = NatMitMem;
+
+    type Loc = NatMitLoc;
+
+    ghost rules = { natmit_rules };
+
+    fn copy_mem(&self, alloc: Global, mem: &NatMitMem) -> Result<NatMitMem, OutOfMemory> {
+        mem.copy(alloc)
+    }
+
+    fn copy_loc(&self, _alloc: Global, loc: &NatMitLoc) -> Result<NatMitLoc, OutOfMemory> {
+        Ok(*loc)
+    }
+
+    fn build(&self, alloc: Global, initial: &[u8]) -> Result<NatMitMem, OutOfMemory> {
+        build(alloc, initial)
+    }
+
+    fn begin(&self, _op: Op) -> NatMitLoc {
+        NatMitLoc::Begin { mode: Mode::Plain }
+    }
+
+    fn act(
+        &self,
+        alloc: Global,
+        op: Op,
+        loc: &NatMitLoc,
+        mem: &mut NatMitMem,
+    ) -> Result<Outcome<NatMitLoc>, OutOfMemory> {
+        self.access(alloc, op, *loc, mem)
+    }
+
+    fn ordered(&self, mem: &NatMitMem) -> bool {
+        keeps_search_order(mem)
+    }
+
+    ghost lawful = { natmit_lawful };
+}

@@ -1,0 +1,211 @@
+//! The nodes that the threads share.
+ghost use Rattle.std.specs.Prelude.{◌≡◌, ◌+◌, ◌<◌, length, IfOk, OnErr};
+ghost use Rattle.natmit.specs.Memory.{plain, is_plain, key_in, shape_in, shapes, word_on, with_word, node_at, key_at, set_word, internal_over, with_internal, new_internal, put_at};
+
+use sched_program::{OutOfMemory, Sequence};
+use std::alloc::Global;
+use tree_machine::{Shape, Shapes, Side, extended, side_of};
+
+/// A child word.
+#[derive(Clone, Copy, Debug, PartialEq, Eq, Hash)]
+pub struct Word {
+    /// The child is a leaf that a delete is about to cut off, with the node that holds the word.
+    pub flag: bool,
+    /// The node that holds the word is about to be cut off, and the child stays.
+    pub tag: bool,
+    /// The number of the child.
+    pub node: u32,
+}
+
+/// A node of the tree.
+#[derive(Clone, Copy, Debug, PartialEq, Eq, Hash)]
+pub enum Node {
+    /// A leaf with its key.
+    Leaf { key: u8 },
+    /// An internal node: keys below its own are on the left.
+    Internal { key: u8, left: Word, right: Word },
+}
+
+/// The shared memory: the nodes, by number. The root is node 0, and each search begins at node 1.
+#[derive(Drop, PartialEq, Eq, Hash)]
+pub struct NatMitMem {
+    pub nodes: Sequence<Node>,
+}
+
+/// The word of a child without flag and tag.
+pub fn plain(node: u32) -> Word
+    ensures { result ≡ plain node }
+{
+    Word {
+        flag: false,
+        tag: false,
+        node,
+    }
+}
+
+/// Whether a word is that of this child without flag and tag.
+pub fn is_plain(node: u32, word: Word) -> bool
+    ensures { result ≡ is_plain node word }
+{
+    !word.flag && !word.tag && word.node == node
+}
+
+/// The key of a node.
+pub fn key_in(node: Node) -> u8
+    ensures { result ≡ key_in node }
+{
+    match node {
+        Node::Leaf { key } => key,
+        Node::Internal { key, .. } => key,
+    }
+}
+
+/// What a search sees of a node.
+fn shape_in(node: Node) -> Shape
+    ensures { result ≡ shape_in node }
+{
+    match node {
+        Node::Leaf { key } => Shape::Leaf { key },
+        Node::Internal { key, left, right } => Shape::Internal {
+            key,
+            left: left.node as usize,
+            right: right.node as usize,
+        },
+    }
+}
+
+/// The child word of a node on a side; a leaf has none.
+pub fn word_on(side: Side, node: Node) -> Option<Word>
+    ensures { result ≡ word_on side node }
+{
+    match (side, node) {
+        (_, Node::Leaf { .. }) => None,
+        (Side::Left, Node::Internal { left, .. }) => Some(left),
+        (Side::Right, Node::Internal { right, .. }) => Some(right),
+    }
+}
+
+/// A node with another child word on a side.
+fn with_word(side: Side, word: Word, node: Node) -> Node
+    ensures { result ≡ with_word side word node }
+{
+    match (side, node) {
+        (_, Node::Leaf { key }) => Node::Leaf { key },
+        (Side::Left, Node::Internal { key, right, .. }) => Node::Internal {
+            key,
+            left: word,
+            right,
+        },
+        (Side::Right, Node::Internal { key, left, .. }) => Node::Internal {
+            key,
+            left,
+            right: word,
+        },
+    }
+}
+
+/// A new internal node over the new leaf `new` of key `key` and a leaf of key `other`.
+fn internal_over(key: u8, other: u8, new: u32, leaf: u32) -> Node
+    ensures { result ≡ internal_over key other new leaf }
+{
+    if key < other {
+        Node::Internal {
+            key: other,
+            left: plain(new),
+            right: plain(leaf),
+        }
+    } else {
+        Node::Internal {
+            key,
+            left: plain(leaf),
+            right: plain(new),
+        }
+    }
+}
+
+/// A number of a node as words hold it.
+pub fn number_of(x: usize) -> Result<u32, OutOfMemory>
+    ensures { IfOk result (λ number. number ≡ x) }
+{
+    match u32::try_from(x) {
+        Ok(number) => Ok(number),
+        Err(_) => Err(OutOfMemory),
+    }
+}
+
+impl NatMitMem {
+    /// A node by its number.
+    pub fn node(&self, x: u32) -> Node
+        ensures { result ≡ node_at self.now x }
+    {
+        match self.nodes.get(x as usize) {
+            Some(node) => *node,
+            None => Node::Leaf { key: 0 },
+        }
+    }
+
+    /// Puts a child word into a node.
+    pub fn set_word(&mut self, x: u32, side: Side, word: Word)
+        requires { x < length self.old.nodes }
+        ensures { self.new ≡ set_word self.old x side word }
+    {
+        let node = with_word(side, word, self.node(x));
+        self.nodes.set(x as usize, node);
+    }
+
+    /// Appends a new internal node for a key at a leaf, behind its new leaf, and tells its number. Where memory is
+    /// refused nothing is appended.
+    fn add_internal(&mut self, alloc: Global, key: u8, leaf: u32) -> Result<u32, OutOfMemory>
+        ensures ok { IfOk result (λ new. self.new ≡ with_internal self.old key leaf) }
+        ensures number { IfOk result (λ new. new ≡ new_internal self.old) }
+        ensures err { OnErr result (self.new ≡ self.old) }
+    {
+        let count = self.nodes.len();
+        let new_leaf = number_of(count)?;
+        let new = number_of(count + 1)?;
+        let other = key_in(self.node(leaf));
+        let more = [
+            Node::Leaf { key },
+            internal_over(key, other, new_leaf, leaf),
+        ];
+        self.nodes = extended(alloc, &self.nodes, &more)?;
+        Ok(new)
+    }
+
+    /// Puts a new internal node for a key in the place of a leaf, below its parent. Where memory is refused nothing
+    /// is changed.
+    #[tactic(auto, using(crate::proofs::Present::more_nodes))]
+    pub fn put_at(
+        &mut self,
+        alloc: Global,
+        key: u8,
+        parent: u32,
+        leaf: u32,
+    ) -> Result<(), OutOfMemory>
+        requires { parent < length self.old.nodes }
+        ensures ok { IfOk result (λ _. self.new ≡ put_at self.old key parent leaf) }
+        ensures err { OnErr result (self.new ≡ self.old) }
+    {
+        let side = side_of(key, key_in(self.node(parent)));
+        let new = self.add_internal(alloc, key, leaf)?;
+        self.set_word(parent, side, plain(new));
+        Ok(())
+    }
+
+    /// An equal memory.
+    pub fn copy(&self, alloc: Global) -> Result<NatMitMem, OutOfMemory>
+        ensures { IfOk result (λ copy. copy ≡ self.now) }
+    {
+        let nodes = self.nodes.copy(alloc)?;
+        Ok(NatMitMem { nodes })
+    }
+}
+
+impl Shapes for NatMitMem {
+    ghost shapes = { shapes };
+
+    fn shape(&self, x: usize) -> Option<Shape> {
+        let node = self.nodes.get(x)?;
+        Some(shape_in(*node))
+    }
+}

@@ -1,0 +1,82 @@
+//! Where an operation stands: its next access to the memory, and its locals.
+use tree_machine::Side;
+
+/// What a delete has done so far.
+#[derive(Clone, Copy, Debug, PartialEq, Eq, Hash)]
+pub enum Mode {
+    /// It has flagged no leaf.
+    Plain,
+    /// It flagged this leaf, and has still to cut it off.
+    Owner(u32),
+}
+
+/// A place of the machine. The numbers are those of nodes: of the ancestor and its successor, between which no
+/// word was tagged, of the parent, and of its child, a leaf where the search has ended.
+#[derive(Clone, Copy, Debug, PartialEq, Eq, Hash)]
+pub enum NatMitLoc {
+    /// The search reads the word from which it begins.
+    Begin {
+        mode: Mode,
+    },
+    /// The search goes down, from the word of the parent, whose tag it read.
+    Down {
+        ancestor: u32,
+        successor: u32,
+        parent: u32,
+        leaf: u32,
+        tag: bool,
+        mode: Mode,
+    },
+    /// An insert exchanges the leaf for a new internal node.
+    Put {
+        ancestor: u32,
+        successor: u32,
+        parent: u32,
+        leaf: u32,
+    },
+    /// A delete flags its leaf.
+    Flag {
+        ancestor: u32,
+        successor: u32,
+        parent: u32,
+        leaf: u32,
+    },
+    /// An insert or delete whose exchange failed looks whether another delete is in its way.
+    Look {
+        ancestor: u32,
+        successor: u32,
+        parent: u32,
+        leaf: u32,
+    },
+    /// The cleanup reads on which side of the parent the leaf is that goes.
+    CleanRead {
+        ancestor: u32,
+        successor: u32,
+        parent: u32,
+        mode: Mode,
+    },
+    /// The cleanup tags the word of the sibling, which stays.
+    Tag {
+        ancestor: u32,
+        successor: u32,
+        parent: u32,
+        side: Side,
+        mode: Mode,
+    },
+    /// The cleanup reads the word of the sibling.
+    Sibling {
+        ancestor: u32,
+        successor: u32,
+        parent: u32,
+        side: Side,
+        mode: Mode,
+    },
+    /// The cleanup puts the sibling, with its flag, in the place of the successor.
+    Swing {
+        ancestor: u32,
+        successor: u32,
+        flag: bool,
+        node: u32,
+        mode: Mode,
+    },
+}

@@ -1,0 +1,490 @@
+//! The place table: one access of an operation.
+ghost use Rattle.std.specs.Prelude.{◌≡◌, IfOk, OnErr};
+ghost use Rattle.sched_program.specs.Program.{key_of};
+ghost use Rattle.natmit.specs.declared.place.NatMitLoc.TheVariants as place;
+ghost use Rattle.natmit.specs.Memory.{side_at};
+ghost use Rattle.natmit.specs.Table.{act, other_side, arrived, went_down, looked, tagging, clean_read, swung};
+
+use crate::machine::NatMit;
+use crate::memory::{NatMitMem, Node, Word, is_plain, key_in, word_on};
+use crate::place::{Mode, NatMitLoc};
+use sched_program::{Op, OutOfMemory};
+use std::alloc::Global;
+use tree_machine::{Outcome, Side, side_of};
+
+fn key_of(op: Op) -> u8
+    ensures { result ≡ key_of op }
+{
+    match op {
+        Op::Insert(key) | Op::Delete(key) | Op::Find(key) => key,
+    }
+}
+
+/// The side of a node on which the operation's key is looked for.
+fn side_at(op: Op, mem: &NatMitMem, x: u32) -> Side
+    ensures { result ≡ side_at (key_of op) mem.now x }
+{
+    side_of(key_of(op), key_in(mem.node(x)))
+}
+
+fn other_side(side: Side) -> Side
+    ensures { result ≡ other_side side }
+{
+    match side {
+        Side::Left => Side::Right,
+        Side::Right => Side::Left,
+    }
+}
+
+/// Where a search goes that has come to the node `leaf`.
+fn arrived(
+    op: Op,
+    ancestor: u32,
+    successor: u32,
+    parent: u32,
+    leaf: u32,
+    tag: bool,
+    mode: Mode,
+    node: Node,
+) -> Outcome<NatMitLoc>
+    ensures { result ≡ arrived op ancestor successor parent leaf tag mode node }
+{
+    match (op, mode, node) {
+        (_, _, Node::Internal { .. }) => Outcome::Goes(NatMitLoc::Down {
+            ancestor,
+            successor,
+            parent,
+            leaf,
+            tag,
+            mode,
+        }),
+        (Op::Find(wanted), _, Node::Leaf { key }) => Outcome::Replies(key == wanted),
+        (Op::Insert(wanted), _, Node::Leaf { key }) => {
+            if key == wanted {
+                Outcome::Replies(false)
+            } else {
+                Outcome::Goes(NatMitLoc::Put {
+                    ancestor,
+                    successor,
+                    parent,
+                    leaf,
+                })
+            }
+        }
+        (Op::Delete(wanted), Mode::Plain, Node::Leaf { key }) => {
+            if key == wanted {
+                Outcome::Goes(NatMitLoc::Flag {
+                    ancestor,
+                    successor,
+                    parent,
+                    leaf,
+                })
+            } else {
+                Outcome::Replies(false)
+            }
+        }
+        (Op::Delete(_), Mode::Owner(owned), Node::Leaf { .. }) => {
+            if leaf == owned {
+                Outcome::Goes(NatMitLoc::CleanRead {
+                    ancestor,
+                    successor,
+                    parent,
+                    mode,
+                })
+            } else {
+                Outcome::Replies(true)
+            }
+        }
+    }
+}
+
+/// Where a search goes that has read this word of the node `leaf`, to which a word with this tag led.
+fn went_down(
+    op: Op,
+    ancestor: u32,
+    successor: u32,
+    parent: u32,
+    leaf: u32,
+    tag: bool,
+    mode: Mode,
+    mem: &NatMitMem,
+    word: Word,
+) -> Outcome<NatMitLoc>
+    ensures { result ≡ went_down op ancestor successor parent leaf tag mode mem.now word }
+{
+    let next = mem.node(word.node);
+    if tag {
+        arrived(
+            op, ancestor, successor, leaf, word.node, word.tag, mode, next,
+        )
+    } else {
+        arrived(op, parent, leaf, leaf, word.node, word.tag, mode, next)
+    }
+}
+
+/// Where an insert or delete goes whose exchange has failed, and that has found this word.
+fn looked(ancestor: u32, successor: u32, parent: u32, leaf: u32, word: Word) -> Outcome<NatMitLoc>
+    ensures { result ≡ looked ancestor successor parent leaf word }
+{
+    if word.node == leaf && (word.flag || word.tag) {
+        Outcome::Goes(NatMitLoc::CleanRead {
+            ancestor,
+            successor,
+            parent,
+            mode: Mode::Plain,
+        })
+    } else {
+        Outcome::Goes(NatMitLoc::Begin { mode: Mode::Plain })
+    }
+}
+
+/// Where the cleanup goes once it knows the side of the sibling: to the tag, or past it in the variant.
+fn tagging(
+    machine: NatMit,
+    ancestor: u32,
+    successor: u32,
+    parent: u32,
+    side: Side,
+    mode: Mode,
+) -> NatMitLoc
+    ensures { result ≡ tagging machine ancestor successor parent side mode }
+{
+    if machine.tag {
+        NatMitLoc::Tag {
+            ancestor,
+            successor,
+            parent,
+            side,
+            mode,
+        }
+    } else {
+        NatMitLoc::Sibling {
+            ancestor,
+            successor,
+            parent,
+            side,
+            mode,
+        }
+    }
+}
+
+fn clean_read(
+    machine: NatMit,
+    ancestor: u32,
+    successor: u32,
+    parent: u32,
+    side: Side,
+    mode: Mode,
+    word: Word,
+) -> Outcome<NatMitLoc>
+    ensures { result ≡ clean_read machine ancestor successor parent side mode word }
+{
+    if word.flag {
+        let side = other_side(side);
+        Outcome::Goes(tagging(machine, ancestor, successor, parent, side, mode))
+    } else {
+        Outcome::Goes(tagging(machine, ancestor, successor, parent, side, mode))
+    }
+}
+
+fn swung(mode: Mode) -> Outcome<NatMitLoc>
+    ensures { result ≡ swung mode }
+{
+    match mode {
+        Mode::Plain => Outcome::Goes(NatMitLoc::Begin { mode }),
+        Mode::Owner(_) => Outcome::Replies(true),
+    }
+}
+
+// ---- the rows of the table
+
+impl NatMit {
+    fn begin_row(self, op: Op, mem: &NatMitMem, mode: Mode) -> Outcome<NatMitLoc>
+        ensures { act self op (place.Begin mode) mem.now ≡ (mem.now, result) }
+    {
+        match word_on(Side::Left, mem.node(1)) {
+            Some(word) => {
+                let next = mem.node(word.node);
+                arrived(op, 0, 1, 1, word.node, word.tag, mode, next)
+            }
+            None => Outcome::Astray,
+        }
+    }
+
+    fn down_row(
+        self,
+        op: Op,
+        mem: &NatMitMem,
+        ancestor: u32,
+        successor: u32,
+        parent: u32,
+        leaf: u32,
+        tag: bool,
+        mode: Mode,
+    ) -> Outcome<NatMitLoc>
+        ensures { act self op (place.Down ancestor successor parent leaf tag mode) mem.now ≡ (mem.now, result) }
+    {
+        match word_on(side_at(op, mem, leaf), mem.node(leaf)) {
+            Some(word) => went_down(op, ancestor, successor, parent, leaf, tag, mode, mem, word),
+            None => Outcome::Astray,
+        }
+    }
+
+    #[tactic(auto, using(crate::proofs::Present::has_word))]
+    fn put_row(
+        self,
+        alloc: Global,
+        op: Op,
+        mem: &mut NatMitMem,
+        ancestor: u32,
+        successor: u32,
+        parent: u32,
+        leaf: u32,
+    ) -> Result<Outcome<NatMitLoc>, OutOfMemory>
+        ensures ok { IfOk result (λ outcome. act self op (place.Put ancestor successor parent leaf) mem.old ≡ (mem.new, outcome)) }
+        ensures err { OnErr result (mem.new ≡ mem.old) }
+    {
+        let side = side_at(op, mem, parent);
+        let Some(word) = word_on(side, mem.node(parent)) else {
+            return Ok(Outcome::Astray);
+        };
+        if !is_plain(leaf, word) {
+            return Ok(Outcome::Goes(NatMitLoc::Look {
+                ancestor,
+                successor,
+                parent,
+                leaf,
+            }));
+        }
+        mem.put_at(alloc, key_of(op), parent, leaf)?;
+        Ok(Outcome::Replies(true))
+    }
+
+    #[tactic(auto, using(crate::proofs::Present::has_word))]
+    fn flag_row(
+        self,
+        op: Op,
+        mem: &mut NatMitMem,
+        ancestor: u32,
+        successor: u32,
+        parent: u32,
+        leaf: u32,
+    ) -> Outcome<NatMitLoc>
+        ensures { act self op (place.Flag ancestor successor parent leaf) mem.old ≡ (mem.new, result) }
+    {
+        let side = side_at(op, mem, parent);
+        let Some(word) = word_on(side, mem.node(parent)) else {
+            return Outcome::Astray;
+        };
+        if is_plain(leaf, word) {
+            let flagged = Word {
+                flag: true,
+                tag: false,
+                node: leaf,
+            };
+            mem.set_word(parent, side, flagged);
+            Outcome::Goes(NatMitLoc::CleanRead {
+                ancestor,
+                successor,
+                parent,
+                mode: Mode::Owner(leaf),
+            })
+        } else {
+            Outcome::Goes(NatMitLoc::Look {
+                ancestor,
+                successor,
+                parent,
+                leaf,
+            })
+        }
+    }
+
+    fn look_row(
+        self,
+        op: Op,
+        mem: &NatMitMem,
+        ancestor: u32,
+        successor: u32,
+        parent: u32,
+        leaf: u32,
+    ) -> Outcome<NatMitLoc>
+        ensures { act self op (place.Look ancestor successor parent leaf) mem.now ≡ (mem.now, result) }
+    {
+        match word_on(side_at(op, mem, parent), mem.node(parent)) {
+            Some(word) => looked(ancestor, successor, parent, leaf, word),
+            None => Outcome::Astray,
+        }
+    }
+
+    fn clean_read_row(
+        self,
+        op: Op,
+        mem: &NatMitMem,
+        ancestor: u32,
+        successor: u32,
+        parent: u32,
+        mode: Mode,
+    ) -> Outcome<NatMitLoc>
+        ensures { act self op (place.CleanRead ancestor successor parent mode) mem.now ≡ (mem.now, result) }
+    {
+        let side = side_at(op, mem, parent);
+        match word_on(side, mem.node(parent)) {
+            Some(word) => clean_read(self, ancestor, successor, parent, side, mode, word),
+            None => Outcome::Astray,
+        }
+    }
+
+    #[tactic(auto, using(crate::proofs::Present::has_word))]
+    fn tag_row(
+        self,
+        op: Op,
+        mem: &mut NatMitMem,
+        ancestor: u32,
+        successor: u32,
+        parent: u32,
+        side: Side,
+        mode: Mode,
+    ) -> Outcome<NatMitLoc>
+        ensures { act self op (place.Tag ancestor successor parent side mode) mem.old ≡ (mem.new, result) }
+    {
+        let Some(word) = word_on(side, mem.node(parent)) else {
+            return Outcome::Astray;
+        };
+        let tagged = Word {
+            flag: word.flag,
+            tag: true,
+            node: word.node,
+        };
+        mem.set_word(parent, side, tagged);
+        Outcome::Goes(NatMitLoc::Sibling {
+            ancestor,
+            successor,
+            parent,
+            side,
+            mode,
+        })
+    }
+
+    fn sibling_row(
+        self,
+        op: Op,
+        mem: &NatMitMem,
+        ancestor: u32,
+        successor: u32,
+        parent: u32,
+        side: Side,
+        mode: Mode,
+    ) -> Outcome<NatMitLoc>
+        ensures { act self op (place.Sibling ancestor successor parent side mode) mem.now ≡ (mem.now, result) }
+    {
+        match word_on(side, mem.node(parent)) {
+            Some(word) => Outcome::Goes(NatMitLoc::Swing {
+                ancestor,
+                successor,
+                flag: word.flag,
+                node: word.node,
+                mode,
+            }),
+            None => Outcome::Astray,
+        }
+    }
+
+    #[tactic(auto, using(crate::proofs::Present::has_word))]
+    fn swing_row(
+        self,
+        op: Op,
+        mem: &mut NatMitMem,
+        ancestor: u32,
+        successor: u32,
+        flag: bool,
+        node: u32,
+        mode: Mode,
+    ) -> Outcome<NatMitLoc>
+        ensures { act self op (place.Swing ancestor successor flag node mode) mem.old ≡ (mem.new, result) }
+    {
+        let side = side_at(op, mem, ancestor);
+        let Some(word) = word_on(side, mem.node(ancestor)) else {
+            return Outcome::Astray;
+        };
+        if is_plain(successor, word) {
+            let sibling = Word {
+                flag,
+                tag: false,
+                node,
+            };
+            mem.set_word(ancestor, side, sibling);
+            swung(mode)
+        } else {
+            Outcome::Goes(NatMitLoc::Begin { mode })
+        }
+    }
+
+    /// One access to the memory, by the row of its place. Where memory is refused the memory is unchanged.
+    pub fn access(
+        self,
+        alloc: Global,
+        op: Op,
+        loc: NatMitLoc,
+        mem: &mut NatMitMem,
+    ) -> Result<Outcome<NatMitLoc>, OutOfMemory>
+        ensures ok { IfOk result (λ outcome. act self op loc mem.old ≡ (mem.new, outcome)) }
+        ensures err { OnErr result (mem.new ≡ mem.old) }
+    {
+        match loc {
+            NatMitLoc::Begin { mode } => Ok(self.begin_row(op, mem, mode)),
+            NatMitLoc::Down {
+                ancestor: a,
+                successor: s,
+                parent: p,
+                leaf: l,
+                tag,
+                mode,
+            } => Ok(self.down_row(op, mem, a, s, p, l, tag, mode)),
+            NatMitLoc::Put {
+                ancestor: a,
+                successor: s,
+                parent: p,
+                leaf: l,
+            } => self.put_row(alloc, op, mem, a, s, p, l),
+            NatMitLoc::Flag {
+                ancestor: a,
+                successor: s,
+                parent: p,
+                leaf: l,
+            } => Ok(self.flag_row(op, mem, a, s, p, l)),
+            NatMitLoc::Look {
+                ancestor: a,
+                successor: s,
+                parent: p,
+                leaf: l,
+            } => Ok(self.look_row(op, mem, a, s, p, l)),
+            NatMitLoc::CleanRead {
+                ancestor: a,
+                successor: s,
+                parent: p,
+                mode,
+            } => Ok(self.clean_read_row(op, mem, a, s, p, mode)),
+            NatMitLoc::Tag {
+                ancestor: a,
+                successor: s,
+                parent: p,
+                side,
+                mode,
+            } => Ok(self.tag_row(op, mem, a, s, p, side, mode)),
+            NatMitLoc::Sibling {
+                ancestor: a,
+                successor: s,
+                parent: p,
+                side,
+                mode,
+            } => Ok(self.sibling_row(op, mem, a, s, p, side, mode)),
+            NatMitLoc::Swing {
+                ancestor: a,
+                successor: s,
+                flag,
+                node,
+                mode,
+            } => Ok(self.swing_row(op, mem, a, s, flag, node, mode)),
+        }
+    }
+}
