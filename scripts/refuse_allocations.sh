@@ -12,14 +12,14 @@ work=$(mktemp -d)
 trap 'rm -rf "$work"' EXIT
 
 # The words of each line are run with requests 1, 2, .. refused, up to the last that a run with ample memory makes.
-lines='explore twice.json --steps 2 --ledger
-explore twice.json --steps 2 --states 4
-explore three-threads.json --steps 3
-replay twice.json --schedule 1,0
-replay twice.json --schedule 0,0
-replay twice.json --schedule 0,,1
+lines='explore two_inserts.json --steps 2 --ledger
+explore two_inserts.json --steps 2 --states 4
+explore three_threads.json --steps 3
+replay two_inserts.json --schedule 1,0
+replay two_inserts.json --schedule 0,0
+replay two_inserts.json --schedule 0,,1
 explore no-such-file.json --steps 2
-explore twice.json --steps 401'
+explore two_inserts.json --steps 401'
 
 # run NAME WORD..: runs the program, and leaves its output in files of this name.
 run() {
