@@ -6,13 +6,14 @@ use Rattle.book.specs.Schedule.{StepMachine, IsMachine, Merges, after}
 use Rattle.book.specs.Entries.{Entry, Contents, At}
 use Rattle.book.specs.Law.{IsLawfulBook}
 use Rattle.book.specs.Layers.{IsExpandedBelow}
-use Rattle.book.specs.Counts.{IsCount, IsMoreThan}
+use Rattle.book.specs.Counts.{IsCount}
 use Rattle.book.specs.Findings.{is_sound, IsSound}
-use Rattle.crew.specs.Due.{IsFirstAbove}
+use Rattle.crew.specs.Due.{IsAbove, IsFirstAbove}
 use Rattle.crew.specs.Faults.{LeadsToFault, IsLeastFault}
 use Rattle.crew.specs.Reading.{first_fault, IsLastLayer, IsFullAt}
 use Rattle.crew.proofs.Soundness.{mark_cases, SoundTo, fault_longer, sound_by, sound_to, is_fault, shorter_sound}
 use Rattle.crew.proofs.Growing.{not_above, count_all, more_than}
+use Rattle.crew.proofs.Reaching.{above_more, more_above}
 
 module _ {X S : Type 0} (m : StepMachine S) (same : S → S → Bool) (right : S → Finding → Type 0)
     (machine : IsMachine m) (merges : Merges m same)
@@ -25,8 +26,8 @@ module _ {X S : Type 0} (m : StepMachine S) (same : S → S → Bool) (right : S
       let l : n < length least.schedule = fault_longer m right agree n sound least.schedule least.faulty in
       let e : length least.schedule ≡ F = least.long in omega arith
 
-  none_above : (n : ℕ) → IsExpandedBelow m.steps b.entries n → (j : ℕ) → j ≤ n → IsMoreThan m same j b.limit → ⊥
-  none_above n done = not_above m same right machine merges b.entries book.law n b.limit done book.within
+  none_above : (n : ℕ) → IsExpandedBelow m.steps b.entries n → (j : ℕ) → j ≤ n → IsAbove m same b.limit j → ⊥
+  none_above n done j le above = not_above m same right machine merges b.entries book.law n b.limit done book.within j le (above_more m same b.limit j above)
 
   abbrev pub IsHoldsDue : ℕ → Type 0
   IsHoldsDue n = ((F : ℕ) → IsLeastFault m right F → n < F) × ((J : ℕ) → IsFirstAbove m same n b.limit J → ⊥) × IsCount m same n (length b.entries)
@@ -92,10 +93,11 @@ module _ {X S : Type 0} (m : StepMachine S) (same : S → S → Bool) (right : S
     stopped_due n less = (
       record {
         within = omega arith;
-        above = more_than m same right machine merges b.entries book.law i full.entry full.at full.taken full.successors full.expansion d (omega arith) b.limit full.full;
-        first = (λ j more. elim (cases_lt d j) [
+        above = more_above m same machine merges b.limit (d + 1)
+            (more_than m same right machine merges b.entries book.law i full.entry full.at full.taken full.successors full.expansion d (omega arith) b.limit full.full);
+        first = (λ j above. elim (cases_lt d j) [
           | inl l ↦ omega arith
-          | inr le ↦ absurd (none_above d below_taken j le more)
+          | inr le ↦ absurd (none_above d below_taken j le above)
         ]);
       },
       (λ F least. let l : d < F = sound_no_fault d stopped_sound F least in omega arith),

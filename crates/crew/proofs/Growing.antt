@@ -1,7 +1,6 @@
 -- What the steps of one more entry show of the entries and of the number of states.
-use Rattle.std.proofs.Common.{◌≡◌, ◌≢◌, ℕ, ◌+◌, ◌<◌, ◌≤◌, inl, inr, Bool, true, false, Some, None, List, zero, suc, [], ◌∷◌, ◌++◌, length, map, refl, sym, ap, ◌∙◌, arith, slice_get, length-append, count_by, leb}
+use Rattle.std.proofs.Common.{◌≡◌, ◌≢◌, ℕ, ◌+◌, ◌<◌, ◌≤◌, inl, inr, Bool, true, Some, List, [], ◌∷◌, ◌++◌, length, map, sym, ap, ◌∙◌, arith, slice_get, length-append, count_by, leb}
 use Rattle.std.proofs.Math.ListN.{length-map}
-use Rattle.std.proofs.lemmas.Bool.{true≢false}
 use Rattle.std.proofs.lemmas.List.{length_push}
 use Rattle.std.proofs.lemmas.List.Sums.{count_by-le-length}
 use Rattle.book.specs.declared.finding.Finding.{Finding}
@@ -13,16 +12,11 @@ use Rattle.book.specs.Law.{IsLawful, IsExpansion}
 use Rattle.book.specs.Layers.{IsShallow, IsExpandedBelow}
 use Rattle.book.specs.Counts.{IsCount, IsMoreThan}
 use Rattle.book.proofs.EntryLemmas.{get-append_cases, at-with_mark, get_within}
-use Rattle.book.proofs.Unknown.{at-states, unknown_is, unknown_apart, list_any-false}
+use Rattle.book.proofs.Unknown.{at-states, unknown_is}
 use Rattle.book.proofs.Counts.{recorded, run_push, count_is, count_to_is}
 use Rattle.book.proofs.Ways.{steps_after}
 use Rattle.crew.proofs.Crowding.{count_above}
-
--- an element of a mapped list is one of the list, mapped
-pub at-map : {X Y : Type 0} (f : X → Y) (xs : List X) (k : ℕ) (y : Y) → slice_get (map f xs) k ≡ Some y → (x : X) × (slice_get xs k ≡ Some x) × (f x ≡ y)
-at-map f [] k y h = absurd (let q : None ≡ Some y = h in cc)
-at-map f (x ∷ xs) zero y h = (x, refl, (cc))
-at-map f (x ∷ xs) (suc k) y h = at-map f xs k y h
+use Rattle.crew.proofs.Reaching.{at-map, joined_apart}
 
 not_expanded : (k : Mark) → k ≡ Taken → k ≢ Expanded
 not_expanded k h e = let q : Taken ≡ Expanded = sym h ∙ e in cc
@@ -71,29 +65,10 @@ module _ {S : Type 0} (m : StepMachine S) (same : S → S → Bool) (right : S �
       ]
 
   all_apart : (j k : ℕ) (x y : S) → slice_get all_states j ≡ Some x → slice_get all_states k ≡ Some y → same x y ≡ true → j ≡ k
-  all_apart j k x y at_j at_k h =
-      let news = unknown same (states es) xs in
-      let state_of : Successor S → S = λ z. z.state in
-      elim (get-append_cases (states es) (map state_of news) j x at_j) [
-        | inl l ↦ elim (get-append_cases (states es) (map state_of news) k y at_k) [
-          | inl r ↦ (let a = at-states es j x l in let b = at-states es k y r in
-              law.distinct j k a.0 b.0 a.1 b.1 (let p : a.0.state ≡ x = a.2 in let q : b.0.state ≡ y = b.2 in cc))
-          | inr r ↦ absurd (let b = at-map state_of news r.0 y r.2 in
-              let u = unknown_is m same merges (states es) xs r.0 b.0 b.1 in
-              let v : same x b.0.state ≡ false = list_any-false (λ (s : S). same s b.0.state) (states es) u.1 j x l in
-              let w : b.0.state ≡ y = b.2 in true≢false (sym h ∙ ap (λ s. same x s) (sym w) ∙ v))
-        ]
-        | inr l ↦ elim (get-append_cases (states es) (map state_of news) k y at_k) [
-          | inl r ↦ absurd (let a = at-map state_of news l.0 x l.2 in
-              let u = unknown_is m same merges (states es) xs l.0 a.0 a.1 in
-              let v : same y a.0.state ≡ false = list_any-false (λ (s : S). same s a.0.state) (states es) u.1 k y r in
-              let w : a.0.state ≡ x = a.2 in true≢false (sym (merges.turned x y h) ∙ ap (λ s. same y s) (sym w) ∙ v))
-          | inr r ↦ (let a = at-map state_of news l.0 x l.2 in let b = at-map state_of news r.0 y r.2 in
-              let p : a.0.state ≡ x = a.2 in let q : b.0.state ≡ y = b.2 in
-              let e : l.0 ≡ r.0 = unknown_apart m same merges (states es) xs l.0 r.0 a.0 b.0 a.1 b.1 (let t : same x y ≡ true = h in cc) in
-              let f : j ≡ length (states es) + l.0 = l.1 in let g : k ≡ length (states es) + r.0 = r.1 in omega arith)
-        ]
-      ]
+  all_apart = joined_apart m same merges (states es) xs (λ j k x y at_j at_k h.
+      let a = at-states es j x at_j in
+      let b = at-states es k y at_k in
+      law.distinct j k a.0 b.0 a.1 b.1 (let p : a.0.state ≡ x = a.2 in let q : b.0.state ≡ y = b.2 in cc))
 
   -- where the book has no room for the steps, more states are reached than it may have entries
   pub more_than : (limit : ℕ) → limit < length es + length (unknown same (states es) xs) → IsMoreThan m same (n + 1) limit

@@ -8,3 +8,4 @@ pub mod Expansions
 pub mod Ends
 pub mod Drives
 pub mod WorkedOff
+pub mod Reaching

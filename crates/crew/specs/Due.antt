@@ -2,16 +2,21 @@
 use Rattle.std.specs.Prelude.{◌≡◌, ℕ, ◌+◌, ◌<◌, ◌≤◌, Bool, length}
 use Rattle.book.specs.declared.finding.Finding.{Finding}
 use Rattle.book.specs.Schedule.{StepMachine}
-use Rattle.book.specs.Counts.{IsCount, IsMoreThan}
+use Rattle.book.specs.Counts.{IsCount}
 use Rattle.crew.specs.declared.answer.Answer.{Answer}
 use Rattle.crew.specs.declared.answer.Answer.TheVariants as answer
 use Rattle.crew.specs.Faults.{LeadsToFault, IsLeastFault}
 
--- j is the least number of steps, up to n, by which more states are reached than the limit
-pub record IsFirstAbove {S : Type 0} (m : StepMachine S) (same : S → S → Bool) (n limit j : ℕ) : Type 0 where
-  pub within : j ≤ n
-  pub above : IsMoreThan m same j limit
-  pub first : (i : ℕ) → IsMoreThan m same i limit → j ≤ i
+module _ {S : Type 0} (m : StepMachine S) (same : S → S → Bool) where
+  -- the number of states that j steps reach is above the limit
+  abbrev pub IsAbove : ℕ → ℕ → Type 0
+  IsAbove limit j = (k : ℕ) × IsCount m same j k × (limit < k)
+
+  -- j is the least number of steps, up to n, by which more states are reached than the limit
+  pub record IsFirstAbove (n limit j : ℕ) : Type 0 where
+    pub within : j ≤ n
+    pub above : IsAbove limit j
+    pub first : (i : ℕ) → IsAbove limit i → j ≤ i
 
 -- The answer that is due for schedules of at most n steps and a limit of states, with the number of states that it tells of.
 -- Let F be the least length of a schedule that leads to a fault, and J the least number of steps, up to n, by which more

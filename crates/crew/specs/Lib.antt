@@ -5,3 +5,4 @@ pub mod Due
 pub mod Headline
 pub mod Reading
 pub mod Driving
+pub mod Faulty

@@ -9,7 +9,7 @@ ghost use Rattle.crew.specs.Reading.{first_fault, IsCutAt, IsWorkedOff, StandsAt
 use crate::answer::Share;
 use book::{Book, EnterFault, Expansion};
 use sched_program::{OutOfMemory, Program};
-use std::alloc::{AllocError, Global};
+use std::alloc::Global;
 use tree_machine::Machine;
 
 /// Takes the next entry of a layer, and enters its steps. Where the book has no room for them, the answer is the entry.
@@ -43,7 +43,7 @@ fn expand_next<M: Machine>(
             Ok(None)
         }
         Err(EnterFault::Full) => Ok(Some(id)),
-        Err(EnterFault::OutOfMemory) => Err(AllocError),
+        Err(EnterFault::OutOfMemory) => Err(OutOfMemory),
         Err(EnterFault::NotTaken) => unreachable!(),
         Err(EnterFault::Stranger) => unreachable!(),
     }

@@ -6,6 +6,8 @@ mod driving;
 mod explorer;
 mod options;
 mod reading;
+#[cfg(test)]
+mod tests;
 
 pub use crate::answer::{Answer, Report, Share};
 pub use crate::explorer::explore;

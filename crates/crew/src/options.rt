@@ -46,29 +46,29 @@ impl Options {
     }
 
     /// How many steps a schedule may have: 0 to 400.
-    pub fn steps(self) -> u16
-        ensures { result ≡ self.steps }
+    pub fn steps(&self) -> u16
+        ensures { result ≡ self.now.steps }
     {
         self.steps
     }
 
     /// How many entries the book may have: 1 to 2,000,000.
-    pub fn limit(self) -> u32
-        ensures { result ≡ self.limit }
+    pub fn limit(&self) -> u32
+        ensures { result ≡ self.now.limit }
     {
         self.limit
     }
 
     /// Which states count as one.
-    pub fn merge(self) -> Merge
-        ensures { result ≡ self.merge }
+    pub fn merge(&self) -> Merge
+        ensures { result ≡ self.now.merge }
     {
         self.merge
     }
 
     /// How many workers explore.
-    pub fn workers(self) -> u8
-        ensures { result ≡ self.workers }
+    pub fn workers(&self) -> u8
+        ensures { result ≡ self.now.workers }
     {
         self.workers
     }

@@ -14,7 +14,7 @@ use crate::answer::Answer;
 use crate::options::Options;
 use book::{Book, EnterFault, Expansion, Finding, ReplayFault, replay};
 use sched_program::{OutOfMemory, Program};
-use std::alloc::{AllocError, Global};
+use std::alloc::Global;
 use tree_machine::Machine;
 
 /// What was found of the first entry that is not sound.
@@ -126,14 +126,14 @@ fn is_full_at<M: Machine>(
     book.law();
     let state = match replay(alloc, book.machine(), program, schedule) {
         Ok(end) => end.state,
-        Err(ReplayFault::OutOfMemory) => return Err(AllocError),
+        Err(ReplayFault::OutOfMemory) => return Err(OutOfMemory),
         Err(ReplayFault::NotEnabled(_)) => return Ok(false),
     };
     let expansion = Expansion::of(alloc, book.machine(), program, &state)?;
     expansion.law();
     match book.enter(id, expansion) {
         Err(EnterFault::Full) => Ok(true),
-        Err(EnterFault::OutOfMemory) => Err(AllocError),
+        Err(EnterFault::OutOfMemory) => Err(OutOfMemory),
         Err(EnterFault::NotTaken) => Ok(false),
         Err(EnterFault::Stranger) => Ok(false),
         Ok(_) => Ok(false),

@@ -154,7 +154,7 @@ fn internal_over(key: u8, other: u8, x: usize, y: usize) -> Node
 
 impl EllenMem {
     /// A node by its number.
-    pub fn node(&self, x: usize) -> Node
+    pub(crate) fn node(&self, x: usize) -> Node
         ensures { result ≡ node_at self.now x }
     {
         match self.nodes.get(x) {
@@ -164,14 +164,14 @@ impl EllenMem {
     }
 
     /// A record by its number.
-    pub fn record(&self, r: usize) -> Option<Record>
+    pub(crate) fn record(&self, r: usize) -> Option<Record>
         ensures { result ≡ record_at self.now r }
     {
         self.records.get(r).copied()
     }
 
     /// Puts an update word into a node.
-    pub fn set_update(&mut self, x: usize, word: UpdateWord)
+    pub(crate) fn set_update(&mut self, x: usize, word: UpdateWord)
         requires { x < length self.old.nodes }
         ensures { self.new ≡ set_update self.old x word }
     {
@@ -193,7 +193,7 @@ impl EllenMem {
     }
 
     /// Puts a child into a node.
-    pub fn set_child(&mut self, x: usize, side: Side, child: usize)
+    pub(crate) fn set_child(&mut self, x: usize, side: Side, child: usize)
         requires { x < length self.old.nodes }
         ensures { self.new ≡ set_child self.old x side child }
     {
@@ -251,7 +251,7 @@ impl EllenMem {
     }
 
     /// Appends a new internal node for a key at a leaf, and tells its number. Where memory is refused nothing is appended.
-    pub fn add_internal(
+    pub(crate) fn add_internal(
         &mut self,
         alloc: Global,
         key: u8,
@@ -277,14 +277,14 @@ impl EllenMem {
     }
 
     /// The side of a node on which a new internal node for a key at a leaf is put.
-    pub fn side_of_new(&self, parent: usize, key: u8, leaf: usize) -> Side
+    pub(crate) fn side_of_new(&self, parent: usize, key: u8, leaf: usize) -> Side
         ensures { result ≡ side_of (key_at (with_internal self.now key leaf) (new_internal self.now)) (key_at self.now parent) }
     {
         side_of(self.new_key(key, leaf), key_in(self.node(parent)))
     }
 
     /// Appends a record.
-    pub fn add_record(&mut self, new: Record) -> Result<(), OutOfMemory>
+    pub(crate) fn add_record(&mut self, new: Record) -> Result<(), OutOfMemory>
         ensures ok { IfOk result (λ _. self.new ≡ add_record self.old new) }
         ensures err { OnErr result (self.new ≡ self.old) }
     {
@@ -292,7 +292,7 @@ impl EllenMem {
     }
 
     /// Appends a new internal node for a key at a leaf, and a record of that insert. Where memory is refused nothing is appended.
-    pub fn add_insert(
+    pub(crate) fn add_insert(
         &mut self,
         alloc: Global,
         key: u8,
@@ -310,7 +310,7 @@ impl EllenMem {
     }
 
     /// An equal memory.
-    pub fn copy(&self, alloc: Global) -> Result<EllenMem, OutOfMemory>
+    pub(crate) fn copy(&self, alloc: Global) -> Result<EllenMem, OutOfMemory>
         ensures { IfOk result (λ copy. copy ≡ self.now) }
     {
         let nodes = self.nodes.copy(alloc)?;

@@ -95,7 +95,7 @@ pub enum EllenLoc {
 
 impl Resume {
     /// An equal value.
-    pub fn copy(&self, alloc: Global) -> Result<Resume, OutOfMemory>
+    pub(crate) fn copy(&self, alloc: Global) -> Result<Resume, OutOfMemory>
         ensures { IfOk result (λ copy. copy ≡ self.now) }
     {
         let stack = self.stack.copy(alloc)?;
@@ -108,7 +108,7 @@ impl Resume {
 
 impl EllenLoc {
     /// An equal place.
-    pub fn copy(&self, alloc: Global) -> Result<EllenLoc, OutOfMemory>
+    pub(crate) fn copy(&self, alloc: Global) -> Result<EllenLoc, OutOfMemory>
         ensures { IfOk result (λ copy. copy ≡ self.now) }
     {
         match self {

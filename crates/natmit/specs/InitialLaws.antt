@@ -195,9 +195,6 @@ module _ (memory : NatMitMem) (k p l : ℕ) where
           | inr was ↦ old x t.0 was t.2
         ]
 
-some_nodes : (memory : NatMitMem) (x : ℕ) (s : Shape) → shapes memory x ≡ Some s → 0 < length memory.nodes
-some_nodes memory x s h = let below = present memory x s h in omega arith
-
 -- the search for a key ends below a node of the memory
 pub parent_present : (memory : NatMitMem) (k : ℕ) → 0 < length memory.nodes → (end_of (shapes memory) k (length memory.nodes) 0 0).parent < length memory.nodes
 parent_present memory k some = parent_below (shapes memory) (length memory.nodes) (present memory) k (length memory.nodes) 0 0 some
@@ -212,8 +209,8 @@ puts memory k =
       kept = kept memory k p l;
       left = λ m a b h under. let t = node_of memory p (shape.Internal m a b) h in parent_set memory k p l t.0 t.1 ∙ ap Some (new_on_left memory k p l t.0 m a b t.2 under);
       right = λ m a b h above. let t = node_of memory p (shape.Internal m a b) h in parent_set memory k p l t.0 t.1 ∙ ap Some (new_on_right memory k p l t.0 m a b t.2 above);
-      over = λ j low high h. over memory k p l (parent_present memory k (some_nodes memory l (shape.Leaf j) h)) j low high h;
-      leaves = λ i j x h. leaves memory k p l (parent_present memory k (some_nodes memory l (shape.Leaf j) h)) i x;
+      over = λ m a b j low high parent leaf. over memory k p l (present memory p (shape.Internal m a b) parent) j low high leaf;
+      leaves = λ m a b i j x parent leaf. leaves memory k p l (present memory p (shape.Internal m a b) parent) i x;
     }
 
 pub put_in_count : (memory : NatMitMem) (k : ℕ) → length (put_in memory k).nodes ≡ length memory.nodes + 2

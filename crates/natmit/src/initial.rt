@@ -45,7 +45,7 @@ fn put_in(alloc: Global, mem: &mut NatMitMem, key: u8) -> Result<(), OutOfMemory
 
 /// The memory with these keys, put in in their order.
 #[tactic(auto, using(crate::proofs::Present::has_first))]
-pub fn build(alloc: Global, initial: &[u8]) -> Result<NatMitMem, OutOfMemory>
+pub(crate) fn build(alloc: Global, initial: &[u8]) -> Result<NatMitMem, OutOfMemory>
     ensures { IfOk result (λ memory. memory ≡ initial_memory initial.now) }
 {
     let mut mem = empty_tree(alloc)?;

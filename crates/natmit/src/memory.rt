@@ -26,14 +26,16 @@ pub enum Node {
     Internal { key: u8, left: Word, right: Word },
 }
 
-/// The shared memory: the nodes, by number. The root is node 0, and each search begins at node 1.
+/// The shared memory: the nodes, by number. The root is node 0, and each search begins at node 1. It has at most
+/// 2^32 nodes: more are refused as memory that there is not.
 #[derive(Drop, PartialEq, Eq, Hash)]
 pub struct NatMitMem {
+    /// The nodes. Those that were cut off stay in the list.
     pub nodes: Sequence<Node>,
 }
 
 /// The word of a child without flag and tag.
-pub fn plain(node: u32) -> Word
+pub(crate) fn plain(node: u32) -> Word
     ensures { result ≡ plain node }
 {
     Word {
@@ -44,14 +46,14 @@ pub fn plain(node: u32) -> Word
 }
 
 /// Whether a word is that of this child without flag and tag.
-pub fn is_plain(node: u32, word: Word) -> bool
+pub(crate) fn is_plain(node: u32, word: Word) -> bool
     ensures { result ≡ is_plain node word }
 {
     !word.flag && !word.tag && word.node == node
 }
 
 /// The key of a node.
-pub fn key_in(node: Node) -> u8
+pub(crate) fn key_in(node: Node) -> u8
     ensures { result ≡ key_in node }
 {
     match node {
@@ -75,7 +77,7 @@ fn shape_in(node: Node) -> Shape
 }
 
 /// The child word of a node on a side; a leaf has none.
-pub fn word_on(side: Side, node: Node) -> Option<Word>
+pub(crate) fn word_on(side: Side, node: Node) -> Option<Word>
     ensures { result ≡ word_on side node }
 {
     match (side, node) {
@@ -123,8 +125,8 @@ fn internal_over(key: u8, other: u8, new: u32, leaf: u32) -> Node
     }
 }
 
-/// A number of a node as words hold it.
-pub fn number_of(x: usize) -> Result<u32, OutOfMemory>
+/// A number of a node as words hold it. It takes no memory: a number that does not fit is refused as memory is.
+pub(crate) fn number_of(x: usize) -> Result<u32, OutOfMemory>
     ensures { IfOk result (λ number. number ≡ x) }
 {
     match u32::try_from(x) {
@@ -134,7 +136,7 @@ pub fn number_of(x: usize) -> Result<u32, OutOfMemory>
 }
 
 impl NatMitMem {
-    /// A node by its number.
+    /// A node by its number; a leaf of key 0 where there is no such node.
     pub fn node(&self, x: u32) -> Node
         ensures { result ≡ node_at self.now x }
     {
@@ -145,7 +147,7 @@ impl NatMitMem {
     }
 
     /// Puts a child word into a node.
-    pub fn set_word(&mut self, x: u32, side: Side, word: Word)
+    pub(crate) fn set_word(&mut self, x: u32, side: Side, word: Word)
         requires { x < length self.old.nodes }
         ensures { self.new ≡ set_word self.old x side word }
     {
@@ -175,7 +177,7 @@ impl NatMitMem {
     /// Puts a new internal node for a key in the place of a leaf, below its parent. Where memory is refused nothing
     /// is changed.
     #[tactic(auto, using(crate::proofs::Present::more_nodes))]
-    pub fn put_at(
+    pub(crate) fn put_at(
         &mut self,
         alloc: Global,
         key: u8,
@@ -193,7 +195,7 @@ impl NatMitMem {
     }
 
     /// An equal memory.
-    pub fn copy(&self, alloc: Global) -> Result<NatMitMem, OutOfMemory>
+    pub(crate) fn copy(&self, alloc: Global) -> Result<NatMitMem, OutOfMemory>
         ensures { IfOk result (λ copy. copy ≡ self.now) }
     {
         let nodes = self.nodes.copy(alloc)?;

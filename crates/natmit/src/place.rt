@@ -10,8 +10,8 @@ pub enum Mode {
     Owner(u32),
 }
 
-/// A place of the machine. The numbers are those of nodes: of the ancestor and its successor, between which no
-/// word was tagged, of the parent, and of its child, a leaf where the search has ended.
+/// A place of the machine. The numbers are those of nodes: of the ancestor and its successor, the ends of the last
+/// word above the parent that was read untagged; of the parent; and of its child, a leaf where the search has ended.
 #[derive(Clone, Copy, Debug, PartialEq, Eq, Hash)]
 pub enum NatMitLoc {
     /// The search reads the word from which it begins.

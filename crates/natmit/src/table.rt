@@ -6,7 +6,7 @@ ghost use Rattle.natmit.specs.Memory.{side_at};
 ghost use Rattle.natmit.specs.Table.{act, other_side, arrived, went_down, looked, tagging, clean_read, swung};
 
 use crate::machine::NatMit;
-use crate::memory::{NatMitMem, Node, Word, is_plain, key_in, word_on};
+use crate::memory::{NatMitMem, Node, Word, is_plain, key_in, plain, word_on};
 use crate::place::{Mode, NatMitLoc};
 use sched_program::{Op, OutOfMemory};
 use std::alloc::Global;
@@ -168,6 +168,7 @@ fn tagging(
     }
 }
 
+/// Where the cleanup goes that has read this word of the parent, on the side of the key.
 fn clean_read(
     machine: NatMit,
     ancestor: u32,
@@ -187,6 +188,7 @@ fn clean_read(
     }
 }
 
+/// Where the cleanup goes that has cut the parent off.
 fn swung(mode: Mode) -> Outcome<NatMitLoc>
     ensures { result ≡ swung mode }
 {
@@ -199,6 +201,7 @@ fn swung(mode: Mode) -> Outcome<NatMitLoc>
 // ---- the rows of the table
 
 impl NatMit {
+    /// A search begins at node 1, whose left word leads to all user keys.
     fn begin_row(self, op: Op, mem: &NatMitMem, mode: Mode) -> Outcome<NatMitLoc>
         ensures { act self op (place.Begin mode) mem.now ≡ (mem.now, result) }
     {
@@ -211,6 +214,7 @@ impl NatMit {
         }
     }
 
+    /// A search goes down by a word of the node to which it has come.
     fn down_row(
         self,
         op: Op,
@@ -230,6 +234,7 @@ impl NatMit {
         }
     }
 
+    /// An insert puts its key in the place of the leaf, if the word of the parent leads there and no delete is under way.
     #[tactic(auto, using(crate::proofs::Present::has_word))]
     fn put_row(
         self,
@@ -260,6 +265,7 @@ impl NatMit {
         Ok(Outcome::Replies(true))
     }
 
+    /// A delete flags the word of its leaf: the key is gone once the leaf is cut off, by whom ever.
     #[tactic(auto, using(crate::proofs::Present::has_word))]
     fn flag_row(
         self,
@@ -279,8 +285,7 @@ impl NatMit {
         if is_plain(leaf, word) {
             let flagged = Word {
                 flag: true,
-                tag: false,
-                node: leaf,
+                ..plain(leaf)
             };
             mem.set_word(parent, side, flagged);
             Outcome::Goes(NatMitLoc::CleanRead {
@@ -299,6 +304,7 @@ impl NatMit {
         }
     }
 
+    /// After a failed exchange: a flagged or tagged word of the same leaf is that of another delete, which is helped.
     fn look_row(
         self,
         op: Op,
@@ -316,6 +322,7 @@ impl NatMit {
         }
     }
 
+    /// Of the two children of the parent the one that is not flagged stays.
     fn clean_read_row(
         self,
         op: Op,
@@ -334,6 +341,7 @@ impl NatMit {
         }
     }
 
+    /// The word of the sibling is tagged, so that no exchange changes it from here on.
     #[tactic(auto, using(crate::proofs::Present::has_word))]
     fn tag_row(
         self,
@@ -350,11 +358,7 @@ impl NatMit {
         let Some(word) = word_on(side, mem.node(parent)) else {
             return Outcome::Astray;
         };
-        let tagged = Word {
-            flag: word.flag,
-            tag: true,
-            node: word.node,
-        };
+        let tagged = Word { tag: true, ..word };
         mem.set_word(parent, side, tagged);
         Outcome::Goes(NatMitLoc::Sibling {
             ancestor,
@@ -365,6 +369,7 @@ impl NatMit {
         })
     }
 
+    /// The sibling may itself be flagged, and the flag goes up with it.
     fn sibling_row(
         self,
         op: Op,
@@ -389,6 +394,7 @@ impl NatMit {
         }
     }
 
+    /// The word of the ancestor leads to the sibling then, and all between them is cut off.
     #[tactic(auto, using(crate::proofs::Present::has_word))]
     fn swing_row(
         self,
@@ -409,8 +415,7 @@ impl NatMit {
         if is_plain(successor, word) {
             let sibling = Word {
                 flag,
-                tag: false,
-                node,
+                ..plain(node)
             };
             mem.set_word(ancestor, side, sibling);
             swung(mode)
@@ -420,7 +425,7 @@ impl NatMit {
     }
 
     /// One access to the memory, by the row of its place. Where memory is refused the memory is unchanged.
-    pub fn access(
+    pub(crate) fn access(
         self,
         alloc: Global,
         op: Op,

@@ -1,0 +1,48 @@
+-- A machine with a fault for each kind of operation, for the tests: an insert replies true, a delete goes astray at its
+-- second step, and a find leaves the memory out of order. A place says whether the operation's first step is done, the
+-- memory whether it is out of order.
+use Rattle.std.specs.Prelude.{◌≡◌, Bool, true, false, refl}
+use Rattle.sched_program.specs.declared.operation.Op.{Op}
+use Rattle.sched_program.specs.declared.operation.Op.TheVariants.{Insert, Delete, Find}
+use Rattle.tree_machine.specs.Rules.{Rules, AreLawful, IsOutcomeInRange}
+use Rattle.tree_machine.specs.declared.machine.Outcome.{Outcome}
+use Rattle.tree_machine.specs.declared.machine.Outcome.TheVariants.{Goes, Replies, Astray}
+
+abbrev pub faulty_act : Op → Bool → Bool → Bool × Outcome Bool
+faulty_act (Insert key) is_second memory = (memory, Replies true)
+faulty_act (Delete key) false memory = (memory, Goes true)
+faulty_act (Delete key) true memory = (memory, Astray)
+faulty_act (Find key) is_second memory = (true, Replies false)
+
+abbrev pub faulty_rules : Rules Bool Bool
+faulty_rules =
+    record {
+      initial = λ _. false;
+      first = λ _. false;
+      act = faulty_act;
+      IsOrdered = λ memory. memory ≡ false;
+      IsInRange = λ _. Unit {0};
+      IsPlaceInRange = λ _ _. Unit {0};
+    }
+
+in_range : (memory : Bool) (outcome : Outcome Bool) → IsOutcomeInRange faulty_rules memory outcome
+in_range memory (Goes place) = tt
+in_range memory (Replies reply) = tt
+in_range memory Astray = tt
+
+unchanged : (op : Op) (place memory : Bool) → (faulty_act op place memory).1 ≡ Astray → (faulty_act op place memory).0 ≡ memory
+unchanged (Insert key) place memory h = refl
+unchanged (Delete key) false memory h = refl
+unchanged (Delete key) true memory h = refl
+unchanged (Find key) place memory h = cc
+
+pub faulty_lawful : AreLawful faulty_rules
+faulty_lawful = record {
+  initial_in_range = λ _ _. tt;
+  initial_ordered = λ _ _. refl;
+  first_in_range = λ _ _ _. tt;
+  act_in_range = λ _ _ _ _ _. tt;
+  outcome_in_range = λ op place memory _ _. in_range (faulty_act op place memory).0 (faulty_act op place memory).1;
+  others_in_range = λ _ _ _ _ _ _ _. tt;
+  astray_unchanged = unchanged;
+}

@@ -1,0 +1,4 @@
+//! The machine at its states, replayed step by step, and at memories that no run reaches.
+mod memories;
+mod schedules;
+mod transcript;

@@ -1,0 +1,5 @@
+mod Ledgers
+mod Requests
+mod Schedules
+mod Servings
+mod Values

@@ -1,0 +1,27 @@
+use Rattle.std.proofs.Common.{◌∙◌, ◌++◌, List, ℕ, ap, subst}
+use Rattle.book.specs.Books.{counted_as_one}
+use Rattle.book.specs.declared.book.Merge.{Merge}
+use Rattle.tree_machine.specs.declared.state.State.{State}
+use Rattle.treesched.specs.Lines.{report_text}
+use Rattle.treesched.specs.Serving.{IsEquality}
+use Rattle.treesched.proofs.serve.explored.Goals as goal
+
+pub returns : goal.returns
+returns g c =
+    let report = c.in_ok-report.report in
+    record {
+      same = counted_as_one g.M.Loc.PartialEq.eq g.M.Mem.PartialEq.eq c.args.options.merge;
+      equality = subst (λ (merge : Merge). IsEquality {S = State g.row.M.Denot g.row.M-Mem.Denot g.row.M-Loc.Denot}
+          (counted_as_one g.M.Loc.PartialEq.eq g.M.Mem.PartialEq.eq merge)) c.merge.ensures c.counts_equal_states.ensures;
+      answer = report.answer;
+      totals = report.totals;
+      shares = report.shares.items;
+      due = c.in_ok-report.ensures.due;
+      headline = c.in_ok-report.ensures.headline;
+      workers = c.in_ok-report.ensures.shares;
+      sums = c.in_ok-report.ensures.ledger;
+      status = c.status_of.ensures;
+      out = c.in_ok-put_report.ensures
+          ∙ ap (λ (page : List ℕ). page ++ report_text c.args.ledger report.answer report.totals report.shares.items) c.new-out.ensures.bytes;
+      err = c.new.ensures.bytes;
+    }

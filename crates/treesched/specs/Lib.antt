@@ -1,0 +1,6 @@
+pub mod Command
+pub mod Devices
+pub mod Lines
+pub mod Reading
+pub mod Schedule
+pub mod Serving

@@ -1,0 +1,92 @@
+-- What the words ask for, by clap's exact reading of them.
+use Rattle.std.specs.Prelude.{◌≡◌, ◌↔◌, ◌⊎◌, ℕ, Bool, true, false, List, [], Option, Some, codes, option_map}
+use Rattle.std.specs.Borrow.{Bor}
+use Rattle.std.specs.Str.Parse.{IsNumeral, digits_value, without_leading_plus}
+use Rattle.clap.specs.Words.{IsAmong, Row, Text, fault_of, first_of, one_of, subcommand_of}
+use Rattle.clap.specs.declared.error.kind.ErrorKind.{ErrorKind}
+use Rattle.clap.specs.declared.error.kind.ErrorKind.TheVariants.{DisplayHelp}
+use Rattle.crew.specs.Settings.{AreInRange, Settings}
+use Rattle.treesched.specs.Command.{command_line}
+use Rattle.treesched.specs.Schedule.{IsSchedule}
+use Rattle.treesched.specs.declared.request.Request.{Request}
+use Rattle.treesched.specs.declared.request.Request.TheVariants as request
+use Rattle.treesched.specs.declared.request.WordsFault.{WordsFault}
+use Rattle.treesched.specs.declared.request.WordsFault.TheVariants as fault
+
+-- the text of the option is decimal digits of n; a plus may stand before them
+abbrev pub NumberIs : List Row → Text → ℕ → Type 0
+NumberIs rows id n = (text : Text) × (one_of id rows ≡ Some text)
+    × IsNumeral 10 (without_leading_plus text) × (n ≡ digits_value 10 (without_leading_plus text))
+
+abbrev pub text_of : Option (Bor Text) → Option Text
+text_of = option_map (λ s. s.now)
+
+-- the flag was used
+abbrev pub IsUsed : List Row → Text → Type 0
+IsUsed rows id = one_of id rows ≡ Some (codes "true")
+
+-- the bounds are those that the options of `explore` write, and in range: 0 to 400 steps, 1 to 2,000,000 states; one worker
+-- with exact merging, since no option names another
+abbrev pub OptionsAre : List Row → Settings → Type 0
+OptionsAre rows settings = NumberIs rows (codes "steps") settings.steps × NumberIs rows (codes "states") settings.limit
+    × AreInRange settings
+
+abbrev pub file_of : Request → Text
+file_of (request.Explore file options ledger) = file.now
+file_of (request.Replay file schedule) = file.now
+
+-- the request is that of the subcommand with these matches
+abbrev pub IsRequestOf : Text → List Row → Request → Type 0
+IsRequestOf name rows (request.Explore file options ledger) = (name ≡ codes "explore")
+    × (first_of (codes "file") rows ≡ Some file.now) × OptionsAre rows options
+    × (ledger ≡ true ↔ IsUsed rows (codes "ledger"))
+IsRequestOf name rows (request.Replay file schedule) = (name ≡ codes "replay")
+    × (first_of (codes "file") rows ≡ Some file.now)
+    × ((text : Text) × (first_of (codes "schedule") rows ≡ Some text) × IsSchedule text schedule.items)
+
+-- clap takes the words, and its exact reading of them is this subcommand with these matches
+abbrev pub AreRead : List Text → Text → List Row → Type 0
+AreRead words name rows = (fault_of command_line words ≡ [])
+    × (subcommand_of command_line words ≡ Some (name, rows))
+
+-- the words ask for the request
+abbrev pub AskFor : List Text → Request → Type 0
+AskFor words r = (name : Text) × ((rows : List Row) × (AreRead words name rows × IsRequestOf name rows r))
+
+-- the words ask for a replay of what is no schedule
+abbrev pub HaveBadSchedule : List Text → Type 0
+HaveBadSchedule words = (rows : List Row) × ((text : Text) × (AreRead words (codes "replay") rows
+    × (first_of (codes "schedule") rows ≡ Some text) × ((threads : List ℕ) → IsSchedule text threads → ⊥)))
+
+-- clap finds a fault in the words, which is a call for help or not
+abbrev pub HaveFault : List Text → Bool → Type 0
+HaveFault words help = (kind : ErrorKind) × (IsAmong kind (fault_of command_line words)
+    × (help ≡ true ↔ kind ≡ DisplayHelp))
+
+-- clap takes the words, and they ask for no request
+abbrev pub AskForNothing : List Text → Type 0
+AskForNothing words = (fault_of command_line words ≡ []) × ((r : Request) → AskFor words r → ⊥)
+
+-- why the words make no request
+abbrev pub AreRefused : List Text → WordsFault → Type 0
+AreRefused words (fault.Usage help text) = HaveFault words help ⊎ (AskForNothing words × (help ≡ false))
+AreRefused words fault.Schedule = HaveBadSchedule words
+AreRefused words fault.OutOfMemory = Unit {0}
+
+-- the same for the subcommand's matches, which clap made
+abbrev pub IsFaultOf : Text → List Row → WordsFault → Type 0
+IsFaultOf name rows (fault.Usage help text) = (help ≡ false) × ((r : Request) → IsRequestOf name rows r → ⊥)
+IsFaultOf name rows fault.Schedule = (name ≡ codes "replay") × ((text : Text)
+    × (first_of (codes "schedule") rows ≡ Some text) × ((threads : List ℕ) → IsSchedule text threads → ⊥))
+IsFaultOf name rows fault.OutOfMemory = Unit {0}
+
+-- the fault tells an error of clap's of this kind
+abbrev pub Tells : ErrorKind → WordsFault → Type 0
+Tells kind (fault.Usage help text) = help ≡ true ↔ kind ≡ DisplayHelp
+Tells kind fault.Schedule = ⊥
+Tells kind fault.OutOfMemory = Unit {0}
+
+abbrev pub IsUnread : WordsFault → Type 0
+IsUnread (fault.Usage help text) = help ≡ false
+IsUnread fault.Schedule = ⊥
+IsUnread fault.OutOfMemory = Unit {0}

@@ -1,0 +1,92 @@
+//! The command line, as clap is told of it.
+ghost use Rattle.std.specs.Prelude.{◌≡◌, IfOk, false};
+ghost use Rattle.clap.specs.Words.{app_of, rule_of};
+ghost use Rattle.clap.specs.declared.builder.command.Command.TheViews.{out-Command as fields_of};
+ghost use Rattle.treesched.specs.Command as line;
+
+use clap::{Arg, ArgAction, Command, value_parser};
+use std::alloc::{AllocError, Global};
+
+fn file<'a>(alloc: Global) -> Arg<'a>
+    ensures rule { rule_of result ≡ line.file }
+    ensures local { result.global ≡ false }
+{
+    Arg::new(alloc, "file").value_name("FILE").required(true)
+}
+
+fn steps<'a>(alloc: Global) -> Arg<'a>
+    ensures rule { rule_of result ≡ line.steps }
+    ensures local { result.global ≡ false }
+{
+    Arg::new(alloc, "steps")
+        .long("steps")
+        .value_name("N")
+        .required(true)
+        .value_parser(value_parser!(u64).range(..=400))
+}
+
+fn states<'a>(alloc: Global) -> Arg<'a>
+    ensures rule { rule_of result ≡ line.states }
+    ensures local { result.global ≡ false }
+{
+    Arg::new(alloc, "states")
+        .long("states")
+        .value_name("M")
+        .default_value("200000")
+        .value_parser(value_parser!(u64).range(1..=2_000_000))
+}
+
+fn ledger<'a>(alloc: Global) -> Arg<'a>
+    ensures rule { rule_of result ≡ line.ledger }
+    ensures local { result.global ≡ false }
+{
+    Arg::new(alloc, "ledger")
+        .long("ledger")
+        .action(ArgAction::SetTrue)
+}
+
+fn schedule<'a>(alloc: Global) -> Arg<'a>
+    ensures rule { rule_of result ≡ line.schedule }
+    ensures local { result.global ≡ false }
+{
+    Arg::new(alloc, "schedule")
+        .long("schedule")
+        .value_name("LIST")
+        .required(true)
+}
+
+fn explore<'a>(alloc: Global) -> Result<Command<'a>, AllocError>
+    ensures app { IfOk result (λ c. app_of c ≡ line.explore) }
+    ensures local { IfOk result (λ c. (fields_of c).has_globals ≡ false) }
+{
+    Command::new(alloc, "explore")
+        .about("Explores every schedule of the program in FILE")
+        .arg(file(alloc))?
+        .arg(steps(alloc))?
+        .arg(states(alloc))?
+        .arg(ledger(alloc))
+}
+
+fn replay<'a>(alloc: Global) -> Result<Command<'a>, AllocError>
+    ensures app { IfOk result (λ c. app_of c ≡ line.replay) }
+    ensures local { IfOk result (λ c. (fields_of c).has_globals ≡ false) }
+{
+    Command::new(alloc, "replay")
+        .about("Replays one schedule of the program in FILE")
+        .arg(file(alloc))?
+        .arg(schedule(alloc))
+}
+
+/// The command `treesched` with its subcommands.
+///
+/// # Errors
+/// Memory ran out.
+pub fn treesched_command<'a>(alloc: Global) -> Result<Command<'a>, AllocError>
+    ensures { IfOk result (λ c. app_of c ≡ line.command_line) }
+{
+    Command::new(alloc, "treesched")
+        .about("Explores the schedules of concurrent tree programs")
+        .subcommand_required(true)
+        .subcommand(explore(alloc)?)?
+        .subcommand(replay(alloc)?)
+}

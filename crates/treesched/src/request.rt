@@ -1,0 +1,192 @@
+//! The request that the words make.
+ghost use Rattle.std.specs.Prelude.{◌≡◌, ◌↔◌, ◌<◌, ◌^◌, ℕ, true, IfOk, MatchOption, MatchResult, map, codes};
+ghost use Rattle.clap.specs.Words.{first_of, found_of, kind_of, rows_of};
+ghost use Rattle.clap.specs.declared.error.kind.ErrorKind.TheVariants as kind;
+ghost use Rattle.crew.specs.Settings.{Settings};
+ghost use Rattle.treesched.specs.Reading.{AreRefused, AskFor, file_of, IsFaultOf, IsRequestOf, IsUnread, IsUsed};
+ghost use Rattle.treesched.specs.Reading.{NumberIs, OptionsAre, Tells, text_of};
+ghost use Rattle.treesched.specs.declared.request.WordsFault.TheVariants as fault;
+
+use crate::command::treesched_command;
+use crate::schedule::schedule_of;
+use book::Merge;
+use clap::error::ErrorKind;
+use clap::{ArgMatches, Error};
+use crew::Options;
+use std::alloc::{AllocError, Global};
+
+/// What the words ask for.
+#[derive(Debug, Drop)]
+pub enum Request<'a> {
+    /// Explore the program of a file.
+    Explore {
+        /// The file of the program.
+        file: &'a str,
+        /// The bounds.
+        options: Options,
+        /// Whether the workers' counts are printed.
+        ledger: bool,
+    },
+    /// Replay a schedule of the program of a file.
+    Replay {
+        /// The file of the program.
+        file: &'a str,
+        /// The threads of the steps.
+        schedule: Vec<u8>,
+    },
+}
+
+impl<'a> Request<'a> {
+    /// The file of the program.
+    pub fn file(&self) -> &'a str
+        ensures { result.now ≡ file_of self.now }
+    {
+        match self {
+            Request::Explore { file, .. } => *file,
+            Request::Replay { file, .. } => *file,
+        }
+    }
+}
+
+/// Why the words make no request.
+#[derive(Debug, Drop)]
+pub enum WordsFault {
+    /// The words are no use of the command, or a call for help.
+    Usage {
+        /// Whether the words call for help.
+        help: bool,
+        /// The text for the user.
+        text: String,
+    },
+    /// The schedule is no list of single digits.
+    Schedule,
+    /// Memory ran out.
+    OutOfMemory,
+}
+
+impl From<AllocError> for WordsFault {
+    ghost from_gives = { λ _ e. e ≡ fault.OutOfMemory };
+
+    fn from(_error: AllocError) -> WordsFault {
+        WordsFault::OutOfMemory
+    }
+}
+
+/// The fault that clap's error stands for.
+fn fault_of(alloc: Global, error: &Error) -> WordsFault
+    ensures tells { Tells (kind_of error.now) result }
+    ensures memory { kind_of error.now ≡ kind.OutOfMemory → result ≡ fault.OutOfMemory }
+{
+    let kind = error.kind();
+    if kind == ErrorKind::OutOfMemory {
+        return WordsFault::OutOfMemory;
+    }
+    match format!(in alloc; "{error}") {
+        Ok(text) => WordsFault::Usage {
+            help: kind == ErrorKind::DisplayHelp,
+            text,
+        },
+        Err(_) => WordsFault::OutOfMemory,
+    }
+}
+
+/// A fault of use, for words that clap takes and that make no request.
+fn unread(alloc: Global) -> WordsFault
+    ensures { IsUnread result }
+{
+    match String::from_str(alloc, "error: the words make no request\n") {
+        Ok(text) => WordsFault::Usage { help: false, text },
+        Err(_) => WordsFault::OutOfMemory,
+    }
+}
+
+/// The value of the argument.
+fn text<'a>(matches: &ArgMatches<'a>, id: &str) -> Option<&'a str>
+    ensures { text_of result ≡ first_of id.now (rows_of (found_of matches.now)) }
+{
+    matches.get_str(id)
+}
+
+/// The number that the argument's value writes.
+fn number(matches: &ArgMatches<'_>, id: &str) -> Option<u64>
+    ensures { let rows = rows_of (found_of matches.now) in
+        MatchOption result ((n : ℕ) → n < 2 ^ 64 → NumberIs rows id.now n → ⊥) (NumberIs rows id.now) }
+{
+    matches.get_one(id)
+}
+
+/// Whether the flag was used.
+fn flag(matches: &ArgMatches<'_>, id: &str) -> bool
+    ensures { result ≡ true ↔ IsUsed (rows_of (found_of matches.now)) id.now }
+{
+    matches.get_one::<bool>(id) == Some(true)
+}
+
+/// The bounds that the matches of `explore` name.
+fn options_of(matches: &ArgMatches<'_>) -> Option<Options>
+    ensures { let rows = rows_of (found_of matches.now) in
+        MatchOption result ((settings : Settings) → OptionsAre rows settings → ⊥) (OptionsAre rows) }
+{
+    let steps = u16::try_from(number(matches, "steps")?).ok()?;
+    let limit = u32::try_from(number(matches, "states")?).ok()?;
+    Options::new(steps, limit, Merge::Exact, 1)
+}
+
+fn explore_of<'a>(alloc: Global, matches: &ArgMatches<'a>) -> Result<Request<'a>, WordsFault>
+    ensures { let rows = rows_of (found_of matches.now) in
+        MatchResult result (IsRequestOf (codes "explore") rows) (IsFaultOf (codes "explore") rows) }
+{
+    let Some(file) = text(matches, "file") else {
+        return Err(unread(alloc));
+    };
+    let Some(options) = options_of(matches) else {
+        return Err(unread(alloc));
+    };
+    let ledger = flag(matches, "ledger");
+    Ok(Request::Explore {
+        file,
+        options,
+        ledger,
+    })
+}
+
+fn replay_of<'a>(alloc: Global, matches: &ArgMatches<'a>) -> Result<Request<'a>, WordsFault>
+    ensures { let rows = rows_of (found_of matches.now) in
+        MatchResult result (IsRequestOf (codes "replay") rows) (IsFaultOf (codes "replay") rows) }
+{
+    let Some(file) = text(matches, "file") else {
+        return Err(unread(alloc));
+    };
+    let Some(text) = text(matches, "schedule") else {
+        return Err(unread(alloc));
+    };
+    match schedule_of(alloc, text)? {
+        Some(schedule) => Ok(Request::Replay { file, schedule }),
+        None => Err(WordsFault::Schedule),
+    }
+}
+
+/// The request that the words make by the exact reading of `clap`. The first word is the program's
+/// name.
+///
+/// # Errors
+/// `Usage` where `clap` refuses the words or finds a call for help, `Schedule` where the words ask for
+/// a replay of what is no schedule, and `OutOfMemory`, which may come at any point.
+pub fn read_words<'a>(alloc: Global, words: &'a [&'a str]) -> Result<Request<'a>, WordsFault>
+    ensures { let texts = map (λ s. s.now) words.entry.now in
+        MatchResult result (AskFor texts) (AreRefused texts) }
+{
+    let command = treesched_command(alloc)?;
+    let matches = match command.try_get_matches_from(words) {
+        Ok(matches) => matches,
+        Err(error) => return Err(fault_of(alloc, &error)),
+    };
+    let Some((name, inner)) = matches.subcommand() else {
+        return Err(unread(alloc));
+    };
+    match name {
+        "explore" => explore_of(alloc, inner),
+        "replay" => replay_of(alloc, inner),
+        _ => Err(unread(alloc)),
+    }
+}

@@ -1,0 +1,256 @@
+//! The answer to a request: the status and all that is to be written.
+ghost use Rattle.std.specs.Prelude.{◌≡◌, ◌++◌, ◌⊎◌, [], codes, IfOk, IfSome, if◌then◌else◌};
+ghost use Rattle.std.specs.String.{string_bytes};
+ghost use Rattle.std.specs.Prelude.{MatchOption};
+ghost use Rattle.std.specs.Cmp.{IsEquivalence};
+ghost use Rattle.sched_program.specs.Exact.{IsExact};
+ghost use Rattle.book.specs.Books.{counted_as_one};
+ghost use Rattle.book.specs.Findings.{is_sound};
+ghost use Rattle.treesched.specs.Lines as lines;
+ghost use Rattle.treesched.specs.Serving.{IsAnswered, IsEquality, IsExplored, IsReplayed, IsServed, IsServedFrom, IsStuck, IsUnread};
+
+use crate::input::{Counted, ReadFault};
+use crate::lines::{put_operations, put_report, put_verdict};
+use crate::request::{Request, WordsFault};
+use book::{Finding, Merge, ReplayFault, replay};
+use crew::{Answer, Options, explore};
+use ellen::Ellen;
+use natmit::NatMit;
+use sched_program::{Exact, OutOfMemory, Program, ProgramFault, Tree};
+use std::alloc::Global;
+use std::io::Read;
+use tree_machine::{Atomic, Machine, State};
+
+/// What the program writes, and the status that it ends with.
+#[derive(Debug, Drop)]
+pub struct Output {
+    /// The exit status.
+    pub status: u8,
+    /// The text of the standard output.
+    pub out: String,
+    /// The text of the standard error.
+    pub err: String,
+}
+
+/// The output of a refusal: nothing on the standard output, and one line on the standard error.
+pub fn refusal(alloc: Global, status: u8, text: &str) -> Result<Output, OutOfMemory>
+    ensures { IfOk result (lines.IsRefusal status text.now) }
+{
+    let err = format!(in alloc; "treesched: {text}\n")?;
+    Ok(Output {
+        status,
+        out: String::new(alloc),
+        err,
+    })
+}
+
+/// The output for words that make no request: help goes to the standard output, and all else to the standard error.
+///
+/// # Errors
+/// Memory ran out, now or when the words were read.
+pub fn refused(alloc: Global, fault: WordsFault) -> Result<Output, OutOfMemory>
+    ensures { IfOk result (lines.TellsFault fault) }
+{
+    match fault {
+        WordsFault::Usage { help: true, text } => Ok(Output {
+            status: 0,
+            out: text,
+            err: String::new(alloc),
+        }),
+        WordsFault::Usage { help: false, text } => Ok(Output {
+            status: 4,
+            out: String::new(alloc),
+            err: text,
+        }),
+        WordsFault::Schedule => refusal(alloc, 4, "bad schedule"),
+        WordsFault::OutOfMemory => Err(std::alloc::AllocError),
+    }
+}
+
+fn unreadable(alloc: Global, name: &str) -> Result<Output, OutOfMemory>
+    ensures { IfOk result (lines.IsRefusal 6 (codes "can't read " ++ name.now)) }
+{
+    let text = format!(in alloc; "can't read {name}")?;
+    refusal(alloc, 6, text.as_str())
+}
+
+fn no_step(alloc: Global, step: usize, thread: u8) -> Result<Output, OutOfMemory>
+    ensures { IfOk result (lines.IsRefusal 4 (lines.no_step_text step thread)) }
+{
+    let text = format!(in alloc; "step {step}: thread {thread} has no step")?;
+    refusal(alloc, 4, text.as_str())
+}
+
+/// The exit status for an answer.
+fn status_of(answer: &Answer) -> u8
+    ensures { result ≡ lines.status_of answer.now }
+{
+    match answer {
+        Answer::Holds { .. } => 0,
+        Answer::Fault { .. } => 1,
+        Answer::Stopped { .. } => 2,
+    }
+}
+
+/// Values of such a type test equal exactly if they are equal.
+fn tests_equality<T: Exact>()
+    ensures exact { IsExact T.PartialEq.eq }
+    ensures laws { IsEquivalence T.PartialEq.eq }
+{}
+
+/// A book counts states as one exactly if they are equal.
+fn counts_equal_states<M: Machine>(merge: Merge)
+    ensures { IsEquality (counted_as_one {Machine = M} M.Loc.PartialEq.eq M.Mem.PartialEq.eq merge) }
+{
+    let _ = merge;
+    tests_equality::<State<M>>();
+}
+
+/// Explores the schedules of a program.
+fn explored<M: Machine>(
+    alloc: Global,
+    machine: M,
+    program: &Program,
+    options: Options,
+    ledger: bool,
+) -> Result<Output, OutOfMemory>
+    ensures { IfOk result (IsExplored M (M.rules machine) program.now options ledger) }
+{
+    counts_equal_states::<M>(options.merge());
+    let report = explore(alloc, machine, program, options)?;
+    let mut out = String::new(alloc);
+    put_report(&mut out, ledger, &report)?;
+    Ok(Output {
+        status: status_of(&report.answer),
+        out,
+        err: String::new(alloc),
+    })
+}
+
+/// The exit status for the finding of a replay.
+fn status_of_finding(finding: &Finding) -> u8
+    ensures { result ≡ (if is_sound finding.now then 0 else 1) }
+{
+    if finding.is_sound() { 0 } else { 1 }
+}
+
+/// Replays one schedule of a program.
+fn replayed<M: Machine>(
+    alloc: Global,
+    machine: M,
+    program: &Program,
+    schedule: &[u8],
+) -> Result<Output, OutOfMemory>
+    ensures { IfOk result (λ output. IsReplayed M (M.rules machine) program.now schedule.now output
+        ⊎ IsStuck M (M.rules machine) program.now schedule.now output) }
+{
+    let last = match replay(alloc, machine, program, schedule) {
+        Ok(last) => last,
+        Err(ReplayFault::NotEnabled(step)) => return no_step(alloc, step, schedule[step - 1]),
+        Err(ReplayFault::OutOfMemory) => return Err(std::alloc::AllocError),
+    };
+    let history = last.state.history(alloc, program)?;
+    let mut out = String::new(alloc);
+    put_operations(&mut out, program, &history)?;
+    put_verdict(&mut out, &last.finding)?;
+    Ok(Output {
+        status: status_of_finding(&last.finding),
+        out,
+        err: String::new(alloc),
+    })
+}
+
+/// Answers the request on a machine.
+fn answered<M: Machine>(
+    alloc: Global,
+    machine: M,
+    program: &Program,
+    request: &Request<'_>,
+) -> Result<Output, OutOfMemory>
+    ensures { IfOk result (IsAnswered M (M.rules machine) program.now request.now) }
+{
+    match request {
+        Request::Explore {
+            options,
+            ledger,
+            ..
+        } => explored(alloc, machine, program, *options, *ledger),
+        Request::Replay { schedule, .. } => replayed(alloc, machine, program, schedule.as_slice()),
+    }
+}
+
+/// Answers the request for the program of this text.
+fn served(alloc: Global, text: &[u8], request: &Request<'_>) -> Result<Output, OutOfMemory>
+    ensures { IfOk result (IsServed text.now request.now) }
+{
+    let program = match Program::from_json(alloc, text) {
+        Ok(program) => program,
+        Err(ProgramFault::OutOfMemory) => return Err(std::alloc::AllocError),
+        Err(fault) => {
+            let name = format!(in alloc; "{fault}")?;
+            return refusal(alloc, 3, name.as_str());
+        }
+    };
+    match program.tree() {
+        Tree::Atomic => answered(alloc, Atomic, &program, request),
+        Tree::Ellen => answered(
+            alloc,
+            Ellen {
+                mark: true,
+                iflag: true,
+            },
+            &program,
+            request,
+        ),
+        Tree::EllenNoMark => answered(
+            alloc,
+            Ellen {
+                mark: false,
+                iflag: true,
+            },
+            &program,
+            request,
+        ),
+        Tree::EllenNoIflag => answered(
+            alloc,
+            Ellen {
+                mark: true,
+                iflag: false,
+            },
+            &program,
+            request,
+        ),
+        Tree::Nm => answered(alloc, NatMit { tag: true }, &program, request),
+        Tree::NmNoTag => answered(alloc, NatMit { tag: false }, &program, request),
+    }
+}
+
+/// All bytes of a reader.
+fn read_text<R: Read + Drop>(alloc: Global, reader: R) -> Result<Vec<u8>, ReadFault>
+    ensures { IfOk result (λ text. IfSome (R.remaining reader) (λ all. text.items ≡ all)) }
+{
+    Counted::new(reader).read_all(alloc)
+}
+
+/// Answers the request. A reader that is none stands for a file that could not be opened, which is told as a
+/// failed read. Nothing is written: the output has all text.
+///
+/// # Errors
+/// Memory ran out.
+pub fn serve<R: Read + Drop>(
+    alloc: Global,
+    request: &Request<'_>,
+    file: Option<R>,
+) -> Result<Output, OutOfMemory>
+    ensures { IfOk result (λ output. MatchOption file (IsUnread request.now output)
+        (λ reader. IsServedFrom (R.remaining reader) request.now output)) }
+{
+    let Some(reader) = file else {
+        return unreadable(alloc, request.file());
+    };
+    match read_text(alloc, reader) {
+        Ok(text) => served(alloc, text.as_slice(), request),
+        Err(ReadFault::Device) => unreadable(alloc, request.file()),
+        Err(ReadFault::OutOfMemory) => Err(std::alloc::AllocError),
+    }
+}

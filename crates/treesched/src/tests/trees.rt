@@ -1,0 +1,387 @@
+//! Programs on the step machines of both trees and their variants: numbers of states, faults and replays.
+//!
+//! The numbers of states agree with two explorers that share no code with this one.
+use crate::tests::answers::{explores, explores_first, replays};
+use std::test::Fail;
+
+/// The text of a program of these threads on a tree.
+fn program(rt: &HostRuntime, tree: &str, initial: &str, threads: &[&str]) -> Result<String, Fail> {
+    let list = threads.join(rt.alloc(), ",")?;
+    let list = list.as_str();
+    Ok(format!(in rt.alloc();
+        "{{\"version\":1,\"tree\":\"{tree}\",\"initial\":{initial},\"threads\":[{list}]}}"
+    )?)
+}
+
+const INSERT_5: &str = r#"[{"op":"insert","key":5}]"#;
+
+const DELETE_5: &str = r#"[{"op":"delete","key":5}]"#;
+
+const DELETE_10: &str = r#"[{"op":"delete","key":10}]"#;
+
+const INSERT_10: &str = r#"[{"op":"insert","key":10}]"#;
+
+const FIND_10: &str = r#"[{"op":"find","key":10}]"#;
+
+const DELETE_20: &str = r#"[{"op":"delete","key":20}]"#;
+
+const FIND_5: &str = r#"[{"op":"find","key":5}]"#;
+
+const INSERT_25: &str = r#"[{"op":"insert","key":25}]"#;
+
+const INSERT_5_FIND_5: &str = r#"[{"op":"insert","key":5},{"op":"find","key":5}]"#;
+
+const INSERT_25_FIND_25: &str = r#"[{"op":"insert","key":25},{"op":"find","key":25}]"#;
+
+const DELETE_40_INSERT_45: &str = r#"[{"op":"delete","key":40},{"op":"insert","key":45}]"#;
+
+#[test]
+fn explores_one_thread_on_ellen(rt: HostRuntime) -> Result<(), Fail> {
+    let file = program(&rt, "ellen", "[]", &[INSERT_5])?;
+    explores(
+        &rt,
+        file.as_str(),
+        "--steps 10",
+        0,
+        &["holds to 10 steps", "states 6"],
+    )?;
+    let file = program(&rt, "ellen", "[]", &[DELETE_5])?;
+    explores(
+        &rt,
+        file.as_str(),
+        "--steps 10",
+        0,
+        &["holds to 10 steps", "states 3"],
+    )?;
+    let file = program(&rt, "ellen", "[10]", &[DELETE_10])?;
+    explores(
+        &rt,
+        file.as_str(),
+        "--steps 20",
+        0,
+        &["holds to 20 steps", "states 11"],
+    )?;
+    let file = program(&rt, "ellen", "[10]", &[INSERT_10])?;
+    explores(
+        &rt,
+        file.as_str(),
+        "--steps 20",
+        0,
+        &["holds to 20 steps", "states 5"],
+    )?;
+    let file = program(&rt, "ellen", "[10]", &[FIND_10])?;
+    explores(
+        &rt,
+        file.as_str(),
+        "--steps 20",
+        0,
+        &["holds to 20 steps", "states 5"],
+    )?;
+    let file = program(&rt, "ellen", "[10]", &[INSERT_5])?;
+    explores(
+        &rt,
+        file.as_str(),
+        "--steps 20",
+        0,
+        &["holds to 20 steps", "states 8"],
+    )?;
+    let file = program(&rt, "ellen", "[10,20]", &[DELETE_20])?;
+    explores(
+        &rt,
+        file.as_str(),
+        "--steps 20",
+        0,
+        &["holds to 20 steps", "states 13"],
+    )?;
+    Ok(())
+}
+
+#[test]
+fn explores_two_finds_on_ellen(rt: HostRuntime) -> Result<(), Fail> {
+    let file = program(&rt, "ellen", "[]", &[FIND_5, FIND_5])?;
+    explores(
+        &rt,
+        file.as_str(),
+        "--steps 4 --ledger",
+        0,
+        &[
+            "holds to 4 steps",
+            "states 13",
+            "worker 1 expanded 10 entered 12 met 2",
+            "total expanded 10 entered 12 met 2",
+        ],
+    )?;
+    let file = program(&rt, "ellen", "[]", &[FIND_5, FIND_5])?;
+    explores(
+        &rt,
+        file.as_str(),
+        "--steps 4 --states 12",
+        2,
+        &["stopped at 12 states", "holds to 3 steps"],
+    )?;
+    Ok(())
+}
+
+#[test]
+fn explores_one_thread_on_nm(rt: HostRuntime) -> Result<(), Fail> {
+    let file = program(&rt, "nm", "[]", &[INSERT_5])?;
+    explores(
+        &rt,
+        file.as_str(),
+        "--steps 20",
+        0,
+        &["holds to 20 steps", "states 3"],
+    )?;
+    let file = program(&rt, "nm", "[]", &[FIND_5])?;
+    explores(
+        &rt,
+        file.as_str(),
+        "--steps 20",
+        0,
+        &["holds to 20 steps", "states 2"],
+    )?;
+    let file = program(&rt, "nm", "[10]", &[DELETE_10])?;
+    explores(
+        &rt,
+        file.as_str(),
+        "--steps 20",
+        0,
+        &["holds to 20 steps", "states 8"],
+    )?;
+    let file = program(&rt, "nm", "[10]", &[INSERT_10])?;
+    explores(
+        &rt,
+        file.as_str(),
+        "--steps 20",
+        0,
+        &["holds to 20 steps", "states 3"],
+    )?;
+    let file = program(&rt, "nm", "[10]", &[FIND_10])?;
+    explores(
+        &rt,
+        file.as_str(),
+        "--steps 20",
+        0,
+        &["holds to 20 steps", "states 3"],
+    )?;
+    let file = program(&rt, "nm", "[10]", &[INSERT_5])?;
+    explores(
+        &rt,
+        file.as_str(),
+        "--steps 20",
+        0,
+        &["holds to 20 steps", "states 4"],
+    )?;
+    let file = program(&rt, "nm", "[10,20]", &[DELETE_20])?;
+    explores(
+        &rt,
+        file.as_str(),
+        "--steps 20",
+        0,
+        &["holds to 20 steps", "states 9"],
+    )?;
+    Ok(())
+}
+
+#[test]
+fn explores_two_inserts_on_nm(rt: HostRuntime) -> Result<(), Fail> {
+    let file = program(&rt, "nm", "[10,20]", &[INSERT_5, INSERT_25])?;
+    explores(
+        &rt,
+        file.as_str(),
+        "--steps 8",
+        0,
+        &["holds to 8 steps", "states 34"],
+    )?;
+    Ok(())
+}
+
+#[test]
+fn finds_the_faults_of_the_variants(rt: HostRuntime) -> Result<(), Fail> {
+    let file = program(&rt, "ellen-no-mark", "[10]", &[DELETE_10, INSERT_5_FIND_5])?;
+    explores(
+        &rt,
+        file.as_str(),
+        "--steps 20",
+        1,
+        &[
+            "fault history after 17 steps",
+            "schedule 0,0,0,0,0,0,0,1,1,0,1,1,1,1,1,1,1",
+            "states 456",
+        ],
+    )?;
+    let file = program(&rt, "nm-no-tag", "[10,20]", &[DELETE_10, INSERT_25_FIND_25])?;
+    explores(
+        &rt,
+        file.as_str(),
+        "--steps 20",
+        1,
+        &[
+            "fault history after 13 steps",
+            "schedule 0,0,0,0,0,0,1,1,0,1,1,1,1",
+            "states 133",
+        ],
+    )?;
+    let file = program(&rt, "ellen-no-iflag", "[10]", &[DELETE_10, INSERT_5_FIND_5])?;
+    explores(
+        &rt,
+        file.as_str(),
+        "--steps 20",
+        1,
+        &[
+            "fault history after 16 steps",
+            "schedule 0,0,0,0,0,1,1,1,0,0,0,0,1,1,1,1",
+            "states 329",
+        ],
+    )?;
+    Ok(())
+}
+
+#[test]
+fn the_whole_trees_have_no_fault(rt: HostRuntime) -> Result<(), Fail> {
+    let file = program(&rt, "ellen", "[10]", &[DELETE_10, INSERT_5_FIND_5])?;
+    explores(
+        &rt,
+        file.as_str(),
+        "--steps 20",
+        0,
+        &["holds to 20 steps", "states 902"],
+    )?;
+    let file = program(&rt, "ellen", "[10]", &[DELETE_10, INSERT_5_FIND_5])?;
+    explores(
+        &rt,
+        file.as_str(),
+        "--steps 400",
+        0,
+        &["holds to 400 steps", "states 2094"],
+    )?;
+    let file = program(&rt, "nm", "[10,20]", &[DELETE_10, INSERT_25_FIND_25])?;
+    explores(
+        &rt,
+        file.as_str(),
+        "--steps 20",
+        0,
+        &["holds to 20 steps", "states 195"],
+    )?;
+    let file = program(&rt, "nm", "[10,20]", &[DELETE_10, INSERT_25_FIND_25])?;
+    explores(
+        &rt,
+        file.as_str(),
+        "--steps 400",
+        0,
+        &["holds to 400 steps", "states 224"],
+    )?;
+    Ok(())
+}
+
+#[test]
+fn the_limit_wins_over_a_fault_in_its_layer(rt: HostRuntime) -> Result<(), Fail> {
+    let file = program(&rt, "ellen-no-iflag", "[10]", &[DELETE_10, INSERT_5_FIND_5])?;
+    explores(
+        &rt,
+        file.as_str(),
+        "--steps 20 --states 329",
+        1,
+        &[
+            "fault history after 16 steps",
+            "schedule 0,0,0,0,0,1,1,1,0,0,0,0,1,1,1,1",
+            "states 329",
+        ],
+    )?;
+    let file = program(&rt, "ellen-no-iflag", "[10]", &[DELETE_10, INSERT_5_FIND_5])?;
+    explores(
+        &rt,
+        file.as_str(),
+        "--steps 20 --states 328",
+        2,
+        &["stopped at 328 states", "holds to 15 steps"],
+    )?;
+    Ok(())
+}
+
+#[test]
+fn replays_on_both_trees(rt: HostRuntime) -> Result<(), Fail> {
+    let file = program(&rt, "ellen", "[]", &[INSERT_5, FIND_5])?;
+    replays(
+        &rt,
+        file.as_str(),
+        "0,0,0,0,1,1,1,1",
+        0,
+        &[
+            "0.0 insert 5 pending",
+            "1.0 find 5 true",
+            "order 0.0 1.0",
+            "no fault",
+        ],
+    )?;
+    let file = program(&rt, "ellen", "[10]", &[DELETE_10, INSERT_5])?;
+    replays(
+        &rt,
+        file.as_str(),
+        "0,0,0,0,1,1,1,1,1,0,0,0,0,0,1,1,0,0,0,0,0,0,0,0,0,0,0,0",
+        0,
+        &[
+            "0.0 delete 10 true",
+            "1.0 insert 5 true",
+            "order 0.0 1.0",
+            "no fault",
+        ],
+    )?;
+    let file = program(&rt, "nm", "[10]", &[DELETE_10, INSERT_5])?;
+    replays(
+        &rt,
+        file.as_str(),
+        "0,0,0,1,1,1,1,1,1,1,1,1,1,0,0,0,0,0,0",
+        0,
+        &[
+            "0.0 delete 10 true",
+            "1.0 insert 5 true",
+            "order 0.0 1.0",
+            "no fault",
+        ],
+    )?;
+    let file = program(&rt, "ellen-no-mark", "[10]", &[DELETE_10, INSERT_5_FIND_5])?;
+    replays(
+        &rt,
+        file.as_str(),
+        "0,0,0,0,0,0,0,1,1,0,1,1,1,1,1,1,1",
+        1,
+        &[
+            "0.0 delete 10 pending",
+            "1.0 insert 5 true",
+            "1.1 find 5 false",
+            "fault history",
+        ],
+    )?;
+    let file = program(&rt, "nm-no-tag", "[10,20]", &[DELETE_10, INSERT_25_FIND_25])?;
+    replays(
+        &rt,
+        file.as_str(),
+        "1,1,1,0,0,0,0,0,0,1,0,1,1",
+        1,
+        &[
+            "0.0 delete 10 true",
+            "1.0 insert 25 true",
+            "1.1 find 25 false",
+            "fault history",
+        ],
+    )?;
+    Ok(())
+}
+
+#[test]
+fn finds_broken_search_order(rt: HostRuntime) -> Result<(), Fail> {
+    let file = program(
+        &rt,
+        "nm-no-tag",
+        "[20,10,40,30]",
+        &[DELETE_40_INSERT_45, DELETE_10],
+    )?;
+    explores_first(
+        &rt,
+        file.as_str(),
+        "--steps 20",
+        1,
+        "fault order after 20 steps",
+    )
+}
