@@ -20,6 +20,11 @@ RUNS = [
     ("atomic-2x6.json", ["--steps", "400"]),
     ("atomic-3x4.json", ["--steps", "400"]),
     ("atomic-4x3.json", ["--steps", "400", "--states", "2000000"]),
+    ("ellen-3x1.json", ["--steps", "400", "--states", "2000000"]),
+    ("ellen-2x3.json", ["--steps", "400", "--states", "2000000"]),
+    ("ellen-3x2.json", ["--steps", "400", "--states", "2000000"]),
+    ("nm-2x3.json", ["--steps", "400", "--states", "2000000"]),
+    ("nm-3x2.json", ["--steps", "400", "--states", "2000000"]),
 ]
 
 

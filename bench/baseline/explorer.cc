@@ -126,6 +126,10 @@ int main(int argc, char** argv) {
   std::ifstream file(argv[2]);
   std::stringstream text;
   text << file.rdbuf();
+  if (text.str().find("\"atomic\"") == std::string::npos) {
+    std::cerr << "explorer: only the machine atomic\n";
+    return 4;
+  }
   Program program = parse(text.str());
   State start;
   std::memset(&start, 0, sizeof(start));
