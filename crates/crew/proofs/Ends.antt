@@ -7,6 +7,7 @@ use Rattle.tree_machine.specs.Rules.{Rules}
 use Rattle.tree_machine.specs.declared.state.State.{State}
 use Rattle.book.specs.Schedule.{StepMachine, run}
 use Rattle.book.specs.Findings.{machine_of, IsFindingOf}
+use Rattle.book.specs.declared.book.Merge.{Merge}
 use Rattle.book.specs.Entries.{Contents}
 use Rattle.book.specs.Books.{counted_as_one, machine_in, right_in}
 use Rattle.crew.specs.Driving.{IsKept}
@@ -23,6 +24,9 @@ beginning_runs {S} m (t ∷ c) (suc k) s r leads stops =
 -- a fact on the machine and the program that were given is one on the book's
 pub given_own : {X : Type 0} (P : X → Program → Type 0) (x y : X) (p q : Program) → x ≡ y → p ≡ q → P x p → P y q
 given_own P x y p q machine program h = subst (λ r. P y r) program (subst (λ z. P z p) machine h)
+
+pub given_merge : {X : Type 0} (P : X → Program → Merge → Type 0) (x y : X) (p q : Program) (k l : Merge) → x ≡ y → p ≡ q → k ≡ l → P x p k → P y q l
+given_merge P x y p q k l machine program merge h = subst (λ r. P y q r) merge (given_own (λ z r. P z r k) x y p q machine program h)
 
 -- what was driven can be read
 pub is_answered : (W A : Type 0) (n l : ℕ) (K L : ℕ → ℕ → Type 0) → n ≡ l → ((d i : ℕ) → K d i → L d i)

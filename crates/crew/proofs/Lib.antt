@@ -9,3 +9,4 @@ pub mod Ends
 pub mod Drives
 pub mod WorkedOff
 pub mod Reaching
+pub mod Verdicts

@@ -33,3 +33,17 @@ module _ {S : Type 0} (m : StepMachine S) (same : S → S → Bool) (right : S �
   -- otherwise: holds, with the number of states that n steps reach
   IsDue count (answer.Holds steps) =
       (steps ≡ n) × ((F : ℕ) → IsLeastFault m right F → n < F) × ((J : ℕ) → IsFirstAbove m same n limit J → ⊥) × IsCount m same n count
+
+-- The same answer but for the schedule of a fault: the verdict, its numbers, and how many states it tells of.
+abbrev pub IsSameVerdict : ℕ → Answer → ℕ → Answer → Type 0
+IsSameVerdict count (answer.Stopped limit holds_to) other (answer.Stopped other_limit other_holds_to) =
+    (limit ≡ other_limit) × (holds_to ≡ other_holds_to)
+IsSameVerdict count (answer.Fault finding schedule) other (answer.Fault other_finding other_schedule) =
+    (length schedule.items ≡ length other_schedule.items) × (count ≡ other)
+IsSameVerdict count (answer.Holds steps) other (answer.Holds other_steps) = (steps ≡ other_steps) × (count ≡ other)
+IsSameVerdict count (answer.Stopped limit holds_to) other (answer.Fault finding schedule) = ⊥
+IsSameVerdict count (answer.Stopped limit holds_to) other (answer.Holds steps) = ⊥
+IsSameVerdict count (answer.Fault finding schedule) other (answer.Stopped limit holds_to) = ⊥
+IsSameVerdict count (answer.Fault finding schedule) other (answer.Holds steps) = ⊥
+IsSameVerdict count (answer.Holds steps) other (answer.Stopped limit holds_to) = ⊥
+IsSameVerdict count (answer.Holds steps) other (answer.Fault finding schedule) = ⊥

@@ -2,7 +2,8 @@
 ghost use Rattle.std.specs.Prelude.{◌≡◌, ℕ, ◌+◌, IfOk, length};
 ghost use Rattle.book.specs.Books.{counted_as_one, totals_of};
 ghost use Rattle.book.specs.Findings.{machine_of, IsFindingOf};
-ghost use Rattle.crew.specs.Due.{IsDue};
+ghost use Rattle.crew.specs.declared.answer.Answer.{Answer};
+ghost use Rattle.crew.specs.Due.{IsDue, IsSameVerdict};
 ghost use Rattle.crew.specs.Headline.{IsTrueOf};
 ghost use Rattle.crew.specs.Ledger.{ledger};
 ghost use Rattle.crew.specs.Reading.{TellsFirst};
@@ -19,7 +20,7 @@ use tree_machine::Machine;
 /// Explores every schedule of a program of at most so many steps as the options say, unless more states are reached
 /// than the book may have entries.
 ///
-/// The answer is the due one, and true of all schedules. It is read off the book of the report, whose recorded schedules
+/// The answer is the due one, and true of all schedules; no answer with another verdict or other numbers is due. It is read off the book of the report, whose recorded schedules
 /// lead to its entries' states. A refused growth is answered by `OutOfMemory`.
 pub fn explore<M: Machine>(
     alloc: Global,
@@ -28,6 +29,7 @@ pub fn explore<M: Machine>(
     options: Options,
 ) -> Result<Report<M>, OutOfMemory>
     ensures due { IfOk result (λ r. IsDue (machine_of {Machine = M} (M.rules machine) program.now) (counted_as_one M.Loc.PartialEq.eq M.Mem.PartialEq.eq options.merge) (IsFindingOf (M.rules machine) program.now) options.steps options.limit r.totals.entries r.answer) }
+    ensures only { IfOk result (λ r. (count : ℕ) (other : Answer) → IsDue (machine_of {Machine = M} (M.rules machine) program.now) (counted_as_one M.Loc.PartialEq.eq M.Mem.PartialEq.eq options.merge) (IsFindingOf (M.rules machine) program.now) options.steps options.limit count other → IsSameVerdict r.totals.entries r.answer count other) }
     ensures headline { IfOk result (λ r. IsTrueOf M (M.rules machine) program.now r.answer) }
     ensures first { IfOk result (λ r. TellsFirst (machine_of (M.rules machine) program.now) r.book.entries r.answer) }
     ensures machine { IfOk result (λ r. r.book.machine ≡ machine) }

@@ -351,6 +351,70 @@ const LATE_DELETE_HELPER: (&str, &str) = (
 ",
 );
 
+/// The splice of a helper comes when the grandparent has yet another child, and leaves it.
+const LATE_SPLICE: (&str, &str) = (
+    r#"{"version":1,"tree":"ellen","initial":[10,20],"threads":[[{"op":"delete","key":10},{"op":"insert","key":30}],[{"op":"delete","key":20}]]}"#,
+    "\
+0 Child - 0 U
+0 Update 0:U 5
+0 Child 0:U 5 U
+0 Update 5:U 8
+0 Child 5:U 8 U
+0 DFlag 5:U 8 U 7
+0 Mark 0 [] delete | 5: 101 D0 8 4 | Del 5 8 7 U
+1 Child - 0 U
+1 Update 0:U 5
+1 Child 0:U 5 D0
+1 Update 5:D0 8
+1 Child 5:D0 8 U
+1 Mark 0 [] again
+1 Right 0 [] again | 8: 20 M0 7 6
+1 Other 0 right [] again
+1 Splice 0 6 [] again
+0 Right 0 [] delete
+0 Other 0 right [] delete
+0 Splice 0 6 [] delete
+0 DelClean 0 [] delete | 5: 101 D0 6 4
+0 true | 5: 101 C0 6 4
+0 Child - 0 U
+0 Update 0:U 5
+0 Child 0:U 5 C0
+0 IFlag 5 C0 6
+0 InsChild 1 [] insert | 5: 101 I1 6 4 | 9: 30 | 10: 20 | 11: 30 U 10 9 | Ins 5 6 11
+0 InsClean 1 [] insert | 5: 101 I1 11 4
+1 DelClean 0 [] again
+0 true | 5: 101 C1 11 4
+1 Update - 0
+",
+);
+
+/// The child exchange of an insert's helper comes when the new node is spliced out again, and leaves the child.
+const LATE_CHILD: (&str, &str) = (
+    r#"{"version":1,"tree":"ellen","initial":[],"threads":[[{"op":"insert","key":5},{"op":"delete","key":5}],[{"op":"insert","key":7}]]}"#,
+    "\
+0 Child - 0 U
+0 IFlag 0 U 1
+1 Child - 0 U
+1 IFlag 0 U 1
+0 InsChild 0 [] insert | 0: 102 I0 1 2 | 3: 5 | 4: 101 | 5: 101 U 3 4 | Ins 0 1 5
+1 InsChild 0 [] again
+0 InsClean 0 [] insert | 0: 102 I0 5 2
+0 true | 0: 102 C0 5 2
+0 Child - 0 C0
+0 Update 0:C0 5
+0 Child 0:C0 5 U
+0 DFlag 0:C0 5 U 3
+0 Mark 1 [] delete | 0: 102 D1 5 2 | Del 0 5 3 U
+0 Right 1 [] delete | 5: 101 M1 3 4
+0 Other 1 right [] delete
+0 Splice 1 4 [] delete
+0 DelClean 1 [] delete | 0: 102 D1 4 2
+1 InsClean 0 [] again
+1 Update - 0
+0 true | 0: 102 C1 4 2
+",
+);
+
 /// An insert finds its parent marked, and helps the delete from there.
 const INSERT_HELPS_MARK: (&str, &str) = (
     r#"{"version":1,"tree":"ellen","initial":[10,20],"threads":[[{"op":"delete","key":10}],[{"op":"insert","key":15}]]}"#,
@@ -525,6 +589,8 @@ fn whole_machine(rt: HostRuntime) -> Result<(), Fail> {
         LATE_DELETE,
         LATE_INSERT_HELPER,
         LATE_DELETE_HELPER,
+        LATE_SPLICE,
+        LATE_CHILD,
         INSERT_HELPS_MARK,
         DELETE_HELPS_INSERT,
         INSERT_HELPS_DELETE,
