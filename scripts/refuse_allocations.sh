@@ -11,13 +11,16 @@ top=$(cd "$(dirname "$0")/.." && pwd)
 work=$(mktemp -d)
 trap 'rm -rf "$work"' EXIT
 
-# The words of each line are run with requests 1, 2, .. refused, up to the last that a run with ample memory makes.
+# The words of each line are run with requests 1, 2, .. refused, up to the last that a run with ample memory makes, but
+# for at most 2,000 runs.
 lines='explore two_inserts.json --steps 2 --ledger
 explore two_inserts.json --steps 2 --states 4
 explore three_threads.json --steps 3
 replay two_inserts.json --schedule 1,0
 replay two_inserts.json --schedule 0,0
 replay two_inserts.json --schedule 0,,1
+explore nm_no_tag.json --steps 20
+explore ellen_no_mark.json --steps 20
 explore no-such-file.json --steps 2
 explore two_inserts.json --steps 401'
 
@@ -38,6 +41,7 @@ refuse_program() {
     # shellcheck disable=SC2086
     REFUSE=0 LD_PRELOAD=$work/refuse.so run counted $words
     requests=$(sed -n 's/^requests //p' "$work/counted.err")
+    [ "$requests" -le 2000 ] || requests=2000
     for ((n = 1; n <= requests; n++)); do
       # shellcheck disable=SC2086
       REFUSE=$n LD_PRELOAD=$work/refuse.so run refused $words
