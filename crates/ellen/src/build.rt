@@ -2,7 +2,7 @@
 ghost use Rattle.std.specs.Prelude.{◌≡◌, IfOk, OnErr};
 ghost use Rattle.ellen.specs.Initial.{empty_tree, put_in, initial_memory};
 
-use crate::memory::{EllenMem, Node, UpdateWord, key_in};
+use crate::memory::{EllenMem, Node, UpdateWord, key_in, number_of};
 use sched_program::{OutOfMemory, Sequence};
 use std::alloc::Global;
 use tree_machine::{search_end, side_of};
@@ -31,10 +31,12 @@ fn put_in(alloc: Global, memory: &mut EllenMem, key: u8) -> Result<(), OutOfMemo
     ensures err { OnErr result (memory.new ≡ memory.old) }
 {
     let end = search_end(memory, key, memory.nodes.len());
-    let side = side_of(key, key_in(memory.node(end.parent)));
-    let new = memory.add_internal(alloc, key, end.leaf)?;
+    let parent = number_of(end.parent)?;
+    let leaf = number_of(end.leaf)?;
+    let side = side_of(key, key_in(memory.node(parent)));
+    let new = memory.add_internal(alloc, key, leaf)?;
     if end.parent < memory.nodes.len() {
-        memory.set_child(end.parent, side, new);
+        memory.set_child(parent, side, new);
     }
     Ok(())
 }

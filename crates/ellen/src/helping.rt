@@ -57,7 +57,7 @@ fn returned(alloc: Global, done: bool, resume: &Resume) -> Result<Outcome<EllenL
 }
 
 /// The place that marks the parent of a delete, or the one behind it in the variant without the mark.
-pub fn marking(machine: Ellen, number: usize) -> HelpLoc
+pub fn marking(machine: Ellen, number: u32) -> HelpLoc
     ensures { result ≡ marking machine number }
 {
     if machine.mark {
@@ -115,7 +115,7 @@ pub fn help_first(
 }
 
 /// The stack with one more delete whose backtrack is awaited.
-fn awaiting(alloc: Global, number: usize, resume: &Resume) -> Result<Resume, OutOfMemory>
+fn awaiting(alloc: Global, number: u32, resume: &Resume) -> Result<Resume, OutOfMemory>
     ensures { IfOk result (λ more. more ≡ awaiting number resume.now) }
 {
     let mut stack = resume.stack.copy(alloc)?;
@@ -131,7 +131,7 @@ fn insert_child_row(
     alloc: Global,
     machine: Ellen,
     mem: &mut EllenMem,
-    number: usize,
+    number: u32,
     resume: &Resume,
 ) -> Result<Outcome<EllenLoc>, OutOfMemory>
     ensures ok { IfOk result (λ outcome. help_act machine (place.InsChild number) resume.now mem.old ≡ (mem.new, outcome)) }
@@ -157,7 +157,7 @@ fn insert_clean_row(
     alloc: Global,
     machine: Ellen,
     mem: &mut EllenMem,
-    number: usize,
+    number: u32,
     resume: &Resume,
 ) -> Result<Outcome<EllenLoc>, OutOfMemory>
     ensures ok { IfOk result (λ outcome. help_act machine (place.InsClean number) resume.now mem.old ≡ (mem.new, outcome)) }
@@ -181,7 +181,7 @@ fn mark_row(
     alloc: Global,
     machine: Ellen,
     mem: &mut EllenMem,
-    number: usize,
+    number: u32,
     resume: &Resume,
 ) -> Result<Outcome<EllenLoc>, OutOfMemory>
     ensures ok { IfOk result (λ outcome. help_act machine (place.Mark number) resume.now mem.old ≡ (mem.new, outcome)) }
@@ -210,7 +210,7 @@ fn right_row(
     alloc: Global,
     machine: Ellen,
     mem: &EllenMem,
-    number: usize,
+    number: u32,
     resume: &Resume,
 ) -> Result<Outcome<EllenLoc>, OutOfMemory>
     ensures { IfOk result (λ outcome. help_act machine (place.Right number) resume.now mem.now ≡ (mem.now, outcome)) }
@@ -241,7 +241,7 @@ fn other_row(
     alloc: Global,
     machine: Ellen,
     mem: &EllenMem,
-    number: usize,
+    number: u32,
     side: Side,
     resume: &Resume,
 ) -> Result<Outcome<EllenLoc>, OutOfMemory>
@@ -265,8 +265,8 @@ fn splice_row(
     alloc: Global,
     machine: Ellen,
     mem: &mut EllenMem,
-    number: usize,
-    other: usize,
+    number: u32,
+    other: u32,
     resume: &Resume,
 ) -> Result<Outcome<EllenLoc>, OutOfMemory>
     ensures ok { IfOk result (λ outcome. help_act machine (place.Splice number other) resume.now mem.old ≡ (mem.new, outcome)) }
@@ -292,7 +292,7 @@ fn delete_clean_row(
     alloc: Global,
     machine: Ellen,
     mem: &mut EllenMem,
-    number: usize,
+    number: u32,
     resume: &Resume,
 ) -> Result<Outcome<EllenLoc>, OutOfMemory>
     ensures ok { IfOk result (λ outcome. help_act machine (place.DelClean number) resume.now mem.old ≡ (mem.new, outcome)) }
@@ -316,7 +316,7 @@ fn back_row(
     alloc: Global,
     machine: Ellen,
     mem: &mut EllenMem,
-    number: usize,
+    number: u32,
     resume: &Resume,
 ) -> Result<Outcome<EllenLoc>, OutOfMemory>
     ensures ok { IfOk result (λ outcome. help_act machine (place.Back number) resume.now mem.old ≡ (mem.new, outcome)) }

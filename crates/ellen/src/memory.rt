@@ -14,13 +14,13 @@ pub enum UpdateWord {
     /// CLEAN, and no record was written yet.
     Untouched,
     /// CLEAN: what the record describes is over.
-    Clean(usize),
+    Clean(u32),
     /// IFLAG: an insert below the node is under way.
-    InsertFlag(usize),
+    InsertFlag(u32),
     /// DFLAG: a delete of a child of the node is under way.
-    DeleteFlag(usize),
+    DeleteFlag(u32),
     /// MARK: the node is to be spliced out, for good.
-    Mark(usize),
+    Mark(u32),
 }
 
 /// A node of the tree; the children are node numbers.
@@ -34,25 +34,25 @@ pub enum Node {
     Internal {
         key: u8,
         update: UpdateWord,
-        left: usize,
-        right: usize,
+        left: u32,
+        right: u32,
     },
 }
 
 /// What an insert is about to do: to put the node `new` in the place of the leaf.
 #[derive(Clone, Copy, Debug, PartialEq, Eq, Hash)]
 pub struct InsertRecord {
-    pub parent: usize,
-    pub leaf: usize,
-    pub new: usize,
+    pub parent: u32,
+    pub leaf: u32,
+    pub new: u32,
 }
 
 /// What a delete is about to do: to put the leaf's sibling in the place of the parent.
 #[derive(Clone, Copy, Debug, PartialEq, Eq, Hash)]
 pub struct DeleteRecord {
-    pub grandparent: usize,
-    pub parent: usize,
-    pub leaf: usize,
+    pub grandparent: u32,
+    pub parent: u32,
+    pub leaf: u32,
     pub parent_update: UpdateWord,
 }
 
@@ -63,7 +63,8 @@ pub enum Record {
     Del(DeleteRecord),
 }
 
-/// The shared memory: nodes and records, by number. The root is node 0.
+/// The shared memory: nodes and records, by number. The root is node 0. It has at most 2^32 of each: more are refused as
+/// memory that there is not.
 #[derive(Drop, PartialEq, Eq, Hash)]
 pub struct EllenMem {
     pub nodes: Sequence<Node>,
@@ -91,7 +92,11 @@ fn shape_in(node: Node) -> Shape
             left,
             right,
             ..
-        } => Shape::Internal { key, left, right },
+        } => Shape::Internal {
+            key,
+            left: left as usize,
+            right: right as usize,
+        },
     }
 }
 
@@ -106,7 +111,7 @@ pub fn update_of(node: Node) -> Option<UpdateWord>
 }
 
 /// The child of a node on a side; a leaf has none.
-pub fn child_on(side: Side, node: Node) -> Option<usize>
+pub fn child_on(side: Side, node: Node) -> Option<u32>
     ensures { result ≡ child_on side node }
 {
     match (side, node) {
@@ -131,7 +136,7 @@ pub fn is_word(found: UpdateWord, expected: UpdateWord) -> bool
 }
 
 /// A new internal node over the new leaf `x` of key `key` and the copy `y` of a leaf of key `other`.
-fn internal_over(key: u8, other: u8, x: usize, y: usize) -> Node
+fn internal_over(key: u8, other: u8, x: u32, y: u32) -> Node
     ensures { result ≡ internal_over key other x y }
 {
     let update = UpdateWord::Untouched;
@@ -152,26 +157,36 @@ fn internal_over(key: u8, other: u8, x: usize, y: usize) -> Node
     }
 }
 
+/// A number of a node or record as others hold it. It takes no memory: a number that does not fit is refused as memory is.
+pub fn number_of(x: usize) -> Result<u32, OutOfMemory>
+    ensures { IfOk result (λ number. number ≡ x) }
+{
+    match u32::try_from(x) {
+        Ok(number) => Ok(number),
+        Err(_) => Err(OutOfMemory),
+    }
+}
+
 impl EllenMem {
     /// A node by its number.
-    pub(crate) fn node(&self, x: usize) -> Node
+    pub(crate) fn node(&self, x: u32) -> Node
         ensures { result ≡ node_at self.now x }
     {
-        match self.nodes.get(x) {
+        match self.nodes.get(x as usize) {
             Some(node) => *node,
             None => Node::Leaf { key: 0 },
         }
     }
 
     /// A record by its number.
-    pub(crate) fn record(&self, r: usize) -> Option<Record>
+    pub(crate) fn record(&self, r: u32) -> Option<Record>
         ensures { result ≡ record_at self.now r }
     {
-        self.records.get(r).copied()
+        self.records.get(r as usize).copied()
     }
 
     /// Puts an update word into a node.
-    pub(crate) fn set_update(&mut self, x: usize, word: UpdateWord)
+    pub(crate) fn set_update(&mut self, x: u32, word: UpdateWord)
         requires { x < length self.old.nodes }
         ensures { self.new ≡ set_update self.old x word }
     {
@@ -189,11 +204,11 @@ impl EllenMem {
                 right,
             },
         };
-        self.nodes.set(x, node);
+        self.nodes.set(x as usize, node);
     }
 
     /// Puts a child into a node.
-    pub(crate) fn set_child(&mut self, x: usize, side: Side, child: usize)
+    pub(crate) fn set_child(&mut self, x: u32, side: Side, child: u32)
         requires { x < length self.old.nodes }
         ensures { self.new ≡ set_child self.old x side child }
     {
@@ -228,7 +243,7 @@ impl EllenMem {
                 right: child,
             },
         };
-        self.nodes.set(x, node);
+        self.nodes.set(x as usize, node);
     }
 
     /// The nodes with a new internal node for a key at a leaf, behind its two new leaves.
@@ -237,7 +252,7 @@ impl EllenMem {
         &self,
         alloc: Global,
         key: u8,
-        leaf: usize,
+        leaf: u32,
     ) -> Result<Sequence<Node>, OutOfMemory>
         ensures nodes { IfOk result (λ nodes. nodes ≡ (with_internal self.now key leaf).nodes) }
         ensures count { IfOk result (λ nodes. length nodes ≡ length self.now.nodes + 3) }
@@ -245,7 +260,7 @@ impl EllenMem {
         let other = key_in(self.node(leaf));
         let leaves = [Node::Leaf { key }, Node::Leaf { key: other }];
         let mut nodes = extended(alloc, &self.nodes, &leaves)?;
-        let copy = nodes.len() - 1;
+        let copy = number_of(nodes.len() - 1)?;
         nodes.push(internal_over(key, other, copy - 1, copy))?;
         Ok(nodes)
     }
@@ -255,21 +270,21 @@ impl EllenMem {
         &mut self,
         alloc: Global,
         key: u8,
-        leaf: usize,
-    ) -> Result<usize, OutOfMemory>
+        leaf: u32,
+    ) -> Result<u32, OutOfMemory>
         ensures ok { IfOk result (λ new. self.new ≡ with_internal self.old key leaf) }
         ensures number { IfOk result (λ new. new ≡ new_internal self.old) }
         ensures err { OnErr result (self.new ≡ self.old) }
     {
         let nodes = self.with_internal(alloc, key, leaf)?;
-        let new = nodes.len() - 1;
+        let new = number_of(nodes.len() - 1)?;
         self.nodes = nodes;
         Ok(new)
     }
 
     /// The key of a new internal node for a key at a leaf.
     #[tactic(auto, using(crate::proofs::Appended::key_of_leaf, crate::proofs::Appended::key_of_new))]
-    fn new_key(&self, key: u8, leaf: usize) -> u8
+    fn new_key(&self, key: u8, leaf: u32) -> u8
         ensures { result ≡ key_at (with_internal self.now key leaf) (new_internal self.now) }
     {
         let other = key_in(self.node(leaf));
@@ -277,7 +292,7 @@ impl EllenMem {
     }
 
     /// The side of a node on which a new internal node for a key at a leaf is put.
-    pub(crate) fn side_of_new(&self, parent: usize, key: u8, leaf: usize) -> Side
+    pub(crate) fn side_of_new(&self, parent: u32, key: u8, leaf: u32) -> Side
         ensures { result ≡ side_of (key_at (with_internal self.now key leaf) (new_internal self.now)) (key_at self.now parent) }
     {
         side_of(self.new_key(key, leaf), key_in(self.node(parent)))
@@ -296,14 +311,14 @@ impl EllenMem {
         &mut self,
         alloc: Global,
         key: u8,
-        parent: usize,
-        leaf: usize,
+        parent: u32,
+        leaf: u32,
     ) -> Result<(), OutOfMemory>
         ensures ok { IfOk result (λ _. self.new ≡ add_record (with_internal self.old key leaf) (Ins (record { parent = parent; leaf = leaf; new = new_internal self.old }))) }
         ensures err { OnErr result (self.new ≡ self.old) }
     {
         let nodes = self.with_internal(alloc, key, leaf)?;
-        let new = nodes.len() - 1;
+        let new = number_of(nodes.len() - 1)?;
         self.add_record(Record::Ins(InsertRecord { parent, leaf, new }))?;
         self.nodes = nodes;
         Ok(())

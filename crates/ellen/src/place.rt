@@ -9,7 +9,7 @@ use tree_machine::Side;
 /// A grandparent, with the update word that was read of it.
 #[derive(Clone, Copy, Debug, PartialEq, Eq, Hash)]
 pub struct Above {
-    pub node: usize,
+    pub node: u32,
     pub update: UpdateWord,
 }
 
@@ -19,31 +19,31 @@ pub enum SearchLoc {
     /// Reads the update word of the node that becomes the parent.
     Update {
         above: Option<Above>,
-        parent: usize,
+        parent: u32,
     },
     /// Reads the parent's child on the side of the key.
     Child {
         above: Option<Above>,
-        parent: usize,
+        parent: u32,
         update: UpdateWord,
     },
     /// Flags the parent for an insert at the leaf.
     IFlag {
-        parent: usize,
+        parent: u32,
         update: UpdateWord,
-        leaf: usize,
+        leaf: u32,
     },
     /// Writes the parent's child without a flag, in the variant that has none.
     InsOnly {
-        parent: usize,
-        leaf: usize,
+        parent: u32,
+        leaf: u32,
     },
     /// Flags the grandparent for a delete of the leaf.
     DFlag {
         above: Above,
-        parent: usize,
+        parent: u32,
         update: UpdateWord,
-        leaf: usize,
+        leaf: u32,
     },
 }
 
@@ -51,21 +51,21 @@ pub enum SearchLoc {
 #[derive(Clone, Copy, Debug, PartialEq, Eq, Hash)]
 pub enum HelpLoc {
     /// Puts the new node of an insert below its parent.
-    InsChild(usize),
+    InsChild(u32),
     /// Takes the flag of an insert back.
-    InsClean(usize),
+    InsClean(u32),
     /// Marks the parent of a delete.
-    Mark(usize),
+    Mark(u32),
     /// Reads the right child of the parent of a delete.
-    Right(usize),
+    Right(u32),
     /// Reads the child of that parent on the side where the leaf is not.
-    Other { record: usize, side: Side },
+    Other { record: u32, side: Side },
     /// Puts that other child in the place of the parent.
-    Splice { record: usize, other: usize },
+    Splice { record: u32, other: u32 },
     /// Takes the flag of a delete back, which is done.
-    DelClean(usize),
+    DelClean(u32),
     /// Takes the flag of a delete back, which could not mark its parent.
-    Back(usize),
+    Back(u32),
 }
 
 /// What an operation does once its helping has ended.
@@ -82,7 +82,7 @@ pub enum Base {
 /// The delete records whose backtrack is awaited, the last one on top, and what is done behind them.
 #[derive(Drop, PartialEq, Eq, Hash)]
 pub struct Resume {
-    pub stack: Sequence<usize>,
+    pub stack: Sequence<u32>,
     pub base: Base,
 }
 

@@ -9,7 +9,7 @@ ghost use Rattle.ellen.specs.Table.{search_act, flagging, decide, arrived};
 use crate::helping::{first_place, help_first, marking, with_base};
 use crate::machine::Ellen;
 use crate::memory::{
-    DeleteRecord, EllenMem, Node, Record, UpdateWord, child_on, is_word, key_in, update_of,
+    DeleteRecord, EllenMem, Node, Record, UpdateWord, child_on, is_word, key_in, number_of, update_of,
 };
 use crate::place::{Above, Base, EllenLoc, HelpLoc, SearchLoc};
 use sched_program::{Op, OutOfMemory};
@@ -17,7 +17,7 @@ use std::alloc::Global;
 use tree_machine::{Outcome, side_of};
 
 /// The place that flags the parent of an insert, or the one that writes without a flag.
-fn flagging(machine: Ellen, parent: usize, update: UpdateWord, leaf: usize) -> SearchLoc
+fn flagging(machine: Ellen, parent: u32, update: UpdateWord, leaf: u32) -> SearchLoc
     ensures { result ≡ flagging machine parent update leaf }
 {
     if machine.iflag {
@@ -45,9 +45,9 @@ fn decide_delete(
     alloc: Global,
     machine: Ellen,
     above: Above,
-    parent: usize,
+    parent: u32,
     update: UpdateWord,
-    leaf: usize,
+    leaf: u32,
     key: u8,
 ) -> Result<Outcome<EllenLoc>, OutOfMemory>
     ensures { IfOk result (λ outcome. outcome ≡ decide machine (op_of.Delete key) (Some above) parent update leaf key) }
@@ -72,9 +72,9 @@ fn decide(
     machine: Ellen,
     op: Op,
     above: Option<Above>,
-    parent: usize,
+    parent: u32,
     update: UpdateWord,
-    leaf: usize,
+    leaf: u32,
     key: u8,
 ) -> Result<Outcome<EllenLoc>, OutOfMemory>
     ensures { IfOk result (λ outcome. outcome ≡ decide machine op above parent update leaf key) }
@@ -109,9 +109,9 @@ fn arrived(
     machine: Ellen,
     op: Op,
     above: Option<Above>,
-    parent: usize,
+    parent: u32,
     update: UpdateWord,
-    child: usize,
+    child: u32,
     node: Node,
 ) -> Result<Outcome<EllenLoc>, OutOfMemory>
     ensures { IfOk result (λ outcome. outcome ≡ arrived machine op above parent update child node) }
@@ -144,7 +144,7 @@ fn update_row(
     op: Op,
     mem: &EllenMem,
     above: Option<Above>,
-    parent: usize,
+    parent: u32,
 ) -> Outcome<EllenLoc>
     ensures { search_act machine op (place.Update above parent) mem.now ≡ (mem.now, result) }
 {
@@ -164,7 +164,7 @@ fn child_row(
     op: Op,
     mem: &EllenMem,
     above: Option<Above>,
-    parent: usize,
+    parent: u32,
     update: UpdateWord,
 ) -> Result<Outcome<EllenLoc>, OutOfMemory>
     ensures { IfOk result (λ outcome. search_act machine op (place.Child above parent update) mem.now ≡ (mem.now, outcome)) }
@@ -191,9 +191,9 @@ fn insert_flag_row(
     machine: Ellen,
     op: Op,
     mem: &mut EllenMem,
-    parent: usize,
+    parent: u32,
     update: UpdateWord,
-    leaf: usize,
+    leaf: u32,
 ) -> Result<Outcome<EllenLoc>, OutOfMemory>
     ensures ok { IfOk result (λ outcome. search_act machine op (place.IFlag parent update leaf) mem.old ≡ (mem.new, outcome)) }
     ensures err { OnErr result (mem.new ≡ mem.old) }
@@ -204,7 +204,7 @@ fn insert_flag_row(
     if !is_word(found, update) {
         return help_first(alloc, machine, found);
     }
-    let record = mem.records.len();
+    let record = number_of(mem.records.len())?;
     mem.add_insert(alloc, key_of(op), parent, leaf)?;
     mem.set_update(parent, UpdateWord::InsertFlag(record));
     let resume = with_base(alloc, Base::Insert);
@@ -217,8 +217,8 @@ fn insert_only_row(
     machine: Ellen,
     op: Op,
     mem: &mut EllenMem,
-    parent: usize,
-    leaf: usize,
+    parent: u32,
+    leaf: u32,
 ) -> Result<Outcome<EllenLoc>, OutOfMemory>
     ensures ok { IfOk result (λ outcome. search_act machine op (place.InsOnly parent leaf) mem.old ≡ (mem.new, outcome)) }
     ensures err { OnErr result (mem.new ≡ mem.old) }
@@ -243,9 +243,9 @@ fn delete_flag_row(
     op: Op,
     mem: &mut EllenMem,
     above: Above,
-    parent: usize,
+    parent: u32,
     update: UpdateWord,
-    leaf: usize,
+    leaf: u32,
 ) -> Result<Outcome<EllenLoc>, OutOfMemory>
     ensures ok { IfOk result (λ outcome. search_act machine op (place.DFlag above parent update leaf) mem.old ≡ (mem.new, outcome)) }
     ensures err { OnErr result (mem.new ≡ mem.old) }
@@ -256,7 +256,7 @@ fn delete_flag_row(
     if !is_word(found, above.update) {
         return help_first(alloc, machine, found);
     }
-    let record = mem.records.len();
+    let record = number_of(mem.records.len())?;
     mem.add_record(Record::Del(DeleteRecord {
         grandparent: above.node,
         parent,
