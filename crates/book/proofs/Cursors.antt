@@ -139,14 +139,13 @@ module _ {S : Type 0} (es : List (Entry S)) where
         none_is (λ (e : Entry S). not (is_expanded e.mark)) es (λ k y there.
         left_not y.mark (cursors.left.expanded k y there (let w : k < length es = get_within es k y there in omega arith)))
 
-    -- the first open entry is taken
-    pub cursors_taken : (i : ℕ) → position (λ (e : Entry S). is_open e.mark) es ≡ Some i → AreCursors (with_mark es i Taken) (i + 1) first_left fault
-    cursors_taken i first =
+    -- where some entry is open, the cursor is at the first
+    pub cursor_is : (i : ℕ) → position (λ (e : Entry S). is_open e.mark) es ≡ Some i → i ≡ next_open
+    cursor_is i first =
         let f = first_passes (λ (e : Entry S). is_open e.mark) es i first in
         let was : f.0.mark ≡ Open = open_so f.0.mark f.2 in
         let w : i < length es = get_within es i f.0 f.1 in
-        let l : length (with_mark es i Taken) ≡ length es = length-with_mark es i Taken in
-        let is_next : i ≡ next_open = (elim (cases_lt i next_open) [
+        elim (cases_lt i next_open) [
           | inl l ↦ absurd (cursors.below i f.0 f.1 l was)
           | inr ge ↦ elim (cases_lt next_open i) [
             | inl l ↦ absurd (
@@ -154,7 +153,16 @@ module _ {S : Type 0} (es : List (Entry S)) where
                 true≢false (sym (is_open_so at.0.mark (cursors.above next_open at.0 at.1 (omega arith))) ∙ f.3 next_open at.0 l at.1))
             | inr le ↦ omega arith
           ]
-        ]) in
+        ]
+
+    -- the first open entry is taken
+    pub cursors_taken : (i : ℕ) → position (λ (e : Entry S). is_open e.mark) es ≡ Some i → AreCursors (with_mark es i Taken) (i + 1) first_left fault
+    cursors_taken i first =
+        let f = first_passes (λ (e : Entry S). is_open e.mark) es i first in
+        let was : f.0.mark ≡ Open = open_so f.0.mark f.2 in
+        let w : i < length es = get_within es i f.0 f.1 in
+        let l : length (with_mark es i Taken) ≡ length es = length-with_mark es i Taken in
+        let is_next : i ≡ next_open = cursor_is i first in
         record {
           below = (λ j d at less.
               let o = at-with_mark es i Taken j d at in

@@ -9,5 +9,5 @@ module _ {S : Type 0} (m : StepMachine S) (eq : S → S → Bool) (laws : IsEqui
     itself = laws.refl;
     turned = (λ r s h. laws.symm s r ∙ h);
     joined = (λ r s u h k. laws.congr r s u h ∙ k);
-    steps_alike = (λ r s u t h leads. let e : r ≡ s = exact r s h in (u, (cc), laws.refl u));
+    steps_alike = (λ r s u t _ _ h leads. let e : r ≡ s = exact r s h in (u, (cc), laws.refl u));
   }

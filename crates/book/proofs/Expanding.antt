@@ -13,7 +13,7 @@ get-single : {X : Type 0} (x : X) (k : ℕ) (y : X) → slice_get (x ∷ []) k �
 get-single x zero y h = cc
 get-single x (suc k) y h = absurd (let q : None ≡ Some y = h in cc)
 
-range-more : (a n : ℕ) → range_with_len a (n + 1) ≡ range_with_len a n ++ (a + n) ∷ []
+pub range-more : (a n : ℕ) → range_with_len a (n + 1) ≡ range_with_len a n ++ (a + n) ∷ []
 range-more a zero = let e : a + 0 ≡ a = omega arith in ap (λ x. x ∷ []) (sym e)
 range-more a (suc n) =
     let e : suc n + 1 ≡ suc (n + 1) = omega arith in

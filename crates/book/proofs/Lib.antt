@@ -14,3 +14,4 @@ mod SlotLemmas
 mod Cursors
 pub mod Machines
 mod Loans
+pub mod Runs

@@ -5,13 +5,14 @@ use Rattle.std.specs.Cmp.{IsEquivalence}
 use Rattle.std.proofs.lemmas.Option.{option_and_then_some, same_Some}
 use Rattle.sched_program.specs.Exact.{IsExact}
 use Rattle.sched_program.specs.Program.{Program, IsWithinLimits, op_at}
-use Rattle.tree_machine.specs.Rules.{Rules}
+use Rattle.tree_machine.specs.Rules.{Rules, AreLawful}
 use Rattle.tree_machine.specs.Step.{start, step, stepped, after_access, Fits}
 use Rattle.tree_machine.specs.StateExact.{state_eq}
 use Rattle.tree_machine.specs.declared.machine.Outcome.{Outcome}
 use Rattle.tree_machine.specs.declared.machine.Outcome.TheVariants.{Goes, Replies, Astray}
 use Rattle.tree_machine.specs.declared.state.Thread.{Thread}
 use Rattle.tree_machine.specs.declared.state.State.{State}
+use Rattle.tree_machine.proofs.States.{start_fits, stepped_fits}
 use Rattle.book.specs.declared.book.Merge.{Merge}
 use Rattle.book.specs.declared.book.Merge.TheVariants.{Exact}
 use Rattle.book.specs.declared.entry.Mark.TheVariants.{Open}
@@ -53,12 +54,19 @@ module _ {Machine Memory Place : Type 0} (rules : Rules Memory Place) (program :
       step_parts (t < length program.threads) state next t is (λ thread there op op_is same.
       option_and_then_some _ (slice_get program.threads t) op op_is (λ ops at_t _. get_within program.threads t ops at_t))
 
-  pub is_machine : IsWithinLimits program → IsMachine (machine_of {Machine = Machine} rules program)
-  is_machine limits = record {
+  -- and leads to a state that fits
+  step_fits : AreLawful rules → (state next : State Machine Memory Place) (t : ℕ) → Fits rules program state → step rules program state t ≡ Some next → Fits rules program next
+  step_fits lawful state next t fits is =
+      step_parts (Fits rules program next) state next t is (λ thread there op op_is same. stepped_fits rules program state fits next t op thread same lawful there op_is)
+
+  pub is_machine : AreLawful rules → IsWithinLimits program → IsMachine (machine_of {Machine = Machine} rules program)
+  is_machine lawful limits = record {
     from_zero = refl;
     one_more = (λ s r t leads. step_counts s r t leads);
     few_threads = (let few : length program.threads ≤ 4 = limits.thread_count in omega arith);
     is_thread = (λ s r t leads. step_of_thread s r t leads);
+    start_fits = start_fits rules program (start rules program) refl lawful limits.initial;
+    step_fits = (λ s r t fits leads. step_fits lawful s r t fits leads);
   }
 
 -- every merge is exact
@@ -69,9 +77,9 @@ only_exact place_eq memory_eq Exact = refl
 module _ {Machine Memory Place : Type 0} (place_eq : Place → Place → Bool) (memory_eq : Memory → Memory → Bool)
     (exact : IsExact (state_eq place_eq {Machine = Machine} memory_eq)) where
   -- states that count as one are sound alike
-  sound_alike : (merge : Merge) (right : State Machine Memory Place → Finding → Type 0) (r s : State Machine Memory Place)
-      → counted_as_one place_eq memory_eq merge r s ≡ true → IsSound right r → IsSound right s
-  sound_alike Exact right r s same sound = subst (λ v. IsSound right v) (exact r s same) sound
+  sound_alike : (merge : Merge) (m : StepMachine (State Machine Memory Place)) (right : State Machine Memory Place → Finding → Type 0) (r s : State Machine Memory Place)
+      → m.Fits r → m.Fits s → counted_as_one place_eq memory_eq merge r s ≡ true → IsSound right r → IsSound right s
+  sound_alike Exact m right r s _ _ same sound = subst (λ v. IsSound right v) (exact r s same) sound
 
   merges_by : (merge : Merge) (m : StepMachine (State Machine Memory Place)) → IsEquivalence (state_eq place_eq {Machine = Machine} memory_eq)
       → Merges m (counted_as_one place_eq memory_eq merge)
@@ -79,7 +87,7 @@ module _ {Machine Memory Place : Type 0} (place_eq : Place → Place → Bool) (
 
   -- the book with the start alone
   pub first_book : (rules : Machine → Rules Memory Place) (machine : Machine) (program : Program) (merge : Merge) (limit : ℕ)
-      (state : State Machine Memory Place) (finding : Finding) → IsEquivalence (state_eq place_eq {Machine = Machine} memory_eq) → IsWithinLimits program
+      (state : State Machine Memory Place) (finding : Finding) → IsEquivalence (state_eq place_eq {Machine = Machine} memory_eq) → AreLawful (rules machine) → IsWithinLimits program
       → state ≡ start (rules machine) program → Fits (rules machine) program state → IsFindingOf (rules machine) program state finding → 1 ≤ limit → limit ≤ 2000000
       → IsBook rules place_eq memory_eq (record {
         machine = machine;
@@ -89,9 +97,9 @@ module _ {Machine Memory Place : Type 0} (place_eq : Place → Place → Bool) (
         entries = record { state = state; finding = finding; origin = None; mark = Open } ∷ [];
         met = 0;
       })
-  first_book rules machine program merge limit state finding laws limits starts fits right some few =
+  first_book rules machine program merge limit state finding laws lawful limits starts fits right some few =
       let m : StepMachine (State Machine Memory Place) = machine_of (rules machine) program in
-      let keeps : IsMachine m = is_machine (rules machine) program limits in
+      let keeps : IsMachine m = is_machine (rules machine) program lawful limits in
       let merges : Merges m (counted_as_one place_eq memory_eq merge) = merges_by merge m laws in
       record {
         law = opened_book {X = Machine} m (counted_as_one place_eq memory_eq merge) (IsFindingOf (rules machine) program) keeps merges machine program merge limit state finding
@@ -99,5 +107,5 @@ module _ {Machine Memory Place : Type 0} (place_eq : Place → Place → Bool) (
         limits = limits;
         machine = keeps;
         merges = merges;
-        alike = sound_alike merge (IsFindingOf (rules machine) program);
+        alike = sound_alike merge m (IsFindingOf (rules machine) program);
       }

@@ -1,5 +1,5 @@
 -- The way from entry 0 to an entry.
-use Rattle.std.proofs.Common.{◌≡◌, ℕ, ◌+◌, ◌<◌, inl, inr, Bool, Some, None, List, [], ◌∷◌, ◌++◌, length, reverse, refl, sym, ap, ◌∙◌, arith, slice_get}
+use Rattle.std.proofs.Common.{◌≡◌, ℕ, ◌+◌, ◌<◌, inl, inr, Bool, Some, None, List, [], ◌∷◌, ◌++◌, length, reverse, refl, sym, ap, ◌∙◌, arith, slice_get, subst}
 use Rattle.std.proofs.lemmas.Bool.{cases_lt}
 use Rattle.std.proofs.lemmas.List.{reverse-append, length_push, length-reverse}
 use Rattle.std.specs.Option.{option_and_then}
@@ -28,6 +28,16 @@ module _ {S : Type 0} (m : StepMachine S) (machine : IsMachine m) where
 
   pub steps_after : (c : List ℕ) (s : S) → after m c ≡ Some s → m.steps s ≡ length c
   steps_after c s h = let a : m.steps s ≡ m.steps m.start + length c = steps_along c m.start s h in let z : m.steps m.start ≡ 0 = machine.from_zero in omega arith
+
+  -- each state on the way is one of the machine
+  fits_along : (c : List ℕ) (r s : S) → m.Fits r → run m r c ≡ Some s → m.Fits s
+  fits_along [] r s fits h = let e : r ≡ s = cc in subst m.Fits e fits
+  fits_along (t ∷ c) r s fits h =
+      option_and_then_some (λ (u : S). run m u c) (m.step r t) s h (λ (u : S) (first : m.step r t ≡ Some u) (rest : run m u c ≡ Some s).
+      fits_along c u s (machine.step_fits r u t fits first) rest)
+
+  pub fits_after : (c : List ℕ) (s : S) → after m c ≡ Some s → m.Fits s
+  fits_after c s h = fits_along c m.start s machine.start_fits h
 
 module _ {S : Type 0} (m : StepMachine S) (same : S → S → Bool) (right : S → Finding → Type 0)
     (machine : IsMachine m) (es : List (Entry S)) (law : IsLawful m same right es) where

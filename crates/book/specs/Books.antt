@@ -35,15 +35,16 @@ module _ {Machine Memory Place : Type 0} (rules : Machine → Rules Memory Place
   abbrev pub IsLawfulIn : (Place → Place → Bool) → (Memory → Memory → Bool) → Contents Machine (State Machine Memory Place) → Type 0
   IsLawfulIn place_eq memory_eq book = IsLawfulBook (machine_in book) (counted_as_one place_eq memory_eq book.merge) (right_in book) book
 
--- A lawful book of a program that meets the limits, and what follows for its machine: it is a step machine, states that count as
--- one step alike, and where one of two such states is sound the other is.
+-- A lawful book of a program that meets the limits, and what follows for its machine: it is a step machine, states of it that count
+-- as one step alike, and where one of two such states is sound the other is.
 pub record IsBook {Machine Memory Place : Type 0} (rules : Machine → Rules Memory Place) (place_eq : Place → Place → Bool)
     (memory_eq : Memory → Memory → Bool) (book : Contents Machine (State Machine Memory Place)) : Type 0 where
   pub law : IsLawfulIn rules place_eq memory_eq book
   pub limits : IsWithinLimits book.program
   pub machine : IsMachine (machine_in rules book)
   pub merges : Merges (machine_in rules book) (counted_as_one place_eq memory_eq book.merge)
-  pub alike : (r s : State Machine Memory Place) → counted_as_one place_eq memory_eq book.merge r s ≡ true → IsSound (right_in rules book) r → IsSound (right_in rules book) s
+  pub alike : (r s : State Machine Memory Place) → (machine_in rules book).Fits r → (machine_in rules book).Fits s → counted_as_one place_eq memory_eq book.merge r s ≡ true
+      → IsSound (right_in rules book) r → IsSound (right_in rules book) s
 
 -- the totals of a book
 abbrev pub totals_of : {X S : Type 0} → Contents X S → Totals

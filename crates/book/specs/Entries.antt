@@ -1,6 +1,7 @@
 -- The entries of a book.
 use Rattle.std.specs.Prelude.{◌≡◌, ◌≢◌, ℕ, zero, suc, ◌+◌, ◌<◌, ◌≤◌, Bool, true, false, if◌then◌else◌, Option, Some, List, [], ◌∷◌, ◌++◌, length, map, slice_get}
 use Rattle.std.specs.List.{list_any}
+use Rattle.std.specs.declared.sync.Arc.{Arc}
 use Rattle.book.specs.declared.finding.Finding.{Finding}
 use Rattle.book.specs.declared.entry.Mark.{Mark}
 use Rattle.book.specs.declared.entry.Mark.TheVariants.{Open, Taken, Expanded}
@@ -48,6 +49,11 @@ module _ {S : Type 0} where
   with_mark [] i mark = []
   with_mark (e ∷ es) zero mark = record e { mark = mark } ∷ es
   with_mark (e ∷ es) (suc i) mark = e ∷ with_mark es i mark
+
+  -- the entries with another mark at each of the numbers
+  abbrev pub with_marks : List (Entry S) → List ℕ → Mark → List (Entry S)
+  with_marks entries [] mark = entries
+  with_marks entries (i ∷ is) mark = with_marks (with_mark entries i mark) is mark
 
   -- whether one of the states counts as the same
   abbrev pub knows : (S → S → Bool) → List S → S → Bool
@@ -102,6 +108,22 @@ pub record Takes {S : Type 0} (steps : S → ℕ) (old new : List (Entry S)) (i 
   pub next : IsNext steps old i entry
   pub state : entry.state ≡ s
   pub after : new ≡ with_mark old i Taken
+
+-- entry i is open, no entry that is not expanded has fewer steps, and its state is s
+pub record IsInLayer {S : Type 0} (steps : S → ℕ) (entries : List (Entry S)) (i : ℕ) (s : S) : Type 0 where
+  pub entry : Entry S
+  pub there : At entries i entry
+  pub is_open : entry.mark ≡ Open
+  pub state : entry.state ≡ s
+  pub fewest : (j : ℕ) (f : Entry S) → At entries j f → f.mark ≢ Expanded → steps s ≤ steps f.state
+
+-- The open entries of the fewest steps of those that are not expanded, each by its number and its state in the order of the
+-- numbers, are taken, and no others; then none is next
+pub record TakesLayer {S A : Type 0} (steps : S → ℕ) (old new : List (Entry S)) (layer : List (ℕ × Arc S A)) : Type 0 where
+  pub each : (k : ℕ) (p : ℕ × Arc S A) → slice_get layer k ≡ Some p → IsInLayer steps old p.0 p.1.value
+  pub ascending : (j k : ℕ) (p q : ℕ × Arc S A) → slice_get layer j ≡ Some p → slice_get layer k ≡ Some q → j < k → p.0 < q.0
+  pub after : new ≡ with_marks old (map (λ p. p.0) layer) Taken
+  pub none_next : (i : ℕ) (e : Entry S) → IsNext steps new i e → ⊥
 
 -- entry i is taken
 abbrev pub IsTaken : {S : Type 0} → List (Entry S) → ℕ → Type 0

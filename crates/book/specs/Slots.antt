@@ -1,5 +1,5 @@
 -- Rows under keys.
-use Rattle.std.specs.Prelude.{◌≡◌, ◌≢◌, ℕ, ◌<◌, ◌≤◌, Bool, not, Option, position, List, [], ◌∷◌, ◌++◌, length, map, if◌then◌else◌}
+use Rattle.std.specs.Prelude.{◌≡◌, ◌≢◌, ℕ, ◌<◌, ◌≤◌, Bool, not, Option, Some, position, slice_get, List, [], ◌∷◌, ◌++◌, length, map, if◌then◌else◌}
 use Rattle.std.specs.List.{list_any}
 use Rattle.std.specs.declared.sync.Arc.{Arc}
 use Rattle.book.specs.declared.entry.Row.{Row}
@@ -22,6 +22,18 @@ entry_of slot = record { state = slot.0.value; finding = slot.1.finding; origin 
 
 abbrev pub entries_of : {S A : Type 0} → List (Arc S A × Row) → List (Entry S)
 entries_of slots = map entry_of slots
+
+-- each number is that of an entry, whose state stands beside it
+abbrev pub AreStatesOf : {S A : Type 0} → List (Entry S) → List (ℕ × Arc S A) → Type 0
+AreStatesOf {S} {A} entries run = (k : ℕ) (p : ℕ × Arc S A) → slice_get run k ≡ Some p → (e : Entry S) × At entries p.0 e × (e.state ≡ p.1.value)
+
+-- P is so of each state
+abbrev pub AllStates : {S A : Type 0} → (S → Type 0) → List (ℕ × Arc S A) → Type 0
+AllStates {S} {A} P run = (k : ℕ) (p : ℕ × Arc S A) → slice_get run k ≡ Some p → P p.1.value
+
+-- every entry from number `start` on is open
+abbrev pub IsOpenFrom : {S : Type 0} → List (Entry S) → ℕ → Type 0
+IsOpenFrom {S} entries start = (i : ℕ) (e : Entry S) → At entries i e → start ≤ i → e.mark ≡ Open
 
 -- `left` is the number of the first entry that is not expanded, or the length
 pub record IsFirstLeft {S : Type 0} (entries : List (Entry S)) (left : ℕ) : Type 0 where

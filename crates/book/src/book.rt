@@ -6,8 +6,9 @@ ghost use Rattle.tree_machine.specs.Step.{Fits};
 ghost use Rattle.tree_machine.specs.declared.state.State.{State};
 ghost use Rattle.std.specs.Cmp.{IsEquivalence};
 ghost use Rattle.sched_program.specs.Exact.{IsExact};
-ghost use Rattle.book.specs.Entries.{Entry, At, Enters, IsNext, IsOwn, IsTaken, Refuses, Takes, is_open, states, unknown, with_successors};
+ghost use Rattle.book.specs.Entries.{Entry, At, Enters, IsNext, IsOwn, IsTaken, Refuses, Takes, TakesLayer, is_open, states, unknown, with_successors};
 ghost use Rattle.book.specs.Findings.{is_sound, IsSound};
+ghost use Rattle.book.specs.Slots.{AllStates, IsOpenFrom};
 ghost use Rattle.book.specs.Books.{counted_as_one, machine_in, right_in, totals_of, IsLawfulIn};
 ghost use Rattle.book.specs.Law.{IsExpansion};
 ghost use Rattle.book.specs.Counts.{IsCount};
@@ -137,13 +138,14 @@ impl<M: Machine> Book<M> {
         })
     }
 
-    /// A book is lawful at every moment, its machine is a step machine, states that it counts as one step alike, and
-    /// where one of two such states is sound the other is.
+    /// A book is lawful at every moment, its machine is a step machine, states of its program that it counts as one step
+    /// alike, and where one of two such states is sound the other is.
     pub fn law(&self)
         ensures law { IsLawfulIn M.rules M.Loc.PartialEq.eq M.Mem.PartialEq.eq self.now }
         ensures machine { IsMachine (machine_in M.rules self.now) }
         ensures merges { Merges (machine_in M.rules self.now) (counted_as_one M.Loc.PartialEq.eq M.Mem.PartialEq.eq self.now.merge) }
-        ensures alike { (r s : State M M.Mem M.Loc) → counted_as_one M.Loc.PartialEq.eq M.Mem.PartialEq.eq self.now.merge r s ≡ true
+        ensures alike { (r s : State M M.Mem M.Loc) → Fits (M.rules self.now.machine) self.now.program r → Fits (M.rules self.now.machine) self.now.program s
+            → counted_as_one M.Loc.PartialEq.eq M.Mem.PartialEq.eq self.now.merge r s ≡ true
             → IsSound (right_in M.rules self.now) r → IsSound (right_in M.rules self.now) s }
         ensures limits { IsWithinLimits self.now.program }
     {
@@ -154,6 +156,7 @@ impl<M: Machine> Book<M> {
     fn next_open(&self) -> Option<usize>
         ensures next { IfSome result (λ i. (e : Entry (State M M.Mem M.Loc)) × IsNext (machine_in M.rules self.now).steps self.now.entries i e) }
         ensures open { IfSome result (λ i. position (λ e. is_open e.mark) self.now.entries ≡ Some i) }
+        ensures above { IfSome result (IsOpenFrom self.now.entries) }
         ensures none { IfNone result ((i : ℕ) (e : Entry (State M M.Mem M.Loc)) → IsNext (machine_in M.rules self.now).steps self.now.entries i e → ⊥) }
     {
         let first = self.table.first_left()?;
@@ -181,6 +184,25 @@ impl<M: Machine> Book<M> {
         let state = Arc::try_clone(self.table.state(id))?;
         self.table.mark_taken(id);
         Ok(Some((id, state)))
+    }
+
+    /// Takes at once all entries that `take` would give one after the other: the open ones of the fewest steps of those
+    /// that are not expanded, each by its number and its state, in the order of their numbers. After a refusal none is
+    /// taken.
+    pub fn take_layer(&mut self) -> Result<Vec<(usize, Arc<State<M>>)>, OutOfMemory>
+        ensures taken { IfOk result (λ layer. TakesLayer (machine_in M.rules self.old).steps self.old.entries self.new.entries layer.items) }
+        ensures fits { IfOk result (λ layer. AllStates (Fits (M.rules self.old.machine) self.old.program) layer.items) }
+        ensures few { IfOk result (λ layer. AllStates (λ state. state.steps < self.old.limit) layer.items) }
+        ensures same { self.new ≡ record self.old { entries = self.new.entries } }
+        ensures err { OnErr result (self.new ≡ self.old) }
+    {
+        let Some(start) = self.next_open() else {
+            return Ok(Vec::new(self.table.allocator()));
+        };
+        let end = self.first_above(steps_at(&self.table, start));
+        let layer = self.table.shared(start, end)?;
+        self.table.mark_run_taken(start, end);
+        Ok(layer)
     }
 
     /// Whether an expansion may be entered: its entry is taken, and it is that entry's.

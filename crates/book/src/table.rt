@@ -1,9 +1,10 @@
 //! The entries by number and by state, and the places among them that are looked for again and again.
-ghost use Rattle.std.specs.Prelude.{◌≡◌, ℕ, ◌+◌, ◌^◌, ◌<◌, ◌≤◌, ◌++◌, ◌∷◌, [], count_by, length, map, not, position, true, OnOk, OnErr, IfOk, IfErr, IfSome, IfNone, Some, None, Option, slice_get, take};
+ghost use Rattle.std.specs.Prelude.{◌≡◌, ℕ, ◌+◌, ◌-◌, ◌^◌, ◌<◌, ◌≤◌, ◌++◌, ◌∷◌, [], count_by, length, map, not, position, true, OnOk, OnErr, IfOk, IfErr, IfSome, IfNone, Some, None, Option, slice_get, take};
+ghost use Rattle.std.specs.List.{range_with_len};
 ghost use Rattle.indexmap.specs.IndexMap.{values};
-ghost use Rattle.book.specs.Entries.{Entry, At, IsTaken, is_open, is_taken, is_expanded, opened, states, unknown, with_mark};
+ghost use Rattle.book.specs.Entries.{Entry, At, IsTaken, is_open, is_taken, is_expanded, opened, states, unknown, with_mark, with_marks};
 ghost use Rattle.book.specs.Findings.{is_sound};
-ghost use Rattle.book.specs.Slots.{entry_of, entries_of, IsFirstLeft};
+ghost use Rattle.book.specs.Slots.{entry_of, entries_of, AreStatesOf, IsFirstLeft, IsOpenFrom};
 
 use crate::entry::{Mark, Origin, Row};
 use crate::expansion::Stepped;
@@ -52,6 +53,35 @@ fn mark_at<S: Eq + Hash>(slots: &mut IndexMap<Arc<S>, Row>, index: usize, mark: 
     }
 }
 
+/// Marks the rows at the indices from `start` to below `end`.
+fn mark_run<S: Eq + Hash>(slots: &mut IndexMap<Arc<S>, Row>, start: usize, end: usize, mark: Mark)
+    requires { start ≤ end }
+    ensures { entries_of slots.new.entries ≡ with_marks (entries_of slots.old.entries) (range_with_len start (end - start)) mark }
+{
+    for index in start..end {
+        mark_at(slots, index, mark);
+    }
+}
+
+/// The indices from `start` to below `end`, each with its shared state.
+fn shared_run<S: Eq + Hash + Drop>(
+    slots: &IndexMap<Arc<S>, Row>,
+    start: usize,
+    end: usize,
+) -> Result<Vec<(usize, Arc<S>)>, AllocError>
+    requires some { start ≤ end }
+    requires within { end ≤ length slots.now.entries }
+    ensures numbers { IfOk result (λ run. map (λ p. p.0) run.items ≡ range_with_len start (end - start)) }
+    ensures states { IfOk result (λ run. AreStatesOf (entries_of slots.now.entries) run.items) }
+{
+    let mut run = Vec::with_capacity(*slots.allocator(), end - start)?;
+    for index in start..end {
+        let state = Arc::try_clone(state_at(slots, index))?;
+        run.push((index, state))?;
+    }
+    Ok(run)
+}
+
 /// Puts in, in their order, open rows for the steps that lead to new states.
 fn put_steps<S: Eq + Hash + Drop>(
     slots: &mut IndexMap<Arc<S>, Row>,
@@ -82,6 +112,17 @@ fn row_at<S: Eq + Hash>(slots: &IndexMap<Arc<S>, Row>, index: usize) -> &Row
         unreachable!();
     };
     row
+}
+
+/// The shared state at an index.
+fn state_at<S: Eq + Hash>(slots: &IndexMap<Arc<S>, Row>, index: usize) -> &Arc<S>
+    requires { index < length slots.now.entries }
+    ensures { (e : Entry S) × At (entries_of slots.now.entries) index e × (e.state ≡ result.now.value) }
+{
+    let Some((state, _)) = slots.get_index(index) else {
+        unreachable!();
+    };
+    state
 }
 
 /// The first row that is not sound, where all before `start` are.
@@ -153,6 +194,11 @@ impl<S: Eq + Hash + Drop> Table<S> {
         })
     }
 
+    /// What the entries take memory of.
+    pub fn allocator(&self) -> Global {
+        *self.slots.allocator()
+    }
+
     /// The number of entries.
     pub fn len(&self) -> usize
         ensures { result ≡ length self.now }
@@ -177,15 +223,23 @@ impl<S: Eq + Hash + Drop> Table<S> {
         requires { index < length self.now }
         ensures { (e : Entry S) × At self.now index e × (e.state ≡ result.now.value) }
     {
-        let Some((state, _)) = self.slots.get_index(index) else {
-            unreachable!();
-        };
-        state
+        state_at(&self.slots, index)
     }
 
-    /// The first open entry.
+    /// The entries from `start` to below `end`, each by its number and its shared state.
+    pub fn shared(&self, start: usize, end: usize) -> Result<Vec<(usize, Arc<S>)>, AllocError>
+        requires some { start ≤ end }
+        requires within { end ≤ length self.now }
+        ensures numbers { IfOk result (λ run. map (λ p. p.0) run.items ≡ range_with_len start (end - start)) }
+        ensures states { IfOk result (λ run. AreStatesOf self.now run.items) }
+    {
+        shared_run(&self.slots, start, end)
+    }
+
+    /// The first open entry. All entries from it on are open.
     pub fn first_open(&self) -> Option<usize>
-        ensures { result ≡ position (λ e. is_open e.mark) self.now }
+        ensures first { result ≡ position (λ e. is_open e.mark) self.now }
+        ensures above { IfSome result (IsOpenFrom self.now) }
     {
         if self.next_open < self.slots.len() {
             Some(self.next_open)
@@ -220,6 +274,17 @@ impl<S: Eq + Hash + Drop> Table<S> {
     {
         mark_at(&mut self.slots, index, Mark::Taken);
         self.next_open = index + 1;
+    }
+
+    /// Marks the entries from the first open one, `start`, to below `end` taken.
+    pub fn mark_run_taken(&mut self, start: usize, end: usize)
+        requires first { position (λ e. is_open e.mark) self.old ≡ Some start }
+        requires some { start ≤ end }
+        requires within { end ≤ length self.old }
+        ensures { self.new ≡ with_marks self.old (range_with_len start (end - start)) Mark.Taken }
+    {
+        mark_run(&mut self.slots, start, end, Mark::Taken);
+        self.next_open = end;
     }
 
     /// Marks a taken entry expanded.

@@ -52,15 +52,12 @@ fn enters_next(
     }
 }
 
-/// What is left of a test once a growth was refused: an answer of its own, which is right too.
-fn passes(answer: Result<bool, OutOfMemory>) -> bool {
-    answer.unwrap_or(true)
-}
-
-fn is_refused(answer: Result<Entered, EnterFault>, fault: EnterFault) -> bool {
+/// Whether an expansion was refused for this.
+fn is_refused(answer: Result<Entered, EnterFault>, fault: EnterFault) -> Result<bool, OutOfMemory> {
     match answer {
-        Ok(_) => false,
-        Err(told) => told == fault || told == EnterFault::OutOfMemory,
+        Ok(_) => Ok(false),
+        Err(EnterFault::OutOfMemory) => Err(OutOfMemory),
+        Err(told) => Ok(told == fault),
     }
 }
 
@@ -106,9 +103,11 @@ fn expand_two_layers(alloc: Global) -> Result<bool, OutOfMemory> {
     Ok(first && second && third && is_whole(alloc, &book)?)
 }
 
+// Each test runs once more where a growth was refused: that happens once at most.
 #[test]
 fn a_book_of_two_layers(rt: HostRuntime) -> Result<(), Fail> {
-    assert!(rt; passes(expand_two_layers(rt.alloc())));
+    let alloc = rt.alloc();
+    assert!(rt; expand_two_layers(alloc).or_else(|_| expand_two_layers(alloc))?);
     Ok(())
 }
 
@@ -131,12 +130,13 @@ fn enter_again(alloc: Global) -> Result<bool, OutOfMemory> {
     }
     let before = book.totals();
     let again = book.enter(id, second);
-    Ok(is_refused(again, EnterFault::NotTaken) && book.totals() == before)
+    Ok(is_refused(again, EnterFault::NotTaken)? && book.totals() == before)
 }
 
 #[test]
 fn an_entry_is_expanded_once(rt: HostRuntime) -> Result<(), Fail> {
-    assert!(rt; passes(enter_again(rt.alloc())));
+    let alloc = rt.alloc();
+    assert!(rt; enter_again(alloc).or_else(|_| enter_again(alloc))?);
     Ok(())
 }
 
@@ -162,7 +162,7 @@ fn enter_a_stranger(alloc: Global) -> Result<bool, OutOfMemory> {
     Ok(
         one == 1
             && two == 2
-            && is_refused(entered, EnterFault::Stranger)
+            && is_refused(entered, EnterFault::Stranger)?
             && book.totals() == before
             && none_left,
     )
@@ -170,7 +170,35 @@ fn enter_a_stranger(alloc: Global) -> Result<bool, OutOfMemory> {
 
 #[test]
 fn a_stranger_is_refused(rt: HostRuntime) -> Result<(), Fail> {
-    assert!(rt; passes(enter_a_stranger(rt.alloc())));
+    let alloc = rt.alloc();
+    assert!(rt; enter_a_stranger(alloc).or_else(|_| enter_a_stranger(alloc))?);
+    Ok(())
+}
+
+/// The steps of the start are taken at once, and then none is left to take.
+fn take_a_layer(alloc: Global) -> Result<bool, OutOfMemory> {
+    let program = twice(alloc)?;
+    let own = program.copy(alloc)?;
+    let mut book = Book::open(alloc, Atomic, own, 100, Merge::Exact)?;
+    if !enters_next(alloc, &mut book, &program)? {
+        return Ok(false);
+    }
+    let layer = book.take_layer()?;
+    let numbers = match layer.as_slice() {
+        [(first, one), (second, two)] => {
+            *first == 1 && *second == 2 && one.steps() == 1 && two.steps() == 1
+        }
+        _ => false,
+    };
+    let totals = book.totals();
+    let none_left = book.take()?.is_none() && book.take_layer()?.is_empty();
+    Ok(numbers && totals.fresh == 0 && totals.taken == 2 && totals.expanded == 1 && none_left)
+}
+
+#[test]
+fn a_layer_is_taken_at_once(rt: HostRuntime) -> Result<(), Fail> {
+    let alloc = rt.alloc();
+    assert!(rt; take_a_layer(alloc).or_else(|_| take_a_layer(alloc))?);
     Ok(())
 }
 
@@ -182,7 +210,7 @@ fn enter_too_many(alloc: Global) -> Result<bool, OutOfMemory> {
     match expand_next(alloc, &mut book, &program)? {
         Some(answer) => {
             let totals = book.totals();
-            Ok(is_refused(answer, EnterFault::Full) && totals.entries == 1 && totals.taken == 1)
+            Ok(is_refused(answer, EnterFault::Full)? && totals.entries == 1 && totals.taken == 1)
         }
         None => Ok(false),
     }
@@ -190,7 +218,8 @@ fn enter_too_many(alloc: Global) -> Result<bool, OutOfMemory> {
 
 #[test]
 fn a_full_book_is_left_as_it_is(rt: HostRuntime) -> Result<(), Fail> {
-    assert!(rt; passes(enter_too_many(rt.alloc())));
+    let alloc = rt.alloc();
+    assert!(rt; enter_too_many(alloc).or_else(|_| enter_too_many(alloc))?);
     Ok(())
 }
 
@@ -233,9 +262,25 @@ fn schedules_are_replayed(rt: HostRuntime) -> Result<(), Fail> {
         thread: 1,
         index: 0,
     };
-    assert!(rt; passes(replays_to(alloc, [].as_slice(), [].as_slice())));
-    assert!(rt; passes(replays_to(alloc, [1, 0].as_slice(), [one, zero].as_slice())));
-    assert!(rt; passes(stops_at(alloc, [0, 0].as_slice(), 2)));
-    assert!(rt; passes(stops_at(alloc, [7].as_slice(), 1)));
+    assert!(rt;
+        replays_to(alloc, [].as_slice(), [].as_slice()).or_else(|_| replays_to(
+            alloc,
+            [].as_slice(),
+            [].as_slice()
+        ))?
+    );
+    assert!(rt;
+        replays_to(alloc, [1, 0].as_slice(), [one, zero].as_slice()).or_else(|_| replays_to(
+            alloc,
+            [1, 0].as_slice(),
+            [one, zero].as_slice()
+        ))?
+    );
+    assert!(rt;
+        stops_at(alloc, [0, 0].as_slice(), 2).or_else(|_| stops_at(alloc, [0, 0].as_slice(), 2))?
+    );
+    assert!(rt;
+        stops_at(alloc, [7].as_slice(), 1).or_else(|_| stops_at(alloc, [7].as_slice(), 1))?
+    );
     Ok(())
 }

@@ -17,7 +17,7 @@ use Rattle.crew.proofs.Reaching.{above_more, more_above}
 
 module _ {X S : Type 0} (m : StepMachine S) (same : S → S → Bool) (right : S → Finding → Type 0)
     (machine : IsMachine m) (merges : Merges m same)
-    (alike : (a b : S) → same a b ≡ true → IsSound right a → IsSound right b)
+    (alike : (a b : S) → m.Fits a → m.Fits b → same a b ≡ true → IsSound right a → IsSound right b)
     (agree : (s : S) (f g : Finding) → right s f → right s g → is_sound f ≡ true → is_sound g ≡ true)
     (b : Contents X S) (book : IsLawfulBook m same right b) where
   -- after so many steps every state is sound: then no shortest fault is within them

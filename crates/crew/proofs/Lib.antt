@@ -7,6 +7,11 @@ pub mod Answers
 pub mod Expansions
 pub mod Ends
 pub mod Drives
+pub mod Counted
+pub mod Layer
+pub mod Reports
 pub mod WorkedOff
 pub mod Reaching
 pub mod Verdicts
+pub mod ClaimSteps
+pub mod ClaimTurns

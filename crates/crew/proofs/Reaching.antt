@@ -11,6 +11,7 @@ use Rattle.book.specs.Counts.{IsCount, IsMoreThan}
 use Rattle.book.proofs.EntryLemmas.{get-append_cases, get-append_left, get-append_right}
 use Rattle.book.proofs.Unknown.{unknown_is, unknown_apart, known_or_kept, list_any-true, list_any-false}
 use Rattle.book.proofs.Counts.{run_push}
+use Rattle.book.proofs.Ways.{fits_after}
 use Rattle.crew.specs.Due.{IsAbove}
 use Rattle.crew.proofs.Crowding.{count_above}
 
@@ -217,7 +218,8 @@ module _ {S : Type 0} (m : StepMachine S) (same : S → S → Bool) (machine : I
             let whole : length r.0 ≡ length (l.0 ++ l.1 ∷ []) = ap length l.2 in
             let le : length r.0 ≤ n + 1 = r.1 in
             let w = count.all parts.0 (l.0, omega arith, parts.1) in
-            let v = merges.steps_alike w.1 parts.0 s l.1 w.3 parts.2 in
+            let way = count.reached w.0 w.1 w.2 in
+            let v = merges.steps_alike w.1 parts.0 s l.1 (fits_after m machine way.0 w.1 way.2) (fits_after m machine l.0 parts.0 parts.1) w.3 parts.2 in
             found w.1 v.0 s w.0 l.1 w.2 v.1 v.2)
       ]);
     }

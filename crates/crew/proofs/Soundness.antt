@@ -12,7 +12,7 @@ use Rattle.book.specs.Layers.{IsExpandedBelow}
 use Rattle.book.specs.Findings.{is_sound, IsSound}
 use Rattle.book.proofs.Coverage.{stands_after}
 use Rattle.book.proofs.Next.{first_passes, none_passes}
-use Rattle.book.proofs.Ways.{steps_after}
+use Rattle.book.proofs.Ways.{fits_after, steps_after}
 use Rattle.crew.specs.Faults.{IsFaulty}
 use Rattle.crew.specs.Reading.{first_fault}
 
@@ -51,14 +51,14 @@ found_at es i o first is =
 
 module _ {S : Type 0} (m : StepMachine S) (same : S → S → Bool) (right : S → Finding → Type 0)
     (machine : IsMachine m) (merges : Merges m same)
-    (alike : (a b : S) → same a b ≡ true → IsSound right a → IsSound right b)
+    (alike : (a b : S) → m.Fits a → m.Fits b → same a b ≡ true → IsSound right a → IsSound right b)
     (es : List (Entry S)) (law : IsLawful m same right es) where
   pub sound_to : (n : ℕ) → IsExpandedBelow m.steps es n
       → ((i : ℕ) (e : Entry S) → At es i e → m.steps e.state ≤ n → is_sound e.finding ≡ true) → SoundTo m right n
   sound_to n done sound c s short leads =
       let w = stands_after m same right machine merges es law n done c s short leads in
       let up : m.steps s ≡ length c = steps_after m machine c s leads in
-      alike w.1.state s w.3
+      alike w.1.state s (law.fit w.0 w.1 w.2) (fits_after m machine c s leads) w.3
       (w.1.finding, law.findings w.0 w.1 w.2, sound w.0 w.1 w.2 (let q : m.steps w.1.state ≤ m.steps s = w.4 in omega arith))
 
   pub sound_by : (n : ℕ) → first_fault es ≡ None → IsExpandedBelow m.steps es n → SoundTo m right n

@@ -1,5 +1,5 @@
 -- What an exploration is asked for.
-use Rattle.std.specs.Prelude.{◌≡◌, ℕ, ◌≤◌}
+use Rattle.std.specs.Prelude.{ℕ, ◌≤◌}
 use Rattle.book.specs.declared.book.Merge.{Merge}
 
 -- how many steps a schedule may have, how many entries the book may have, which states it counts as one, and how many workers explore
@@ -13,4 +13,5 @@ pub record AreInRange (settings : Settings) : Type 0 where
   pub steps : settings.steps ≤ 400
   pub some : 1 ≤ settings.limit
   pub limit : settings.limit ≤ 2000000
-  pub workers : settings.workers ≡ 1
+  pub worker : 1 ≤ settings.workers
+  pub workers : settings.workers ≤ 8

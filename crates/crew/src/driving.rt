@@ -1,4 +1,4 @@
-//! The expansion of the layers, one after the other.
+//! The expansion of the layers on one thread, entry by entry.
 ghost use Rattle.std.specs.Prelude.{◌≡◌, ℕ, ◌+◌, ◌<◌, ◌≤◌, IfOk, IfSome, IfNone, OnOk, None, count_by};
 ghost use Rattle.book.specs.Books.{counted_as_one, machine_in, right_in};
 ghost use Rattle.book.specs.Entries.{is_expanded};

@@ -1,32 +1,137 @@
-//! The exploration by one worker.
-ghost use Rattle.std.specs.Prelude.{◌≡◌, ℕ, ◌+◌, IfOk, length};
-ghost use Rattle.book.specs.Books.{counted_as_one, totals_of};
+//! The exploration by several workers, and anew on one thread where the book that they leave does not tell the answer.
+ghost use Rattle.std.specs.Prelude.{◌≡◌, ℕ, ◌+◌, ◌<◌, IfOk, IfSome, length};
+ghost use Rattle.book.specs.Books.{counted_as_one, machine_in, totals_of};
 ghost use Rattle.book.specs.Findings.{machine_of, IsFindingOf};
 ghost use Rattle.crew.specs.declared.answer.Answer.{Answer};
 ghost use Rattle.crew.specs.Due.{IsDue, IsSameVerdict};
 ghost use Rattle.crew.specs.Headline.{IsTrueOf};
 ghost use Rattle.crew.specs.Ledger.{ledger};
-ghost use Rattle.crew.specs.Reading.{TellsFirst};
+ghost use Rattle.crew.specs.Driving.{IsLedgerOf};
+ghost use Rattle.crew.specs.Reading.{StandsAt, TellsFirst};
+ghost use Rattle.crew.specs.Reporting.{IsBookOf, IsReport};
 
 use crate::answer::{Report, Share};
 use crate::driving::drive;
+use crate::gate::Gate;
+use crate::layers::{cut_of, workers_of};
 use crate::options::Options;
-use crate::reading::read_answer;
+use crate::reporting::report_of;
+use crate::settling::{merged, shares_of};
+use crate::tally::{Blanks, Desk, Run};
+use crate::working::Exploration;
 use book::Book;
 use sched_program::{OutOfMemory, Program};
 use std::alloc::Global;
+use std::marker::Brand;
+use std::sync::{Mutex, Wait};
+use std::thread::Threads;
 use tree_machine::Machine;
 
-/// Explores every schedule of a program of at most so many steps as the options say, unless more states are reached
-/// than the book may have entries.
-///
-/// The answer is the due one, and true of all schedules; no answer with another verdict or other numbers is due. It is read off the book of the report, whose recorded schedules
-/// lead to its entries' states. A refused growth is answered by `OutOfMemory`.
-pub fn explore<M: Machine>(
+/// A book of what is asked for, with the start alone.
+fn opened<M: Machine>(
     alloc: Global,
     machine: M,
     program: &Program,
     options: Options,
+) -> Result<Book<M>, OutOfMemory>
+    ensures asked { IfOk result (IsBookOf machine program.now options) }
+    ensures stands { IfOk result (λ b. StandsAt (machine_in M.rules b).steps b.entries 0) }
+    ensures ledger { IfOk result (λ b. IsLedgerOf b (record { expanded = 0; entered = 0; met = 0 })) }
+{
+    let limit = options.limit() as usize;
+    let book = Book::open(alloc, machine, program.copy(alloc)?, limit, options.merge())?;
+    book.law();
+    Ok(book)
+}
+
+/// Explores by all workers at once. None where the book that they leave under the lock does not tell the answer.
+fn explore_together<J: Run + Send + Sync, M: Machine, G: Gate, R: Threads + Wait + Sync>(
+    rt: &R,
+    alloc: Global,
+    machine: M,
+    program: &Program,
+    options: Options,
+    gate: &G,
+    blanks: Blanks,
+) -> Result<Option<Report<M>>, OutOfMemory>
+    requires expanded { (blanks.expanded.name ≡ J.expanded_name) × (blanks.expanded.parts ≡ J.parts) }
+    requires entered { (blanks.entered.name ≡ J.entered_name) × (blanks.entered.parts ≡ J.parts) }
+    requires met { (blanks.met.name ≡ J.met_name) × (blanks.met.parts ≡ J.parts) }
+    requires parts { J.parts ≡ options.workers }
+    ensures { IfOk result (λ o. IfSome o (λ r. IsReport M.rules M.Loc.PartialEq.eq M.Mem.PartialEq.eq machine program.now options r.answer r.totals r.shares.items r.book)) }
+{
+    let book = opened(alloc, machine, program, options)?;
+    let (desk, parts) = Desk::<J, M>::new(book, blanks);
+    let mut workers = workers_of(alloc, options.workers(), parts)?;
+    let exploration = Exploration {
+        rt,
+        alloc,
+        machine,
+        program,
+        gate,
+        desk: Mutex::new(desk),
+    };
+    exploration.expand_layers(options.steps(), workers.as_mut_slice())?;
+    let cut = cut_of(workers.as_slice());
+    let shares = shares_of(alloc, &workers)?;
+    let Some(whole) = merged(workers) else {
+        return Ok(None);
+    };
+    let Exploration { desk, .. } = exploration;
+    let book = desk.into_inner().settle(whole);
+    report_of(alloc, machine, program, options, book, cut, shares)
+}
+
+/// The shares where the first worker did all the work.
+fn shares_alone(alloc: Global, share: Share, workers: u8) -> Result<Vec<Share>, OutOfMemory>
+    requires { 0 < workers }
+    ensures len { IfOk result (λ v. length v.items ≡ workers) }
+    ensures sums { IfOk result (λ v. ledger v.items ≡ share) }
+{
+    let mut shares = Vec::new(alloc);
+    shares.push(share)?;
+    for _other in 1..workers {
+        shares.push(Share::none())?;
+    }
+    Ok(shares)
+}
+
+/// Explores on one thread, with all the work in the first worker's share.
+fn explore_alone<M: Machine>(
+    alloc: Global,
+    machine: M,
+    program: &Program,
+    options: Options,
+) -> Result<Report<M>, OutOfMemory>
+    ensures { IfOk result (λ r. IsReport M.rules M.Loc.PartialEq.eq M.Mem.PartialEq.eq machine program.now options r.answer r.totals r.shares.items r.book) }
+{
+    let mut book = opened(alloc, machine, program, options)?;
+    let mut share = Share::none();
+    let cut = drive(alloc, program, &mut book, options.steps(), &mut share)?;
+    let shares = shares_alone(alloc, share, options.workers())?;
+    match report_of(alloc, machine, program, options, book, cut, shares)? {
+        Some(report) => Ok(report),
+        None => unreachable!(),
+    }
+}
+
+/// Explores every schedule of a program of at most so many steps as the options say, by so many workers as they say,
+/// unless more states are reached than the book may have entries.
+///
+/// The answer is the due one, and true of all schedules; no answer with another verdict or other numbers is due. It is
+/// read off the book of the report, whose recorded schedules lead to its entries' states. The workers' shares sum to the
+/// book's totals. Each worker has a thread of its own and calls the gate at each entry that it expands.
+///
+/// A refused growth is answered by `OutOfMemory`, once all workers are joined. Where the book that the workers leave is
+/// not the one that was opened, or a layer of it was left undone for no reason, which no worker here brings about, one
+/// thread explores anew: all the work is in the first worker's share, and no gate is called.
+pub fn explore<M: Machine, G: Gate, R: Threads + Wait + Sync>(
+    rt: &R,
+    alloc: Global,
+    machine: M,
+    program: &Program,
+    options: Options,
+    gate: &G,
 ) -> Result<Report<M>, OutOfMemory>
     ensures due { IfOk result (λ r. IsDue (machine_of {Machine = M} (M.rules machine) program.now) (counted_as_one M.Loc.PartialEq.eq M.Mem.PartialEq.eq options.merge) (IsFindingOf (M.rules machine) program.now) options.steps options.limit r.totals.entries r.answer) }
     ensures only { IfOk result (λ r. (count : ℕ) (other : Answer) → IsDue (machine_of {Machine = M} (M.rules machine) program.now) (counted_as_one M.Loc.PartialEq.eq M.Mem.PartialEq.eq options.merge) (IsFindingOf (M.rules machine) program.now) options.steps options.limit count other → IsSameVerdict r.totals.entries r.answer count other) }
@@ -40,23 +145,9 @@ pub fn explore<M: Machine>(
     ensures shares { IfOk result (λ r. length r.shares.items ≡ options.workers) }
     ensures ledger { IfOk result (λ r. ledger r.shares.items ≡ record { expanded = r.totals.expanded; entered = r.totals.entered; met = r.totals.met }) }
 {
-    let limit = options.limit() as usize;
-    let mut book = Book::open(alloc, machine, program.copy(alloc)?, limit, options.merge())?;
-    book.law();
-    let mut share = Share::none();
-    let cut = drive(alloc, program, &mut book, options.steps(), &mut share)?;
-    match read_answer(alloc, program, &mut book, options, cut)? {
-        Some(answer) => {
-            let mut shares = Vec::new(alloc);
-            shares.push(share)?;
-            let totals = book.totals();
-            Ok(Report {
-                answer,
-                totals,
-                shares,
-                book,
-            })
-        }
-        None => unreachable!(),
+    let blanks = Blanks::new(u64::from(options.workers()));
+    match explore_together::<Brand, M, G, R>(rt, alloc, machine, program, options, gate, blanks)? {
+        Some(report) => Ok(report),
+        None => explore_alone(alloc, machine, program, options),
     }
 }

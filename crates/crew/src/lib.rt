@@ -1,14 +1,23 @@
-//! The exploration of every schedule of a program, up to a number of steps, and the answer that is due.
+//! The exploration of every schedule of a program, up to a number of steps, by several workers, and the answer that is due.
 #![tactic(auto)]
 
 mod answer;
+mod claims;
 mod driving;
 mod explorer;
+mod gate;
+mod layers;
 mod options;
 mod reading;
+mod reporting;
+mod settling;
+mod tally;
 #[cfg(test)]
 mod tests;
+mod working;
 
 pub use crate::answer::{Answer, Report, Share};
+pub use crate::claims::{Claimed, Claims, Draws, Seat, Size};
 pub use crate::explorer::explore;
+pub use crate::gate::{Gate, Open};
 pub use crate::options::Options;

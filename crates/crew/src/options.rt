@@ -6,7 +6,7 @@ use book::Merge;
 use std::marker::Model;
 
 /// How far an exploration goes: schedules of 0 to 400 steps, books of 1 to 2,000,000 entries, which states count as
-/// one, and one worker.
+/// one, and 1 to 8 workers.
 #[derive(Clone, Copy, Debug, PartialEq, Eq)]
 pub struct Options {
     steps: u16,
@@ -33,7 +33,7 @@ impl Options {
         ensures value { IfSome result (λ options. options ≡ record { steps = steps; limit = limit; merge = merge; workers = workers }) }
         ensures range { IsSome result ↔ AreInRange (record { steps = steps; limit = limit; merge = merge; workers = workers }) }
     {
-        if steps <= 400 && limit >= 1 && limit <= 2_000_000 && workers == 1 {
+        if steps <= 400 && limit >= 1 && limit <= 2_000_000 && workers >= 1 && workers <= 8 {
             Some(Options {
                 steps,
                 limit,

@@ -1,5 +1,9 @@
+mod Accepted
+mod Entered
 mod Ledgers
+mod Parsed
 mod Requests
 mod Schedules
 mod Servings
+mod Subcommands
 mod Values

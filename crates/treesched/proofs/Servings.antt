@@ -1,6 +1,6 @@
 -- What an answer comes to.
-use Rattle.std.proofs.Common.{◌≡◌, ◌∙◌, ◌+◌, ◌<◌, ◌≤◌, ℕ, Bool, true, None, List, length, take, nat_lt, false, subst, arith, refl, sym, ap, inr, ◌⊎◌}
-use Rattle.std.specs.Prelude.{IsSome}
+use Rattle.std.proofs.Common.{◌≡◌, ◌∙◌, ◌+◌, ◌<◌, ◌≤◌, ℕ, Bool, true, Option, None, Some, List, length, take, nat_lt, false, subst, arith, refl, sym, ap, inl, inr, ◌⊎◌}
+use Rattle.std.specs.Prelude.{IsSome, MatchOption}
 use Rattle.std.specs.Cmp.{IsEquivalence}
 use Rattle.std.proofs.lemmas.Bool.Decides.{nat_tests}
 use Rattle.sched_program.specs.Exact.{IsExact}
@@ -21,7 +21,10 @@ use Rattle.tree_machine.specs.Rules.{Rules}
 use Rattle.book.specs.Findings.{machine_of}
 use Rattle.book.specs.declared.replayed.ReplayFault.{ReplayFault}
 use Rattle.treesched.specs.Lines.{IsRefusal, no_step_text}
-use Rattle.treesched.specs.Serving.{IsEquality, IsReplayed, IsStuck}
+use Rattle.treesched.specs.Serving.{IsAnswerTo, IsEquality, IsReplayed, IsServedFrom, IsStuck, IsUnread}
+use Rattle.clap.specs.Walk.{Text}
+use Rattle.treesched.specs.Reading.{AskFor}
+use Rattle.treesched.specs.declared.request.Request.{Request}
 use Rattle.treesched.specs.declared.serve.Output.{Output}
 
 pub equality_of : {S : Type 0} (same : S → S → Bool) → IsExact same → IsEquivalence same → IsEquality same
@@ -64,3 +67,11 @@ module _ (Machine : Type 0) {Memory Place : Type 0} (rules : Rules Memory Place)
         told = subst (λ (k : ℕ). IsRefusal 4 (no_step_text k (get_or schedule i 0)) output) e
             (subst (λ (k : ℕ). IsRefusal 4 (no_step_text n (get_or schedule k 0)) output) place h);
       })) told
+
+module _ (words : List Text) (asked : Request) (ask : AskFor words asked) where
+  -- what is served for the request of the words answers them
+  pub answers : {F E : Type 0} (remaining : F → Option (List ℕ)) (file : Option F) (r : Result Output E)
+      → IfOk r (λ output. MatchOption file (IsUnread asked output) (λ reader. IsServedFrom (remaining reader) asked output))
+      → IfOk r (IsAnswerTo words)
+  answers remaining None r served = IfOk-weaker r _ _ (λ output h. inl (asked, ask, (None, inl h))) served
+  answers remaining (Some reader) r served = IfOk-weaker r _ _ (λ output h. inl (asked, ask, (remaining reader, h))) served

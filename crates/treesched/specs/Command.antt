@@ -15,6 +15,14 @@ steps = record (new_rule (codes "steps")) {
   parser = Some (Unsigned 0 400);
 }
 
+abbrev pub workers : Rule
+workers = record (new_rule (codes "workers")) {
+  long = Some (codes "workers");
+  value_names = 1;
+  defaults = codes "1" ∷ [];
+  parser = Some (Unsigned 1 8);
+}
+
 abbrev pub states : Rule
 states = record (new_rule (codes "states")) {
   long = Some (codes "states");
@@ -33,9 +41,9 @@ schedule = record (new_rule (codes "schedule")) {
   required = true;
 }
 
--- explore FILE --steps N [--states M] [--ledger]
+-- explore FILE --steps N [--workers W] [--states M] [--ledger]
 abbrev pub explore : App
-explore = with_rule (with_rule (with_rule (with_rule (new_app (codes "explore")) file) steps) states) ledger
+explore = with_rule (with_rule (with_rule (with_rule (with_rule (new_app (codes "explore")) file) steps) workers) states) ledger
 
 -- replay FILE --schedule LIST
 abbrev pub replay : App

@@ -1,5 +1,5 @@
 -- What the words ask for, by clap's exact reading of them.
-use Rattle.std.specs.Prelude.{◌≡◌, ◌↔◌, ◌⊎◌, ℕ, Bool, true, false, List, [], Option, Some, codes, option_map}
+use Rattle.std.specs.Prelude.{◌≡◌, ◌↔◌, ℕ, Bool, true, List, [], Option, Some, codes, option_map}
 use Rattle.std.specs.Borrow.{Bor}
 use Rattle.std.specs.Str.Parse.{IsNumeral, digits_value, without_leading_plus}
 use Rattle.clap.specs.Words.{IsAmong, Row, Text, fault_of, first_of, one_of, subcommand_of}
@@ -25,11 +25,16 @@ text_of = option_map (λ s. s.now)
 abbrev pub IsUsed : List Row → Text → Type 0
 IsUsed rows id = one_of id rows ≡ Some (codes "true")
 
--- the bounds are those that the options of `explore` write, and in range: 0 to 400 steps, 1 to 2,000,000 states; one worker
--- with exact merging, since no option names another
-abbrev pub OptionsAre : List Row → Settings → Type 0
-OptionsAre rows settings = NumberIs rows (codes "steps") settings.steps × NumberIs rows (codes "states") settings.limit
-    × AreInRange settings
+-- the bounds are those that the options of `explore` write, and in range: 0 to 400 steps, 1 to 8 workers, 1 to 2,000,000 states
+pub record OptionsAre (rows : List Row) (settings : Settings) : Type 0 where
+  pub steps : NumberIs rows (codes "steps") settings.steps
+  pub workers : NumberIs rows (codes "workers") settings.workers
+  pub limit : NumberIs rows (codes "states") settings.limit
+  pub range : AreInRange settings
+
+-- the argument has a value
+abbrev pub HasText : List Row → Text → Type 0
+HasText rows id = (text : Text) × (first_of id rows ≡ Some text)
 
 abbrev pub file_of : Request → Text
 file_of (request.Explore file options ledger) = file.now
@@ -63,30 +68,21 @@ abbrev pub HaveFault : List Text → Bool → Type 0
 HaveFault words help = (kind : ErrorKind) × (IsAmong kind (fault_of command_line words)
     × (help ≡ true ↔ kind ≡ DisplayHelp))
 
--- clap takes the words, and they ask for no request
-abbrev pub AskForNothing : List Text → Type 0
-AskForNothing words = (fault_of command_line words ≡ []) × ((r : Request) → AskFor words r → ⊥)
-
 -- why the words make no request
 abbrev pub AreRefused : List Text → WordsFault → Type 0
-AreRefused words (fault.Usage help text) = HaveFault words help ⊎ (AskForNothing words × (help ≡ false))
+AreRefused words (fault.Usage help text) = HaveFault words help
 AreRefused words fault.Schedule = HaveBadSchedule words
 AreRefused words fault.OutOfMemory = Unit {0}
 
--- the same for the subcommand's matches, which clap made
-abbrev pub IsFaultOf : Text → List Row → WordsFault → Type 0
-IsFaultOf name rows (fault.Usage help text) = (help ≡ false) × ((r : Request) → IsRequestOf name rows r → ⊥)
-IsFaultOf name rows fault.Schedule = (name ≡ codes "replay") × ((text : Text)
-    × (first_of (codes "schedule") rows ≡ Some text) × ((threads : List ℕ) → IsSchedule text threads → ⊥))
-IsFaultOf name rows fault.OutOfMemory = Unit {0}
+-- why the matches of `replay` make no request
+abbrev pub IsFaultOf : List Row → WordsFault → Type 0
+IsFaultOf rows (fault.Usage help text) = ⊥
+IsFaultOf rows fault.Schedule = (text : Text) × (first_of (codes "schedule") rows ≡ Some text)
+    × ((threads : List ℕ) → IsSchedule text threads → ⊥)
+IsFaultOf rows fault.OutOfMemory = Unit {0}
 
 -- the fault tells an error of clap's of this kind
 abbrev pub Tells : ErrorKind → WordsFault → Type 0
 Tells kind (fault.Usage help text) = help ≡ true ↔ kind ≡ DisplayHelp
 Tells kind fault.Schedule = ⊥
 Tells kind fault.OutOfMemory = Unit {0}
-
-abbrev pub IsUnread : WordsFault → Type 0
-IsUnread (fault.Usage help text) = help ≡ false
-IsUnread fault.Schedule = ⊥
-IsUnread fault.OutOfMemory = Unit {0}

@@ -29,10 +29,12 @@ use Rattle.crew.specs.Ledger.{ledger}
 use Rattle.crew.specs.Settings.{Settings}
 use Rattle.crew.specs.declared.answer.Answer.{Answer}
 use Rattle.crew.specs.declared.answer.Share.{Share}
-use Rattle.treesched.specs.Lines.{IsRefusal, no_step_text, operations_text, report_text, status_of, verdict_text}
-use Rattle.treesched.specs.Reading.{file_of}
+use Rattle.treesched.specs.Lines.{IsRefusal, TellsFault, no_step_text, operations_text, report_text, status_of, verdict_text}
+use Rattle.clap.specs.Walk.{Text}
+use Rattle.treesched.specs.Reading.{AreRefused, AskFor, file_of}
 use Rattle.treesched.specs.declared.request.Request.{Request}
 use Rattle.treesched.specs.declared.request.Request.TheVariants as request
+use Rattle.treesched.specs.declared.request.WordsFault.{WordsFault}
 use Rattle.treesched.specs.declared.serve.Output.{Output}
 
 -- the test holds of equal values, and of these alone
@@ -101,3 +103,9 @@ IsUnread asked output = IsRefusal 6 (codes "can't read " ++ file_of asked) outpu
 abbrev pub IsServedFrom : Option (List ℕ) → Request → Output → Type 0
 IsServedFrom bytes asked output = IsUnread asked output
     ⊎ ((text : List ℕ) × IfSome bytes (λ all. text ≡ all) × IsServed text asked output)
+
+-- the output answers the request of the words for what its file gives, or tells why the words make none
+abbrev pub IsAnswerTo : List Text → Output → Type 0
+IsAnswerTo words output =
+    ((asked : Request) × AskFor words asked × ((bytes : Option (List ℕ)) × IsServedFrom bytes asked output))
+    ⊎ ((fault : WordsFault) × AreRefused words fault × TellsFault fault output)

@@ -25,6 +25,17 @@ fn steps<'a>(alloc: Global) -> Arg<'a>
         .value_parser(value_parser!(u64).range(..=400))
 }
 
+fn workers<'a>(alloc: Global) -> Arg<'a>
+    ensures rule { rule_of result ≡ line.workers }
+    ensures local { result.global ≡ false }
+{
+    Arg::new(alloc, "workers")
+        .long("workers")
+        .value_name("W")
+        .default_value("1")
+        .value_parser(value_parser!(u64).range(1..=8))
+}
+
 fn states<'a>(alloc: Global) -> Arg<'a>
     ensures rule { rule_of result ≡ line.states }
     ensures local { result.global ≡ false }
@@ -63,6 +74,7 @@ fn explore<'a>(alloc: Global) -> Result<Command<'a>, AllocError>
         .about("Explores every schedule of the program in FILE")
         .arg(file(alloc))?
         .arg(steps(alloc))?
+        .arg(workers(alloc))?
         .arg(states(alloc))?
         .arg(ledger(alloc))
 }

@@ -1,6 +1,11 @@
 //! The program `treesched`: reads its words, opens the files, and prints what `serve` answers.
 #![tactic(auto)]
 
+ghost use Rattle.std.specs.Prelude.{◌≡◌, ◌⊎◌, List, IfOk, codes, map};
+ghost use Rattle.clap.specs.Walk.{Text};
+ghost use Rattle.treesched.specs.Lines.{IsRefusal};
+ghost use Rattle.treesched.specs.Serving.{IsAnswerTo};
+
 mod command;
 mod input;
 mod lines;
@@ -13,13 +18,18 @@ use crate::output::put_all;
 use crate::request::read_words;
 use crate::serve::{Output, refusal, refused, serve};
 use sched_program::OutOfMemory;
-use std::fs::File;
+use std::env::Env;
+use std::fs::{File, Files};
 use std::io;
 use std::process::ExitCode;
+use std::sync::Wait;
+use std::thread::Threads;
 
 /// Prints the output, and answers the status that the program ends with. A write to the standard error that fails is
 /// dropped, since there is nowhere to tell it.
-fn print(rt: &HostRuntime, output: &Output) -> u8 {
+fn print(rt: &HostRuntime, output: &Output) -> u8
+    ensures { (result ≡ output.now.status) ⊎ (result ≡ 6) }
+{
     let stdout = rt.stdout();
     let stderr = rt.stderr();
     let mut err = io::writer(&stderr);
@@ -36,40 +46,43 @@ fn print(rt: &HostRuntime, output: &Output) -> u8 {
 }
 
 /// The output for these words, of which the first is the program's name.
-fn answer(rt: &HostRuntime, words: &[&str]) -> Result<Output, OutOfMemory> {
+fn answer<R: AllocGlobal + Files + Sync + Threads + Wait>(
+    rt: &R,
+    words: &[&str],
+) -> Result<Output, OutOfMemory>
+    ensures { IfOk result (IsAnswerTo (map (λ s. s.now) words.now)) }
+{
     match read_words(rt.alloc(), words) {
         Ok(request) => {
             let file = File::open(rt, request.file()).ok();
-            serve(rt.alloc(), &request, file)
+            serve(rt, rt.alloc(), &request, file)
         }
         Err(fault) => refused(rt.alloc(), fault),
     }
 }
 
-/// Reads the words of the command line, prints the output for them, and answers the status.
-fn run(rt: &HostRuntime) -> Result<u8, OutOfMemory> {
+/// The output for the words of the command line.
+fn run<R: AllocGlobal + Env + Files + Sync + Threads + Wait>(
+    rt: &R,
+) -> Result<Output, OutOfMemory> {
     let alloc = rt.alloc();
     let args: Vec<String> = match std::env::args(rt) {
         Ok(args) => args.collect(alloc)?,
         Err(error) if error.kind() == io::ErrorKind::OutOfMemory => return Err(
             std::alloc::AllocError,
         ),
-        Err(_) => {
-            let output = refusal(alloc, 4, "the words are not UTF-8")?;
-            return Ok(print(rt, &output));
-        }
+        Err(_) => return refusal(alloc, 4, "the words are not UTF-8"),
     };
     let mut words = Vec::new(alloc);
     for arg in &args {
         words.push(arg.as_str())?;
     }
-    let output = answer(rt, words.as_slice())?;
-    Ok(print(rt, &output))
+    answer(rt, words.as_slice())
 }
 
 fn main(rt: HostRuntime) -> ExitCode {
     let status = match run(&rt) {
-        Ok(status) => status,
+        Ok(output) => print(&rt, &output),
         Err(_) => {
             let stderr = rt.stderr();
             let mut err = io::writer(&stderr);

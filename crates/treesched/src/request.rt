@@ -3,7 +3,7 @@ ghost use Rattle.std.specs.Prelude.{◌≡◌, ◌↔◌, ◌<◌, ◌^◌, ℕ,
 ghost use Rattle.clap.specs.Words.{first_of, found_of, kind_of, rows_of};
 ghost use Rattle.clap.specs.declared.error.kind.ErrorKind.TheVariants as kind;
 ghost use Rattle.crew.specs.Settings.{Settings};
-ghost use Rattle.treesched.specs.Reading.{AreRefused, AskFor, file_of, IsFaultOf, IsRequestOf, IsUnread, IsUsed};
+ghost use Rattle.treesched.specs.Reading.{AreRefused, AskFor, file_of, HasText, IsFaultOf, IsRequestOf, IsUsed};
 ghost use Rattle.treesched.specs.Reading.{NumberIs, OptionsAre, Tells, text_of};
 ghost use Rattle.treesched.specs.declared.request.WordsFault.TheVariants as fault;
 
@@ -90,16 +90,6 @@ fn fault_of(alloc: Global, error: &Error) -> WordsFault
     }
 }
 
-/// A fault of use, for words that clap takes and that make no request.
-fn unread(alloc: Global) -> WordsFault
-    ensures { IsUnread result }
-{
-    match String::from_str(alloc, "error: the words make no request\n") {
-        Ok(text) => WordsFault::Usage { help: false, text },
-        Err(_) => WordsFault::OutOfMemory,
-    }
-}
-
 /// The value of the argument.
 fn text<'a>(matches: &ArgMatches<'a>, id: &str) -> Option<&'a str>
     ensures { text_of result ≡ first_of id.now (rows_of (found_of matches.now)) }
@@ -128,37 +118,43 @@ fn options_of(matches: &ArgMatches<'_>) -> Option<Options>
         MatchOption result ((settings : Settings) → OptionsAre rows settings → ⊥) (OptionsAre rows) }
 {
     let steps = u16::try_from(number(matches, "steps")?).ok()?;
+    let workers = u8::try_from(number(matches, "workers")?).ok()?;
     let limit = u32::try_from(number(matches, "states")?).ok()?;
-    Options::new(steps, limit, Merge::Exact, 1)
+    Options::new(steps, limit, Merge::Exact, workers)
 }
 
-fn explore_of<'a>(alloc: Global, matches: &ArgMatches<'a>) -> Result<Request<'a>, WordsFault>
-    ensures { let rows = rows_of (found_of matches.now) in
-        MatchResult result (IsRequestOf (codes "explore") rows) (IsFaultOf (codes "explore") rows) }
+/// The request of `explore`, whose arguments have values in range.
+fn explore_of<'a>(matches: &ArgMatches<'a>) -> Request<'a>
+    requires file { HasText (rows_of (found_of matches.now)) (codes "file") }
+    requires options { (settings : Settings) × OptionsAre (rows_of (found_of matches.now)) settings }
+    ensures { IsRequestOf (codes "explore") (rows_of (found_of matches.now)) result }
 {
     let Some(file) = text(matches, "file") else {
-        return Err(unread(alloc));
+        unreachable!()
     };
     let Some(options) = options_of(matches) else {
-        return Err(unread(alloc));
+        unreachable!()
     };
     let ledger = flag(matches, "ledger");
-    Ok(Request::Explore {
+    Request::Explore {
         file,
         options,
         ledger,
-    })
+    }
 }
 
+/// The request of `replay`, whose arguments have values.
 fn replay_of<'a>(alloc: Global, matches: &ArgMatches<'a>) -> Result<Request<'a>, WordsFault>
+    requires file { HasText (rows_of (found_of matches.now)) (codes "file") }
+    requires schedule { HasText (rows_of (found_of matches.now)) (codes "schedule") }
     ensures { let rows = rows_of (found_of matches.now) in
-        MatchResult result (IsRequestOf (codes "replay") rows) (IsFaultOf (codes "replay") rows) }
+        MatchResult result (IsRequestOf (codes "replay") rows) (IsFaultOf rows) }
 {
     let Some(file) = text(matches, "file") else {
-        return Err(unread(alloc));
+        unreachable!()
     };
     let Some(text) = text(matches, "schedule") else {
-        return Err(unread(alloc));
+        unreachable!()
     };
     match schedule_of(alloc, text)? {
         Some(schedule) => Ok(Request::Replay { file, schedule }),
@@ -170,7 +166,7 @@ fn replay_of<'a>(alloc: Global, matches: &ArgMatches<'a>) -> Result<Request<'a>,
 /// name.
 ///
 /// # Errors
-/// `Usage` where `clap` refuses the words or finds a call for help, `Schedule` where the words ask for
+/// `Usage` exactly where `clap` refuses the words or finds a call for help, `Schedule` where the words ask for
 /// a replay of what is no schedule, and `OutOfMemory`, which may come at any point.
 pub fn read_words<'a>(alloc: Global, words: &'a [&'a str]) -> Result<Request<'a>, WordsFault>
     ensures { let texts = map (λ s. s.now) words.entry.now in
@@ -182,11 +178,11 @@ pub fn read_words<'a>(alloc: Global, words: &'a [&'a str]) -> Result<Request<'a>
         Err(error) => return Err(fault_of(alloc, &error)),
     };
     let Some((name, inner)) = matches.subcommand() else {
-        return Err(unread(alloc));
+        unreachable!()
     };
     match name {
-        "explore" => explore_of(alloc, inner),
+        "explore" => Ok(explore_of(inner)),
         "replay" => replay_of(alloc, inner),
-        _ => Err(unread(alloc)),
+        _ => unreachable!(),
     }
 }

@@ -13,12 +13,14 @@ use crate::input::{Counted, ReadFault};
 use crate::lines::{put_operations, put_report, put_verdict};
 use crate::request::{Request, WordsFault};
 use book::{Finding, Merge, ReplayFault, replay};
-use crew::{Answer, Options, explore};
+use crew::{Answer, Open, Options, explore};
 use ellen::Ellen;
 use natmit::NatMit;
 use sched_program::{Exact, OutOfMemory, Program, ProgramFault, Tree};
 use std::alloc::Global;
 use std::io::Read;
+use std::sync::Wait;
+use std::thread::Threads;
 use tree_machine::{Atomic, Machine, State};
 
 /// What the program writes, and the status that it ends with.
@@ -107,7 +109,8 @@ fn counts_equal_states<M: Machine>(merge: Merge)
 }
 
 /// Explores the schedules of a program.
-fn explored<M: Machine>(
+fn explored<M: Machine, R: Threads + Wait + Sync>(
+    rt: &R,
     alloc: Global,
     machine: M,
     program: &Program,
@@ -117,7 +120,7 @@ fn explored<M: Machine>(
     ensures { IfOk result (IsExplored M (M.rules machine) program.now options ledger) }
 {
     counts_equal_states::<M>(options.merge());
-    let report = explore(alloc, machine, program, options)?;
+    let report = explore(rt, alloc, machine, program, options, &Open)?;
     let mut out = String::new(alloc);
     put_report(&mut out, ledger, &report)?;
     Ok(Output {
@@ -161,7 +164,8 @@ fn replayed<M: Machine>(
 }
 
 /// Answers the request on a machine.
-fn answered<M: Machine>(
+fn answered<M: Machine, R: Threads + Wait + Sync>(
+    rt: &R,
     alloc: Global,
     machine: M,
     program: &Program,
@@ -174,13 +178,18 @@ fn answered<M: Machine>(
             options,
             ledger,
             ..
-        } => explored(alloc, machine, program, *options, *ledger),
+        } => explored(rt, alloc, machine, program, *options, *ledger),
         Request::Replay { schedule, .. } => replayed(alloc, machine, program, schedule.as_slice()),
     }
 }
 
 /// Answers the request for the program of this text.
-fn served(alloc: Global, text: &[u8], request: &Request<'_>) -> Result<Output, OutOfMemory>
+fn served<R: Threads + Wait + Sync>(
+    rt: &R,
+    alloc: Global,
+    text: &[u8],
+    request: &Request<'_>,
+) -> Result<Output, OutOfMemory>
     ensures { IfOk result (IsServed text.now request.now) }
 {
     let program = match Program::from_json(alloc, text) {
@@ -192,8 +201,9 @@ fn served(alloc: Global, text: &[u8], request: &Request<'_>) -> Result<Output, O
         }
     };
     match program.tree() {
-        Tree::Atomic => answered(alloc, Atomic, &program, request),
+        Tree::Atomic => answered(rt, alloc, Atomic, &program, request),
         Tree::Ellen => answered(
+            rt,
             alloc,
             Ellen {
                 mark: true,
@@ -203,6 +213,7 @@ fn served(alloc: Global, text: &[u8], request: &Request<'_>) -> Result<Output, O
             request,
         ),
         Tree::EllenNoMark => answered(
+            rt,
             alloc,
             Ellen {
                 mark: false,
@@ -212,6 +223,7 @@ fn served(alloc: Global, text: &[u8], request: &Request<'_>) -> Result<Output, O
             request,
         ),
         Tree::EllenNoIflag => answered(
+            rt,
             alloc,
             Ellen {
                 mark: true,
@@ -220,36 +232,38 @@ fn served(alloc: Global, text: &[u8], request: &Request<'_>) -> Result<Output, O
             &program,
             request,
         ),
-        Tree::Nm => answered(alloc, NatMit { tag: true }, &program, request),
-        Tree::NmNoTag => answered(alloc, NatMit { tag: false }, &program, request),
+        Tree::Nm => answered(rt, alloc, NatMit { tag: true }, &program, request),
+        Tree::NmNoTag => answered(rt, alloc, NatMit { tag: false }, &program, request),
     }
 }
 
 /// All bytes of a reader.
-fn read_text<R: Read + Drop>(alloc: Global, reader: R) -> Result<Vec<u8>, ReadFault>
-    ensures { IfOk result (λ text. IfSome (R.remaining reader) (λ all. text.items ≡ all)) }
+fn read_text<F: Read + Drop>(alloc: Global, reader: F) -> Result<Vec<u8>, ReadFault>
+    ensures { IfOk result (λ text. IfSome (F.remaining reader) (λ all. text.items ≡ all)) }
 {
     Counted::new(reader).read_all(alloc)
 }
 
 /// Answers the request. A reader that is none stands for a file that could not be opened, which is told as a
-/// failed read. Nothing is written: the output has all text.
+/// failed read. The runtime is for the workers of an exploration, which are joined before the answer. Nothing is
+/// written: the output has all text.
 ///
 /// # Errors
 /// Memory ran out.
-pub fn serve<R: Read + Drop>(
+pub fn serve<R: Threads + Wait + Sync, F: Read + Drop>(
+    rt: &R,
     alloc: Global,
     request: &Request<'_>,
-    file: Option<R>,
+    file: Option<F>,
 ) -> Result<Output, OutOfMemory>
     ensures { IfOk result (λ output. MatchOption file (IsUnread request.now output)
-        (λ reader. IsServedFrom (R.remaining reader) request.now output)) }
+        (λ reader. IsServedFrom (F.remaining reader) request.now output)) }
 {
     let Some(reader) = file else {
         return unreadable(alloc, request.file());
     };
     match read_text(alloc, reader) {
-        Ok(text) => served(alloc, text.as_slice(), request),
+        Ok(text) => served(rt, alloc, text.as_slice(), request),
         Err(ReadFault::Device) => unreadable(alloc, request.file()),
         Err(ReadFault::OutOfMemory) => Err(std::alloc::AllocError),
     }

@@ -2,6 +2,7 @@
 //! the right one.
 
 mod answers;
+mod crews;
 mod devices;
 mod programs;
 mod shown;

@@ -3,11 +3,13 @@
 ghost use Rattle.std.specs.Prelude.{◌<◌};
 
 use crate::tests::lines::{Line, line_of, program_of};
-use crate::{Options, explore};
+use crate::{Open, Options, explore};
 use book::{Merge, ReplayFault, replay};
 use sched_program::{OutOfMemory, Program};
 use std::alloc::Global;
 use std::process::Abort;
+use std::sync::Wait;
+use std::thread::Threads;
 use tree_machine::{Atomic, State};
 
 /// Numbers of no pattern (a linear congruential generator).
@@ -114,18 +116,19 @@ fn enumerated(
 }
 
 /// Compares the two on one program.
-fn compare(
-    rt: &impl Abort,
+fn compare<R: Abort + Threads + Wait + Sync>(
+    rt: &R,
     alloc: Global,
     text: &[u8],
     steps: u16,
     limit: u32,
+    workers: u8,
 ) -> Result<(), OutOfMemory> {
     let program = program_of(rt, alloc, text)?;
-    let Some(options) = Options::new(steps, limit, Merge::Exact, 1) else {
+    let Some(options) = Options::new(steps, limit, Merge::Exact, workers) else {
         return Ok(());
     };
-    let report = explore(alloc, Atomic, &program, options)?;
+    let report = explore(rt, alloc, Atomic, &program, options, &Open)?;
     let (line, count) = enumerated(rt, alloc, &program, steps, limit)?;
     assert_eq!(rt; line_of(&report.answer), line);
     if let Line::Holds(_) = line {
@@ -137,10 +140,11 @@ fn compare(
 #[test]
 fn the_answers_are_those_of_every_schedule(rt: HostRuntime) {
     let mut random = Random { seed: 2026 };
-    for _program in 0..20 {
+    for program in 0..20u8 {
         if let Ok(text) = text_of(rt.alloc(), &mut random) {
             for (steps, limit) in [(0, 1), (2, 9), (3, 12), (4, 20), (6, 30), (6, 200_000)] {
-                let _ = compare(&rt, rt.alloc(), text.as_slice(), steps, limit);
+                let workers = 1 + program % 8;
+                let _ = compare(&rt, rt.alloc(), text.as_slice(), steps, limit, workers);
             }
         }
     }

@@ -10,15 +10,16 @@ fn options_have_their_ranges(rt: HostRuntime) {
     assert!(rt; Options::new(0, 0, Merge::Exact, 1).is_none());
     assert!(rt; Options::new(0, 2_000_001, Merge::Exact, 1).is_none());
     assert!(rt; Options::new(0, 1, Merge::Exact, 0).is_none());
-    assert!(rt; Options::new(0, 1, Merge::Exact, 2).is_none());
+    assert!(rt; Options::new(0, 1, Merge::Exact, 8).is_some());
+    assert!(rt; Options::new(0, 1, Merge::Exact, 9).is_none());
 }
 
 #[test]
 fn options_give_their_parts_back(rt: HostRuntime) {
-    if let Some(options) = Options::new(20, 300, Merge::Exact, 1) {
+    if let Some(options) = Options::new(20, 300, Merge::Exact, 7) {
         assert_eq!(rt; options.steps(), 20);
         assert_eq!(rt; options.limit(), 300);
         assert_eq!(rt; options.merge(), Merge::Exact);
-        assert_eq!(rt; options.workers(), 1);
+        assert_eq!(rt; options.workers(), 7);
     }
 }

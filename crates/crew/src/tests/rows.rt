@@ -1,25 +1,27 @@
 //! Explorations of small programs, with the answers worked out by hand.
 use crate::tests::faulty::Faulty;
 use crate::tests::lines::{Line, line_of, program_of};
-use crate::{Answer, Options, Report, Share, explore};
+use crate::{Answer, Open, Options, Report, Share, explore};
 use book::Merge;
 use sched_program::OutOfMemory;
 use std::alloc::Global;
 use std::process::Abort;
+use std::sync::Wait;
+use std::thread::Threads;
 use tree_machine::{Atomic, Machine};
 
-const INSERTS: &[u8] =
+pub const INSERTS: &[u8] =
     b"{\"version\":1,\"tree\":\"atomic\",\"initial\":[],\"threads\":[[{\"op\":\"insert\",\"key\":1}],[{\"op\":\"insert\",\"key\":1}]]}";
 
-const DELETES: &[u8] =
+pub const DELETES: &[u8] =
     b"{\"version\":1,\"tree\":\"atomic\",\"initial\":[],\"threads\":[[{\"op\":\"delete\",\"key\":1}],[{\"op\":\"delete\",\"key\":1}]]}";
 
-const FINDS: &[u8] =
+pub const FINDS: &[u8] =
     b"{\"version\":1,\"tree\":\"atomic\",\"initial\":[],\"threads\":[[{\"op\":\"find\",\"key\":1}],[{\"op\":\"find\",\"key\":1}]]}";
 
-/// An exploration with options that are in range.
-fn report_of<M: Machine>(
-    rt: &impl Abort,
+/// An exploration by one worker, with options that are in range.
+fn report_of<M: Machine, R: Abort + Threads + Wait + Sync>(
+    rt: &R,
     alloc: Global,
     machine: M,
     text: &[u8],
@@ -28,7 +30,7 @@ fn report_of<M: Machine>(
 ) -> Result<Report<M>, OutOfMemory> {
     let program = program_of(rt, alloc, text)?;
     match Options::new(steps, limit, Merge::Exact, 1) {
-        Some(options) => explore(alloc, machine, &program, options),
+        Some(options) => explore(rt, alloc, machine, &program, options, &Open),
         None => {
             assert!(rt; false);
             Err(OutOfMemory)

@@ -1,10 +1,10 @@
 //! What is printed for explorations and replays.
-use crate::tests::shown::{THRICE, TWICE, answer_again, shows, words_of};
+use crate::tests::shown::{Runtime, THRICE, TWICE, answer_again, shows, words_of};
 use std::test::Fail;
 
 /// Fails unless the exploration ends with the status and prints these lines, each ended by one line feed.
-pub fn explores(
-    rt: &HostRuntime,
+pub fn explores<R: Runtime>(
+    rt: &R,
     file: &str,
     options: &str,
     status: u8,
@@ -17,7 +17,7 @@ pub fn explores(
 }
 
 /// The lines, each ended by one line feed.
-fn ended(rt: &HostRuntime, lines: &[&str]) -> Result<String, Fail> {
+pub fn ended<R: Runtime>(rt: &R, lines: &[&str]) -> Result<String, Fail> {
     let mut text = String::new(rt.alloc());
     for line in lines {
         text.push_str(line)?;
@@ -27,8 +27,8 @@ fn ended(rt: &HostRuntime, lines: &[&str]) -> Result<String, Fail> {
 }
 
 /// Fails unless the exploration ends with the status and prints this line first.
-pub fn explores_first(
-    rt: &HostRuntime,
+pub fn explores_first<R: Runtime>(
+    rt: &R,
     file: &str,
     options: &str,
     status: u8,
@@ -36,7 +36,7 @@ pub fn explores_first(
 ) -> Result<(), Fail> {
     let words = format!(in rt.alloc(); "treesched explore f {options}")?;
     let words = words_of(rt, words.as_str())?;
-    let Ok(output) = answer_again(rt.alloc(), words.as_slice(), file.as_bytes()) else {
+    let Ok(output) = answer_again(rt, words.as_slice(), file.as_bytes()) else {
         return Err(Fail::from("out of memory"));
     };
     if output.status != status || output.out.as_str().lines().next() != Some(line) {
@@ -47,8 +47,8 @@ pub fn explores_first(
 }
 
 /// Fails unless the replay ends with the status and prints these lines.
-pub fn replays(
-    rt: &HostRuntime,
+pub fn replays<R: Runtime>(
+    rt: &R,
     file: &str,
     list: &str,
     status: u8,
@@ -60,7 +60,7 @@ pub fn replays(
 }
 
 /// Fails unless the replay is refused with this line.
-fn stops(rt: &HostRuntime, file: &str, list: &str, line: &str) -> Result<(), Fail> {
+fn stops<R: Runtime>(rt: &R, file: &str, list: &str, line: &str) -> Result<(), Fail> {
     let words = ["treesched", "replay", "f", "--schedule", list];
     let err = ended(rt, &[line])?;
     shows(rt, words.as_slice(), file, 4, "", err.as_str())

@@ -87,7 +87,7 @@ fn tells_a_file_that_cannot_be_read(rt: HostRuntime) -> Result<(), Fail> {
         return Ok(());
     };
     for fails_at in 0..=TWICE.len() {
-        match serve(rt.alloc(), &request, Some(failing(TWICE, fails_at))) {
+        match serve(&rt, rt.alloc(), &request, Some(failing(TWICE, fails_at))) {
             Ok(output) => {
                 assert!(rt; output.status == 6 && output.out.is_empty(), "{output:?}");
                 assert!(rt;
@@ -99,7 +99,7 @@ fn tells_a_file_that_cannot_be_read(rt: HostRuntime) -> Result<(), Fail> {
         }
     }
     let no_file: Option<&[u8]> = None;
-    match serve(rt.alloc(), &request, no_file) {
+    match serve(&rt, rt.alloc(), &request, no_file) {
         Ok(output) => {
             assert!(rt; output.status == 6 && output.out.is_empty(), "{output:?}");
             assert!(rt;
@@ -110,7 +110,12 @@ fn tells_a_file_that_cannot_be_read(rt: HostRuntime) -> Result<(), Fail> {
         Err(_) => println!(rt; "out of memory")?,
     }
     let past_the_end = TWICE.len() + 1;
-    match serve(rt.alloc(), &request, Some(failing(TWICE, past_the_end))) {
+    match serve(
+        &rt,
+        rt.alloc(),
+        &request,
+        Some(failing(TWICE, past_the_end)),
+    ) {
         Ok(output) => assert!(rt; output.status == 0, "{output:?}"),
         Err(_) => println!(rt; "out of memory")?,
     }

@@ -1,11 +1,11 @@
 //! Which texts are programs.
-use crate::tests::shown::{TWICE, answer, shows};
+use crate::tests::shown::{Runtime, TWICE, answer, shows};
 use std::test::Fail;
 
 /// Fails unless the bytes are refused as a program, by the fault of this number and name.
-fn is_refused(rt: &HostRuntime, file: &[u8], fault: &str) -> Result<(), Fail> {
+fn is_refused<R: Runtime>(rt: &R, file: &[u8], fault: &str) -> Result<(), Fail> {
     let words = ["treesched", "explore", "f", "--steps", "2"];
-    match answer(rt.alloc(), words.as_slice(), file) {
+    match answer(rt, words.as_slice(), file) {
         Ok(output) => {
             let line = format!(in rt.alloc(); "treesched: {fault}\n")?;
             if output.status != 3 || !output.out.is_empty() || output.err != line {
@@ -19,20 +19,20 @@ fn is_refused(rt: &HostRuntime, file: &[u8], fault: &str) -> Result<(), Fail> {
 }
 
 /// A program with this list of initial keys and these threads.
-fn text(rt: &HostRuntime, initial: &str, threads: &str) -> Result<String, Fail> {
+fn text<R: Runtime>(rt: &R, initial: &str, threads: &str) -> Result<String, Fail> {
     let text = format!(in rt.alloc();
         r#"{{"version":1,"tree":"atomic","initial":[{initial}],"threads":[{threads}]}}"#
     )?;
     Ok(text)
 }
 
-fn refuses(rt: &HostRuntime, initial: &str, threads: &str, fault: &str) -> Result<(), Fail> {
+fn refuses<R: Runtime>(rt: &R, initial: &str, threads: &str, fault: &str) -> Result<(), Fail> {
     let text = text(rt, initial, threads)?;
     is_refused(rt, text.as_bytes(), fault)
 }
 
 /// A thread of one insert of this key, as it is written.
-fn insert(rt: &HostRuntime, key: &str) -> Result<String, Fail> {
+fn insert<R: Runtime>(rt: &R, key: &str) -> Result<String, Fail> {
     let thread = format!(in rt.alloc(); r#"[{{"op":"insert","key":{key}}}]"#)?;
     Ok(thread)
 }
@@ -40,7 +40,7 @@ fn insert(rt: &HostRuntime, key: &str) -> Result<String, Fail> {
 const ONE: &str = r#"[{"op":"insert","key":1}]"#;
 
 /// So many copies of a text, joined by commas; the count is at least 1.
-fn copies(rt: &HostRuntime, text: &str, count: usize) -> Result<String, Fail> {
+fn copies<R: Runtime>(rt: &R, text: &str, count: usize) -> Result<String, Fail> {
     let mut all = String::from_str(rt.alloc(), text)?;
     for _ in 1..count {
         all.push(',')?;
@@ -95,7 +95,7 @@ fn takes_a_line_feed_behind(rt: HostRuntime) -> Result<(), Fail> {
 }
 
 /// So many opening brackets and as many closing ones.
-fn nested(rt: &HostRuntime, count: usize) -> Result<String, Fail> {
+fn nested<R: Runtime>(rt: &R, count: usize) -> Result<String, Fail> {
     let mut text = String::new(rt.alloc());
     for _ in 0..count {
         text.push('[')?;

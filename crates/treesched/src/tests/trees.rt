@@ -2,10 +2,20 @@
 //!
 //! The numbers of states agree with two explorers that share no code with this one.
 use crate::tests::answers::{explores, explores_first, replays};
+use crate::tests::shown::Runtime;
+use book::{Book, EnterFault, Entered, Expansion, Merge, Totals};
+use ellen::Ellen;
+use sched_program::{OutOfMemory, Program};
+use std::alloc::Global;
 use std::test::Fail;
 
 /// The text of a program of these threads on a tree.
-fn program(rt: &HostRuntime, tree: &str, initial: &str, threads: &[&str]) -> Result<String, Fail> {
+pub fn program<R: Runtime>(
+    rt: &R,
+    tree: &str,
+    initial: &str,
+    threads: &[&str],
+) -> Result<String, Fail> {
     let list = threads.join(rt.alloc(), ",")?;
     let list = list.as_str();
     Ok(format!(in rt.alloc();
@@ -13,27 +23,27 @@ fn program(rt: &HostRuntime, tree: &str, initial: &str, threads: &[&str]) -> Res
     )?)
 }
 
-const INSERT_5: &str = r#"[{"op":"insert","key":5}]"#;
+pub const INSERT_5: &str = r#"[{"op":"insert","key":5}]"#;
 
-const DELETE_5: &str = r#"[{"op":"delete","key":5}]"#;
+pub const DELETE_5: &str = r#"[{"op":"delete","key":5}]"#;
 
-const DELETE_10: &str = r#"[{"op":"delete","key":10}]"#;
+pub const DELETE_10: &str = r#"[{"op":"delete","key":10}]"#;
 
-const INSERT_10: &str = r#"[{"op":"insert","key":10}]"#;
+pub const INSERT_10: &str = r#"[{"op":"insert","key":10}]"#;
 
-const FIND_10: &str = r#"[{"op":"find","key":10}]"#;
+pub const FIND_10: &str = r#"[{"op":"find","key":10}]"#;
 
-const DELETE_20: &str = r#"[{"op":"delete","key":20}]"#;
+pub const DELETE_20: &str = r#"[{"op":"delete","key":20}]"#;
 
-const FIND_5: &str = r#"[{"op":"find","key":5}]"#;
+pub const FIND_5: &str = r#"[{"op":"find","key":5}]"#;
 
-const INSERT_25: &str = r#"[{"op":"insert","key":25}]"#;
+pub const INSERT_25: &str = r#"[{"op":"insert","key":25}]"#;
 
-const INSERT_5_FIND_5: &str = r#"[{"op":"insert","key":5},{"op":"find","key":5}]"#;
+pub const INSERT_5_FIND_5: &str = r#"[{"op":"insert","key":5},{"op":"find","key":5}]"#;
 
-const INSERT_25_FIND_25: &str = r#"[{"op":"insert","key":25},{"op":"find","key":25}]"#;
+pub const INSERT_25_FIND_25: &str = r#"[{"op":"insert","key":25},{"op":"find","key":25}]"#;
 
-const DELETE_40_INSERT_45: &str = r#"[{"op":"delete","key":40},{"op":"insert","key":45}]"#;
+pub const DELETE_40_INSERT_45: &str = r#"[{"op":"delete","key":40},{"op":"insert","key":45}]"#;
 
 #[test]
 fn explores_one_thread_on_ellen(rt: HostRuntime) -> Result<(), Fail> {
@@ -384,4 +394,67 @@ fn finds_broken_search_order(rt: HostRuntime) -> Result<(), Fail> {
         1,
         "fault order after 20 steps",
     )
+}
+
+/// Takes the next entry and enters its steps: the entry's number with the counts of steps, or none where there is no
+/// such entry or its steps are refused.
+fn enter_next(
+    alloc: Global,
+    book: &mut Book<Ellen>,
+) -> Result<Option<(usize, Entered)>, OutOfMemory> {
+    book.law();
+    let Some((id, state)) = book.take()? else {
+        return Ok(None);
+    };
+    let own = book.program().copy(alloc)?;
+    let expansion = Expansion::of(alloc, book.machine(), &own, &state)?;
+    match book.enter(id, expansion) {
+        Ok(entered) => Ok(Some((id, entered))),
+        Err(EnterFault::OutOfMemory) => Err(OutOfMemory),
+        Err(_) => Ok(None),
+    }
+}
+
+/// Whether the two orders of two first steps of finds are met once: the later one is no new entry.
+fn two_finds_meet(alloc: Global, program: Program) -> Result<bool, OutOfMemory> {
+    let ellen = Ellen {
+        mark: true,
+        iflag: true,
+    };
+    let mut book = Book::open(alloc, ellen, program, 100, Merge::Exact)?;
+    let first = enter_next(alloc, &mut book)?;
+    let second = enter_next(alloc, &mut book)?;
+    let before = book.totals().entries;
+    let third = enter_next(alloc, &mut book)?;
+    let totals = Totals {
+        entries: 6,
+        fresh: 3,
+        taken: 0,
+        expanded: 3,
+        entered: 5,
+        met: 1,
+    };
+    if before != 5 || book.totals() != totals || book.len() <= 5 {
+        return Ok(false);
+    }
+    let newest = book.schedule_of(alloc, 5)?;
+    let twice = [1, 1];
+    let both_new = Entered { entered: 2, met: 0 };
+    let one_new = Entered { entered: 1, met: 1 };
+    Ok(
+        first == Some((0, both_new))
+            && second == Some((1, both_new))
+            && third == Some((2, one_new))
+            && newest.as_slice() == twice.as_slice(),
+    )
+}
+
+#[test]
+fn finds_in_either_order_meet(rt: HostRuntime) -> Result<(), Fail> {
+    let file = program(&rt, "ellen", "[]", &[FIND_5, FIND_5])?;
+    let Ok(program) = Program::from_json(rt.alloc(), file.as_bytes()) else {
+        return Err(Fail::from("no program"));
+    };
+    assert!(rt; two_finds_meet(rt.alloc(), program).unwrap_or(true));
+    Ok(())
 }

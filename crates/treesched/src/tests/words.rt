@@ -1,6 +1,6 @@
 //! Which words make which request.
 use crate::request::{Request, WordsFault, read_words};
-use crate::tests::shown::{TWICE, answer, is_usage, shows, words_of};
+use crate::tests::shown::{Runtime, TWICE, answer, is_usage, shows, words_of};
 use std::test::Fail;
 
 #[test]
@@ -26,6 +26,24 @@ fn reads_an_exploration(rt: HostRuntime) -> Result<(), Fail> {
                 assert!(rt; options.steps() == 5 && options.limit() == 200_000);
                 assert!(rt; options.workers() == 1);
             }
+            Err(WordsFault::OutOfMemory) => println!(rt; "out of memory")?,
+            _ => return Err(Fail::from("another request")),
+        }
+    }
+    Ok(())
+}
+
+#[test]
+fn reads_the_number_of_workers(rt: HostRuntime) -> Result<(), Fail> {
+    let lines = [
+        "treesched explore f --steps 5 --workers 8",
+        "treesched explore --workers=08 f --steps 5",
+    ];
+    for line in lines {
+        let words = words_of(&rt, line)?;
+        let answer = read_words(rt.alloc(), words.as_slice());
+        match &answer {
+            Ok(Request::Explore { options, .. }) => assert!(rt; options.workers() == 8),
             Err(WordsFault::OutOfMemory) => println!(rt; "out of memory")?,
             _ => return Err(Fail::from("another request")),
         }
@@ -88,7 +106,7 @@ fn gives_help(rt: HostRuntime) -> Result<(), Fail> {
     ];
     for line in lines {
         let words = words_of(&rt, line)?;
-        match answer(rt.alloc(), words.as_slice(), TWICE.as_bytes()) {
+        match answer(&rt, words.as_slice(), TWICE.as_bytes()) {
             Ok(output) => {
                 assert!(rt;
                     output.status == 0 && output.err.is_empty(),
@@ -124,7 +142,7 @@ fn refuses_what_is_no_schedule(rt: HostRuntime) -> Result<(), Fail> {
 }
 
 /// So many zeros joined by commas; the count is at least 1.
-fn zeros(rt: &HostRuntime, count: usize) -> Result<String, Fail> {
+fn zeros<R: Runtime>(rt: &R, count: usize) -> Result<String, Fail> {
     let mut list = String::from_str(rt.alloc(), "0")?;
     for _ in 1..count {
         list.push_str(",0")?;

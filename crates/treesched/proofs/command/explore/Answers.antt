@@ -10,8 +10,9 @@ returns-clause-app c =
     let named : app_of c.about.result ≡ new_app (codes "explore") = ap app_of_fields c.about.ensures ∙ c.new.ensures.app in
     let file : app_of c.in_ok-arg.field-0 ≡ _ = c.in_ok-arg.ensures.shape c.file.ensures.local ∙ ap₂ with_rule named c.file.ensures.rule in
     let steps : app_of c.in_ok-arg-2.field-0 ≡ _ = c.in_ok-arg-2.ensures.shape c.steps.ensures.local ∙ ap₂ with_rule file c.steps.ensures.rule in
-    let states : app_of c.in_ok-arg-3.field-0 ≡ _ = c.in_ok-arg-3.ensures.shape c.states.ensures.local ∙ ap₂ with_rule steps c.states.ensures.rule in
-    IfOk-weaker c.arg-4.result _ _ (λ m h. h.shape c.ledger.ensures.local ∙ ap₂ with_rule states c.ledger.ensures.rule) c.arg-4.ensures
+    let workers : app_of c.in_ok-arg-3.field-0 ≡ _ = c.in_ok-arg-3.ensures.shape c.workers.ensures.local ∙ ap₂ with_rule steps c.workers.ensures.rule in
+    let states : app_of c.in_ok-arg-4.field-0 ≡ _ = c.in_ok-arg-4.ensures.shape c.states.ensures.local ∙ ap₂ with_rule workers c.states.ensures.rule in
+    IfOk-weaker c.arg-5.result _ _ (λ m h. h.shape c.ledger.ensures.local ∙ ap₂ with_rule states c.ledger.ensures.rule) c.arg-5.ensures
 
 pub returns-clause-local : goal.returns-clause-local
 returns-clause-local c =
@@ -19,5 +20,6 @@ returns-clause-local c =
     let named : (fields_of c.about.result).has_globals ≡ false = ap (λ f. f.has_globals) c.about.ensures ∙ c.new.ensures.local in
     let file = c.in_ok-arg.ensures.globals ∙ ap₂ either named c.file.ensures.local in
     let steps = c.in_ok-arg-2.ensures.globals ∙ ap₂ either file c.steps.ensures.local in
-    let states = c.in_ok-arg-3.ensures.globals ∙ ap₂ either steps c.states.ensures.local in
-    IfOk-weaker c.arg-4.result _ _ (λ m h. h.globals ∙ ap₂ either states c.ledger.ensures.local) c.arg-4.ensures
+    let workers = c.in_ok-arg-3.ensures.globals ∙ ap₂ either steps c.workers.ensures.local in
+    let states = c.in_ok-arg-4.ensures.globals ∙ ap₂ either workers c.states.ensures.local in
+    IfOk-weaker c.arg-5.result _ _ (λ m h. h.globals ∙ ap₂ either states c.ledger.ensures.local) c.arg-5.ensures

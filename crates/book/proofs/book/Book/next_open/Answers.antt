@@ -25,7 +25,7 @@ returns-in_err-open-clause-none g c =
     let right = right_in g.M.Machine.rules b in
     let same = counted_as_one {Machine = g.row.M.Denot} g.M.Loc.PartialEq.eq g.M.Mem.PartialEq.eq s.merge in
     let book = c.self.invariant in
-    rw (c.from_residual-in_err-open.ensures, ← c.self.view_is) (no_next_open m same right s.table book.law.law (sym c.first_open.ensures ∙ c.in_err-open.was))
+    rw (c.from_residual-in_err-open.ensures, ← c.self.view_is) (no_next_open m same right s.table book.law.law (sym c.first_open.ensures.first ∙ c.in_err-open.was))
 
 pub returns-then-steps_at-clause-next : goal.returns-then-steps_at-clause-next
 returns-then-steps_at-clause-next g c =
@@ -40,7 +40,7 @@ returns-then-steps_at-clause-next g c =
     let e = c.steps_at.ensures in
     rw (← c.self.view_is) (
       e.0,
-      next_from m same right s.table book.law.law c.in_ok-first.first c.in_ok-open.open (sym c.first_left.ensures ∙ c.in_ok-first.was) (sym c.first_open.ensures ∙ c.in_ok-open.was)
+      next_from m same right s.table book.law.law c.in_ok-first.first c.in_ok-open.open (sym c.first_left.ensures ∙ c.in_ok-first.was) (sym c.first_open.ensures.first ∙ c.in_ok-open.was)
           d.0 e.0 d.1 e.1 (e.2 ∙ c.if-steps_at.true ∙ sym d.2),
     )
 
@@ -56,4 +56,4 @@ returns-else-steps_at-clause-none g c =
     let d = c.steps_at-2.ensures in
     let e = c.steps_at.ensures in
     rw (← c.self.view_is) (no_next_later m same right s.table book.law.law c.in_ok-first.first c.in_ok-open.open (sym c.first_left.ensures ∙ c.in_ok-first.was)
-    (sym c.first_open.ensures ∙ c.in_ok-open.was) d.0 e.0 d.1 e.1 (λ (q : m.steps e.0.state ≡ m.steps d.0.state). c.if-steps_at.false (sym e.2 ∙ q ∙ d.2)))
+    (sym c.first_open.ensures.first ∙ c.in_ok-open.was) d.0 e.0 d.1 e.1 (λ (q : m.steps e.0.state ≡ m.steps d.0.state). c.if-steps_at.false (sym e.2 ∙ q ∙ d.2)))

@@ -1,14 +1,4 @@
-use Rattle.std.proofs.Common.{◌≡◌, Some, slice_get, sym, refl}
-use Rattle.book.specs.Slots.{entry_of}
-use Rattle.book.proofs.SlotLemmas.{entry_at}
 use Rattle.book.proofs.table.Table.state.Goals as goal
 
 pub returns : goal.returns
-returns g c =
-    let s = c.self.inside in
-    let there : slice_get s.slots.entries c.args.index ≡ Some (c.in-Some.state.now, c.in-Some.field-0-1.now) = sym c.in-Some.ensures.entry in
-    rw (← c.self.view_is) (
-      entry_of (c.in-Some.state.now, c.in-Some.field-0-1.now),
-      entry_at s.slots.entries c.args.index (c.in-Some.state.now, c.in-Some.field-0-1.now) there,
-      refl,
-    )
+returns g c = rw (← c.self.view_is) c.state_at.ensures

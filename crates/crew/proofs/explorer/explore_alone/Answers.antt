@@ -1,0 +1,34 @@
+use Rattle.std.proofs.Common.{◌≡◌, ◌∙◌, sym, ap, subst, IsSome, is_some}
+use Rattle.std.proofs.lemmas.Bool.{false≢true}
+use Rattle.book.specs.Books.{counted_as_one, machine_in, right_in}
+use Rattle.crew.specs.Reading.{IsCutAt, IsWorkedOff}
+use Rattle.crew.specs.Reporting.{IsBookOf}
+use Rattle.crew.proofs.Ends.{is_answered, cut_kept}
+use Rattle.crew.proofs.explorer.explore_alone.Goals as goal
+
+-- what was driven is read
+pub unreachable-requires : goal.unreachable-requires
+unreachable-requires g c =
+    let b = c.in_ok-book.book in
+    let new = c.drive.new.book in
+    let n = c.args.options.steps in
+    let place_eq = g.M.Loc.PartialEq.eq in
+    let memory_eq = g.M.Mem.PartialEq.eq in
+    let kept = c.in_ok-cut.ensures.kept in
+    let opened = c.in_ok-book.ensures.asked in
+    let steps : c.steps.result ≡ n = c.steps.ensures in
+    let asked : IsBookOf c.args.machine c.args.program.now c.args.options new = record {
+      machine = kept.machine ∙ opened.machine;
+      program = kept.program ∙ opened.program;
+      limit = kept.limit ∙ opened.limit;
+      merge = kept.merge ∙ opened.merge;
+    } in
+    let some : IsSome c.in_ok-report.field-0 =
+    is_answered (IsWorkedOff (machine_in g.M.Machine.rules b).steps new.entries c.steps.result) (IsSome c.in_ok-report.field-0) c.steps.result n
+    (λ d i. IsCutAt (machine_in g.M.Machine.rules b) (counted_as_one {Machine = g.row.M.Denot} place_eq memory_eq b.merge) (right_in g.M.Machine.rules b) new d i)
+    (λ d i. IsCutAt (machine_in g.M.Machine.rules new) (counted_as_one {Machine = g.row.M.Denot} place_eq memory_eq new.merge) (right_in g.M.Machine.rules new) new d i)
+    steps (λ d i cut. cut_kept g.M.Machine.rules place_eq memory_eq b new new d i kept cut)
+    c.in_ok-cut.cut c.in_ok-cut.ensures.done c.in_ok-cut.ensures.cut
+    (λ none worked. c.in_ok-report.ensures.finished asked none (subst (λ k. IsWorkedOff (machine_in g.M.Machine.rules b).steps new.entries k) steps worked))
+    (c.in_ok-report.ensures.stopped asked) in
+    false≢true (sym (ap is_some c.in-None.is) ∙ some)

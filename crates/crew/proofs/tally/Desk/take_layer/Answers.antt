@@ -1,0 +1,27 @@
+use Rattle.std.proofs.Common.{◌≡◌, ◌≤◌, ◌+◌, ◌∙◌, sym, ap, length}
+use Rattle.tree_machine.specs.declared.state.State.{State}
+use Rattle.book.specs.Entries.{Contents}
+use Rattle.book.specs.Books.{machine_in}
+use Rattle.crew.proofs.Layer.{counts_kept, layer_ready}
+use Rattle.crew.proofs.tally.Desk.take_layer.Goals as goal
+
+pub invariant_of-self-2 : goal.invariant_of-self-2
+invariant_of-self-2 g c =
+    let old = c.args.self.now.book in
+    let new = c.take_layer.new.self in
+    let kept = counts_kept (machine_in g.M.Machine.rules old) (λ v. v.items) old new c.take_layer.result c.take_layer.ensures.taken c.take_layer.ensures.err in
+    let was : c.args.self.now.entered.total + 1 ≡ length old.entries = c.args.self.now.entered_is in
+    record {
+      expanded_is = c.args.self.now.expanded_is ∙ sym kept.0;
+      entered_is = was ∙ sym kept.1;
+      met_is = c.args.self.now.met_is ∙ sym (ap (λ (b : Contents g.row.M.Denot (State g.row.M.Denot g.row.M-Mem.Denot g.row.M-Loc.Denot)). b.met) c.take_layer.ensures.same);
+    }
+
+pub returns : goal.returns
+returns g c =
+    let b = c.args.self.now.book in
+    let own = c.is_of.ensures.0 c.if-not-is_of.false in
+    let limit : b.limit ≤ 2000000 = c.law.ensures.law.limit in
+    record {
+      ready = layer_ready g.M.Machine.rules b c.args.machine c.args.program.now c.in_ok-layer.layer.items own.0 own.1 limit c.in_ok-layer.ensures.fits c.in_ok-layer.ensures.few;
+    }

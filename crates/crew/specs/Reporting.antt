@@ -1,0 +1,38 @@
+-- What a report says.
+use Rattle.std.specs.Prelude.{◌≡◌, ℕ, Bool, List, length}
+use Rattle.sched_program.specs.Program.{Program}
+use Rattle.tree_machine.specs.Rules.{Rules}
+use Rattle.tree_machine.specs.declared.state.State.{State}
+use Rattle.book.specs.declared.book.Totals.{Totals}
+use Rattle.book.specs.Entries.{Contents}
+use Rattle.book.specs.Books.{counted_as_one, totals_of}
+use Rattle.book.specs.Findings.{machine_of, IsFindingOf}
+use Rattle.crew.specs.declared.answer.Answer.{Answer}
+use Rattle.crew.specs.declared.answer.Share.{Share}
+use Rattle.crew.specs.Due.{IsDue, IsSameVerdict}
+use Rattle.crew.specs.Headline.{IsTrueOf}
+use Rattle.crew.specs.Ledger.{ledger}
+use Rattle.crew.specs.Reading.{TellsFirst}
+use Rattle.crew.specs.Settings.{Settings}
+
+-- the book is of the machine, the program, the limit and the merge that are asked for
+pub record IsBookOf {X S : Type 0} (asked : X) (text : Program) (settings : Settings) (book : Contents X S) : Type 0 where
+  pub machine : book.machine ≡ asked
+  pub program : book.program ≡ text
+  pub limit : book.limit ≡ settings.limit
+  pub merge : book.merge ≡ settings.merge
+
+-- The answer is the due one and true of all schedules, and no other verdict is due; a fault that is told is the first of
+-- the book; the book is the one that is asked for, its totals are told, and the workers' shares sum to them.
+pub record IsReport {X Memory Place : Type 0} (rules : X → Rules Memory Place) (place_eq : Place → Place → Bool) (memory_eq : Memory → Memory → Bool)
+    (machine : X) (program : Program) (settings : Settings) (answer : Answer) (told : Totals) (each : List Share)
+    (book : Contents X (State X Memory Place)) : Type 0 where
+  pub due : IsDue (machine_of {Machine = X} (rules machine) program) (counted_as_one place_eq memory_eq settings.merge) (IsFindingOf (rules machine) program) settings.steps settings.limit told.entries answer
+  pub only : (count : ℕ) (other : Answer) → IsDue (machine_of {Machine = X} (rules machine) program) (counted_as_one place_eq memory_eq settings.merge) (IsFindingOf (rules machine) program) settings.steps settings.limit count other
+      → IsSameVerdict told.entries answer count other
+  pub headline : IsTrueOf X (rules machine) program answer
+  pub first : TellsFirst (machine_of (rules machine) program) book.entries answer
+  pub asked : IsBookOf machine program settings book
+  pub totals : told ≡ totals_of book
+  pub shares : length each ≡ settings.workers
+  pub sums : ledger each ≡ record { expanded = told.expanded; entered = told.entered; met = told.met }

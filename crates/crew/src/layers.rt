@@ -1,0 +1,126 @@
+//! The work of all workers, layer by layer.
+ghost use Rattle.std.specs.Prelude.{◌≡◌, ◌^◌, ◌<◌, All, IfOk, IfSome, length, vec_len};
+ghost use Rattle.crew.specs.ClaimSeats.{IsSeatOf};
+ghost use Rattle.crew.specs.Working.{IsReady};
+
+use crate::claims::{Claims, Seat};
+use crate::gate::Gate;
+use crate::tally::{Parts, Run, Tally};
+use crate::working::{Exploration, Layer, Stop, Worker};
+use sched_program::OutOfMemory;
+use std::alloc::Global;
+use std::sync::Wait;
+use std::thread;
+use std::thread::Threads;
+use tree_machine::Machine;
+
+/// So many workers, each with a part of each ledger.
+pub fn workers_of<J: Run>(
+    alloc: Global,
+    count: u8,
+    mut parts: Parts<J>,
+) -> Result<Vec<Worker<J>>, OutOfMemory>
+    requires parts { (parts.expanded.parts ≡ count) × (parts.entered.parts ≡ count) × (parts.met.parts ≡ count) }
+    requires amounts { (parts.expanded.amount ≡ 0) × (parts.entered.amount ≡ 0) × (parts.met.amount ≡ 0) }
+    ensures { IfOk result (λ v. vec_len v ≡ count) }
+{
+    let mut workers = Vec::with_capacity(alloc, usize::from(count))?;
+    for before in 0..count {
+        workers.push_reserved(Worker {
+            number: before + 1,
+            tally: Tally::new(parts.split_one()),
+            seat: None,
+            stop: None,
+        });
+    }
+    Ok(workers)
+}
+
+/// Gives each worker a seat.
+fn seat_all<J: Run>(claims: &Claims, workers: &mut [Worker<J>], mut seats: Vec<Seat>)
+    requires { All (λ s. IsSeatOf claims.now s) seats.items }
+    ensures seated { All (λ w. IfSome w.seat (IsSeatOf claims.now)) workers.new }
+    ensures len { length workers.new ≡ length workers.old }
+{
+    for worker in workers.iter_mut() {
+        worker.seat = seats.pop();
+    }
+}
+
+impl<'a, J: Run + Send + Sync, M: Machine, G: Gate, R: Threads + Wait + Sync> Exploration<
+    'a,
+    J,
+    M,
+    G,
+    R,
+> {
+    /// Lets each worker work in a thread of its own, until all have come to their ends.
+    fn work_at_once(&self, layer: &Layer<M>, workers: &mut [Worker<J>])
+        requires seats { All (λ w. IfSome w.seat (IsSeatOf layer.now.claims)) workers.old }
+        requires ready { All (λ lead. IsReady (M.rules self.now.machine) self.now.program.now lead.1.value) layer.now.leads.items }
+        ensures { length workers.new ≡ length workers.old }
+    {
+        let threads = workers.len().max(1);
+        let one = |_index: usize, worker: &mut Worker<J>|
+            requires { IfSome worker.now.seat (IsSeatOf layer.now.claims) × All (λ lead. IsReady (M.rules self.now.machine) self.now.program.now lead.1.value) layer.now.leads.items }
+        { self.work(layer, worker) };
+        thread::for_each_mut(self.rt, workers, threads, &one);
+    }
+
+    /// Expands the next layer. Whether there was one to expand.
+    fn expand_layer(&self, number: u16, workers: &mut [Worker<J>]) -> Result<bool, OutOfMemory>
+        requires some { 0 < length workers.old }
+        requires few { length workers.old < 2 ^ 8 }
+        ensures { length workers.new ≡ length workers.old }
+    {
+        let taken = self
+            .desk
+            .lock(self.rt)
+            .take_layer(self.alloc, self.machine, self.program);
+        let leads = taken?;
+        if leads.is_empty() {
+            return Ok(false);
+        }
+        let (claims, seats) = Claims::new(self.alloc, leads.len(), workers.len())?;
+        let layer = Layer {
+            number,
+            leads,
+            claims,
+        };
+        seat_all(&layer.claims, workers, seats);
+        self.work_at_once(&layer, workers);
+        Ok(true)
+    }
+
+    /// Expands the layers below a number of steps, until one is empty or a worker had to stop.
+    pub fn expand_layers(&self, steps: u16, workers: &mut [Worker<J>]) -> Result<(), OutOfMemory>
+        requires some { 0 < length workers.old }
+        requires few { length workers.old < 2 ^ 8 }
+    {
+        for number in 0..steps {
+            if !self.expand_layer(number, workers)? {
+                return Ok(());
+            }
+            if workers
+                .iter()
+                .any(|worker| worker.stop == Some(Stop::OutOfMemory))
+            {
+                return Err(OutOfMemory);
+            }
+            if workers.iter().any(|worker| worker.stop.is_some()) {
+                return Ok(());
+            }
+        }
+        Ok(())
+    }
+}
+
+/// The entry for whose steps the first of the workers that tell of one found no room.
+pub fn cut_of<J: Run>(workers: &[Worker<J>]) -> Option<usize> {
+    for worker in workers {
+        if let Some(Stop::Full(id)) = worker.stop {
+            return Some(id);
+        }
+    }
+    None
+}

@@ -1,0 +1,31 @@
+//! What all workers did together, once they are joined.
+ghost use Rattle.std.specs.Prelude.{◌≡◌, IfOk, IfSome, map, vec_len, sum_by};
+
+use crate::answer::Share;
+use crate::tally::{Parts, Run};
+use crate::working::Worker;
+use sched_program::OutOfMemory;
+use std::alloc::Global;
+
+/// The workers' shares, in their order.
+pub fn shares_of<J: Run>(alloc: Global, workers: &Vec<Worker<J>>) -> Result<Vec<Share>, OutOfMemory>
+    ensures { IfOk result (λ v. v.items ≡ map (λ w. w.tally.share) workers.now.items) }
+{
+    let shares = workers
+        .iter()
+        .map(|worker| worker.tally.share)
+        .collect(alloc)?;
+    Ok(shares)
+}
+
+/// The parts of all workers; none where there is no worker.
+pub fn merged<J: Run>(mut workers: Vec<Worker<J>>) -> Option<Parts<J>>
+    ensures parts { IfSome result (λ w. (w.expanded.parts ≡ vec_len workers) × (w.entered.parts ≡ vec_len workers) × (w.met.parts ≡ vec_len workers)) }
+    ensures amounts { IfSome result (λ w. (w.expanded.amount ≡ sum_by (λ x. x.tally.share.expanded) workers.items) × (w.entered.amount ≡ sum_by (λ x. x.tally.share.entered) workers.items) × (w.met.amount ≡ sum_by (λ x. x.tally.share.met) workers.items)) }
+{
+    let mut whole = workers.pop()?.tally.parts;
+    while let Some(worker) = workers.pop() {
+        whole.merge(worker.tally.parts);
+    }
+    Some(whole)
+}

@@ -1,0 +1,255 @@
+//! The ledger of an exploration: what each worker did, and what lies under the lock, which counts it.
+ghost use Rattle.std.specs.Prelude.{◌≡◌, ℕ, ◌+◌, ◌<◌, ◌↔◌, IsTrue, IfOk, All, length, count_by};
+ghost use Rattle.book.specs.Entries.{is_expanded};
+ghost use Rattle.crew.specs.Driving.{IsLedgerOf};
+ghost use Rattle.crew.specs.Working.{IsReady};
+
+use crate::answer::Share;
+use book::{Book, EnterFault, Expansion, same_program};
+use sched_program::{OutOfMemory, Program, same};
+use std::alloc::Global;
+use std::marker::{Brand, PhantomData};
+use std::sync::ledger::{Blank, Ledger};
+use std::sync::{Arc, ledger};
+use tree_machine::{Machine, State};
+
+/// The three ledgers of one exploration: into how many parts each is cut, and their names.
+pub trait Run {
+    ghost parts: { ℕ };
+
+    ghost expanded_name: { ℕ };
+
+    ghost entered_name: { ℕ };
+
+    ghost met_name: { ℕ };
+}
+
+impl Run for Brand {
+    ghost parts = { 0 };
+
+    ghost expanded_name = { 0 };
+
+    ghost entered_name = { 0 };
+
+    ghost met_name = { 0 };
+}
+
+/// The ledger of the entries expanded.
+pub struct Expanding<J: Run>(PhantomData<J>);
+
+impl<J: Run> Ledger for Expanding<J> {
+    ghost name = { J.expanded_name };
+
+    ghost parts = { J.parts };
+}
+
+/// The ledger of the steps that led to new entries.
+pub struct Entering<J: Run>(PhantomData<J>);
+
+impl<J: Run> Ledger for Entering<J> {
+    ghost name = { J.entered_name };
+
+    ghost parts = { J.parts };
+}
+
+/// The ledger of the steps that led to known states.
+pub struct Meeting<J: Run>(PhantomData<J>);
+
+impl<J: Run> Ledger for Meeting<J> {
+    ghost name = { J.met_name };
+
+    ghost parts = { J.parts };
+}
+
+/// Three new ledgers, which no exploration keeps yet.
+#[derive(Drop)]
+pub struct Blanks {
+    pub expanded: Blank,
+    pub entered: Blank,
+    pub met: Blank,
+}
+
+impl Blanks {
+    /// Three ledgers that are cut into so many parts each.
+    pub fn new(parts: u64) -> Blanks
+        ensures { (result.expanded.parts ≡ parts) × (result.entered.parts ≡ parts) × (result.met.parts ≡ parts) }
+    {
+        Blanks {
+            expanded: Blank::new(parts),
+            entered: Blank::new(parts),
+            met: Blank::new(parts),
+        }
+    }
+}
+
+/// Some parts of each ledger, and what is counted on them. It takes no bytes.
+#[derive(Drop)]
+pub struct Parts<J: Run> {
+    pub expanded: ledger::Share<Expanding<J>>,
+    pub entered: ledger::Share<Entering<J>>,
+    pub met: ledger::Share<Meeting<J>>,
+}
+
+impl<J: Run> Parts<J> {
+    /// Splits off one part of each ledger, on which nothing is counted.
+    pub fn split_one(&mut self) -> Parts<J>
+        requires expanded { (0 < self.old.expanded.parts) × (self.old.expanded.amount ≡ 0) }
+        requires entered { (0 < self.old.entered.parts) × (self.old.entered.amount ≡ 0) }
+        requires met { (0 < self.old.met.parts) × (self.old.met.amount ≡ 0) }
+        ensures parts { (result.expanded.parts ≡ 1) × (result.entered.parts ≡ 1) × (result.met.parts ≡ 1) }
+        ensures amounts { (result.expanded.amount ≡ 0) × (result.entered.amount ≡ 0) × (result.met.amount ≡ 0) }
+        ensures expanded { (self.new.expanded.parts + 1 ≡ self.old.expanded.parts) × (self.new.expanded.amount ≡ 0) }
+        ensures entered { (self.new.entered.parts + 1 ≡ self.old.entered.parts) × (self.new.entered.amount ≡ 0) }
+        ensures met { (self.new.met.parts + 1 ≡ self.old.met.parts) × (self.new.met.amount ≡ 0) }
+    {
+        Parts {
+            expanded: self.expanded.split_off(1, 0),
+            entered: self.entered.split_off(1, 0),
+            met: self.met.split_off(1, 0),
+        }
+    }
+
+    /// Adds other parts, with what is counted on them.
+    pub fn merge(&mut self, other: Parts<J>)
+        ensures parts { (self.new.expanded.parts ≡ self.old.expanded.parts + other.expanded.parts) × (self.new.entered.parts ≡ self.old.entered.parts + other.entered.parts) × (self.new.met.parts ≡ self.old.met.parts + other.met.parts) }
+        ensures amounts { (self.new.expanded.amount ≡ self.old.expanded.amount + other.expanded.amount) × (self.new.entered.amount ≡ self.old.entered.amount + other.entered.amount) × (self.new.met.amount ≡ self.old.met.amount + other.met.amount) }
+    {
+        self.expanded.merge(other.expanded);
+        self.entered.merge(other.entered);
+        self.met.merge(other.met);
+    }
+}
+
+/// What a worker did, with its part of each ledger, on which the same is counted.
+#[derive(Drop)]
+pub struct Tally<J: Run> {
+    pub share: Share,
+    pub parts: Parts<J>,
+    pub ghost one_part: { (parts.expanded.parts ≡ 1) × (parts.entered.parts ≡ 1) × (parts.met.parts ≡ 1) },
+    pub ghost expanded_is: { parts.expanded.amount ≡ share.expanded },
+    pub ghost entered_is: { parts.entered.amount ≡ share.entered },
+    pub ghost met_is: { parts.met.amount ≡ share.met },
+}
+
+impl<J: Run> Tally<J> {
+    /// The tally of a worker that did nothing yet.
+    pub fn new(parts: Parts<J>) -> Tally<J>
+        requires parts { (parts.expanded.parts ≡ 1) × (parts.entered.parts ≡ 1) × (parts.met.parts ≡ 1) }
+        requires amounts { (parts.expanded.amount ≡ 0) × (parts.entered.amount ≡ 0) × (parts.met.amount ≡ 0) }
+    {
+        Tally {
+            share: Share::none(),
+            parts,
+        }
+    }
+}
+
+/// What lies under the lock: the book, and the three ledgers, whose totals are the book's.
+#[derive(Drop)]
+pub struct Desk<J: Run, M: Machine> {
+    pub book: Book<M>,
+    pub expanded: ledger::Book<Expanding<J>>,
+    pub entered: ledger::Book<Entering<J>>,
+    pub met: ledger::Book<Meeting<J>>,
+    pub ghost expanded_is: { expanded.total ≡ count_by (λ e. is_expanded e.mark) book.entries },
+    pub ghost entered_is: { entered.total + 1 ≡ length book.entries },
+    pub ghost met_is: { met.total ≡ book.met },
+}
+
+/// Whether a book is of a machine and a program.
+pub fn is_of<M: Machine>(book: &Book<M>, machine: M, program: &Program) -> bool
+    ensures { IsTrue result ↔ ((book.now.machine ≡ machine) × (book.now.program ≡ program.now)) }
+{
+    same(&book.machine(), &machine) && same_program(book.program(), program)
+}
+
+impl<J: Run, M: Machine> Desk<J, M> {
+    /// Lays a book, no entry of which is expanded, beside three new ledgers. The other answer is all their parts.
+    pub fn new(book: Book<M>, blanks: Blanks) -> (Desk<J, M>, Parts<J>)
+        requires book { IsLedgerOf book (record { expanded = 0; entered = 0; met = 0 }) }
+        requires expanded { (blanks.expanded.name ≡ J.expanded_name) × (blanks.expanded.parts ≡ J.parts) }
+        requires entered { (blanks.entered.name ≡ J.entered_name) × (blanks.entered.parts ≡ J.parts) }
+        requires met { (blanks.met.name ≡ J.met_name) × (blanks.met.parts ≡ J.parts) }
+        ensures parts { (result.1.expanded.parts ≡ J.parts) × (result.1.entered.parts ≡ J.parts) × (result.1.met.parts ≡ J.parts) }
+        ensures amounts { (result.1.expanded.amount ≡ 0) × (result.1.entered.amount ≡ 0) × (result.1.met.amount ≡ 0) }
+    {
+        let (expanded, all_expanded) = blanks.expanded.open::<Expanding<J>>();
+        let (entered, all_entered) = blanks.entered.open::<Entering<J>>();
+        let (met, all_met) = blanks.met.open::<Meeting<J>>();
+        let desk = Desk {
+            book,
+            expanded,
+            entered,
+            met,
+        };
+        let whole = Parts {
+            expanded: all_expanded,
+            entered: all_entered,
+            met: all_met,
+        };
+        (desk, whole)
+    }
+
+    /// Takes the next layer. It is empty where the book has an entry that is not sound, or is of another machine or
+    /// program.
+    pub fn take_layer(
+        &mut self,
+        alloc: Global,
+        machine: M,
+        program: &Program,
+    ) -> Result<Vec<(usize, Arc<State<M>>)>, OutOfMemory>
+        ensures ready { IfOk result (λ v. All (λ lead. IsReady (M.rules machine) program.now lead.1.value) v.items) }
+    {
+        let Desk { book, .. } = self;
+        if !is_of(book, machine, program) || book.first_fault().is_some() {
+            return Ok(Vec::new(alloc));
+        }
+        book.law();
+        let layer = book.take_layer()?;
+        Ok(layer)
+    }
+
+    /// Enters an expansion, and counts it in the worker's tally.
+    pub fn enter(
+        &mut self,
+        tally: &mut Tally<J>,
+        id: usize,
+        expansion: Expansion<'_, M>,
+    ) -> Result<(), EnterFault> {
+        let Desk {
+            book,
+            expanded,
+            entered,
+            met,
+        } = self;
+        book.law();
+        expansion.law();
+        let counts = book.enter(id, expansion)?;
+        let parts = &mut tally.parts;
+        expanded.audit(&mut parts.expanded);
+        entered.audit(&mut parts.entered);
+        met.audit(&mut parts.met);
+        expanded.add(&mut parts.expanded, 1);
+        entered.add(&mut parts.entered, counts.entered as u64);
+        met.add(&mut parts.met, counts.met as u64);
+        tally.share.add(counts);
+        Ok(())
+    }
+
+    /// The book. Whoever has all parts knows what it counts.
+    pub fn settle(self, mut whole: Parts<J>) -> Book<M>
+        requires { (whole.expanded.parts ≡ J.parts) × (whole.entered.parts ≡ J.parts) × (whole.met.parts ≡ J.parts) }
+        ensures { IsLedgerOf result (record { expanded = whole.expanded.amount; entered = whole.entered.amount; met = whole.met.amount }) }
+    {
+        let Desk {
+            book,
+            mut expanded,
+            mut entered,
+            mut met,
+        } = self;
+        expanded.audit(&mut whole.expanded);
+        entered.audit(&mut whole.entered);
+        met.audit(&mut whole.met);
+        book
+    }
+}
