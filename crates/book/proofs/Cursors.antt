@@ -1,5 +1,5 @@
 -- The places among the entries that are looked for again and again.
-use Rattle.std.proofs.Common.{◌≡◌, ◌≢◌, ℕ, zero, suc, ◌+◌, ◌<◌, ◌≤◌, inl, inr, Bool, true, false, not, Option, Some, None, List, [], ◌∷◌, ◌++◌, length, map, refl, sym, ap, ◌∙◌, arith, slice_get, position, length-append, subst}
+use Rattle.std.proofs.Common.{◌≡◌, ◌≢◌, ℕ, zero, suc, ◌+◌, ◌<◌, ◌≤◌, inl, inr, Bool, true, false, not, cond, Option, Some, None, List, [], ◌∷◌, ◌++◌, length, map, refl, sym, ap, ◌∙◌, arith, slice_get, position, length-append, subst}
 use Rattle.std.proofs.lemmas.Bool.{true≢false, cases_lt, not-false}
 use Rattle.book.specs.declared.entry.Mark.{Mark}
 use Rattle.book.specs.declared.entry.Mark.TheVariants.{Open, Taken, Expanded}
@@ -267,6 +267,21 @@ module _ {S : Type 0} (es : List (Entry S)) where
         opened_open i [] k d h = absurd (let q : None ≡ Some d = h in cc)
         opened_open i (x ∷ xs) zero d h = let q : opened i x ≡ d = cc in sym (ap (λ (e : Entry S). e.mark) q)
         opened_open i (x ∷ xs) (suc k) d h = opened_open i xs k d h
+
+only_one : {S : Type 0} (e : Entry S) (k : ℕ) (y : Entry S) → slice_get (e ∷ []) k ≡ Some y → not (is_sound e.finding) ≡ false → not (is_sound y.finding) ≡ false
+only_one {S} e zero y at h = let same : e ≡ y = cc in ap (λ (d : Entry S). not (is_sound d.finding)) (sym same) ∙ h
+only_one e (suc k) y at h = absurd (let q : None ≡ Some y = at in cc)
+
+-- the one entry is the first that is not sound, if it is not
+pub fault_of_one : {S : Type 0} (e : Entry S) → position (λ (d : Entry S). not (is_sound d.finding)) (e ∷ []) ≡ cond (is_sound e.finding) None (Some 0)
+fault_of_one {S} e = by (is_sound e.finding) refl
+  where
+    p : Entry S → Bool
+    p d = not (is_sound d.finding)
+
+    by : (b : Bool) → is_sound e.finding ≡ b → position p (e ∷ []) ≡ cond (is_sound e.finding) None (Some 0)
+    by true h = none_is p (e ∷ []) (λ k y at. only_one e k y at (ap not h)) ∙ sym (ap (λ b. cond b None (Some 0)) h)
+    by false h = first_is p (e ∷ []) 0 e refl (ap not h) (λ k y at less. absurd (omega arith)) ∙ sym (ap (λ b. cond b None (Some 0)) h)
 
 -- one open entry
 pub cursors_one : {S : Type 0} (e : Entry S) → e.mark ≡ Open → (fault : Option ℕ)

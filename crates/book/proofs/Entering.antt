@@ -1,13 +1,16 @@
 -- An expansion is entered.
-use Rattle.std.proofs.Common.{◌≡◌, ℕ, zero, suc, ◌+◌, ◌-◌, ◌^◌, ◌<◌, ◌≤◌, Bool, true, Some, List, [], ◌∷◌, ◌++◌, length, map, refl, sym, ap, ◌∙◌, arith, slice_get, length-append, subst}
+use Rattle.std.proofs.Common.{◌≡◌, ◌⊎◌, inl, inr, Result, Ok, Err, OnOk, IfOk, IfErr, ℕ, zero, suc, ◌+◌, ◌-◌, ◌^◌, ◌<◌, ◌≤◌, Bool, true, Some, List, [], ◌∷◌, ◌++◌, length, map, refl, sym, ap, ◌∙◌, arith, slice_get, length-append, subst}
 use Rattle.std.proofs.lemmas.Bool.{true≢false, cond_both}
 use Rattle.std.proofs.Math.ListN.{length-map}
 use Rattle.sched_program.specs.Program.{Program}
+use Rattle.book.specs.declared.book.Entered.{Entered}
+use Rattle.book.specs.declared.book.EnterFault.{EnterFault}
+use Rattle.book.specs.declared.book.EnterFault.TheVariants.{NotTaken, Stranger, Full, OutOfMemory}
 use Rattle.book.specs.declared.finding.Finding.{Finding}
 use Rattle.book.specs.declared.entry.Mark.{Mark}
 use Rattle.book.specs.declared.entry.Mark.TheVariants.{Open, Taken, Expanded}
 use Rattle.book.specs.Schedule.{StepMachine, IsMachine, Merges}
-use Rattle.book.specs.Entries.{Entry, Successor, Contents, At, IsOwn, IsTaken, with_mark, with_successors, knows, unknown, opened, states, is_taken}
+use Rattle.book.specs.Entries.{Entry, Successor, Steps, Contents, At, Enters, IsOwn, IsTaken, Refuses, with_mark, with_successors, knows, unknown, opened, states, is_taken}
 use Rattle.book.specs.Law.{IsLawfulBook, IsExpansion}
 use Rattle.book.proofs.EntryLemmas.{get_within, get-append_left}
 use Rattle.book.proofs.LawfulBooks.{entered_book, met_fits}
@@ -42,8 +45,8 @@ module _ {X S : Type 0} (m : StepMachine S) (same : S → S → Bool) (right : S
     (b : Contents X S) (book : IsLawfulBook m same right b) (i : ℕ) (e : Entry S) (at : At b.entries i e) (taken : e.mark ≡ Taken)
     (xs : List (Successor S)) (expansion : IsExpansion m right e.state xs)
     (appended : List (Entry S)) (is : appended ≡ b.entries ++ map (opened i) (unknown same (states b.entries) xs)) where
-  length-appended : length appended ≡ length b.entries + length (unknown same (states b.entries) xs)
-  length-appended =
+  pub length_appended : length appended ≡ length b.entries + length (unknown same (states b.entries) xs)
+  length_appended =
       let l : length (b.entries ++ map (opened i) (unknown same (states b.entries) xs)) ≡ length b.entries + length (map (opened i) (unknown same (states b.entries) xs)) =
       length-append b.entries (map (opened i) (unknown same (states b.entries) xs)) in
       let m : length (map (opened i) (unknown same (states b.entries) xs)) ≡ length (unknown same (states b.entries) xs) = length-map (unknown same (states b.entries) xs) (opened i) in
@@ -52,7 +55,7 @@ module _ {X S : Type 0} (m : StepMachine S) (same : S → S → Bool) (right : S
 
   -- so many are new
   pub entered_is : (entered was now : ℕ) → entered ≡ now - was → was ≡ length b.entries → now ≡ length appended → entered ≡ length (unknown same (states b.entries) xs)
-  entered_is entered was now p q r = let l : length appended ≡ length b.entries + length (unknown same (states b.entries) xs) = length-appended in omega arith
+  entered_is entered was now p q r = let l : length appended ≡ length b.entries + length (unknown same (states b.entries) xs) = length_appended in omega arith
 
   pub few_entered : (entered was now steps : ℕ) → entered ≡ now - was → was ≡ length b.entries → now ≡ length appended → steps ≡ length xs → entered ≤ steps
   few_entered entered was now steps p q r u =
@@ -74,7 +77,7 @@ module _ {X S : Type 0} (m : StepMachine S) (same : S → S → Bool) (right : S
       → IsLawfulBook m same right (record { machine = b.machine; program = b.program; merge = b.merge; limit = b.limit; entries = new; met = b.met + met })
   lawful_entered new entered met marked count each room =
       rw (entered_entries new marked) (entered_book m same right machine merges b book i e at taken xs expansion entered met (sym count) each
-      (let l : length appended ≡ length b.entries + length (unknown same (states b.entries) xs) = length-appended in omega arith))
+      (let l : length appended ≡ length b.entries + length (unknown same (states b.entries) xs) = length_appended in omega arith))
 
   pub small_met : (met : ℕ) → met ≤ length xs → b.met + met < 2 ^ 64
   small_met met le = met_fits m same right machine merges b book i e at taken xs expansion met le
@@ -86,3 +89,38 @@ expansion_of_own {X} {P} {S} machine_for right_for x y p q s r xs e f h is =
     subst (λ (v : S). IsExpansion (machine_for y q) (right_for y q) v xs) h
     (subst (λ (u : P). IsExpansion (machine_for y u) (right_for y u) s xs) f
     (subst (λ (u : X). IsExpansion (machine_for u p) (right_for u p) s xs) e is))
+
+-- what putting the steps of an entry answers, of the expansion that they came of
+module _ {X S : Type 0} (same : S → S → Bool) (old new : Contents X S) (i : ℕ) (x : Steps X S) (xs : List (Successor S)) (steps : xs ≡ x.successors)
+    (taken : IsTaken old.entries i) (own : IsOwn old i x.machine x.program x.source) where
+  pub enters_by : (answer : Result Entered EnterFault) → OnOk answer (new.entries ≡ with_successors same old.entries i xs)
+      → IfOk answer (λ r. (r.entered ≡ length (unknown same (states old.entries) xs)) × (r.entered + r.met ≡ length xs) × (new.met ≡ old.met + r.met))
+      → IfOk answer (λ r. length old.entries + r.entered ≤ old.limit)
+      → (new.machine ≡ old.machine) × (new.program ≡ old.program) × (new.merge ≡ old.merge) × (new.limit ≡ old.limit)
+      → IfOk answer (λ r. Enters same old new i x r.entered r.met)
+  enters_by (Ok r) entries counts room rest = record {
+    taken = taken;
+    own = own;
+    room = room;
+    entries = entries ∙ ap (with_successors same old.entries i) steps;
+    new_states = counts.0 ∙ ap (λ ys. length (unknown same (states old.entries) ys)) steps;
+    each = counts.1 ∙ ap length steps;
+    met_in_all = counts.2;
+    machine = rest.0;
+    program = rest.1;
+    merge = rest.2;
+    limit = rest.3;
+  }
+  enters_by (Err fault) entries counts room rest = tt
+
+  pub refuses_by : (answer : Result Entered EnterFault)
+      → IfErr answer (λ fault. (fault ≡ OutOfMemory) ⊎ ((fault ≡ Full) × (old.limit < length old.entries + length (unknown same (states old.entries) xs))))
+      → IfErr answer (Refuses same old i x)
+  refuses_by (Ok r) full = tt
+  refuses_by (Err NotTaken) (inl e) = cc
+  refuses_by (Err NotTaken) (inr e) = absurd (let q : NotTaken ≡ Full = e.0 in cc)
+  refuses_by (Err Stranger) (inl e) = absurd (cc)
+  refuses_by (Err Stranger) (inr e) = absurd (let q : Stranger ≡ Full = e.0 in cc)
+  refuses_by (Err Full) (inl e) = absurd (cc)
+  refuses_by (Err Full) (inr e) = (taken, own, subst (λ ys. old.limit < length old.entries + length (unknown same (states old.entries) ys)) steps e.1)
+  refuses_by (Err OutOfMemory) full = (taken, own)

@@ -17,7 +17,7 @@ get-map_from g [] k y h = absurd (cc)
 get-map_from g (x ∷ xs) zero y h = (x, refl, (cc))
 get-map_from g (x ∷ xs) (suc k) y h = get-map_from g xs k y h
 
-get-map_at : {X Y : Type 0} (g : X → Y) (xs : List X) (k : ℕ) (x : X) → slice_get xs k ≡ Some x → slice_get (map g xs) k ≡ Some (g x)
+pub get-map_at : {X Y : Type 0} (g : X → Y) (xs : List X) (k : ℕ) (x : X) → slice_get xs k ≡ Some x → slice_get (map g xs) k ≡ Some (g x)
 get-map_at g [] k x h = absurd (cc)
 get-map_at g (w ∷ xs) zero x h = let e : w ≡ x = cc in ap (λ v. Some (g v)) e
 get-map_at g (w ∷ xs) (suc k) x h = get-map_at g xs k x h

@@ -11,6 +11,7 @@ pub mod Counts
 pub mod Ways
 mod Expanding
 mod SlotLemmas
+mod Labels
 mod Cursors
 pub mod Machines
 mod Loans

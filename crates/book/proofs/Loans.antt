@@ -153,7 +153,7 @@ record HasGone {Place : Type 0} (old : List (Thread Place)) (t : ℕ) (thread : 
   more : List (List ℕ)
   notes : now.notes ≡ thread.notes ++ more
 
-module _ {Machine Memory Place : Type 0} (state : State Machine Memory Place) (t : ℕ) (thread begun : Thread Place) (there : slice_get state.threads t ≡ Some thread)
+module _ {Machine Memory Place Form : Type 0} (state : State Machine Memory Place Form) (t : ℕ) (thread begun : Thread Place) (there : slice_get state.threads t ≡ Some thread)
     (replies : begun.replies ≡ thread.replies) (more : List (List ℕ)) (notes : begun.notes ≡ thread.notes ++ more) where
   has_gone : (acted : Memory × Outcome Place) (b : Thread Place) → slice_get (after_access state t begun acted).threads t ≡ Some b → length b.replies ≡ length thread.replies
       → HasGone state.threads t thread (after_access state t begun acted).threads
@@ -173,7 +173,7 @@ more_notes : {Place : Type 0} (place : Option Place) (notes : List (List ℕ)) (
 more_notes (Some place) notes counts = ([], sym (append-nil notes))
 more_notes None notes counts = (counts ∷ [], refl)
 
-module _ {Machine Memory Place : Type 0} (program : Program) (state next : State Machine Memory Place) (t : ℕ) (thread : Thread Place)
+module _ {Machine Memory Place Form : Type 0} (program : Program) (state next : State Machine Memory Place Form) (t : ℕ) (thread : Thread Place)
     (there : slice_get state.threads t ≡ Some thread) (gone : HasGone state.threads t thread next.threads) where
   gone_lends : (order : List OpId) → IsLinearization program (history_of state) order → IsLinearization program (history_of next) order
   gone_lends order is =
@@ -191,18 +191,18 @@ module _ {Machine Memory Place : Type 0} (program : Program) (state next : State
       ap (λ (all : List (List (List ℕ))). value_at (all_named 0 all) a) is_now ∙ grown)
       order is
 
-module _ {Machine Memory Place : Type 0} (rules : Rules Memory Place) (program : Program) where
+module _ {Machine Memory Place Form : Type 0} (rules : Rules Memory Place) (program : Program) where
   -- a linearization before a step that ended no operation is one after it
-  pub step_lends : (state next : State Machine Memory Place) (t : ℕ) → step rules program state t ≡ Some next → (a b : Thread Place) → slice_get state.threads t ≡ Some a
+  pub step_lends : (state next : State Machine Memory Place Form) (t : ℕ) → step rules program state t ≡ Some next → (a b : Thread Place) → slice_get state.threads t ≡ Some a
       → slice_get next.threads t ≡ Some b → length b.replies ≡ length a.replies → (order : List OpId) → IsLinearization program (history_of state) order → IsLinearization program (history_of next) order
   step_lends state next t leads a b at_a at_b same order is =
       step_parts rules program (IsLinearization program (history_of next) order) state next t leads (λ thread there op op_is made.
       let own : thread ≡ a = cc in
       let place = rules.first op in
       let more = more_notes thread.place thread.notes (finished_counts state.threads) in
-      let at_made : slice_get (stepped rules state t op thread).threads t ≡ Some b = ap (λ (s : State Machine Memory Place). slice_get s.threads t) (sym made) ∙ at_b in
+      let at_made : slice_get (stepped rules state t op thread).threads t ≡ Some b = ap (λ (s : State Machine Memory Place Form). slice_get s.threads t) (sym made) ∙ at_b in
       let len : length b.replies ≡ length thread.replies = same ∙ ap (λ (x : Thread Place). length x.replies) (sym own) in
       gone_lends program state next t thread there
-      (subst (λ (s : State Machine Memory Place). HasGone state.threads t thread s.threads) (sym made)
+      (subst (λ (s : State Machine Memory Place Form). HasGone state.threads t thread s.threads) (sym made)
       (has_gone state t thread (at_step rules state op thread) there refl more.0 more.1 (rules.act op (place_or thread.place place) state.memory) b at_made len))
       order is)

@@ -1,37 +1,45 @@
 -- A machine that runs a program is a step machine.
-use Rattle.std.proofs.Common.{◌≡◌, ℕ, ◌+◌, ◌<◌, ◌≤◌, Bool, true, false, is_some, Some, None, [], ◌∷◌, length, refl, sym, ap, ◌∙◌, arith, slice_get, subst, if◌then◌else◌}
+use Rattle.std.proofs.Common.{◌≡◌, ℕ, ◌+◌, ◌<◌, ◌≤◌, Bool, true, false, is_some, Option, Some, None, List, [], ◌∷◌, length, refl, sym, ap, ◌∙◌, arith, slice_get, subst, if◌then◌else◌}
 use Rattle.std.specs.Option.{option_and_then}
 use Rattle.std.specs.Cmp.{IsEquivalence}
+use Rattle.std.proofs.lemmas.Bool.{true≢false}
 use Rattle.std.proofs.lemmas.Option.{option_and_then_some, same_Some}
 use Rattle.sched_program.specs.Exact.{IsExact}
 use Rattle.sched_program.specs.Program.{Program, IsWithinLimits, op_at}
-use Rattle.tree_machine.specs.Rules.{Rules, AreLawful}
+use Rattle.tree_machine.specs.Rules.{Rules, AreLawful, AreFormsExact}
+use Rattle.tree_machine.specs.Alike.{state_form, AreStatesAlike}
 use Rattle.tree_machine.specs.Step.{start, step, stepped, after_access, Fits}
-use Rattle.tree_machine.specs.StateExact.{state_eq}
+use Rattle.tree_machine.specs.StateExact.{state_eq, state_form_eq}
 use Rattle.tree_machine.specs.declared.machine.Outcome.{Outcome}
 use Rattle.tree_machine.specs.declared.machine.Outcome.TheVariants.{Goes, Replies, Astray}
 use Rattle.tree_machine.specs.declared.state.Thread.{Thread}
 use Rattle.tree_machine.specs.declared.state.State.{State}
+use Rattle.tree_machine.specs.declared.form.StateForm.{StateForm}
+use Rattle.tree_machine.proofs.Alike.{alike_step, alike_history, alike_ordered}
+use Rattle.tree_machine.proofs.Forms.{forms_alike, alike_turned}
 use Rattle.tree_machine.proofs.States.{start_fits, stepped_fits}
+use Rattle.lin.specs.Linearization.{IsLinearization}
 use Rattle.book.specs.declared.book.Merge.{Merge}
-use Rattle.book.specs.declared.book.Merge.TheVariants.{Exact}
+use Rattle.book.specs.declared.book.Merge.TheVariants.{Exact, Names}
 use Rattle.book.specs.declared.entry.Mark.TheVariants.{Open}
 use Rattle.book.specs.declared.finding.Finding.{Finding}
+use Rattle.book.specs.declared.finding.Finding.TheVariants as found
 use Rattle.book.specs.Schedule.{StepMachine, IsMachine, Merges}
-use Rattle.book.specs.Findings.{machine_of, IsFindingOf, IsSound}
+use Rattle.book.specs.Findings.{is_sound, machine_of, IsFindingOf, IsSound}
+use Rattle.book.specs.Labels.{form_by, same_as}
 use Rattle.book.specs.Books.{counted_as_one, IsBook}
 use Rattle.book.proofs.EntryLemmas.{get_within}
 use Rattle.book.proofs.Exact.{exact_merges}
 use Rattle.book.proofs.LawfulBooks.{opened_book}
 
-module _ {Machine Memory Place : Type 0} (rules : Rules Memory Place) (program : Program) where
-  access_counts : (state : State Machine Memory Place) (t : ℕ) (thread : Thread Place) (acted : Memory × Outcome Place) → (after_access state t thread acted).steps ≡ state.steps + 1
+module _ {Machine Memory Place Form : Type 0} (rules : Rules Memory Place) (program : Program) where
+  access_counts : (state : State Machine Memory Place Form) (t : ℕ) (thread : Thread Place) (acted : Memory × Outcome Place) → (after_access state t thread acted).steps ≡ state.steps + 1
   access_counts state t thread (memory, Goes place) = refl
   access_counts state t thread (memory, Replies reply) = refl
   access_counts state t thread (memory, Astray) = refl
 
   -- what a step is made of
-  pub step_parts : (P : Type 0) (state next : State Machine Memory Place) (t : ℕ) → step rules program state t ≡ Some next
+  pub step_parts : (P : Type 0) (state next : State Machine Memory Place Form) (t : ℕ) → step rules program state t ≡ Some next
       → ((thread : Thread Place) → slice_get state.threads t ≡ Some thread → (op : _) → op_at program t (length thread.replies) ≡ Some op → next ≡ stepped rules state t op thread → P) → P
   step_parts P state next t is made = go (is_some state.astray) is
     where
@@ -43,23 +51,23 @@ module _ {Machine Memory Place : Type 0} (rules : Rules Memory Place) (program :
           made thread there op op_is (sym (same_Some _ _ same))))
 
   -- a step is counted
-  pub step_counts : (state next : State Machine Memory Place) (t : ℕ) → step rules program state t ≡ Some next → next.steps ≡ state.steps + 1
+  pub step_counts : (state next : State Machine Memory Place Form) (t : ℕ) → step rules program state t ≡ Some next → next.steps ≡ state.steps + 1
   step_counts state next t is =
       step_parts (next.steps ≡ state.steps + 1) state next t is (λ thread there op op_is same.
-      ap (λ (s : State Machine Memory Place). s.steps) same ∙ access_counts state t _ _)
+      ap (λ (s : State Machine Memory Place Form). s.steps) same ∙ access_counts state t _ _)
 
   -- only a thread takes a step
-  step_of_thread : (state next : State Machine Memory Place) (t : ℕ) → step rules program state t ≡ Some next → t < length program.threads
+  step_of_thread : (state next : State Machine Memory Place Form) (t : ℕ) → step rules program state t ≡ Some next → t < length program.threads
   step_of_thread state next t is =
       step_parts (t < length program.threads) state next t is (λ thread there op op_is same.
       option_and_then_some _ (slice_get program.threads t) op op_is (λ ops at_t _. get_within program.threads t ops at_t))
 
   -- and leads to a state that fits
-  step_fits : AreLawful rules → (state next : State Machine Memory Place) (t : ℕ) → Fits rules program state → step rules program state t ≡ Some next → Fits rules program next
+  step_fits : AreLawful rules → (state next : State Machine Memory Place Form) (t : ℕ) → Fits rules program state → step rules program state t ≡ Some next → Fits rules program next
   step_fits lawful state next t fits is =
       step_parts (Fits rules program next) state next t is (λ thread there op op_is same. stepped_fits rules program state fits next t op thread same lawful there op_is)
 
-  pub is_machine : AreLawful rules → IsWithinLimits program → IsMachine (machine_of {Machine = Machine} rules program)
+  pub is_machine : AreLawful rules → IsWithinLimits program → IsMachine (machine_of {Machine = Machine} {Form = Form} rules program)
   is_machine lawful limits = record {
     from_zero = refl;
     one_more = (λ s r t leads. step_counts s r t leads);
@@ -69,43 +77,88 @@ module _ {Machine Memory Place : Type 0} (rules : Rules Memory Place) (program :
     step_fits = (λ s r t fits leads. step_fits lawful s r t fits leads);
   }
 
--- every merge is exact
-pub only_exact : {Machine Memory Place : Type 0} (place_eq : Place → Place → Bool) (memory_eq : Memory → Memory → Bool) (merge : Merge)
-    → counted_as_one {Machine = Machine} place_eq memory_eq merge ≡ state_eq place_eq memory_eq
-only_exact place_eq memory_eq Exact = refl
+module _ {Machine Memory Place Form : Type 0} (place_eq : Place → Place → Bool) (memory_eq : Memory → Memory → Bool) (form_eq : Form → Form → Bool)
+    (form_of : Memory → List (Option Place) → Form) where
+  -- labels test equal exactly as the merge counts states as one
+  pub counted_by_label : (merge : Merge) → counted_as_one {Machine = Machine} place_eq memory_eq form_eq form_of merge
+      ≡ same_as (state_eq place_eq memory_eq) (state_form_eq form_eq) (form_by merge (state_form form_of))
+  counted_by_label Exact = refl
+  counted_by_label Names = refl
 
-module _ {Machine Memory Place : Type 0} (place_eq : Place → Place → Bool) (memory_eq : Memory → Memory → Bool)
-    (exact : IsExact (state_eq place_eq {Machine = Machine} memory_eq)) where
-  -- states that count as one are sound alike
-  sound_alike : (merge : Merge) (m : StepMachine (State Machine Memory Place)) (right : State Machine Memory Place → Finding → Type 0) (r s : State Machine Memory Place)
-      → m.Fits r → m.Fits s → counted_as_one place_eq memory_eq merge r s ≡ true → IsSound right r → IsSound right s
-  sound_alike Exact m right r s _ _ same sound = subst (λ v. IsSound right v) (exact r s same) sound
+  module _ (rules : Rules Memory Place) (program : Program) (lawful : AreLawful rules) (forms : AreFormsExact rules form_of)
+      (states_exact : IsExact (state_eq place_eq {Machine = Machine} {Form = Form} memory_eq)) (states : IsEquivalence (state_eq place_eq {Machine = Machine} {Form = Form} memory_eq))
+      (forms_exact : IsExact (state_form_eq {Machine = Machine} {Memory = Memory} {Place = Place} form_eq)) (form_tests : IsEquivalence (state_form_eq {Machine = Machine} {Memory = Memory} {Place = Place} form_eq)) where
+    abbrev form : State Machine Memory Place Form → StateForm Machine Memory Place Form
+    form = state_form form_of
 
-  merges_by : (merge : Merge) (m : StepMachine (State Machine Memory Place)) → IsEquivalence (state_eq place_eq {Machine = Machine} memory_eq)
-      → Merges m (counted_as_one place_eq memory_eq merge)
-  merges_by Exact m laws = exact_merges m (state_eq place_eq memory_eq) laws exact
+    -- states that fit are alike where their forms test equal
+    alike_by : (r s : State Machine Memory Place Form) → Fits rules program r → Fits rules program s → state_form_eq form_eq (form r) (form s) ≡ true → AreStatesAlike rules r s
+    alike_by r s r_fits s_fits same = (forms_alike rules form_of forms program program r s r_fits s_fits).0 (forms_exact (form r) (form s) same)
 
-  -- the book with the start alone
-  pub first_book : (rules : Machine → Rules Memory Place) (machine : Machine) (program : Program) (merge : Merge) (limit : ℕ)
-      (state : State Machine Memory Place) (finding : Finding) → IsEquivalence (state_eq place_eq {Machine = Machine} memory_eq) → AreLawful (rules machine) → IsWithinLimits program
-      → state ≡ start (rules machine) program → Fits (rules machine) program state → IsFindingOf (rules machine) program state finding → 1 ≤ limit → limit ≤ 2000000
-      → IsBook rules place_eq memory_eq (record {
-        machine = machine;
-        program = program;
-        merge = merge;
-        limit = limit;
-        entries = record { state = state; finding = finding; origin = None; mark = Open } ∷ [];
-        met = 0;
-      })
-  first_book rules machine program merge limit state finding laws lawful limits starts fits right some few =
-      let m : StepMachine (State Machine Memory Place) = machine_of (rules machine) program in
-      let keeps : IsMachine m = is_machine (rules machine) program lawful limits in
-      let merges : Merges m (counted_as_one place_eq memory_eq merge) = merges_by merge m laws in
-      record {
-        law = opened_book {X = Machine} m (counted_as_one place_eq memory_eq merge) (IsFindingOf (rules machine) program) keeps merges machine program merge limit state finding
-            starts right fits some few;
-        limits = limits;
-        machine = keeps;
-        merges = merges;
-        alike = sound_alike merge m (IsFindingOf (rules machine) program);
-      }
+    named_by : (r s : State Machine Memory Place Form) → Fits rules program r → Fits rules program s → AreStatesAlike rules r s → state_form_eq form_eq (form r) (form s) ≡ true
+    named_by r s r_fits s_fits alike =
+        subst (λ (f : StateForm Machine Memory Place Form). state_form_eq form_eq (form r) f ≡ true) ((forms_alike rules form_of forms program program r s r_fits s_fits).1 alike) (form_tests.refl (form r))
+
+    names_merge : IsMachine (machine_of {Machine = Machine} {Form = Form} rules program) → Merges (machine_of {Machine = Machine} {Form = Form} rules program) (λ r s. state_form_eq form_eq (form r) (form s))
+    names_merge machine = record {
+      itself = (λ s. form_tests.refl (form s));
+      turned = (λ r s h. form_tests.symm (form s) (form r) ∙ h);
+      joined = (λ r s u h k. form_tests.congr (form r) (form s) (form u) h ∙ k);
+      steps_alike = (λ r s u t r_fits s_fits h leads.
+          let alike = alike_turned rules form_of forms program r s r_fits s_fits (alike_by r s r_fits s_fits h) in
+          let v = alike_step rules s r lawful alike program t u leads in
+          let u_fits = machine.step_fits s u t s_fits leads in
+          let v_fits = machine.step_fits r v.0 t r_fits v.1 in
+          (v.0, v.1, named_by v.0 u v_fits u_fits (alike_turned rules form_of forms program u v.0 u_fits v_fits v.2)));
+    }
+
+    -- what is found of a state is found of one that is alike to it, if it is sound
+    found_alike : (r s : State Machine Memory Place Form) → AreStatesAlike rules r s → (finding : Finding) → IsFindingOf rules program r finding → is_sound finding ≡ true → IsFindingOf rules program s finding
+    found_alike r s alike found.Astray is sound = absurd (true≢false (sym sound))
+    found_alike r s alike found.Order is sound = absurd (true≢false (sym sound))
+    found_alike r s alike found.History is sound = absurd (true≢false (sym sound))
+    found_alike r s alike (found.Sound order) is sound = (
+      sym alike.astray ∙ is.0,
+      alike_ordered rules r s lawful alike is.1,
+      subst (λ h. IsLinearization program h order.items) (alike_history rules r s alike) is.2,
+    )
+
+    pub merges_by : (merge : Merge) → IsMachine (machine_of {Machine = Machine} {Form = Form} rules program) → Merges (machine_of {Machine = Machine} {Form = Form} rules program) (counted_as_one {Machine = Machine} place_eq memory_eq form_eq form_of merge)
+    merges_by Exact machine = exact_merges (machine_of {Machine = Machine} {Form = Form} rules program) (state_eq place_eq memory_eq) states states_exact
+    merges_by Names machine = names_merge machine
+
+    -- states that count as one are sound alike
+    pub sound_alike : (merge : Merge) (r s : State Machine Memory Place Form) → Fits rules program r → Fits rules program s
+        → counted_as_one {Machine = Machine} place_eq memory_eq form_eq form_of merge r s ≡ true → IsSound (IsFindingOf rules program) r → IsSound (IsFindingOf rules program) s
+    sound_alike Exact r s _ _ same sound = subst (λ v. IsSound (IsFindingOf rules program) v) (states_exact r s same) sound
+    sound_alike Names r s r_fits s_fits same sound = (sound.0, found_alike r s (alike_by r s r_fits s_fits same) sound.0 sound.1 sound.2, sound.2)
+
+-- the book with the start alone
+pub first_book : {Machine Memory Place Form : Type 0} (place_eq : Place → Place → Bool) (memory_eq : Memory → Memory → Bool) (form_eq : Form → Form → Bool)
+    (form_of : Machine → Memory → List (Option Place) → Form) (rules : Machine → Rules Memory Place)
+    → IsExact (state_eq place_eq {Machine = Machine} {Form = Form} memory_eq) → IsEquivalence (state_eq place_eq {Machine = Machine} {Form = Form} memory_eq)
+    → IsExact (state_form_eq {Machine = Machine} {Memory = Memory} {Place = Place} form_eq) → IsEquivalence (state_form_eq {Machine = Machine} {Memory = Memory} {Place = Place} form_eq)
+    → (machine : Machine) (program : Program) (merge : Merge) (limit : ℕ) (state : State Machine Memory Place Form) (finding : Finding)
+    → AreLawful (rules machine) → AreFormsExact (rules machine) (form_of machine) → IsWithinLimits program
+    → state ≡ start (rules machine) program → Fits (rules machine) program state → IsFindingOf (rules machine) program state finding → 1 ≤ limit → limit ≤ 2000000
+    → IsBook rules place_eq memory_eq form_eq form_of (record {
+      machine = machine;
+      program = program;
+      merge = merge;
+      limit = limit;
+      entries = record { state = state; finding = finding; origin = None; mark = Open } ∷ [];
+      met = 0;
+    })
+first_book {Machine} {Memory} {Place} {Form} place_eq memory_eq form_eq form_of rules states_exact states forms_exact form_tests machine program merge limit state finding lawful forms limits starts fits right some few =
+    let m : StepMachine (State Machine Memory Place Form) = machine_of (rules machine) program in
+    let keeps : IsMachine m = is_machine (rules machine) program lawful limits in
+    let merges : Merges m (counted_as_one place_eq memory_eq form_eq (form_of machine) merge) =
+    merges_by place_eq memory_eq form_eq (form_of machine) (rules machine) program lawful forms states_exact states forms_exact form_tests merge keeps in
+    record {
+      law = opened_book {X = Machine} m (counted_as_one place_eq memory_eq form_eq (form_of machine) merge) (IsFindingOf (rules machine) program) keeps merges machine program merge limit state finding
+          starts right fits some few;
+      limits = limits;
+      machine = keeps;
+      merges = merges;
+      alike = sound_alike place_eq memory_eq form_eq (form_of machine) (rules machine) program lawful forms states_exact states forms_exact form_tests merge;
+    }

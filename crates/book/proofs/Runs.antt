@@ -8,10 +8,10 @@ use Rattle.book.specs.declared.finding.Finding.{Finding}
 use Rattle.book.specs.declared.entry.Mark.{Mark}
 use Rattle.book.specs.declared.entry.Mark.TheVariants.{Open, Taken, Expanded}
 use Rattle.book.specs.Schedule.{StepMachine, IsMachine, Merges}
-use Rattle.book.specs.Entries.{Entry, Contents, At, IsNext, IsInLayer, TakesLayer, is_open, with_mark, with_marks}
-use Rattle.book.specs.Law.{IsLawful, IsLawfulBook}
+use Rattle.book.specs.Entries.{Entry, Contents, At, IsNext, TakesLayer, is_open, with_mark, with_marks}
+use Rattle.book.specs.Law.{IsLawfulBook}
 use Rattle.book.specs.Slots.{AllStates, AreCursors, AreStatesOf, IsOpenFrom}
-use Rattle.book.proofs.EntryLemmas.{SameButMark, at-with_mark, length-with_mark, get_at, get-append_cases}
+use Rattle.book.proofs.EntryLemmas.{at-with_mark, length-with_mark, get_at, get-append_cases}
 use Rattle.book.proofs.Expanding.{range-more}
 use Rattle.book.proofs.Next.{first_passes}
 use Rattle.book.proofs.Cursors.{open_at, cursors_taken}

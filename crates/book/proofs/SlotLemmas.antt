@@ -2,7 +2,6 @@
 use Rattle.std.proofs.Common.{◌≡◌, ℕ, zero, suc, Bool, true, false, cond, Some, None, is_some, unwrap_or, List, [], ◌∷◌, ◌++◌, length, map, take, refl, sym, ap, ◌∙◌, append-nil, append_assoc, slice_get, ◌||◌}
 use Rattle.std.specs.List.{list_any}
 use Rattle.std.specs.Map.{lookup, keys_of, values_of}
-use Rattle.std.specs.declared.sync.Arc.{Arc}
 use Rattle.std.proofs.Math.ListN.{length-map}
 use Rattle.std.proofs.lemmas.List.{map-append}
 use Rattle.std.proofs.lemmas.Map.Made.{is_some-lookup}
@@ -12,7 +11,8 @@ use Rattle.book.specs.declared.entry.Mark.TheVariants.{Open}
 use Rattle.book.specs.declared.entry.Row.{Row}
 use Rattle.book.specs.declared.finding.Finding.{Finding}
 use Rattle.book.specs.Entries.{Entry, Successor, with_mark, knows, unknown, opened, states}
-use Rattle.book.specs.Slots.{unlisted, entry_of, entries_of}
+use Rattle.book.specs.Labels.{Labelled}
+use Rattle.book.specs.Slots.{unlisted, keyed_of, entry_of, entries_of, forms_of}
 
 module _ {K V : Type 0} (eq : K → K → Bool) where
   -- a key that is there is written with its own value, and one that is new goes last
@@ -56,9 +56,9 @@ take_kept (x ∷ old) (y ∷ mid) new rest h e =
     let tail : take (length old) mid ≡ old = cc in
     ap (take (suc (length old))) e ∙ ap (λ xs. y ∷ xs) (take_kept old mid (mid ++ rest) rest tail refl) ∙ ap (λ z. z ∷ old) head
 
-module _ {S A : Type 0} where
+module _ {S F : Type 0} where
   -- a row written with another mark
-  pub write_mark_at : (es : List (Arc S A × Row)) (i : ℕ) (r w : Row) (mark : Mark) → slice_get (values_of es) i ≡ Some r → w ≡ record r { mark = mark }
+  pub write_mark_at : (es : List (Labelled S F × Row)) (i : ℕ) (r w : Row) (mark : Mark) → slice_get (values_of es) i ≡ Some r → w ≡ record r { mark = mark }
       → entries_of (set_value_at es i w) ≡ with_mark (entries_of es) i mark
   write_mark_at [] i r w mark at is = refl
   write_mark_at (p ∷ es) zero r w mark at is =
@@ -66,48 +66,52 @@ module _ {S A : Type 0} where
       ap (λ (x : Row). entry_of (p.0, x) ∷ entries_of es) (is ∙ ap (λ (x : Row). record x { mark = mark }) same)
   write_mark_at (p ∷ es) (suc i) r w mark at is = ap (λ xs. entry_of p ∷ xs) (write_mark_at es i r w mark at is)
 
+  -- the keys stay
+  pub write_keeps_forms : (es : List (Labelled S F × Row)) (i : ℕ) (w : Row) → forms_of (set_value_at es i w) ≡ forms_of es
+  write_keeps_forms [] i w = refl
+  write_keeps_forms (p ∷ es) zero w = refl
+  write_keeps_forms (p ∷ es) (suc i) w = ap (λ xs. p.0.form ∷ xs) (write_keeps_forms es i w)
+
   -- where there is no row, none is marked
-  pub no_mark_at : (es : List (Arc S A × Row)) (i : ℕ) (mark : Mark) → slice_get (values_of es) i ≡ None → entries_of es ≡ with_mark (entries_of es) i mark
+  pub no_mark_at : (es : List (Labelled S F × Row)) (i : ℕ) (mark : Mark) → slice_get (values_of es) i ≡ None → entries_of es ≡ with_mark (entries_of es) i mark
   no_mark_at [] i mark none = refl
   no_mark_at (e ∷ es) zero mark none = absurd (let q : Some e.1 ≡ None = none in cc)
   no_mark_at (e ∷ es) (suc i) mark none = ap (λ xs. entry_of e ∷ xs) (no_mark_at es i mark none)
 
-  pub entry_at : (es : List (Arc S A × Row)) (i : ℕ) (p : Arc S A × Row) → slice_get es i ≡ Some p → slice_get (entries_of es) i ≡ Some (entry_of p)
+  pub entry_at : (es : List (Labelled S F × Row)) (i : ℕ) (p : Labelled S F × Row) → slice_get es i ≡ Some p → slice_get (entries_of es) i ≡ Some (entry_of p)
   entry_at [] i p h = absurd (let q : None ≡ Some p = h in cc)
   entry_at (e ∷ es) zero p h = let q : e ≡ p = cc in ap (λ x. Some (entry_of x)) q
   entry_at (e ∷ es) (suc i) p h = entry_at es i p h
 
-  pub no_entry_at : (es : List (Arc S A × Row)) (i : ℕ) → slice_get es i ≡ None → slice_get (entries_of es) i ≡ None
+  pub no_entry_at : (es : List (Labelled S F × Row)) (i : ℕ) → slice_get es i ≡ None → slice_get (entries_of es) i ≡ None
   no_entry_at [] i h = refl
   no_entry_at (e ∷ es) zero h = absurd (let q : Some e ≡ None = h in cc)
   no_entry_at (e ∷ es) (suc i) h = no_entry_at es i h
 
-  pub length-entries : (es : List (Arc S A × Row)) → length (entries_of es) ≡ length es
+  pub length-entries : (es : List (Labelled S F × Row)) → length (entries_of es) ≡ length es
   length-entries es = length-map es entry_of
 
-  pub entries_of-append : (es fs : List (Arc S A × Row)) → entries_of (es ++ fs) ≡ entries_of es ++ entries_of fs
-  entries_of-append es fs = map-append entry_of es fs
-
-module _ {S A : Type 0} (eq : Arc S A → Arc S A → Bool) (same : S → S → Bool) (as_same : (k l : Arc S A) → eq k l ≡ same l.value k.value) where
-  known_as : (es : List (Arc S A × Row)) (k : Arc S A) → list_any (eq k) (keys_of es) ≡ knows same (states (entries_of es)) k.value
+-- ---- rows that are put in for steps
+module _ {K : Type 0} (eq : K → K → Bool) (same : K → K → Bool) (as_same : (k l : K) → eq k l ≡ same l k) where
+  known_as : (es : List (K × Row)) (k : K) → list_any (eq k) (keys_of es) ≡ knows same (states (map keyed_of es)) k
   known_as [] k = refl
   known_as (p ∷ es) k =
-      ap (λ b. b || list_any (eq k) (keys_of es)) (as_same k p.0) ∙ ap (λ b. same p.0.value k.value || b) (known_as es k)
+      ap (λ b. b || list_any (eq k) (keys_of es)) (as_same k p.0) ∙ ap (λ b. same p.0 k || b) (known_as es k)
 
-  opens_by : (i : ℕ) (x : Successor S) (k : Arc S A) (w : Row) (b : Bool) → entry_of (k, w) ≡ opened i x
-      → entries_of (cond b [] ((k, w) ∷ [])) ≡ map (opened i) (cond b [] (x ∷ []))
+  opens_by : (i : ℕ) (x : Successor K) (k : K) (w : Row) (b : Bool) → keyed_of (k, w) ≡ opened i x
+      → map keyed_of (cond b [] ((k, w) ∷ [])) ≡ map (opened i) (cond b [] (x ∷ []))
   opens_by i x k w true is = refl
   opens_by i x k w false is = ap (λ e. e ∷ []) is
 
   -- a row that is put in for a step
-  pub put_step : (es new : List (Arc S A × Row)) (i : ℕ) (x : Successor S) (k : Arc S A) (w : Row)
-      → new ≡ es ++ unlisted eq (keys_of es) ((k, w) ∷ []) → entry_of (k, w) ≡ opened i x
-      → entries_of new ≡ entries_of es ++ map (opened i) (unknown same (states (entries_of es)) (x ∷ []))
+  pub put_step : (es new : List (K × Row)) (i : ℕ) (x : Successor K) (k : K) (w : Row)
+      → new ≡ es ++ unlisted eq (keys_of es) ((k, w) ∷ []) → keyed_of (k, w) ≡ opened i x
+      → map keyed_of new ≡ map keyed_of es ++ map (opened i) (unknown same (states (map keyed_of es)) (x ∷ []))
   put_step es new i x k w put is =
-      ap entries_of put ∙ entries_of-append es (unlisted eq (keys_of es) ((k, w) ∷ []))
-      ∙ ap (λ xs. entries_of es ++ xs)
+      ap (map keyed_of) put ∙ map-append keyed_of es (unlisted eq (keys_of es) ((k, w) ∷ []))
+      ∙ ap (λ xs. map keyed_of es ++ xs)
       (opens_by i x k w (list_any (eq k) (keys_of es)) is
-      ∙ ap (λ b. map (opened i) (cond b [] (x ∷ []))) (known_as es k ∙ ap (λ (e : Entry S). knows same (states (entries_of es)) e.state) is))
+      ∙ ap (λ b. map (opened i) (cond b [] (x ∷ []))) (known_as es k ∙ ap (λ (e : Entry K). knows same (states (map keyed_of es)) e.state) is))
 
 -- ---- step after step
 module _ {S : Type 0} (same : S → S → Bool) where
@@ -147,7 +151,7 @@ module _ {S : Type 0} (same : S → S → Bool) where
       ∙ ap (map (opened i)) (sym (unknown_push (states old) xs x)))
 
 -- the row that is made of a step's parts
-pub step_row : {S A : Type 0} (i : ℕ) (x : Successor S) (k : Arc S A) (t : ℕ) (f : Finding) → t ≡ x.thread → k.value ≡ x.state → f ≡ x.finding
-    → entry_of (k, record { finding = f; origin = Some (record { parent = i; thread = t }); mark = Open }) ≡ opened i x
-step_row {S} i x k t f p q r =
-    let e : Entry S = record { state = k.value; finding = f; origin = Some (record { parent = i; thread = t }); mark = Open } in cc
+pub step_row : {K : Type 0} (i : ℕ) (x : Successor K) (k : K) (t : ℕ) (f : Finding) → t ≡ x.thread → k ≡ x.state → f ≡ x.finding
+    → keyed_of (k, record { finding = f; origin = Some (record { parent = i; thread = t }); mark = Open }) ≡ opened i x
+step_row {K} i x k t f p q r =
+    let e : Entry K = record { state = k; finding = f; origin = Some (record { parent = i; thread = t }); mark = Open } in cc

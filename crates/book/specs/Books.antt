@@ -1,11 +1,12 @@
 -- A book of the states of a program on a machine.
-use Rattle.std.specs.Prelude.{◌≡◌, ◌-◌, Bool, true, length, count_by}
+use Rattle.std.specs.Prelude.{◌≡◌, ◌-◌, Bool, true, List, Option, length, count_by}
 use Rattle.sched_program.specs.Program.{IsWithinLimits}
 use Rattle.tree_machine.specs.Rules.{Rules}
-use Rattle.tree_machine.specs.StateExact.{state_eq}
+use Rattle.tree_machine.specs.Alike.{state_form}
+use Rattle.tree_machine.specs.StateExact.{state_eq, state_form_eq}
 use Rattle.tree_machine.specs.declared.state.State.{State}
 use Rattle.book.specs.declared.book.Merge.{Merge}
-use Rattle.book.specs.declared.book.Merge.TheVariants.{Exact}
+use Rattle.book.specs.declared.book.Merge.TheVariants.{Exact, Names}
 use Rattle.book.specs.declared.book.Totals.{Totals}
 use Rattle.book.specs.declared.finding.Finding.{Finding}
 use Rattle.book.specs.Schedule.{StepMachine, IsMachine, Merges}
@@ -13,37 +14,41 @@ use Rattle.book.specs.Findings.{machine_of, IsFindingOf, IsSound}
 use Rattle.book.specs.Entries.{Contents, Steps, is_open, is_taken, is_expanded}
 use Rattle.book.specs.Law.{IsLawfulBook, IsExpansion}
 
--- whether two states count as one: with exact merging, whether they test equal, given the tests of places and of memories
-abbrev pub counted_as_one : {Machine Memory Place : Type 0} → (Place → Place → Bool) → (Memory → Memory → Bool)
-    → Merge → State Machine Memory Place → State Machine Memory Place → Bool
-counted_as_one place_eq memory_eq Exact = state_eq place_eq memory_eq
+-- Whether two states count as one, given the tests of places, memories and forms, and what the machine's form is: with exact
+-- merging, whether they test equal; by names, whether their forms do
+abbrev pub counted_as_one : {Machine Memory Place Form : Type 0} → (Place → Place → Bool) → (Memory → Memory → Bool) → (Form → Form → Bool)
+    → (Memory → List (Option Place) → Form) → Merge → State Machine Memory Place Form → State Machine Memory Place Form → Bool
+counted_as_one place_eq memory_eq form_eq form_of Exact = state_eq place_eq memory_eq
+counted_as_one place_eq memory_eq form_eq form_of Names = λ state twin. state_form_eq form_eq (state_form form_of state) (state_form form_of twin)
 
-module _ {Machine Memory Place : Type 0} (rules : Machine → Rules Memory Place) where
+module _ {Machine Memory Place Form : Type 0} (rules : Machine → Rules Memory Place) where
   -- the machine of a book, as it runs the book's program
-  abbrev pub machine_in : Contents Machine (State Machine Memory Place) → StepMachine (State Machine Memory Place)
+  abbrev pub machine_in : Contents Machine (State Machine Memory Place Form) → StepMachine (State Machine Memory Place Form)
   machine_in book = machine_of (rules book.machine) book.program
 
   -- the findings that are right in a book
-  abbrev pub right_in : Contents Machine (State Machine Memory Place) → State Machine Memory Place → Finding → Type 0
+  abbrev pub right_in : Contents Machine (State Machine Memory Place Form) → State Machine Memory Place Form → Finding → Type 0
   right_in book = IsFindingOf (rules book.machine) book.program
 
   -- an expansion holds all enabled steps of its source, each with its right finding
-  abbrev pub HoldsSteps : Steps Machine (State Machine Memory Place) → Type 0
+  abbrev pub HoldsSteps : Steps Machine (State Machine Memory Place Form) → Type 0
   HoldsSteps x = IsExpansion (machine_of (rules x.machine) x.program) (IsFindingOf (rules x.machine) x.program) x.source x.successors
 
-  -- a book is lawful, given the tests of places and of memories
-  abbrev pub IsLawfulIn : (Place → Place → Bool) → (Memory → Memory → Bool) → Contents Machine (State Machine Memory Place) → Type 0
-  IsLawfulIn place_eq memory_eq book = IsLawfulBook (machine_in book) (counted_as_one place_eq memory_eq book.merge) (right_in book) book
+  -- a book is lawful, given the tests of places, memories and forms, and what the machine's form is
+  abbrev pub IsLawfulIn : (Place → Place → Bool) → (Memory → Memory → Bool) → (Form → Form → Bool) → (Machine → Memory → List (Option Place) → Form)
+      → Contents Machine (State Machine Memory Place Form) → Type 0
+  IsLawfulIn place_eq memory_eq form_eq form_of book =
+      IsLawfulBook (machine_in book) (counted_as_one place_eq memory_eq form_eq (form_of book.machine) book.merge) (right_in book) book
 
 -- A lawful book of a program that meets the limits, and what follows for its machine: it is a step machine, states of it that count
 -- as one step alike, and where one of two such states is sound the other is.
-pub record IsBook {Machine Memory Place : Type 0} (rules : Machine → Rules Memory Place) (place_eq : Place → Place → Bool)
-    (memory_eq : Memory → Memory → Bool) (book : Contents Machine (State Machine Memory Place)) : Type 0 where
-  pub law : IsLawfulIn rules place_eq memory_eq book
+pub record IsBook {Machine Memory Place Form : Type 0} (rules : Machine → Rules Memory Place) (place_eq : Place → Place → Bool)
+    (memory_eq : Memory → Memory → Bool) (form_eq : Form → Form → Bool) (form_of : Machine → Memory → List (Option Place) → Form) (book : Contents Machine (State Machine Memory Place Form)) : Type 0 where
+  pub law : IsLawfulIn rules place_eq memory_eq form_eq form_of book
   pub limits : IsWithinLimits book.program
   pub machine : IsMachine (machine_in rules book)
-  pub merges : Merges (machine_in rules book) (counted_as_one place_eq memory_eq book.merge)
-  pub alike : (r s : State Machine Memory Place) → (machine_in rules book).Fits r → (machine_in rules book).Fits s → counted_as_one place_eq memory_eq book.merge r s ≡ true
+  pub merges : Merges (machine_in rules book) (counted_as_one place_eq memory_eq form_eq (form_of book.machine) book.merge)
+  pub alike : (r s : State Machine Memory Place Form) → (machine_in rules book).Fits r → (machine_in rules book).Fits s → counted_as_one place_eq memory_eq form_eq (form_of book.machine) book.merge r s ≡ true
       → IsSound (right_in rules book) r → IsSound (right_in rules book) s
 
 -- the totals of a book

@@ -23,9 +23,9 @@ is_sound (found.Sound order) = true
 abbrev pub IsSound : {S : Type 0} → (S → Finding → Type 0) → S → Type 0
 IsSound right s = (finding : Finding) × right s finding × (is_sound finding ≡ true)
 
-module _ {Machine Memory Place : Type 0} (rules : Rules Memory Place) (program : Program) where
+module _ {Machine Memory Place Form : Type 0} (rules : Rules Memory Place) (program : Program) where
   -- a machine that runs a program, with its steps
-  abbrev pub machine_of : StepMachine (State Machine Memory Place)
+  abbrev pub machine_of : StepMachine (State Machine Memory Place Form)
   machine_of =
       record {
         start = start rules program;
@@ -37,7 +37,7 @@ module _ {Machine Memory Place : Type 0} (rules : Rules Memory Place) (program :
 
   -- The finding of a state is the first that applies: it is astray; its memory does not keep search order;
   -- its history has no linearization; else it is sound, with a linearization.
-  abbrev pub IsFindingOf : State Machine Memory Place → Finding → Type 0
+  abbrev pub IsFindingOf : State Machine Memory Place Form → Finding → Type 0
   IsFindingOf state found.Astray = IsSome state.astray
   IsFindingOf state found.Order = (state.astray ≡ None) × (rules.IsOrdered state.memory → ⊥)
   IsFindingOf state found.History =

@@ -1,6 +1,7 @@
 pub mod Schedule
 pub mod Findings
 pub mod Entries
+pub mod Labels
 pub mod Law
 pub mod Layers
 pub mod Counts

@@ -6,6 +6,7 @@ use Rattle.book.specs.declared.entry.Row.{Row}
 use Rattle.book.specs.declared.entry.Mark.TheVariants.{Open, Expanded}
 use Rattle.book.specs.Entries.{Entry, At}
 use Rattle.book.specs.Findings.{is_sound}
+use Rattle.book.specs.Labels.{Labelled}
 
 module _ {K V : Type 0} (eq : K → K → Bool) where
   -- the pairs, in order, whose keys are neither known nor those of earlier ones
@@ -16,12 +17,20 @@ module _ {K V : Type 0} (eq : K → K → Bool) where
       then unlisted known xs
       else x ∷ unlisted (known ++ x.0 ∷ []) xs
 
--- a shared state with its row, as an entry
-abbrev pub entry_of : {S A : Type 0} → Arc S A × Row → Entry S
-entry_of slot = record { state = slot.0.value; finding = slot.1.finding; origin = slot.1.origin; mark = slot.1.mark }
+-- a key with its row, as an entry
+abbrev pub keyed_of : {K : Type 0} → K × Row → Entry K
+keyed_of slot = record { state = slot.0; finding = slot.1.finding; origin = slot.1.origin; mark = slot.1.mark }
 
-abbrev pub entries_of : {S A : Type 0} → List (Arc S A × Row) → List (Entry S)
+-- a labelled state with its row, as an entry
+abbrev pub entry_of : {S F : Type 0} → Labelled S F × Row → Entry S
+entry_of slot = record { state = slot.0.state; finding = slot.1.finding; origin = slot.1.origin; mark = slot.1.mark }
+
+abbrev pub entries_of : {S F : Type 0} → List (Labelled S F × Row) → List (Entry S)
 entries_of slots = map entry_of slots
+
+-- the form by which each state is known, if it is known by one
+abbrev pub forms_of : {S F : Type 0} → List (Labelled S F × Row) → List (Option F)
+forms_of slots = map (λ slot. slot.0.form) slots
 
 -- each number is that of an entry, whose state stands beside it
 abbrev pub AreStatesOf : {S A : Type 0} → List (Entry S) → List (ℕ × Arc S A) → Type 0

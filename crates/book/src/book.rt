@@ -9,6 +9,8 @@ ghost use Rattle.sched_program.specs.Exact.{IsExact};
 ghost use Rattle.book.specs.Entries.{Entry, At, Enters, IsNext, IsOwn, IsTaken, Refuses, Takes, TakesLayer, is_open, states, unknown, with_successors};
 ghost use Rattle.book.specs.Findings.{is_sound, IsSound};
 ghost use Rattle.book.specs.Slots.{AllStates, IsOpenFrom};
+ghost use Rattle.tree_machine.specs.Alike.{state_form};
+ghost use Rattle.book.specs.Labels.{AreStepsKnownBy, bares, form_by};
 ghost use Rattle.book.specs.Books.{counted_as_one, machine_in, right_in, totals_of, IsLawfulIn};
 ghost use Rattle.book.specs.Law.{IsExpansion};
 ghost use Rattle.book.specs.Counts.{IsCount};
@@ -16,20 +18,22 @@ ghost use Rattle.book.specs.Layers.{IsExpandedTo, IsExpandedBelow, IsLeftTo};
 ghost use Rattle.book.specs.Schedule.{after, IsMachine, Merges};
 
 use crate::entry::{Mark, Row};
-use crate::expansion::{Expansion, Stepped};
+use crate::expansion::{Expansion, Stepped, label};
 use crate::finding::{Finding, find};
 use crate::table::{Table, TableFault};
 use sched_program::{Exact, OutOfMemory, Program, same};
 use std::alloc::Global;
 use std::marker::Model;
 use std::sync::Arc;
-use tree_machine::{Machine, State};
+use tree_machine::{Machine, State, StateForm};
 
 /// Which states a book counts as one.
 #[derive(Clone, Copy, Debug, PartialEq, Eq)]
 pub enum Merge {
     /// Equal states, their step counts included.
     Exact,
+    /// States that differ in nothing but the numbers of their nodes and records, and in their step counts.
+    Names,
 }
 
 /// How many entries a book has, and what became of the steps that were entered.
@@ -76,7 +80,7 @@ pub struct Book<M: Machine> {
     program: Program,
     merge: Merge,
     limit: usize,
-    table: Table<State<M>>,
+    table: Table<State<M>, StateForm<M>>,
     met: usize,
 }
 
@@ -84,18 +88,22 @@ impl<M: Machine> Model for Book<M> {
     ghost use Rattle.tree_machine.specs.declared.state.State.{State};
     ghost use Rattle.book.specs.Entries.{Contents};
     ghost use Rattle.book.specs.Books.{IsBook};
+    ghost use Rattle.book.specs.Labels.{AreKnownBy, form_by};
+    ghost use Rattle.tree_machine.specs.Alike.{state_form};
 
-    ghost Value = { Contents M (State M M.Mem M.Loc) };
+    ghost Value = { Contents M (State M M.Mem M.Loc M.Form) };
 
-    ghost view = { λ b. record { machine = b.machine; program = b.program; merge = b.merge; limit = b.limit; entries = b.table; met = b.met } };
+    ghost view = { λ b. record { machine = b.machine; program = b.program; merge = b.merge; limit = b.limit; entries = b.table.entries; met = b.met } };
 
-    ghost invariant = { λ b. IsBook M.rules M.Loc.PartialEq.eq M.Mem.PartialEq.eq (record { machine = b.machine; program = b.program; merge = b.merge; limit = b.limit; entries = b.table; met = b.met }) };
+    ghost invariant = { λ b. IsBook M.rules M.Loc.PartialEq.eq M.Mem.PartialEq.eq M.Form.PartialEq.eq M.form_of
+        (record { machine = b.machine; program = b.program; merge = b.merge; limit = b.limit; entries = b.table.entries; met = b.met })
+        × AreKnownBy (form_by b.merge (state_form (M.form_of b.machine))) b.table };
 }
 
 /// How many steps the state of an entry has behind it.
-fn steps_at<M: Machine>(table: &Table<State<M>>, index: usize) -> u64
-    requires { index < length table.now }
-    ensures { (e : Entry (State M M.Mem M.Loc)) × At table.now index e × (e.state.steps ≡ result) }
+fn steps_at<M: Machine>(table: &Table<State<M>, StateForm<M>>, index: usize) -> u64
+    requires { index < length table.now.entries }
+    ensures { (e : Entry (State M M.Mem M.Loc M.Form)) × At table.now.entries index e × (e.state.steps ≡ result) }
 {
     table.state(index).steps()
 }
@@ -117,17 +125,18 @@ impl<M: Machine> Book<M> {
     ) -> Result<Book<M>, OutOfMemory>
         requires some { 1 ≤ limit }
         requires few { limit ≤ 2000000 }
-        ensures start { IfOk result (λ b. (e : Entry (State M M.Mem M.Loc)) × (b.entries ≡ e ∷ []) × (e.state ≡ (machine_in M.rules b).start) × (e.mark ≡ Mark.Open)) }
+        ensures start { IfOk result (λ b. (e : Entry (State M M.Mem M.Loc M.Form)) × (b.entries ≡ e ∷ []) × (e.state ≡ (machine_in M.rules b).start) × (e.mark ≡ Mark.Open)) }
         ensures machine { IfOk result (λ b. b.machine ≡ machine) }
         ensures program { IfOk result (λ b. b.program ≡ program) }
         ensures limit { IfOk result (λ b. b.limit ≡ limit) }
         ensures merge { IfOk result (λ b. b.merge ≡ merge) }
     {
         tests_exactly::<State<M>>();
+        tests_exactly::<StateForm<M>>();
         let state = State::start(alloc, machine, &program)?;
         let finding = find(alloc, machine, &program, &state)?;
-        let state = Arc::new(alloc, state)?;
-        let table = Table::new(alloc, state, finding)?;
+        let known = label(alloc, machine, &program, Arc::new(alloc, state)?, merge)?;
+        let table = Table::new(alloc, known, finding)?;
         Ok(Book {
             machine,
             program,
@@ -141,11 +150,11 @@ impl<M: Machine> Book<M> {
     /// A book is lawful at every moment, its machine is a step machine, states of its program that it counts as one step
     /// alike, and where one of two such states is sound the other is.
     pub fn law(&self)
-        ensures law { IsLawfulIn M.rules M.Loc.PartialEq.eq M.Mem.PartialEq.eq self.now }
+        ensures law { IsLawfulIn M.rules M.Loc.PartialEq.eq M.Mem.PartialEq.eq M.Form.PartialEq.eq M.form_of self.now }
         ensures machine { IsMachine (machine_in M.rules self.now) }
-        ensures merges { Merges (machine_in M.rules self.now) (counted_as_one M.Loc.PartialEq.eq M.Mem.PartialEq.eq self.now.merge) }
-        ensures alike { (r s : State M M.Mem M.Loc) → Fits (M.rules self.now.machine) self.now.program r → Fits (M.rules self.now.machine) self.now.program s
-            → counted_as_one M.Loc.PartialEq.eq M.Mem.PartialEq.eq self.now.merge r s ≡ true
+        ensures merges { Merges (machine_in M.rules self.now) (counted_as_one M.Loc.PartialEq.eq M.Mem.PartialEq.eq M.Form.PartialEq.eq (M.form_of self.now.machine) self.now.merge) }
+        ensures alike { (r s : State M M.Mem M.Loc M.Form) → Fits (M.rules self.now.machine) self.now.program r → Fits (M.rules self.now.machine) self.now.program s
+            → counted_as_one M.Loc.PartialEq.eq M.Mem.PartialEq.eq M.Form.PartialEq.eq (M.form_of self.now.machine) self.now.merge r s ≡ true
             → IsSound (right_in M.rules self.now) r → IsSound (right_in M.rules self.now) s }
         ensures limits { IsWithinLimits self.now.program }
     {
@@ -154,10 +163,10 @@ impl<M: Machine> Book<M> {
 
     /// The number of the next entry to take.
     fn next_open(&self) -> Option<usize>
-        ensures next { IfSome result (λ i. (e : Entry (State M M.Mem M.Loc)) × IsNext (machine_in M.rules self.now).steps self.now.entries i e) }
+        ensures next { IfSome result (λ i. (e : Entry (State M M.Mem M.Loc M.Form)) × IsNext (machine_in M.rules self.now).steps self.now.entries i e) }
         ensures open { IfSome result (λ i. position (λ e. is_open e.mark) self.now.entries ≡ Some i) }
         ensures above { IfSome result (IsOpenFrom self.now.entries) }
-        ensures none { IfNone result ((i : ℕ) (e : Entry (State M M.Mem M.Loc)) → IsNext (machine_in M.rules self.now).steps self.now.entries i e → ⊥) }
+        ensures none { IfNone result ((i : ℕ) (e : Entry (State M M.Mem M.Loc M.Form)) → IsNext (machine_in M.rules self.now).steps self.now.entries i e → ⊥) }
     {
         let first = self.table.first_left()?;
         let open = self.table.first_open()?;
@@ -171,7 +180,7 @@ impl<M: Machine> Book<M> {
     /// Takes the next entry: the lowest-numbered open one among those of the fewest steps that are not expanded.
     pub fn take(&mut self) -> Result<Option<(usize, Arc<State<M>>)>, OutOfMemory>
         ensures taken { IfOk result (λ o. IfSome o (λ p. Takes (machine_in M.rules self.old).steps self.old.entries self.new.entries p.0 p.1.value)) }
-        ensures none { IfOk result (λ o. IfNone o ((i : ℕ) (e : Entry (State M M.Mem M.Loc)) → IsNext (machine_in M.rules self.old).steps self.old.entries i e → ⊥)) }
+        ensures none { IfOk result (λ o. IfNone o ((i : ℕ) (e : Entry (State M M.Mem M.Loc M.Form)) → IsNext (machine_in M.rules self.old).steps self.old.entries i e → ⊥)) }
         ensures unchanged { IfOk result (λ o. IfNone o (self.new ≡ self.old)) }
         ensures fits { IfOk result (λ o. IfSome o (λ p. Fits (M.rules self.old.machine) self.old.program p.1.value)) }
         ensures few { IfOk result (λ o. IfSome o (λ p. p.1.value.steps < self.old.limit)) }
@@ -208,7 +217,7 @@ impl<M: Machine> Book<M> {
     /// Whether an expansion may be entered: its entry is taken, and it is that entry's.
     fn admits(&self, id: usize, expansion: &Expansion<'_, M>) -> Result<(), EnterFault>
         ensures admitted { OnOk result (IsTaken self.now.entries id × IsOwn self.now id expansion.now.machine expansion.now.program expansion.now.source) }
-        ensures refused { IfErr result (Refuses (counted_as_one M.Loc.PartialEq.eq M.Mem.PartialEq.eq self.now.merge) self.now id expansion.now) }
+        ensures refused { IfErr result (Refuses (counted_as_one M.Loc.PartialEq.eq M.Mem.PartialEq.eq M.Form.PartialEq.eq (M.form_of self.now.machine) self.now.merge) self.now id expansion.now) }
     {
         let Some(row) = self.table.row(id) else {
             return Err(EnterFault::NotTaken);
@@ -224,13 +233,18 @@ impl<M: Machine> Book<M> {
     }
 
     /// Puts the new ones of a taken entry's steps at the end, and marks the entry expanded.
-    fn put(&mut self, id: usize, successors: Vec<Stepped<State<M>>>) -> Result<Entered, EnterFault>
-        requires taken { (e : Entry (State M M.Mem M.Loc)) × At self.old.entries id e × (e.mark ≡ Mark.Taken) × IsExpansion (machine_in M.rules self.old) (right_in M.rules self.old) e.state successors.items }
-        ensures entries { OnOk result (self.new.entries ≡ with_successors (counted_as_one M.Loc.PartialEq.eq M.Mem.PartialEq.eq self.old.merge) self.old.entries id successors.items) }
-        ensures counts { IfOk result (λ r. (r.entered ≡ length (unknown (counted_as_one M.Loc.PartialEq.eq M.Mem.PartialEq.eq self.old.merge) (states self.old.entries) successors.items)) × (r.entered + r.met ≡ length successors.items) × (self.new.met ≡ self.old.met + r.met)) }
+    fn put(
+        &mut self,
+        id: usize,
+        successors: Vec<Stepped<State<M>, StateForm<M>>>,
+    ) -> Result<Entered, EnterFault>
+        requires taken { (e : Entry (State M M.Mem M.Loc M.Form)) × At self.old.entries id e × (e.mark ≡ Mark.Taken) × IsExpansion (machine_in M.rules self.old) (right_in M.rules self.old) e.state (bares successors.items) }
+        requires known { AreStepsKnownBy (form_by self.old.merge (state_form (M.form_of self.old.machine))) successors.items }
+        ensures entries { OnOk result (self.new.entries ≡ with_successors (counted_as_one M.Loc.PartialEq.eq M.Mem.PartialEq.eq M.Form.PartialEq.eq (M.form_of self.old.machine) self.old.merge) self.old.entries id (bares successors.items)) }
+        ensures counts { IfOk result (λ r. (r.entered ≡ length (unknown (counted_as_one M.Loc.PartialEq.eq M.Mem.PartialEq.eq M.Form.PartialEq.eq (M.form_of self.old.machine) self.old.merge) (states self.old.entries) (bares successors.items))) × (r.entered + r.met ≡ length (bares successors.items)) × (self.new.met ≡ self.old.met + r.met)) }
         ensures room { IfOk result (λ r. length self.old.entries + r.entered ≤ self.old.limit) }
         ensures same { (self.new.machine ≡ self.old.machine) × (self.new.program ≡ self.old.program) × (self.new.merge ≡ self.old.merge) × (self.new.limit ≡ self.old.limit) }
-        ensures full { IfErr result (λ fault. (fault ≡ EnterFault.OutOfMemory) ⊎ ((fault ≡ EnterFault.Full) × (self.old.limit < length self.old.entries + length (unknown (counted_as_one M.Loc.PartialEq.eq M.Mem.PartialEq.eq self.old.merge) (states self.old.entries) successors.items)))) }
+        ensures full { IfErr result (λ fault. (fault ≡ EnterFault.OutOfMemory) ⊎ ((fault ≡ EnterFault.Full) × (self.old.limit < length self.old.entries + length (unknown (counted_as_one M.Loc.PartialEq.eq M.Mem.PartialEq.eq M.Form.PartialEq.eq (M.form_of self.old.machine) self.old.merge) (states self.old.entries) (bares successors.items))))) }
         ensures err { OnErr result (self.new ≡ self.old) }
     {
         let was = self.table.len();
@@ -251,13 +265,16 @@ impl<M: Machine> Book<M> {
     /// Enters the steps of a taken entry, and marks it expanded: appends, in thread order, each state that is not in
     /// the book yet, as an open entry. After a refusal the book is unchanged.
     pub fn enter(&mut self, id: usize, expansion: Expansion<'_, M>) -> Result<Entered, EnterFault>
-        ensures entered { IfOk result (λ r. Enters (counted_as_one M.Loc.PartialEq.eq M.Mem.PartialEq.eq self.old.merge) self.old self.new id expansion.entry r.entered r.met) }
-        ensures refused { IfErr result (Refuses (counted_as_one M.Loc.PartialEq.eq M.Mem.PartialEq.eq self.old.merge) self.old id expansion.entry) }
+        ensures entered { IfOk result (λ r. Enters (counted_as_one M.Loc.PartialEq.eq M.Mem.PartialEq.eq M.Form.PartialEq.eq (M.form_of self.old.machine) self.old.merge) self.old self.new id expansion.entry r.entered r.met) }
+        ensures refused { IfErr result (Refuses (counted_as_one M.Loc.PartialEq.eq M.Mem.PartialEq.eq M.Form.PartialEq.eq (M.form_of self.old.machine) self.old.merge) self.old id expansion.entry) }
         ensures err { OnErr result (self.new ≡ self.old) }
     {
         match self.admits(id, &expansion) {
             Err(fault) => Err(fault),
-            Ok(()) => self.put(id, expansion.into_successors()),
+            Ok(()) => match expansion.into_steps(self.table.allocator(), self.merge) {
+                Err(OutOfMemory) => Err(EnterFault::OutOfMemory),
+                Ok(steps) => self.put(id, steps),
+            },
         }
     }
 
@@ -281,7 +298,7 @@ impl<M: Machine> Book<M> {
     /// The threads on the way from entry 0 to an entry.
     pub fn schedule_of(&self, alloc: Global, id: usize) -> Result<Vec<u8>, OutOfMemory>
         requires { id < length self.now.entries }
-        ensures { IfOk result (λ c. (e : Entry (State M M.Mem M.Loc)) × At self.now.entries id e
+        ensures { IfOk result (λ c. (e : Entry (State M M.Mem M.Loc M.Form)) × At self.now.entries id e
             × (after (machine_in M.rules self.now) c.items ≡ Some e.state) × (length c.items ≡ e.state.steps)) }
     {
         let mut schedule = Vec::new(alloc);
@@ -313,8 +330,8 @@ impl<M: Machine> Book<M> {
 
     /// The number of the first entry of more than so many steps, or the number of entries. Step counts never fall along the entries.
     fn first_above(&self, steps: u64) -> usize
-        ensures below { (i : ℕ) (e : Entry (State M M.Mem M.Loc)) → At self.now.entries i e → i < result → e.state.steps ≤ steps }
-        ensures above { (i : ℕ) (e : Entry (State M M.Mem M.Loc)) → At self.now.entries i e → result ≤ i → steps < e.state.steps }
+        ensures below { (i : ℕ) (e : Entry (State M M.Mem M.Loc M.Form)) → At self.now.entries i e → i < result → e.state.steps ≤ steps }
+        ensures above { (i : ℕ) (e : Entry (State M M.Mem M.Loc M.Form)) → At self.now.entries i e → result ≤ i → steps < e.state.steps }
         ensures within { result ≤ length self.now.entries }
     {
         let mut low = 0;
@@ -335,7 +352,7 @@ impl<M: Machine> Book<M> {
         ensures value { result ≡ count_by (λ e. nat_le e.state.steps steps) self.now.entries }
         ensures within { result ≤ length self.now.entries }
         ensures count { IsExpandedBelow (machine_in M.rules self.now).steps self.now.entries steps
-            → IsCount (machine_in M.rules self.now) (counted_as_one M.Loc.PartialEq.eq M.Mem.PartialEq.eq self.now.merge) steps result }
+            → IsCount (machine_in M.rules self.now) (counted_as_one M.Loc.PartialEq.eq M.Mem.PartialEq.eq M.Form.PartialEq.eq (M.form_of self.now.machine) self.now.merge) steps result }
     {
         self.law();
         self.first_above(steps)

@@ -1,17 +1,26 @@
 //! All enabled steps of a state.
-ghost use Rattle.std.specs.Prelude.{◌≡◌, ℕ, ◌+◌, ◌^◌, ◌<◌, ◌↔◌, length, IsTrue, IfOk, IfSome, IfNone, Some, None};
+ghost use Rattle.std.specs.Prelude.{◌≡◌, ℕ, ◌+◌, ◌^◌, ◌<◌, ◌↔◌, length, IsTrue, IfOk, IfSome, IfNone, Some, None, slice_get};
 ghost use Rattle.tree_machine.specs.Step.{Fits, step};
 ghost use Rattle.book.specs.Books.{HoldsSteps};
+ghost use Rattle.book.specs.Entries.{Successor};
+ghost use Rattle.book.specs.Labels.{AreStepsKnownBy, Labelled, bares, form_by};
+ghost use Rattle.tree_machine.specs.Alike.{state_form};
+ghost use Rattle.tree_machine.specs.declared.form.StateForm.{StateForm};
+ghost use Rattle.tree_machine.specs.declared.state.State.{State};
 ghost use Rattle.tree_machine.specs.History.{history_of};
 ghost use Rattle.book.specs.Findings.{IsFindingOf, IsLoan};
 
+use crate::book::Merge;
 use crate::finding::Finding;
+use crate::hashed::Hashed;
+use crate::known::Known;
 use crate::lending::{Loan, find_after};
 use sched_program::{Exact, OutOfMemory, Program, same};
 use std::alloc::Global;
+use std::hash::Hash;
 use std::marker::Model;
 use std::sync::Arc;
-use tree_machine::{Machine, State, StepFault};
+use tree_machine::{Machine, State, StateForm, StepFault};
 
 /// Whether two lists are one and the same.
 fn same_items<T: Exact>(first: &[T], second: &[T]) -> bool
@@ -29,33 +38,83 @@ pub fn same_program(first: &Program, second: &Program) -> bool
         && same_items(first.threads(), second.threads())
 }
 
-/// The step of a thread: the state that it leads to, and what was found of it.
+/// The step of a thread: the state that it leads to, with its label, and what was found of it.
 #[derive(Drop)]
-pub struct Stepped<T> {
-    pub(crate) thread: u8,
-    pub(crate) state: Arc<T>,
-    pub(crate) finding: Finding,
+pub struct Stepped<S: Hash, F: Hash> {
+    thread: u8,
+    known: Hashed<Known<S, F>>,
+    finding: Finding,
 }
 
-impl<T> Model for Stepped<T> {
+impl<S: Hash, F: Hash> Model for Stepped<S, F> {
     ghost use Rattle.book.specs.Entries.{Successor};
+    ghost use Rattle.book.specs.Labels.{Labelled};
 
-    ghost Value = { Successor T };
+    ghost Value = { Successor (Labelled S F) };
 
-    ghost view = { λ x. record { thread = x.thread; state = x.state.value; finding = x.finding } };
+    ghost view = { λ x. record { thread = x.thread; state = x.known; finding = x.finding } };
 }
 
-impl<T> Stepped<T> {
-    pub(crate) fn into_parts(self) -> (u8, Arc<T>, Finding)
-        ensures { (result.0 ≡ self.thread) × (result.1.value ≡ self.state) × (result.2 ≡ self.finding) }
+impl<S: Hash, F: Hash> Stepped<S, F> {
+    pub(crate) fn into_parts(self) -> (u8, Hashed<Known<S, F>>, Finding)
+        ensures { (result.0 ≡ self.thread) × (result.1 ≡ self.state) × (result.2 ≡ self.finding) }
     {
         let Stepped {
             thread,
-            state,
+            known,
             finding,
         } = self;
-        (thread, state, finding)
+        (thread, known, finding)
     }
+}
+
+/// A state of a program with its label, for a book that merges so.
+pub(crate) fn label<M: Machine>(
+    alloc: Global,
+    machine: M,
+    program: &Program,
+    state: Arc<State<M>>,
+    merge: Merge,
+) -> Result<Hashed<Known<State<M>, StateForm<M>>>, OutOfMemory>
+    requires { Fits (M.rules machine) program.now state.value }
+    ensures state { IfOk result (λ known. known.state ≡ state.value) }
+    ensures form { IfOk result (λ known. known.form ≡ form_by merge (state_form (M.form_of machine)) state.value) }
+{
+    let form = match merge {
+        Merge::Exact => None,
+        Merge::Names => {
+            // Whoever reads a program knows that it meets the limits.
+            let _ = program.initial();
+            Some(Box::new(alloc, state.form(alloc, machine)?)?)
+        }
+    };
+    Ok(Hashed::new(Known::new(state, form)))
+}
+
+/// The same steps, labelled for a book that merges so.
+fn labelled<M: Machine>(
+    alloc: Global,
+    machine: M,
+    program: &Program,
+    steps: Vec<Stepped<State<M>, StateForm<M>>>,
+    merge: Merge,
+) -> Result<Vec<Stepped<State<M>, StateForm<M>>>, OutOfMemory>
+    requires { (k : ℕ) (x : Successor (Labelled (State M M.Mem M.Loc M.Form) (StateForm M M.Mem M.Loc M.Form))) → slice_get steps.items k ≡ Some x → Fits (M.rules machine) program.now x.state.state }
+    ensures same { IfOk result (λ made. bares made.items ≡ bares steps.items) }
+    ensures known { IfOk result (λ made. AreStepsKnownBy (form_by merge (state_form (M.form_of machine))) made.items) }
+{
+    let mut made = Vec::with_capacity(alloc, steps.len())?;
+    for step in steps {
+        let (thread, known, finding) = step.into_parts();
+        let state = known.into_value().into_state();
+        let known = label(alloc, machine, program, state, merge)?;
+        made.push(Stepped {
+            thread,
+            known,
+            finding,
+        })?;
+    }
+    Ok(made)
 }
 
 /// The step of a thread, if it is enabled, with its finding.
@@ -65,16 +124,18 @@ fn step_of<M: Machine>(
     program: &Program,
     source: &State<M>,
     thread: u8,
+    merge: Merge,
     loan: &mut Loan,
-) -> Result<Option<Stepped<State<M>>>, OutOfMemory>
+) -> Result<Option<Stepped<State<M>, StateForm<M>>>, OutOfMemory>
     requires fits { Fits (M.rules machine) program.now source.now }
     requires room { source.now.steps + 1 < 2 ^ 64 }
     requires loan { IsLoan program.now (history_of source.now) loan.old }
     ensures loan { IfOk result (λ _. IsLoan program.now (history_of source.now) loan.new) }
     ensures thread { IfOk result (λ o. IfSome o (λ x. x.thread ≡ thread)) }
-    ensures step { IfOk result (λ o. IfSome o (λ x. step (M.rules machine) program.now source.now thread ≡ Some x.state)) }
-    ensures finding { IfOk result (λ o. IfSome o (λ x. IsFindingOf (M.rules machine) program.now x.state x.finding)) }
-    ensures fits { IfOk result (λ o. IfSome o (λ x. Fits (M.rules machine) program.now x.state)) }
+    ensures step { IfOk result (λ o. IfSome o (λ x. step (M.rules machine) program.now source.now thread ≡ Some x.state.state)) }
+    ensures finding { IfOk result (λ o. IfSome o (λ x. IsFindingOf (M.rules machine) program.now x.state.state x.finding)) }
+    ensures fits { IfOk result (λ o. IfSome o (λ x. Fits (M.rules machine) program.now x.state.state)) }
+    ensures form { IfOk result (λ o. IfSome o (λ x. x.state.form ≡ form_by merge (state_form (M.form_of machine)) x.state.state)) }
     ensures none { IfOk result (λ o. IfNone o (step (M.rules machine) program.now source.now thread ≡ None)) }
 {
     let next = match source.step(alloc, machine, program, thread) {
@@ -83,37 +144,43 @@ fn step_of<M: Machine>(
         Err(StepFault::OutOfMemory) => return Err(OutOfMemory),
     };
     let finding = find_after(alloc, machine, program, source, &next, thread, loan)?;
-    let state = Arc::new(alloc, next)?;
+    let known = label(alloc, machine, program, Arc::new(alloc, next)?, merge)?;
     Ok(Some(Stepped {
         thread,
-        state,
+        known,
         finding,
     }))
 }
 
-/// A state with the step of each enabled thread, in the order of the threads, each with its finding.
+/// A state with the step of each enabled thread, in the order of the threads, each with its finding and with its label
+/// for a book of one merge.
 #[derive(Drop)]
 pub struct Expansion<'a, M: Machine> {
     machine: M,
     program: &'a Program,
+    merge: Merge,
     source: &'a State<M>,
-    successors: Vec<Stepped<State<M>>>,
+    successors: Vec<Stepped<State<M>, StateForm<M>>>,
 }
 
 impl<'a, M: Machine> Model for Expansion<'a, M> {
     ghost use Rattle.book.specs.Entries.{Steps};
     ghost use Rattle.book.specs.Books.{HoldsSteps};
+    ghost use Rattle.book.specs.Labels.{AreStepsKnownBy, bares, form_by};
+    ghost use Rattle.tree_machine.specs.Alike.{state_form};
     ghost use Rattle.tree_machine.specs.declared.state.State.{State};
 
-    ghost Value = { Steps M (State M M.Mem M.Loc) };
+    ghost Value = { Steps M (State M M.Mem M.Loc M.Form) };
 
-    ghost view = { λ x. record { machine = x.machine; program = x.program.now; source = x.source.now; successors = x.successors.items } };
+    ghost view = { λ x. record { machine = x.machine; program = x.program.now; source = x.source.now; successors = bares x.successors.items } };
 
-    ghost invariant = { λ x. HoldsSteps M.rules (record { machine = x.machine; program = x.program.now; source = x.source.now; successors = x.successors.items }) };
+    ghost invariant = { λ x. HoldsSteps M.rules (record { machine = x.machine; program = x.program.now; source = x.source.now; successors = bares x.successors.items })
+        × AreStepsKnownBy (form_by x.merge (state_form (M.form_of x.machine))) x.successors.items };
 }
 
 impl<'a, M: Machine> Expansion<'a, M> {
-    /// Takes each enabled step of a state, and judges where it leads.
+    /// Takes each enabled step of a state, and judges where it leads. The labels are those of exact merging: a book that
+    /// merges otherwise makes its own when the expansion is entered.
     pub fn of(
         alloc: Global,
         machine: M,
@@ -126,16 +193,35 @@ impl<'a, M: Machine> Expansion<'a, M> {
         ensures program { IfOk result (λ x. x.program ≡ program.now) }
         ensures source { IfOk result (λ x. x.source ≡ state.now) }
     {
+        Expansion::for_merge(alloc, machine, program, state, Merge::Exact)
+    }
+
+    /// Takes each enabled step of a state, judges where it leads, and makes the labels by which a book that merges so
+    /// looks for the states.
+    pub fn for_merge(
+        alloc: Global,
+        machine: M,
+        program: &'a Program,
+        state: &'a State<M>,
+        merge: Merge,
+    ) -> Result<Expansion<'a, M>, OutOfMemory>
+        requires fits { Fits (M.rules machine) program.now state.now }
+        requires room { state.now.steps + 1 < 2 ^ 64 }
+        ensures machine { IfOk result (λ x. x.machine ≡ machine) }
+        ensures program { IfOk result (λ x. x.program ≡ program.now) }
+        ensures source { IfOk result (λ x. x.source ≡ state.now) }
+    {
         let mut loan = None;
         let mut successors = Vec::new(alloc);
         for thread in 0..program.threads().len() as u8 {
-            if let Some(next) = step_of(alloc, machine, program, state, thread, &mut loan)? {
+            if let Some(next) = step_of(alloc, machine, program, state, thread, merge, &mut loan)? {
                 successors.push(next)?;
             }
         }
         Ok(Expansion {
             machine,
             program,
+            merge,
             source: state,
             successors,
         })
@@ -150,18 +236,28 @@ impl<'a, M: Machine> Expansion<'a, M> {
             && same(self.source, state)
     }
 
-    /// Its steps.
-    pub(crate) fn into_successors(self) -> Vec<Stepped<State<M>>>
-        ensures successors { result.items ≡ self.entry.successors }
+    /// Its steps, labelled for a book that merges so.
+    pub(crate) fn into_steps(
+        self,
+        alloc: Global,
+        merge: Merge,
+    ) -> Result<Vec<Stepped<State<M>, StateForm<M>>>, OutOfMemory>
+        ensures steps { IfOk result (λ steps. bares steps.items ≡ self.entry.successors) }
+        ensures known { IfOk result (λ steps. AreStepsKnownBy (form_by merge (state_form (M.form_of self.entry.machine))) steps.items) }
         ensures law { HoldsSteps M.rules self.entry }
     {
         let Expansion {
-            machine: _,
-            program: _,
+            machine,
+            program,
+            merge: own,
             source: _,
             successors,
         } = self;
-        successors
+        if own == merge {
+            Ok(successors)
+        } else {
+            labelled(alloc, machine, program, successors, merge)
+        }
     }
 
     /// The number of its steps.

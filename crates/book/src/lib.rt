@@ -6,6 +6,8 @@ mod book;
 mod entry;
 mod expansion;
 mod finding;
+mod hashed;
+mod known;
 mod lending;
 mod replayed;
 mod replaying;
@@ -16,7 +18,7 @@ mod tests;
 
 pub use crate::book::{Book, EnterFault, Entered, Merge, Totals};
 pub use crate::entry::{Mark, Origin};
-pub use crate::expansion::{Expansion, Stepped, same_program};
+pub use crate::expansion::{Expansion, same_program};
 pub use crate::finding::Finding;
 pub use crate::replayed::{Replay, ReplayFault};
 pub use crate::replaying::replay;

@@ -4,11 +4,14 @@ ghost use Rattle.std.specs.List.{range_with_len};
 ghost use Rattle.indexmap.specs.IndexMap.{values};
 ghost use Rattle.book.specs.Entries.{Entry, At, IsTaken, is_open, is_taken, is_expanded, opened, states, unknown, with_mark, with_marks};
 ghost use Rattle.book.specs.Findings.{is_sound};
-ghost use Rattle.book.specs.Slots.{entry_of, entries_of, AreStatesOf, IsFirstLeft, IsOpenFrom};
+ghost use Rattle.book.specs.Labels.{AreKnownBy, AreStepsKnownBy, bares, same_as, same_label};
+ghost use Rattle.book.specs.Slots.{entry_of, entries_of, forms_of, keyed_of, AreStatesOf, IsFirstLeft, IsOpenFrom};
 
 use crate::entry::{Mark, Origin, Row};
 use crate::expansion::Stepped;
 use crate::finding::Finding;
+use crate::hashed::Hashed;
+use crate::known::Known;
 use crate::slots::put_new;
 use indexmap::IndexMap;
 use std::alloc::{AllocError, Global};
@@ -23,30 +26,34 @@ pub enum TableFault {
     OutOfMemory,
 }
 
-/// The entries of a book: states, each with its row. The key of a row is the shared state itself.
+/// The entries of a book: states, each with its row. The key of a row is the state's label.
 #[derive(Drop)]
-pub struct Table<S: Eq + Hash + Drop> {
-    slots: IndexMap<Arc<S>, Row>,
+pub struct Table<S: Eq + Hash + Drop, F: Eq + Hash + Drop> {
+    slots: IndexMap<Hashed<Known<S, F>>, Row>,
     next_open: usize,
     first_left: usize,
     fault: Option<usize>,
 }
 
-impl<S: Eq + Hash + Drop> Model for Table<S> {
-    ghost use Rattle.std.specs.Prelude.{List};
-    ghost use Rattle.book.specs.Entries.{Entry};
-    ghost use Rattle.book.specs.Slots.{entries_of, AreCursors};
+impl<S: Eq + Hash + Drop, F: Eq + Hash + Drop> Model for Table<S, F> {
+    ghost use Rattle.book.specs.Labels.{Kept};
+    ghost use Rattle.book.specs.Slots.{entries_of, forms_of, AreCursors};
 
-    ghost Value = { List (Entry S) };
+    ghost Value = { Kept S F };
 
-    ghost view = { λ t. entries_of t.slots.entries };
+    ghost view = { λ t. record { entries = entries_of t.slots.entries; forms = forms_of t.slots.entries } };
 
     ghost invariant = { λ t. AreCursors (entries_of t.slots.entries) t.next_open t.first_left t.fault };
 }
 
 /// Marks the row at an index.
-fn mark_at<S: Eq + Hash>(slots: &mut IndexMap<Arc<S>, Row>, index: usize, mark: Mark)
-    ensures { entries_of slots.new.entries ≡ with_mark (entries_of slots.old.entries) index mark }
+fn mark_at<S: Eq + Hash, F: Eq + Hash>(
+    slots: &mut IndexMap<Hashed<Known<S, F>>, Row>,
+    index: usize,
+    mark: Mark,
+)
+    ensures entries { entries_of slots.new.entries ≡ with_mark (entries_of slots.old.entries) index mark }
+    ensures forms { forms_of slots.new.entries ≡ forms_of slots.old.entries }
 {
     if let Some(row) = slots.get_index_mut(index) {
         row.mark = mark;
@@ -54,9 +61,15 @@ fn mark_at<S: Eq + Hash>(slots: &mut IndexMap<Arc<S>, Row>, index: usize, mark: 
 }
 
 /// Marks the rows at the indices from `start` to below `end`.
-fn mark_run<S: Eq + Hash>(slots: &mut IndexMap<Arc<S>, Row>, start: usize, end: usize, mark: Mark)
+fn mark_run<S: Eq + Hash, F: Eq + Hash>(
+    slots: &mut IndexMap<Hashed<Known<S, F>>, Row>,
+    start: usize,
+    end: usize,
+    mark: Mark,
+)
     requires { start ≤ end }
-    ensures { entries_of slots.new.entries ≡ with_marks (entries_of slots.old.entries) (range_with_len start (end - start)) mark }
+    ensures entries { entries_of slots.new.entries ≡ with_marks (entries_of slots.old.entries) (range_with_len start (end - start)) mark }
+    ensures forms { forms_of slots.new.entries ≡ forms_of slots.old.entries }
 {
     for index in start..end {
         mark_at(slots, index, mark);
@@ -64,8 +77,8 @@ fn mark_run<S: Eq + Hash>(slots: &mut IndexMap<Arc<S>, Row>, start: usize, end: 
 }
 
 /// The indices from `start` to below `end`, each with its shared state.
-fn shared_run<S: Eq + Hash + Drop>(
-    slots: &IndexMap<Arc<S>, Row>,
+fn shared_run<S: Eq + Hash + Drop, F: Eq + Hash + Drop>(
+    slots: &IndexMap<Hashed<Known<S, F>>, Row>,
     start: usize,
     end: usize,
 ) -> Result<Vec<(usize, Arc<S>)>, AllocError>
@@ -83,28 +96,32 @@ fn shared_run<S: Eq + Hash + Drop>(
 }
 
 /// Puts in, in their order, open rows for the steps that lead to new states.
-fn put_steps<S: Eq + Hash + Drop>(
-    slots: &mut IndexMap<Arc<S>, Row>,
+fn put_steps<S: Eq + Hash + Drop, F: Eq + Hash + Drop>(
+    slots: &mut IndexMap<Hashed<Known<S, F>>, Row>,
     parent: usize,
-    successors: Vec<Stepped<S>>,
+    successors: Vec<Stepped<S, F>>,
 ) -> Result<(), AllocError>
-    ensures put { OnOk result (entries_of slots.new.entries ≡ entries_of slots.old.entries ++ map (opened parent) (unknown S.eq (states (entries_of slots.old.entries)) successors.items)) }
+    ensures put { OnOk result (map keyed_of slots.new.entries ≡ map keyed_of slots.old.entries
+        ++ map (opened parent) (unknown (same_label S.eq F.eq) (states (map keyed_of slots.old.entries)) successors.items)) }
     ensures kept { take (length slots.old.entries) slots.new.entries ≡ slots.old.entries }
 {
     for step in successors {
-        let (thread, state, finding) = step.into_parts();
+        let (thread, known, finding) = step.into_parts();
         let row = Row {
             finding,
             origin: Some(Origin { parent, thread }),
             mark: Mark::Open,
         };
-        put_new(slots, state, row)?;
+        put_new(slots, known, row)?;
     }
     Ok(())
 }
 
 /// The row at an index.
-fn row_at<S: Eq + Hash>(slots: &IndexMap<Arc<S>, Row>, index: usize) -> &Row
+fn row_at<S: Eq + Hash, F: Eq + Hash>(
+    slots: &IndexMap<Hashed<Known<S, F>>, Row>,
+    index: usize,
+) -> &Row
     requires { index < length slots.now.entries }
     ensures { (e : Entry S) × At (entries_of slots.now.entries) index e × (e.finding ≡ result.now.finding) × (e.origin ≡ result.now.origin) × (e.mark ≡ result.now.mark) }
 {
@@ -115,18 +132,24 @@ fn row_at<S: Eq + Hash>(slots: &IndexMap<Arc<S>, Row>, index: usize) -> &Row
 }
 
 /// The shared state at an index.
-fn state_at<S: Eq + Hash>(slots: &IndexMap<Arc<S>, Row>, index: usize) -> &Arc<S>
+fn state_at<S: Eq + Hash, F: Eq + Hash>(
+    slots: &IndexMap<Hashed<Known<S, F>>, Row>,
+    index: usize,
+) -> &Arc<S>
     requires { index < length slots.now.entries }
     ensures { (e : Entry S) × At (entries_of slots.now.entries) index e × (e.state ≡ result.now.value) }
 {
-    let Some((state, _)) = slots.get_index(index) else {
+    let Some((known, _)) = slots.get_index(index) else {
         unreachable!();
     };
-    state
+    known.value().state()
 }
 
 /// The first row that is not sound, where all before `start` are.
-fn first_fault_from<S: Eq + Hash>(slots: &IndexMap<Arc<S>, Row>, start: usize) -> Option<usize>
+fn first_fault_from<S: Eq + Hash, F: Eq + Hash>(
+    slots: &IndexMap<Hashed<Known<S, F>>, Row>,
+    start: usize,
+) -> Option<usize>
     requires { (i : ℕ) (e : Entry S) → At (entries_of slots.now.entries) i e → i < start → is_sound e.finding ≡ true }
     ensures { result ≡ position (λ e. not (is_sound e.finding)) (entries_of slots.now.entries) }
 {
@@ -139,7 +162,10 @@ fn first_fault_from<S: Eq + Hash>(slots: &IndexMap<Arc<S>, Row>, start: usize) -
 }
 
 /// The first row that is not expanded, where all before `start` are, or the number of rows.
-fn first_left_from<S: Eq + Hash>(slots: &IndexMap<Arc<S>, Row>, start: usize) -> usize
+fn first_left_from<S: Eq + Hash, F: Eq + Hash>(
+    slots: &IndexMap<Hashed<Known<S, F>>, Row>,
+    start: usize,
+) -> usize
     requires before { (i : ℕ) (e : Entry S) → At (entries_of slots.now.entries) i e → i < start → e.mark ≡ Mark.Expanded }
     requires within { start ≤ length slots.now.entries }
     ensures { IsFirstLeft (entries_of slots.now.entries) result }
@@ -153,30 +179,35 @@ fn first_left_from<S: Eq + Hash>(slots: &IndexMap<Arc<S>, Row>, start: usize) ->
 }
 
 /// The number of open rows.
-fn open_rows<S: Eq + Hash>(slots: &IndexMap<Arc<S>, Row>) -> usize
+fn open_rows<S: Eq + Hash, F: Eq + Hash>(slots: &IndexMap<Hashed<Known<S, F>>, Row>) -> usize
     ensures { result ≡ count_by (λ row. is_open row.mark) (values slots.now) }
 {
     slots.values().filter(|row| row.is_open()).count()
 }
 
 /// The number of taken rows.
-fn taken_rows<S: Eq + Hash>(slots: &IndexMap<Arc<S>, Row>) -> usize
+fn taken_rows<S: Eq + Hash, F: Eq + Hash>(slots: &IndexMap<Hashed<Known<S, F>>, Row>) -> usize
     ensures { result ≡ count_by (λ row. is_taken row.mark) (values slots.now) }
 {
     slots.values().filter(|row| row.is_taken()).count()
 }
 
 /// The number of expanded rows.
-fn expanded_rows<S: Eq + Hash>(slots: &IndexMap<Arc<S>, Row>) -> usize
+fn expanded_rows<S: Eq + Hash, F: Eq + Hash>(slots: &IndexMap<Hashed<Known<S, F>>, Row>) -> usize
     ensures { result ≡ count_by (λ row. is_expanded row.mark) (values slots.now) }
 {
     slots.values().filter(|row| row.is_expanded()).count()
 }
 
-impl<S: Eq + Hash + Drop> Table<S> {
+impl<S: Eq + Hash + Drop, F: Eq + Hash + Drop> Table<S, F> {
     /// A table with one open entry, which has no parent.
-    pub fn new(alloc: Global, state: Arc<S>, finding: Finding) -> Result<Table<S>, AllocError>
-        ensures { IfOk result (λ t. t ≡ record { state = state.value; finding = finding; origin = None; mark = Mark.Open } ∷ []) }
+    pub fn new(
+        alloc: Global,
+        known: Hashed<Known<S, F>>,
+        finding: Finding,
+    ) -> Result<Table<S, F>, AllocError>
+        ensures entries { IfOk result (λ t. t.entries ≡ record { state = known.state; finding = finding; origin = None; mark = Mark.Open } ∷ []) }
+        ensures forms { IfOk result (λ t. t.forms ≡ known.form ∷ []) }
     {
         let fault = if finding.is_sound() { None } else { Some(0) };
         let row = Row {
@@ -185,7 +216,7 @@ impl<S: Eq + Hash + Drop> Table<S> {
             mark: Mark::Open,
         };
         let mut slots = IndexMap::new(alloc);
-        put_new(&mut slots, state, row)?;
+        put_new(&mut slots, known, row)?;
         Ok(Table {
             slots,
             next_open: 0,
@@ -201,15 +232,15 @@ impl<S: Eq + Hash + Drop> Table<S> {
 
     /// The number of entries.
     pub fn len(&self) -> usize
-        ensures { result ≡ length self.now }
+        ensures { result ≡ length self.now.entries }
     {
         self.slots.len()
     }
 
     /// The row of an entry.
     pub fn row(&self, index: usize) -> Option<&Row>
-        ensures some { IfSome result (λ row. (e : Entry S) × At self.now index e × (e.finding ≡ row.now.finding) × (e.origin ≡ row.now.origin) × (e.mark ≡ row.now.mark)) }
-        ensures none { IfNone result (slice_get self.now index ≡ None) }
+        ensures some { IfSome result (λ row. (e : Entry S) × At self.now.entries index e × (e.finding ≡ row.now.finding) × (e.origin ≡ row.now.origin) × (e.mark ≡ row.now.mark)) }
+        ensures none { IfNone result (slice_get self.now.entries index ≡ None) }
     {
         if index < self.slots.len() {
             Some(row_at(&self.slots, index))
@@ -220,8 +251,8 @@ impl<S: Eq + Hash + Drop> Table<S> {
 
     /// The shared state of an entry.
     pub fn state(&self, index: usize) -> &Arc<S>
-        requires { index < length self.now }
-        ensures { (e : Entry S) × At self.now index e × (e.state ≡ result.now.value) }
+        requires { index < length self.now.entries }
+        ensures { (e : Entry S) × At self.now.entries index e × (e.state ≡ result.now.value) }
     {
         state_at(&self.slots, index)
     }
@@ -229,17 +260,17 @@ impl<S: Eq + Hash + Drop> Table<S> {
     /// The entries from `start` to below `end`, each by its number and its shared state.
     pub fn shared(&self, start: usize, end: usize) -> Result<Vec<(usize, Arc<S>)>, AllocError>
         requires some { start ≤ end }
-        requires within { end ≤ length self.now }
+        requires within { end ≤ length self.now.entries }
         ensures numbers { IfOk result (λ run. map (λ p. p.0) run.items ≡ range_with_len start (end - start)) }
-        ensures states { IfOk result (λ run. AreStatesOf self.now run.items) }
+        ensures states { IfOk result (λ run. AreStatesOf self.now.entries run.items) }
     {
         shared_run(&self.slots, start, end)
     }
 
     /// The first open entry. All entries from it on are open.
     pub fn first_open(&self) -> Option<usize>
-        ensures first { result ≡ position (λ e. is_open e.mark) self.now }
-        ensures above { IfSome result (IsOpenFrom self.now) }
+        ensures first { result ≡ position (λ e. is_open e.mark) self.now.entries }
+        ensures above { IfSome result (IsOpenFrom self.now.entries) }
     {
         if self.next_open < self.slots.len() {
             Some(self.next_open)
@@ -250,7 +281,7 @@ impl<S: Eq + Hash + Drop> Table<S> {
 
     /// The first entry that is not expanded.
     pub fn first_left(&self) -> Option<usize>
-        ensures { result ≡ position (λ e. not (is_expanded e.mark)) self.now }
+        ensures { result ≡ position (λ e. not (is_expanded e.mark)) self.now.entries }
     {
         if self.first_left < self.slots.len() {
             Some(self.first_left)
@@ -261,16 +292,16 @@ impl<S: Eq + Hash + Drop> Table<S> {
 
     /// The first entry that is not sound.
     pub fn first_fault(&self) -> Option<usize>
-        ensures { result ≡ position (λ e. not (is_sound e.finding)) self.now }
+        ensures { result ≡ position (λ e. not (is_sound e.finding)) self.now.entries }
     {
         self.fault
     }
 
     /// Marks the first open entry taken.
     pub fn mark_taken(&mut self, index: usize)
-        requires first { position (λ e. is_open e.mark) self.old ≡ Some index }
-        requires few { length self.old < 2 ^ 63 }
-        ensures { self.new ≡ with_mark self.old index Mark.Taken }
+        requires first { position (λ e. is_open e.mark) self.old.entries ≡ Some index }
+        requires few { length self.old.entries < 2 ^ 63 }
+        ensures { self.new ≡ record self.old { entries = with_mark self.old.entries index Mark.Taken } }
     {
         mark_at(&mut self.slots, index, Mark::Taken);
         self.next_open = index + 1;
@@ -278,10 +309,10 @@ impl<S: Eq + Hash + Drop> Table<S> {
 
     /// Marks the entries from the first open one, `start`, to below `end` taken.
     pub fn mark_run_taken(&mut self, start: usize, end: usize)
-        requires first { position (λ e. is_open e.mark) self.old ≡ Some start }
+        requires first { position (λ e. is_open e.mark) self.old.entries ≡ Some start }
         requires some { start ≤ end }
-        requires within { end ≤ length self.old }
-        ensures { self.new ≡ with_marks self.old (range_with_len start (end - start)) Mark.Taken }
+        requires within { end ≤ length self.old.entries }
+        ensures { self.new ≡ record self.old { entries = with_marks self.old.entries (range_with_len start (end - start)) Mark.Taken } }
     {
         mark_run(&mut self.slots, start, end, Mark::Taken);
         self.next_open = end;
@@ -289,8 +320,8 @@ impl<S: Eq + Hash + Drop> Table<S> {
 
     /// Marks a taken entry expanded.
     pub fn mark_expanded(&mut self, index: usize)
-        requires { IsTaken self.old index }
-        ensures { self.new ≡ with_mark self.old index Mark.Expanded }
+        requires { IsTaken self.old.entries index }
+        ensures { self.new ≡ record self.old { entries = with_mark self.old.entries index Mark.Expanded } }
     {
         mark_at(&mut self.slots, index, Mark::Expanded);
         self.first_left = first_left_from(&self.slots, self.first_left);
@@ -302,12 +333,15 @@ impl<S: Eq + Hash + Drop> Table<S> {
         &mut self,
         limit: usize,
         parent: usize,
-        successors: Vec<Stepped<S>>,
+        successors: Vec<Stepped<S, F>>,
     ) -> Result<(), TableFault>
-        requires { length self.old ≤ limit }
-        ensures put { OnOk result (self.new ≡ self.old ++ map (opened parent) (unknown S.eq (states self.old) successors.items)) }
-        ensures full { IfErr result (λ fault. fault ≡ TableFault.Full → limit < length self.old + length (unknown S.eq (states self.old) successors.items)) }
-        ensures room { OnOk result (length self.new ≤ limit) }
+        requires { length self.old.entries ≤ limit }
+        ensures put { OnOk result ((form_of : S → Option F) → AreKnownBy form_of self.old → AreStepsKnownBy form_of successors.items
+            → (self.new.entries ≡ self.old.entries ++ map (opened parent) (unknown (same_as S.eq F.eq form_of) (states self.old.entries) (bares successors.items)))) }
+        ensures known { OnOk result ((form_of : S → Option F) → AreKnownBy form_of self.old → AreStepsKnownBy form_of successors.items → AreKnownBy form_of self.new) }
+        ensures full { IfErr result (λ fault. fault ≡ TableFault.Full → (form_of : S → Option F) → AreKnownBy form_of self.old → AreStepsKnownBy form_of successors.items
+            → limit < length self.old.entries + length (unknown (same_as S.eq F.eq form_of) (states self.old.entries) (bares successors.items))) }
+        ensures room { OnOk result (length self.new.entries ≤ limit) }
         ensures err { OnErr result (self.new ≡ self.old) }
     {
         let was = self.slots.len();
@@ -330,29 +364,29 @@ impl<S: Eq + Hash + Drop> Table<S> {
 
     /// The step that an entry is.
     pub fn origin(&self, index: usize) -> Option<Origin>
-        requires { index < length self.now }
-        ensures { (e : Entry S) × At self.now index e × (e.origin ≡ result) }
+        requires { index < length self.now.entries }
+        ensures { (e : Entry S) × At self.now.entries index e × (e.origin ≡ result) }
     {
         row_at(&self.slots, index).origin
     }
 
     /// The number of open entries.
     pub fn count_open(&self) -> usize
-        ensures { result ≡ count_by (λ e. is_open e.mark) self.now }
+        ensures { result ≡ count_by (λ e. is_open e.mark) self.now.entries }
     {
         open_rows(&self.slots)
     }
 
     /// The number of taken entries.
     pub fn count_taken(&self) -> usize
-        ensures { result ≡ count_by (λ e. is_taken e.mark) self.now }
+        ensures { result ≡ count_by (λ e. is_taken e.mark) self.now.entries }
     {
         taken_rows(&self.slots)
     }
 
     /// The number of expanded entries.
     pub fn count_expanded(&self) -> usize
-        ensures { result ≡ count_by (λ e. is_expanded e.mark) self.now }
+        ensures { result ≡ count_by (λ e. is_expanded e.mark) self.now.entries }
     {
         expanded_rows(&self.slots)
     }

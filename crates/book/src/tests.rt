@@ -19,11 +19,12 @@ fn twice(alloc: Global) -> Result<Program, OutOfMemory> {
     Ok(Program::new(Tree::Atomic, Sequence::new(alloc), threads))
 }
 
-/// Takes the next entry and enters its steps; none if there is no entry to take.
+/// Takes the next entry and enters its steps, which are labelled for this merge; none if there is no entry to take.
 fn expand_next(
     alloc: Global,
     book: &mut Book<Atomic>,
     program: &Program,
+    labels: Merge,
 ) -> Result<Option<Result<Entered, EnterFault>>, OutOfMemory>
     requires { book.old.program ≡ program.now }
     ensures { book.new.program ≡ book.old.program }
@@ -32,7 +33,7 @@ fn expand_next(
     let Some((id, state)) = book.take()? else {
         return Ok(None);
     };
-    let expansion = Expansion::of(alloc, Atomic, program, &state)?;
+    let expansion = Expansion::for_merge(alloc, Atomic, program, &state, labels)?;
     Ok(Some(book.enter(id, expansion)))
 }
 
@@ -41,11 +42,12 @@ fn enters_next(
     alloc: Global,
     book: &mut Book<Atomic>,
     program: &Program,
+    labels: Merge,
 ) -> Result<bool, OutOfMemory>
     requires { book.old.program ≡ program.now }
     ensures { book.new.program ≡ book.old.program }
 {
-    match expand_next(alloc, book, program)? {
+    match expand_next(alloc, book, program, labels)? {
         Some(Ok(_)) => Ok(true),
         Some(Err(EnterFault::OutOfMemory)) => Err(OutOfMemory),
         _ => Ok(false),
@@ -62,7 +64,7 @@ fn is_refused(answer: Result<Entered, EnterFault>, fault: EnterFault) -> Result<
 }
 
 /// Whether the book is that of two steps: five states, the later ones open.
-fn is_whole(alloc: Global, book: &Book<Atomic>) -> Result<bool, OutOfMemory> {
+fn is_whole(alloc: Global, book: &Book<Atomic>, merge: Merge) -> Result<bool, OutOfMemory> {
     let totals = Totals {
         entries: 5,
         fresh: 2,
@@ -89,25 +91,53 @@ fn is_whole(alloc: Global, book: &Book<Atomic>) -> Result<bool, OutOfMemory> {
             && book.is_left_to(2)
             && !book.is_left_to(1)
             && book.limit() == 100
-            && book.merge() == Merge::Exact,
+            && book.merge() == merge,
     )
 }
 
-fn expand_two_layers(alloc: Global) -> Result<bool, OutOfMemory> {
+/// The book of two steps that merges so, of steps that are labelled for this merge.
+fn expand_two_layers(alloc: Global, merge: Merge, labels: Merge) -> Result<bool, OutOfMemory> {
     let program = twice(alloc)?;
     let own = program.copy(alloc)?;
-    let mut book = Book::open(alloc, Atomic, own, 100, Merge::Exact)?;
-    let first = enters_next(alloc, &mut book, &program)?;
-    let second = enters_next(alloc, &mut book, &program)?;
-    let third = enters_next(alloc, &mut book, &program)?;
-    Ok(first && second && third && is_whole(alloc, &book)?)
+    let mut book = Book::open(alloc, Atomic, own, 100, merge)?;
+    let first = enters_next(alloc, &mut book, &program, labels)?;
+    let second = enters_next(alloc, &mut book, &program, labels)?;
+    let third = enters_next(alloc, &mut book, &program, labels)?;
+    Ok(first && second && third && is_whole(alloc, &book, merge)?)
 }
 
 // Each test runs once more where a growth was refused: that happens once at most.
 #[test]
 fn a_book_of_two_layers(rt: HostRuntime) -> Result<(), Fail> {
     let alloc = rt.alloc();
-    assert!(rt; expand_two_layers(alloc).or_else(|_| expand_two_layers(alloc))?);
+    let merge = Merge::Exact;
+    assert!(rt;
+        expand_two_layers(alloc, merge, merge).or_else(|_| expand_two_layers(alloc, merge, merge))?
+    );
+    Ok(())
+}
+
+#[test]
+fn a_book_of_two_layers_by_names(rt: HostRuntime) -> Result<(), Fail> {
+    let alloc = rt.alloc();
+    let merge = Merge::Names;
+    assert!(rt;
+        expand_two_layers(alloc, merge, merge).or_else(|_| expand_two_layers(alloc, merge, merge))?
+    );
+    Ok(())
+}
+
+#[test]
+fn steps_are_labelled_anew_for_another_merge(rt: HostRuntime) -> Result<(), Fail> {
+    let alloc = rt.alloc();
+    let exact = Merge::Exact;
+    let names = Merge::Names;
+    assert!(rt;
+        expand_two_layers(alloc, names, exact).or_else(|_| expand_two_layers(alloc, names, exact))?
+    );
+    assert!(rt;
+        expand_two_layers(alloc, exact, names).or_else(|_| expand_two_layers(alloc, exact, names))?
+    );
     Ok(())
 }
 
@@ -145,7 +175,7 @@ fn enter_a_stranger(alloc: Global) -> Result<bool, OutOfMemory> {
     let program = twice(alloc)?;
     let own = program.copy(alloc)?;
     let mut book = Book::open(alloc, Atomic, own, 100, Merge::Exact)?;
-    if !enters_next(alloc, &mut book, &program)? {
+    if !enters_next(alloc, &mut book, &program, Merge::Exact)? {
         return Ok(false);
     }
     book.law();
@@ -180,7 +210,7 @@ fn take_a_layer(alloc: Global) -> Result<bool, OutOfMemory> {
     let program = twice(alloc)?;
     let own = program.copy(alloc)?;
     let mut book = Book::open(alloc, Atomic, own, 100, Merge::Exact)?;
-    if !enters_next(alloc, &mut book, &program)? {
+    if !enters_next(alloc, &mut book, &program, Merge::Exact)? {
         return Ok(false);
     }
     let layer = book.take_layer()?;
@@ -207,7 +237,7 @@ fn enter_too_many(alloc: Global) -> Result<bool, OutOfMemory> {
     let program = twice(alloc)?;
     let own = program.copy(alloc)?;
     let mut book = Book::open(alloc, Atomic, own, 2, Merge::Exact)?;
-    match expand_next(alloc, &mut book, &program)? {
+    match expand_next(alloc, &mut book, &program, Merge::Exact)? {
         Some(answer) => {
             let totals = book.totals();
             Ok(is_refused(answer, EnterFault::Full)? && totals.entries == 1 && totals.taken == 1)

@@ -37,11 +37,12 @@ is_answered W A n l K L is turn (Some i) worked cut finished stopped =
     stopped cut.0 (subst (λ k. cut.0 < k) is cut.1) (turn cut.0 i cut.2)
 
 -- a layer that is cut in a book of one machine, program and merge is cut in one of the same
-pub cut_kept : {X Memory Place : Type 0} (rules : X → Rules Memory Place) (place_eq : Place → Place → Bool) (memory_eq : Memory → Memory → Bool)
-    (old new b : Contents X (State X Memory Place)) (d i : ℕ) → IsKept old new
-    → IsCutAt (machine_in rules old) (counted_as_one place_eq memory_eq old.merge) (right_in rules old) b d i
-    → IsCutAt (machine_in rules new) (counted_as_one place_eq memory_eq new.merge) (right_in rules new) b d i
-cut_kept {X} rules place_eq memory_eq old new b d i kept cut =
-    subst (λ k. IsCutAt (machine_of {Machine = X} (rules new.machine) new.program) (counted_as_one place_eq memory_eq k) (IsFindingOf (rules new.machine) new.program) b d i) (sym kept.merge)
-    (given_own (λ x p. IsCutAt (machine_of {Machine = X} (rules x) p) (counted_as_one place_eq memory_eq old.merge) (IsFindingOf (rules x) p) b d i) old.machine new.machine old.program new.program
+pub cut_kept : {X Memory Place Form : Type 0} (rules : X → Rules Memory Place) (place_eq : Place → Place → Bool) (memory_eq : Memory → Memory → Bool)
+    (form_eq : Form → Form → Bool) (form_of : X → Memory → List (Option Place) → Form)
+    (old new b : Contents X (State X Memory Place Form)) (d i : ℕ) → IsKept old new
+    → IsCutAt (machine_in rules old) (counted_as_one place_eq memory_eq form_eq (form_of old.machine) old.merge) (right_in rules old) b d i
+    → IsCutAt (machine_in rules new) (counted_as_one place_eq memory_eq form_eq (form_of new.machine) new.merge) (right_in rules new) b d i
+cut_kept {X} {Memory} {Place} {Form} rules place_eq memory_eq form_eq form_of old new b d i kept cut =
+    subst (λ k. IsCutAt (machine_of {Machine = X} {Form = Form} (rules new.machine) new.program) (counted_as_one place_eq memory_eq form_eq (form_of new.machine) k) (IsFindingOf (rules new.machine) new.program) b d i) (sym kept.merge)
+    (given_own (λ x p. IsCutAt (machine_of {Machine = X} {Form = Form} (rules x) p) (counted_as_one place_eq memory_eq form_eq (form_of x) old.merge) (IsFindingOf (rules x) p) b d i) old.machine new.machine old.program new.program
     (sym kept.machine) (sym kept.program) cut)

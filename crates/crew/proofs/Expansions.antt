@@ -53,7 +53,7 @@ module _ {S : Type 0} (m : StepMachine S) (s : S) where
       ∙ sym (unknown_counts same known ys)
 
 -- what an expansion holds is right for the book that it is made for
-pub expansion_in : {X Memory Place : Type 0} (rules : X → Rules Memory Place) (b : Contents X (State X Memory Place)) (x : Steps X (State X Memory Place)) (s : State X Memory Place)
+pub expansion_in : {X Memory Place Form : Type 0} (rules : X → Rules Memory Place) (b : Contents X (State X Memory Place Form)) (x : Steps X (State X Memory Place Form)) (s : State X Memory Place Form)
     → x.machine ≡ b.machine → x.program ≡ b.program → x.source ≡ s → HoldsSteps rules x
     → IsExpansion (machine_in rules b) (right_in rules b) s x.successors
 expansion_in {X} {Memory} {Place} rules b x s machine program source holds =

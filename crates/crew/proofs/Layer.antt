@@ -56,12 +56,12 @@ module _ {S : Type 0} (m : StepMachine S) where
       (ap (λ (b : Contents X S). count_by (λ (r : Entry S). is_expanded r.mark) b.entries) same, ap (λ (b : Contents X S). length b.entries) same)
 
 -- each state of a layer of the machine and the program is ready
-pub layer_ready : {X Memory Place A : Type 0} (rules : X → Rules Memory Place) (b : Contents X (State X Memory Place)) (machine : X) (program : Program)
-    (layer : List (ℕ × Arc (State X Memory Place) A)) → b.machine ≡ machine → b.program ≡ program → b.limit ≤ 2000000
-    → AllStates (Fits (rules b.machine) b.program) layer → AllStates (λ (s : State X Memory Place). s.steps < b.limit) layer
-    → All (λ (p : ℕ × Arc (State X Memory Place) A). IsReady (rules machine) program p.1.value) layer
-layer_ready {X} {Memory} {Place} {A} rules b machine program layer is_machine is_program limit fits few k d within =
+pub layer_ready : {X Memory Place Form A : Type 0} (rules : X → Rules Memory Place) (b : Contents X (State X Memory Place Form)) (machine : X) (program : Program)
+    (layer : List (ℕ × Arc (State X Memory Place Form) A)) → b.machine ≡ machine → b.program ≡ program → b.limit ≤ 2000000
+    → AllStates (Fits (rules b.machine) b.program) layer → AllStates (λ (s : State X Memory Place Form). s.steps < b.limit) layer
+    → All (λ (p : ℕ × Arc (State X Memory Place Form) A). IsReady (rules machine) program p.1.value) layer
+layer_ready {X} {Memory} {Place} {Form} {A} rules b machine program layer is_machine is_program limit fits few k d within =
     let at = slice_get-get_or layer k d within in
-    let p : ℕ × Arc (State X Memory Place) A = get_or layer k d in
+    let p : ℕ × Arc (State X Memory Place Form) A = get_or layer k d in
     let less : p.1.value.steps < b.limit = few k p at in
     (given_own (λ x q. Fits (rules x) q p.1.value) b.machine machine b.program program is_machine is_program (fits k p at), omega arith)

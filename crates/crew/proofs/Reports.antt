@@ -1,5 +1,5 @@
 -- A report on a book that its answer was read off.
-use Rattle.std.proofs.Common.{◌≡◌, ◌+◌, Bool, List, length, sym, ap, ◌∙◌, subst, arith, sum_by}
+use Rattle.std.proofs.Common.{◌≡◌, ◌+◌, Bool, List, Option, length, sym, ap, ◌∙◌, subst, arith, sum_by}
 use Rattle.sched_program.specs.Program.{Program}
 use Rattle.tree_machine.specs.Rules.{Rules}
 use Rattle.tree_machine.specs.declared.state.State.{State}
@@ -29,38 +29,39 @@ sums_to book each counts =
     let met : sum_by (λ (s : Share). s.met) each ≡ (totals_of book).met = counts.met in
     cc
 
-module _ {X Memory Place : Type 0} (rules : X → Rules Memory Place) (place_eq : Place → Place → Bool) (memory_eq : Memory → Memory → Bool)
+module _ {X Memory Place Form : Type 0} (rules : X → Rules Memory Place) (place_eq : Place → Place → Bool) (memory_eq : Memory → Memory → Bool)
+    (form_eq : Form → Form → Bool) (form_of : X → Memory → List (Option Place) → Form)
     (machine : X) (program : Program) (settings : Settings) where
   -- what was read off the book that was asked for makes a report
-  pub reported : (book read : Contents X (State X Memory Place)) (answer : Answer) (told : Totals) (each : List Share)
+  pub reported : (book read : Contents X (State X Memory Place Form)) (answer : Answer) (told : Totals) (each : List Share)
       → IsBookOf machine program settings book
-      → Merges (machine_in rules book) (counted_as_one place_eq memory_eq book.merge)
-      → IsDue (machine_in rules book) (counted_as_one place_eq memory_eq book.merge) (right_in rules book) settings.steps book.limit (length book.entries) answer
-      → IsTrueOf X (rules book.machine) book.program answer
+      → Merges (machine_in rules book) (counted_as_one place_eq memory_eq form_eq (form_of book.machine) book.merge)
+      → IsDue (machine_in rules book) (counted_as_one place_eq memory_eq form_eq (form_of book.machine) book.merge) (right_in rules book) settings.steps book.limit (length book.entries) answer
+      → IsTrueOf X Form (rules book.machine) book.program answer
       → TellsFirst (machine_in rules book) book.entries answer
       → read ≡ book → told ≡ totals_of read → length each ≡ settings.workers → IsLedgerOf book (ledger each)
-      → IsReport rules place_eq memory_eq machine program settings answer told each read
+      → IsReport rules place_eq memory_eq form_eq form_of machine program settings answer told each read
   reported book read answer told each asked merges due headline first same totals workers counts =
-      let eq = counted_as_one {Machine = X} place_eq memory_eq in
-      let m = machine_of {Machine = X} (rules machine) program in
-      let right = IsFindingOf {Machine = X} (rules machine) program in
+      let eq = λ (x : X). counted_as_one {Machine = X} place_eq memory_eq form_eq (form_of x) in
+      let m = machine_of {Machine = X} {Form = Form} (rules machine) program in
+      let right = IsFindingOf {Machine = X} {Form = Form} (rules machine) program in
       let all : told ≡ totals_of book = totals ∙ ap totals_of same in
       let entries : told.entries ≡ length book.entries = ap (λ (t : Totals). t.entries) all in
-      let merges_here : Merges m (eq settings.merge) =
-      given_merge (λ x p k. Merges (machine_of {Machine = X} (rules x) p) (eq k)) book.machine machine book.program program book.merge settings.merge asked.machine asked.program asked.merge merges in
-      let due_of_book : IsDue m (eq settings.merge) right settings.steps book.limit (length book.entries) answer =
-      given_merge (λ x p k. IsDue (machine_of {Machine = X} (rules x) p) (eq k) (IsFindingOf {Machine = X} (rules x) p) settings.steps book.limit (length book.entries) answer)
+      let merges_here : Merges m (eq machine settings.merge) =
+      given_merge (λ x p k. Merges (machine_of {Machine = X} {Form = Form} (rules x) p) (eq x k)) book.machine machine book.program program book.merge settings.merge asked.machine asked.program asked.merge merges in
+      let due_of_book : IsDue m (eq machine settings.merge) right settings.steps book.limit (length book.entries) answer =
+      given_merge (λ x p k. IsDue (machine_of {Machine = X} {Form = Form} (rules x) p) (eq x k) (IsFindingOf {Machine = X} {Form = Form} (rules x) p) settings.steps book.limit (length book.entries) answer)
       book.machine machine book.program program book.merge settings.merge asked.machine asked.program asked.merge due in
-      let due_here : IsDue m (eq settings.merge) right settings.steps settings.limit told.entries answer =
-      subst (λ k. IsDue m (eq settings.merge) right settings.steps settings.limit k answer) (sym entries)
-      (subst (λ l. IsDue m (eq settings.merge) right settings.steps l (length book.entries) answer) asked.limit due_of_book) in
+      let due_here : IsDue m (eq machine settings.merge) right settings.steps settings.limit told.entries answer =
+      subst (λ k. IsDue m (eq machine settings.merge) right settings.steps settings.limit k answer) (sym entries)
+      (subst (λ l. IsDue m (eq machine settings.merge) right settings.steps l (length book.entries) answer) asked.limit due_of_book) in
       record {
         due = due_here;
-        only = (λ count other also. one_verdict m (eq settings.merge) merges_here right settings.steps settings.limit told.entries count answer other due_here also);
-        headline = given_own (λ x p. IsTrueOf X (rules x) p answer) book.machine machine book.program program asked.machine asked.program headline;
-        first = subst (λ (b : Contents X (State X Memory Place)). TellsFirst m b.entries answer) (sym same)
-            (given_own (λ x p. TellsFirst (machine_of {Machine = X} (rules x) p) book.entries answer) book.machine machine book.program program asked.machine asked.program first);
-        asked = subst (λ (b : Contents X (State X Memory Place)). IsBookOf machine program settings b) (sym same) asked;
+        only = (λ count other also. one_verdict m (eq machine settings.merge) merges_here right settings.steps settings.limit told.entries count answer other due_here also);
+        headline = given_own (λ x p. IsTrueOf X Form (rules x) p answer) book.machine machine book.program program asked.machine asked.program headline;
+        first = subst (λ (b : Contents X (State X Memory Place Form)). TellsFirst m b.entries answer) (sym same)
+            (given_own (λ x p. TellsFirst (machine_of {Machine = X} {Form = Form} (rules x) p) book.entries answer) book.machine machine book.program program asked.machine asked.program first);
+        asked = subst (λ (b : Contents X (State X Memory Place Form)). IsBookOf machine program settings b) (sym same) asked;
         totals = totals;
         shares = workers;
         sums = sums_to book each counts ∙ ap (λ (t : Totals). record { expanded = t.expanded; entered = t.entered; met = t.met }) (sym all);

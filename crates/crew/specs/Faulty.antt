@@ -1,10 +1,12 @@
 -- A machine with a fault for each kind of operation, for the tests: an insert replies true, a delete goes astray at its
 -- second step, and a find leaves the memory out of order. A place says whether the operation's first step is done, the
 -- memory whether it is out of order.
-use Rattle.std.specs.Prelude.{◌≡◌, Bool, true, false, refl}
+use Rattle.std.specs.Prelude.{◌≡◌, ◌↔◌, Bool, true, false, refl, List, [], ◌∷◌, Option, Some}
 use Rattle.sched_program.specs.declared.operation.Op.{Op}
 use Rattle.sched_program.specs.declared.operation.Op.TheVariants.{Insert, Delete, Find}
 use Rattle.tree_machine.specs.Rules.{Rules, AreLawful, IsOutcomeInRange}
+use Rattle.tree_machine.specs.Pairing.{AreAlike}
+use Rattle.tree_machine.specs.Unnumbered.{equal_pairs, equal_pairs_lawful, equal_alike}
 use Rattle.tree_machine.specs.declared.machine.Outcome.{Outcome}
 use Rattle.tree_machine.specs.declared.machine.Outcome.TheVariants.{Goes, Replies, Astray}
 
@@ -23,6 +25,7 @@ faulty_rules =
       IsOrdered = λ memory. memory ≡ false;
       IsInRange = λ _. Unit {0};
       IsPlaceInRange = λ _ _. Unit {0};
+      pairs = equal_pairs;
     }
 
 in_range : (memory : Bool) (outcome : Outcome Bool) → IsOutcomeInRange faulty_rules memory outcome
@@ -45,4 +48,20 @@ faulty_lawful = record {
   outcome_in_range = λ op place memory _ _. in_range (faulty_act op place memory).0 (faulty_act op place memory).1;
   others_in_range = λ _ _ _ _ _ _ _. tt;
   astray_unchanged = unchanged;
+  pairs_lawful = equal_pairs_lawful faulty_rules.first faulty_rules.act faulty_rules.IsOrdered;
 }
+
+-- the memory, before what the threads hold
+abbrev pub faulty_form : Bool → List (Option Bool) → List (Option Bool)
+faulty_form memory held = Some memory ∷ held
+
+-- forms are equal exactly if the memories and the places are
+pub faulty_forms : (memory other : Bool) (held twins : List (Option Bool)) → (faulty_form memory held ≡ faulty_form other twins) ↔ AreAlike faulty_rules.pairs memory held other twins
+faulty_forms memory other held twins =
+    let alike = equal_alike memory other held twins in (
+      (λ same.
+          let first : memory ≡ other = cc in
+          let rest : held ≡ twins = cc in
+          alike.0 (first, rest)),
+      (λ h. let same = alike.1 h in λ i. faulty_form (same.0 i) (same.1 i)),
+    )

@@ -14,19 +14,19 @@ use Rattle.crew.specs.Faults.{LeadsToFault}
 
 module _ {Memory Place : Type 0} (rules : Rules Memory Place) (program : Program) where
   -- no thread went astray, the memory keeps search order, and the history has a linearization
-  abbrev pub IsCorrect : {Machine : Type 0} → State Machine Memory Place → Type 0
+  abbrev pub IsCorrect : {Machine Form : Type 0} → State Machine Memory Place Form → Type 0
   IsCorrect state = (state.astray ≡ None) × rules.IsOrdered state.memory × IsLinearizable program (history_of state)
 
-module _ (Machine : Type 0) {Memory Place : Type 0} (rules : Rules Memory Place) (program : Program) where
+module _ (Machine Form : Type 0) {Memory Place : Type 0} (rules : Rules Memory Place) (program : Program) where
   -- every schedule of at most n steps keeps search order and leaves a linearizable history
   abbrev pub HoldsTo : ℕ → Type 0
-  HoldsTo n = (schedule : List ℕ) (state : State Machine Memory Place) → length schedule ≤ n
+  HoldsTo n = (schedule : List ℕ) (state : State Machine Memory Place Form) → length schedule ≤ n
       → after (machine_of rules program) schedule ≡ Some state → IsCorrect rules program state
 
   -- the schedule leads to the fault, and every shorter one keeps search order and leaves a linearizable history
   pub record IsShortestFault (schedule : List ℕ) (finding : Finding) : Type 0 where
-    pub fault : LeadsToFault {S = State Machine Memory Place} (machine_of rules program) (IsFindingOf rules program) schedule finding
-    pub none_shorter : (shorter : List ℕ) (state : State Machine Memory Place) → length shorter < length schedule
+    pub fault : LeadsToFault {S = State Machine Memory Place Form} (machine_of rules program) (IsFindingOf rules program) schedule finding
+    pub none_shorter : (shorter : List ℕ) (state : State Machine Memory Place Form) → length shorter < length schedule
         → after (machine_of rules program) shorter ≡ Some state → IsCorrect rules program state
 
   abbrev pub IsTrueOf : Answer → Type 0

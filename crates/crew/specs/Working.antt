@@ -6,5 +6,5 @@ use Rattle.tree_machine.specs.Step.{Fits}
 use Rattle.tree_machine.specs.declared.state.State.{State}
 
 -- the state fits the program, and its steps can be counted one further
-abbrev pub IsReady : {Machine Memory Place : Type 0} → Rules Memory Place → Program → State Machine Memory Place → Type 0
+abbrev pub IsReady : {Machine Memory Place Form : Type 0} → Rules Memory Place → Program → State Machine Memory Place Form → Type 0
 IsReady rules program state = Fits rules program state × (state.steps + 1 < 2 ^ 64)

@@ -58,7 +58,7 @@ fn explore_together<J: Run + Send + Sync, M: Machine, G: Gate, R: Threads + Wait
     requires entered { (blanks.entered.name ≡ J.entered_name) × (blanks.entered.parts ≡ J.parts) }
     requires met { (blanks.met.name ≡ J.met_name) × (blanks.met.parts ≡ J.parts) }
     requires parts { J.parts ≡ options.workers }
-    ensures { IfOk result (λ o. IfSome o (λ r. IsReport M.rules M.Loc.PartialEq.eq M.Mem.PartialEq.eq machine program.now options r.answer r.totals r.shares.items r.book)) }
+    ensures { IfOk result (λ o. IfSome o (λ r. IsReport M.rules M.Loc.PartialEq.eq M.Mem.PartialEq.eq M.Form.PartialEq.eq M.form_of machine program.now options r.answer r.totals r.shares.items r.book)) }
 {
     let book = opened(alloc, machine, program, options)?;
     let (desk, parts) = Desk::<J, M>::new(book, blanks);
@@ -68,6 +68,7 @@ fn explore_together<J: Run + Send + Sync, M: Machine, G: Gate, R: Threads + Wait
         alloc,
         machine,
         program,
+        merge: options.merge(),
         gate,
         desk: Mutex::new(desk),
     };
@@ -103,7 +104,7 @@ fn explore_alone<M: Machine>(
     program: &Program,
     options: Options,
 ) -> Result<Report<M>, OutOfMemory>
-    ensures { IfOk result (λ r. IsReport M.rules M.Loc.PartialEq.eq M.Mem.PartialEq.eq machine program.now options r.answer r.totals r.shares.items r.book) }
+    ensures { IfOk result (λ r. IsReport M.rules M.Loc.PartialEq.eq M.Mem.PartialEq.eq M.Form.PartialEq.eq M.form_of machine program.now options r.answer r.totals r.shares.items r.book) }
 {
     let mut book = opened(alloc, machine, program, options)?;
     let mut share = Share::none();
@@ -133,9 +134,9 @@ pub fn explore<M: Machine, G: Gate, R: Threads + Wait + Sync>(
     options: Options,
     gate: &G,
 ) -> Result<Report<M>, OutOfMemory>
-    ensures due { IfOk result (λ r. IsDue (machine_of {Machine = M} (M.rules machine) program.now) (counted_as_one M.Loc.PartialEq.eq M.Mem.PartialEq.eq options.merge) (IsFindingOf (M.rules machine) program.now) options.steps options.limit r.totals.entries r.answer) }
-    ensures only { IfOk result (λ r. (count : ℕ) (other : Answer) → IsDue (machine_of {Machine = M} (M.rules machine) program.now) (counted_as_one M.Loc.PartialEq.eq M.Mem.PartialEq.eq options.merge) (IsFindingOf (M.rules machine) program.now) options.steps options.limit count other → IsSameVerdict r.totals.entries r.answer count other) }
-    ensures headline { IfOk result (λ r. IsTrueOf M (M.rules machine) program.now r.answer) }
+    ensures due { IfOk result (λ r. IsDue (machine_of {Machine = M} {Form = M.Form} (M.rules machine) program.now) (counted_as_one M.Loc.PartialEq.eq M.Mem.PartialEq.eq M.Form.PartialEq.eq (M.form_of machine) options.merge) (IsFindingOf (M.rules machine) program.now) options.steps options.limit r.totals.entries r.answer) }
+    ensures only { IfOk result (λ r. (count : ℕ) (other : Answer) → IsDue (machine_of {Machine = M} {Form = M.Form} (M.rules machine) program.now) (counted_as_one M.Loc.PartialEq.eq M.Mem.PartialEq.eq M.Form.PartialEq.eq (M.form_of machine) options.merge) (IsFindingOf (M.rules machine) program.now) options.steps options.limit count other → IsSameVerdict r.totals.entries r.answer count other) }
+    ensures headline { IfOk result (λ r. IsTrueOf M M.Form (M.rules machine) program.now r.answer) }
     ensures first { IfOk result (λ r. TellsFirst (machine_of (M.rules machine) program.now) r.book.entries r.answer) }
     ensures machine { IfOk result (λ r. r.book.machine ≡ machine) }
     ensures program { IfOk result (λ r. r.book.program ≡ program.now) }

@@ -20,7 +20,7 @@ use tree_machine::Machine;
 /// What was found of the first entry that is not sound.
 fn fault_at<M: Machine>(book: &Book<M>, id: usize) -> Finding
     requires { first_fault book.now.entries ≡ Some id }
-    ensures { (e : Entry (State M M.Mem M.Loc)) × At book.now.entries id e × (e.finding ≡ result) }
+    ensures { (e : Entry (State M M.Mem M.Loc M.Form)) × At book.now.entries id e × (e.finding ≡ result) }
 {
     match book.finding_of(id) {
         Some(Finding::Astray) => Finding::Astray,
@@ -51,7 +51,7 @@ fn is_last_layer<M: Machine>(book: &Book<M>, steps: u64) -> bool
 
 /// Whether every entry of at most so many steps is sound.
 fn is_sound_to<M: Machine>(alloc: Global, book: &Book<M>, steps: usize) -> Result<bool, OutOfMemory>
-    ensures { IfOk result (λ yes. IsTrue yes ↔ ((i : ℕ) (e : Entry (State M M.Mem M.Loc)) → At book.now.entries i e → e.state.steps ≤ steps → is_sound e.finding ≡ true)) }
+    ensures { IfOk result (λ yes. IsTrue yes ↔ ((i : ℕ) (e : Entry (State M M.Mem M.Loc M.Form)) → At book.now.entries i e → e.state.steps ≤ steps → is_sound e.finding ≡ true)) }
 {
     book.law();
     match book.first_fault() {
@@ -69,8 +69,8 @@ fn tell_fault<M: Machine>(
     id: usize,
 ) -> Result<Option<Answer>, OutOfMemory>
     requires { first_fault book.now.entries ≡ Some id }
-    ensures due { IfOk result (λ o. IfSome o (IsDue (machine_in M.rules book.now) (counted_as_one M.Loc.PartialEq.eq M.Mem.PartialEq.eq book.now.merge) (right_in M.rules book.now) steps book.now.limit (length book.now.entries))) }
-    ensures headline { IfOk result (λ o. IfSome o (IsTrueOf M (M.rules book.now.machine) book.now.program)) }
+    ensures due { IfOk result (λ o. IfSome o (IsDue (machine_in M.rules book.now) (counted_as_one M.Loc.PartialEq.eq M.Mem.PartialEq.eq M.Form.PartialEq.eq (M.form_of book.now.machine) book.now.merge) (right_in M.rules book.now) steps book.now.limit (length book.now.entries))) }
+    ensures headline { IfOk result (λ o. IfSome o (IsTrueOf M M.Form (M.rules book.now.machine) book.now.program)) }
     ensures first { IfOk result (λ o. IfSome o (TellsFirst (machine_in M.rules book.now) book.now.entries)) }
     ensures some { IsWorkedOff (machine_in M.rules book.now).steps book.now.entries steps → IfOk result (λ o. IsSome o) }
 {
@@ -90,8 +90,8 @@ fn read_finished<M: Machine>(
     book: &Book<M>,
     steps: u16,
 ) -> Result<Option<Answer>, OutOfMemory>
-    ensures due { IfOk result (λ o. IfSome o (IsDue (machine_in M.rules book.now) (counted_as_one M.Loc.PartialEq.eq M.Mem.PartialEq.eq book.now.merge) (right_in M.rules book.now) steps book.now.limit (length book.now.entries))) }
-    ensures headline { IfOk result (λ o. IfSome o (IsTrueOf M (M.rules book.now.machine) book.now.program)) }
+    ensures due { IfOk result (λ o. IfSome o (IsDue (machine_in M.rules book.now) (counted_as_one M.Loc.PartialEq.eq M.Mem.PartialEq.eq M.Form.PartialEq.eq (M.form_of book.now.machine) book.now.merge) (right_in M.rules book.now) steps book.now.limit (length book.now.entries))) }
+    ensures headline { IfOk result (λ o. IfSome o (IsTrueOf M M.Form (M.rules book.now.machine) book.now.program)) }
     ensures first { IfOk result (λ o. IfSome o (TellsFirst (machine_in M.rules book.now) book.now.entries)) }
     ensures some { IsWorkedOff (machine_in M.rules book.now).steps book.now.entries steps → IfOk result (λ o. IsSome o) }
 {
@@ -118,9 +118,9 @@ fn is_full_at<M: Machine>(
     schedule: &[u8],
 ) -> Result<bool, OutOfMemory>
     requires program { program.now ≡ book.old.program }
-    requires way { (e : Entry (State M M.Mem M.Loc)) × At book.old.entries id e × (after (machine_in M.rules book.old) schedule.now ≡ Some e.state) }
-    ensures full { IfOk result (λ yes. yes ≡ true → IsFullAt (machine_in M.rules book.old) (counted_as_one M.Loc.PartialEq.eq M.Mem.PartialEq.eq book.old.merge) (right_in M.rules book.old) book.old id) }
-    ensures yes { IsFullAt (machine_in M.rules book.old) (counted_as_one M.Loc.PartialEq.eq M.Mem.PartialEq.eq book.old.merge) (right_in M.rules book.old) book.old id → IfOk result (λ yes. yes ≡ true) }
+    requires way { (e : Entry (State M M.Mem M.Loc M.Form)) × At book.old.entries id e × (after (machine_in M.rules book.old) schedule.now ≡ Some e.state) }
+    ensures full { IfOk result (λ yes. yes ≡ true → IsFullAt (machine_in M.rules book.old) (counted_as_one M.Loc.PartialEq.eq M.Mem.PartialEq.eq M.Form.PartialEq.eq (M.form_of book.old.machine) book.old.merge) (right_in M.rules book.old) book.old id) }
+    ensures yes { IsFullAt (machine_in M.rules book.old) (counted_as_one M.Loc.PartialEq.eq M.Mem.PartialEq.eq M.Form.PartialEq.eq (M.form_of book.old.machine) book.old.merge) (right_in M.rules book.old) book.old id → IfOk result (λ yes. yes ≡ true) }
     ensures same { IfOk result (λ yes. yes ≡ true → book.new ≡ book.old) }
 {
     book.law();
@@ -151,11 +151,11 @@ fn read_stopped<M: Machine>(
 ) -> Result<Option<Answer>, OutOfMemory>
     requires program { program.now ≡ book.old.program }
     requires limit { book.old.limit ≡ options.limit }
-    ensures due { IfOk result (λ o. IfSome o (IsDue (machine_in M.rules book.old) (counted_as_one M.Loc.PartialEq.eq M.Mem.PartialEq.eq book.old.merge) (right_in M.rules book.old) options.steps book.old.limit (length book.old.entries))) }
-    ensures headline { IfOk result (λ o. IfSome o (IsTrueOf M (M.rules book.old.machine) book.old.program)) }
+    ensures due { IfOk result (λ o. IfSome o (IsDue (machine_in M.rules book.old) (counted_as_one M.Loc.PartialEq.eq M.Mem.PartialEq.eq M.Form.PartialEq.eq (M.form_of book.old.machine) book.old.merge) (right_in M.rules book.old) options.steps book.old.limit (length book.old.entries))) }
+    ensures headline { IfOk result (λ o. IfSome o (IsTrueOf M M.Form (M.rules book.old.machine) book.old.program)) }
     ensures first { IfOk result (λ o. IfSome o (TellsFirst (machine_in M.rules book.old) book.old.entries)) }
     ensures same { IfOk result (λ o. IfSome o (λ _. book.new ≡ book.old)) }
-    ensures some { (d : ℕ) → d < options.steps → IsCutAt (machine_in M.rules book.old) (counted_as_one M.Loc.PartialEq.eq M.Mem.PartialEq.eq book.old.merge) (right_in M.rules book.old) book.old d id → IfOk result (λ o. IsSome o) }
+    ensures some { (d : ℕ) → d < options.steps → IsCutAt (machine_in M.rules book.old) (counted_as_one M.Loc.PartialEq.eq M.Mem.PartialEq.eq M.Form.PartialEq.eq (M.form_of book.old.machine) book.old.merge) (right_in M.rules book.old) book.old d id → IfOk result (λ o. IsSome o) }
 {
     if id >= book.len() {
         return Ok(None);
@@ -186,12 +186,12 @@ pub(crate) fn read_answer<M: Machine>(
 ) -> Result<Option<Answer>, OutOfMemory>
     requires program { program.now ≡ book.old.program }
     requires limit { book.old.limit ≡ options.limit }
-    ensures due { IfOk result (λ o. IfSome o (IsDue (machine_in M.rules book.old) (counted_as_one M.Loc.PartialEq.eq M.Mem.PartialEq.eq book.old.merge) (right_in M.rules book.old) options.steps book.old.limit (length book.old.entries))) }
-    ensures headline { IfOk result (λ o. IfSome o (IsTrueOf M (M.rules book.old.machine) book.old.program)) }
+    ensures due { IfOk result (λ o. IfSome o (IsDue (machine_in M.rules book.old) (counted_as_one M.Loc.PartialEq.eq M.Mem.PartialEq.eq M.Form.PartialEq.eq (M.form_of book.old.machine) book.old.merge) (right_in M.rules book.old) options.steps book.old.limit (length book.old.entries))) }
+    ensures headline { IfOk result (λ o. IfSome o (IsTrueOf M M.Form (M.rules book.old.machine) book.old.program)) }
     ensures first { IfOk result (λ o. IfSome o (TellsFirst (machine_in M.rules book.old) book.old.entries)) }
     ensures same { IfOk result (λ o. IfSome o (λ _. book.new ≡ book.old)) }
     ensures finished { cut ≡ None → IsWorkedOff (machine_in M.rules book.old).steps book.old.entries options.steps → IfOk result (λ o. IsSome o) }
-    ensures stopped { IfSome cut (λ id. (d : ℕ) → d < options.steps → IsCutAt (machine_in M.rules book.old) (counted_as_one M.Loc.PartialEq.eq M.Mem.PartialEq.eq book.old.merge) (right_in M.rules book.old) book.old d id → IfOk result (λ o. IsSome o)) }
+    ensures stopped { IfSome cut (λ id. (d : ℕ) → d < options.steps → IsCutAt (machine_in M.rules book.old) (counted_as_one M.Loc.PartialEq.eq M.Mem.PartialEq.eq M.Form.PartialEq.eq (M.form_of book.old.machine) book.old.merge) (right_in M.rules book.old) book.old d id → IfOk result (λ o. IsSome o)) }
 {
     match cut {
         None => read_finished(alloc, book, options.steps()),

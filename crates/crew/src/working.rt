@@ -6,7 +6,7 @@ ghost use Rattle.crew.specs.Working.{IsReady};
 use crate::claims::{Claims, Seat};
 use crate::gate::Gate;
 use crate::tally::{Desk, Run, Tally};
-use book::{EnterFault, Expansion};
+use book::{EnterFault, Expansion, Merge};
 use sched_program::Program;
 use std::alloc::Global;
 use std::sync::{Arc, Mutex, Wait};
@@ -54,6 +54,7 @@ pub struct Exploration<'a, J: Run, M: Machine, G: Gate, R: Wait> {
     pub alloc: Global,
     pub machine: M,
     pub program: &'a Program,
+    pub merge: Merge,
     pub gate: &'a G,
     pub desk: Mutex<Desk<J, M>>,
 }
@@ -71,7 +72,13 @@ impl<'a, J: Run, M: Machine, G: Gate, R: Wait> Exploration<'a, J, M, G, R> {
         requires ready { All (λ lead. IsReady (M.rules self.now.machine) self.now.program.now lead.1.value) layer.now.leads.items }
     {
         let (id, state) = &layer.leads[place];
-        let Ok(expansion) = Expansion::of(self.alloc, self.machine, self.program, &**state) else {
+        let Ok(expansion) = Expansion::for_merge(
+            self.alloc,
+            self.machine,
+            self.program,
+            &**state,
+            self.merge,
+        ) else {
             return Err(Stop::OutOfMemory);
         };
         self.gate.arrive(number, layer.number, place);

@@ -1,6 +1,7 @@
--- The machine keeps its numbers in range, and begins with a memory that keeps search order.
+-- The machine keeps its numbers in range and its pairings, and begins with a memory that keeps search order.
 use Rattle.tree_machine.specs.Rules.{AreLawful}
 use Rattle.ellen.specs.declared.machine.Ellen.{Ellen}
+use Rattle.ellen.specs.AlikeLaws.{ellen_pairs_lawful}
 use Rattle.ellen.specs.AstrayLaws.{astray_unchanged}
 use Rattle.ellen.specs.EllenRules.{ellen_rules}
 use Rattle.ellen.specs.RangeLaws.{act_kept, place_more}
@@ -15,4 +16,5 @@ ellen_lawful machine = record {
   outcome_in_range = λ op place memory h at. (act_kept machine op memory h place at).outcome_in;
   others_in_range = λ op place other memory h at held. let kept = act_kept machine op memory h place at in place_more _ _ _ _ kept.nodes kept.records other held;
   astray_unchanged = astray_unchanged machine;
+  pairs_lawful = ellen_pairs_lawful machine;
 }

@@ -1,7 +1,16 @@
+pub mod Alike
+pub mod AlikeAccesses
+pub mod AlikeAppends
+pub mod AlikeLaws
+pub mod AlikeSteps
 pub mod AstrayLaws
 pub mod EllenExact
 pub mod EllenLaws
 pub mod EllenRules
+pub mod Encoding
+pub mod EncodingLaws
+pub mod EncodingRange
+pub mod FormLaws
 pub mod Initial
 pub mod InitialLaws
 pub mod Memory

@@ -2,6 +2,7 @@
 #![tactic(auto)]
 
 mod build;
+mod form;
 mod helping;
 mod machine;
 mod memory;

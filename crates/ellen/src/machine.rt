@@ -1,11 +1,12 @@
 //! The machine and its variants.
 
 use crate::build::build;
+use crate::form::form;
 use crate::helping::{first_place, help_act};
 use crate::memory::{DeleteRecord, EllenMem, InsertRecord, Node, Record, UpdateWord};
 use crate::place::{Above, Base, EllenLoc, HelpLoc, Resume, SearchLoc};
 use crate::searching::search_act;
-use sched_program::{Exact, Op, OutOfMemory};
+use sched_program::{Exact, Op, OutOfMemory, Sequence};
 use std::alloc::Global;
 use tree_machine::{Machine, Outcome, keeps_search_order};
 
@@ -22,12 +23,17 @@ pub struct Ellen {
 impl Machine for Ellen {
     ghost use Rattle.ellen.specs.EllenRules.{ellen_rules};
     ghost use Rattle.ellen.specs.EllenLaws.{ellen_lawful};
+    ghost use Rattle.ellen.specs.FormLaws.{ellen_form, ellen_forms};
 
     type Mem = EllenMem;
 
     type Loc = EllenLoc;
 
+    type Form = Sequence<u8>;
+
     ghost rules = { ellen_rules };
+
+    ghost form_of = { λ _. ellen_form };
 
     fn copy_mem(&self, alloc: Global, mem: &EllenMem) -> Result<EllenMem, OutOfMemory> {
         mem.copy(alloc)
@@ -62,7 +68,18 @@ impl Machine for Ellen {
         keeps_search_order(mem)
     }
 
+    fn form(
+        &self,
+        alloc: Global,
+        mem: &EllenMem,
+        places: &[Option<EllenLoc>],
+    ) -> Result<Sequence<u8>, OutOfMemory> {
+        form(alloc, mem, places)
+    }
+
     ghost lawful = { ellen_lawful };
+
+    ghost forms = { ellen_forms };
 }
 
 impl Exact for Ellen {

@@ -9,7 +9,8 @@ ghost use Rattle.ellen.specs.Table.{search_act, flagging, decide, arrived};
 use crate::helping::{first_place, help_first, marking, with_base};
 use crate::machine::Ellen;
 use crate::memory::{
-    DeleteRecord, EllenMem, Node, Record, UpdateWord, child_on, is_word, key_in, number_of, update_of,
+    DeleteRecord, EllenMem, Node, Record, UpdateWord, child_on, is_word, key_in, number_of,
+    update_of,
 };
 use crate::place::{Above, Base, EllenLoc, HelpLoc, SearchLoc};
 use sched_program::{Op, OutOfMemory};

@@ -26,14 +26,14 @@ use Rattle.natmit.specs.RangeLaws.{node_in, set_word_in, two_more, with_internal
 
 -- ---- lists
 
-get-set_other : {X : Type 0} (xs : List X) (i x : ℕ) (v : X) → (x ≡ i → ⊥) → slice_get (slice_set xs i v) x ≡ slice_get xs x
+pub get-set_other : {X : Type 0} (xs : List X) (i x : ℕ) (v : X) → (x ≡ i → ⊥) → slice_get (slice_set xs i v) x ≡ slice_get xs x
 get-set_other [] i x v h = refl
 get-set_other (y ∷ xs) zero zero v h = absurd (h refl)
 get-set_other (y ∷ xs) zero (suc x) v h = refl
 get-set_other (y ∷ xs) (suc i) zero v h = refl
 get-set_other (y ∷ xs) (suc i) (suc x) v h = get-set_other xs i x v (λ e. h (ap suc e))
 
-get-set_same : {X : Type 0} (xs : List X) (i : ℕ) (v : X) → i < length xs → slice_get (slice_set xs i v) i ≡ Some v
+pub get-set_same : {X : Type 0} (xs : List X) (i : ℕ) (v : X) → i < length xs → slice_get (slice_set xs i v) i ≡ Some v
 get-set_same [] i v h = absurd (omega arith)
 get-set_same (y ∷ xs) zero v h = refl
 get-set_same (y ∷ xs) (suc i) v h = get-set_same xs i v (omega arith)

@@ -3,6 +3,11 @@ pub mod Initial
 pub mod InitialLaws
 pub mod Memory
 pub mod NatMitRules
+pub mod PairedMemories
+pub mod Pairs
+pub mod PairsLaws
+pub mod Parts
+pub mod PartsLaws
 pub mod Range
 pub mod RangeLaws
 pub mod Table

@@ -2,7 +2,7 @@
 use Rattle.std.specs.Prelude.{length}
 use Rattle.tree_machine.specs.declared.machine.Outcome.{Outcome}
 use Rattle.tree_machine.specs.declared.machine.Outcome.TheVariants.{Goes, Replies, Astray}
-use Rattle.tree_machine.specs.Rules.{Rules, AreLawful, IsOutcomeInRange}
+use Rattle.tree_machine.specs.Rules.{Rules, AreLawful, AreFormsExact, IsOutcomeInRange}
 use Rattle.tree_machine.specs.SearchOrder.{KeepsSearchOrder}
 use Rattle.natmit.specs.declared.memory.NatMitMem.{NatMitMem}
 use Rattle.natmit.specs.declared.place.Mode.TheVariants.{Plain}
@@ -12,6 +12,10 @@ use Rattle.natmit.specs.declared.machine.NatMit.{NatMit}
 use Rattle.natmit.specs.Memory.{shapes}
 use Rattle.natmit.specs.Initial.{initial_memory}
 use Rattle.natmit.specs.InitialLaws.{initial_in_range, initial_ordered}
+use Rattle.natmit.specs.Pairs.{natmit_pairs}
+use Rattle.natmit.specs.PairsLaws.{natmit_pairs_lawful}
+use Rattle.natmit.specs.Parts.{natmit_form}
+use Rattle.natmit.specs.PartsLaws.{natmit_forms_exact}
 use Rattle.natmit.specs.Range.{IsInRange, IsPlaceInRange}
 use Rattle.natmit.specs.RangeLaws.{IsOutcomeIn, place_more, act_kept, act_leaves}
 use Rattle.natmit.specs.Table.{act}
@@ -25,6 +29,7 @@ natmit_rules machine =
       IsOrdered = λ memory. KeepsSearchOrder (shapes memory);
       IsInRange = IsInRange;
       IsPlaceInRange = IsPlaceInRange;
+      pairs = natmit_pairs;
     }
 
 outcome_in_range : (machine : NatMit) (memory : NatMitMem) (outcome : Outcome NatMitLoc) → IsOutcomeIn (length memory.nodes) outcome → IsOutcomeInRange (natmit_rules machine) memory outcome
@@ -41,4 +46,8 @@ natmit_lawful machine = record {
   outcome_in_range = λ op place memory h at. outcome_in_range machine (act machine op place memory).0 (act machine op place memory).1 (act_kept memory h machine op place at).outcome_in;
   others_in_range = λ op place other memory h at held. place_more (length memory.nodes) (length (act machine op place memory).0.nodes) (act_kept memory h machine op place at).nodes other held;
   astray_unchanged = λ op place memory. act_leaves memory machine op place;
+  pairs_lawful = natmit_pairs_lawful machine;
 }
+
+pub natmit_forms : (machine : NatMit) → AreFormsExact (natmit_rules machine) natmit_form
+natmit_forms machine = natmit_forms_exact

@@ -1,6 +1,7 @@
 //! The step machine of Natarajan and Mittal's tree, and its variant.
 #![tactic(auto)]
 
+mod form;
 mod initial;
 mod machine;
 mod memory;

@@ -1,13 +1,15 @@
 //! The machine and its variant.
 ghost use Rattle.natmit.specs.Exact.{machine_exact, memory_exact, place_exact};
-ghost use Rattle.natmit.specs.NatMitRules.{natmit_rules, natmit_lawful};
+ghost use Rattle.natmit.specs.NatMitRules.{natmit_rules, natmit_lawful, natmit_forms};
+ghost use Rattle.natmit.specs.Parts.{natmit_form};
 
+use crate::form::Snapshot;
 use crate::initial::build;
 use crate::memory::NatMitMem;
 use crate::place::{Mode, NatMitLoc};
-use sched_program::{Exact, Op, OutOfMemory};
+use sched_program::{Exact, Op, OutOfMemory, Sequence};
 use std::alloc::Global;
-use tree_machine::{Machine, Outcome, keeps_search_order};
+use tree_machine::{Machine, Outcome, form_parts, keeps_search_order};
 
 /// The machine of Natarajan and Mittal (PPoPP 2014), whole where `tag` is true.
 #[derive(Clone, Copy, Debug, PartialEq, Eq, Hash)]
@@ -33,7 +35,11 @@ impl Machine for NatMit {
 
     type Loc = NatMitLoc;
 
+    type Form = Sequence<u8>;
+
     ghost rules = { natmit_rules };
+
+    ghost form_of = { λ _. natmit_form };
 
     fn copy_mem(&self, alloc: Global, mem: &NatMitMem) -> Result<NatMitMem, OutOfMemory> {
         mem.copy(alloc)
@@ -65,5 +71,17 @@ impl Machine for NatMit {
         keeps_search_order(mem)
     }
 
+    fn form(
+        &self,
+        alloc: Global,
+        mem: &NatMitMem,
+        places: &[Option<NatMitLoc>],
+    ) -> Result<Sequence<u8>, OutOfMemory> {
+        // Each search begins at node 1, also where a run of the variant has cut it off from the root, node 0.
+        form_parts(alloc, 2, &Snapshot { mem, places })
+    }
+
     ghost lawful = { natmit_lawful };
+
+    ghost forms = { natmit_forms };
 }

@@ -106,9 +106,9 @@ module _ {A : Type 0} where
   value_found (x ∷ entries) (suc k) e a h thread index =
       value_or_later (same_name x.0 a) x.1 (value_at entries a) (inr (value_found entries k e a h thread index))
 
-module _ {Machine Memory Place : Type 0} (rules : Rules Memory Place) (program : Program) (state : State Machine Memory Place) (fits : Fits rules program state) where
+module _ {Machine Memory Place Form : Type 0} (rules : Rules Memory Place) (program : Program) (state : State Machine Memory Place Form) (fits : Fits rules program state) where
   -- a thread that is there, with its operations
-  with_ops : (u : ℕ) (thread : Thread Place) → slice_get state.threads u ≡ Some thread
+  pub with_ops : (u : ℕ) (thread : Thread Place) → slice_get state.threads u ≡ Some thread
       → (ops : List Op) × (slice_get program.threads u ≡ Some ops) × ThreadFits rules program state.memory ops thread
   with_ops u thread at_u =
       let there = get_at program.threads u (let within = slice_get_within state.threads u thread at_u in omega (arith, fits.thread_count)) in

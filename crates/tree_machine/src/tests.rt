@@ -1,4 +1,7 @@
 //! The machine `Atomic` and its states, at concrete types.
+mod cells;
+mod parts;
+
 use crate::{Atomic, Machine, State, StepFault};
 use sched_program::{Op, OpId, OutOfMemory, Program, Sequence, Tree};
 use std::alloc::Global;
@@ -44,6 +47,28 @@ fn run_twice(alloc: Global) -> Result<bool, StepFault> {
 #[test]
 fn the_first_insert_wins(rt: HostRuntime) -> Result<(), Fail> {
     match run_twice(rt.alloc()) {
+        Ok(is_right) => assert!(rt; is_right),
+        Err(fault) => assert!(rt; fault == StepFault::OutOfMemory),
+    }
+    Ok(())
+}
+
+/// Whether the two orders of two inserts of one key lead to states of different forms, and a copy has an equal form.
+fn tell_orders_apart(alloc: Global) -> Result<bool, StepFault> {
+    let program = twice(alloc)?;
+    let start = State::start(alloc, Atomic, &program)?;
+    let zero = start.step(alloc, Atomic, &program, 0)?;
+    let zero_one = zero.step(alloc, Atomic, &program, 1)?;
+    let one = start.step(alloc, Atomic, &program, 1)?;
+    let one_zero = one.step(alloc, Atomic, &program, 0)?;
+    let copy = zero_one.copy(alloc, Atomic)?;
+    let form = zero_one.form(alloc, Atomic)?;
+    Ok(form != one_zero.form(alloc, Atomic)? && form == copy.form(alloc, Atomic)?)
+}
+
+#[test]
+fn forms_tell_replies_apart_and_copies_not(rt: HostRuntime) -> Result<(), Fail> {
+    match tell_orders_apart(rt.alloc()) {
         Ok(is_right) => assert!(rt; is_right),
         Err(fault) => assert!(rt; fault == StepFault::OutOfMemory),
     }

@@ -8,7 +8,7 @@ use Rattle.clap.specs.declared.error.kind.ErrorKind.TheVariants as kind
 use Rattle.clap.specs.Words.{HasMatchesOf, Row, Text, fault_of, found_of, matches_of, rows_of, subcommand_name_of, subcommand_of, subcommand_rows_of}
 use Rattle.clap.specs.declared.parser.matches.ArgMatches.{ArgMatches}
 use Rattle.clap.specs.declared.parser.matches.ArgMatches.TheViews.{out-ArgMatches, out-SubCommand}
-use Rattle.treesched.specs.Command.{command_line}
+use Rattle.treesched.specs.Command.{AreMerges, Choices, IsCommandLine, command_line}
 use Rattle.treesched.specs.Reading.{AreRead, AreRefused, AskFor, IsFaultOf, IsRequestOf, Tells}
 use Rattle.treesched.specs.declared.request.Request.{Request}
 use Rattle.treesched.specs.declared.request.WordsFault.{WordsFault}
@@ -20,13 +20,15 @@ both f g same None x y n r = absurd (cc)
 both f g same (Some b) x y n r =
     sym (ap₂ (λ u v. Some (u, v)) (ap (λ o. unwrap_or o x) n ∙ sym (same b)) (ap (λ o. unwrap_or o y) r))
 
-pub read : (words : List Text) (app : App) → app ≡ command_line → (m : ArgMatches) → HasMatchesOf app words m
+pub read : (words : List Text) (app : App) → IsCommandLine app → (m : ArgMatches) → HasMatchesOf app words m
     → (is_simple_and_free app ≡ true → fault_of app words ≡ []) → (name : Text) (rows : List Row)
     → Some name ≡ subcommand_name_of m → Some rows ≡ option_map (λ p. p.1) (subcommand_rows_of m) → AreRead words name rows
-read words app is m matches none name rows n r =
-    let found : (rows_of (found_of m) ≡ matches_of command_line words) × (subcommand_rows_of m ≡ subcommand_of command_line words) =
-    subst (λ (a : App). HasMatchesOf a words m) is matches refl in
-    let taken : fault_of command_line words ≡ [] = subst (λ (a : App). is_simple_and_free a ≡ true → fault_of a words ≡ []) is none refl in (
+read words app line m matches none name rows n r =
+    let found : (rows_of (found_of m) ≡ matches_of (command_line line.0) words) × (subcommand_rows_of m ≡ subcommand_of (command_line line.0) words) =
+    subst (λ (a : App). HasMatchesOf a words m) line.2 matches refl in
+    let taken : fault_of (command_line line.0) words ≡ [] = subst (λ (a : App). is_simple_and_free a ≡ true → fault_of a words ≡ []) line.2 none refl in (
+      line.0,
+      line.1,
       taken,
       sym found.1 ∙ both (λ b. (out-SubCommand (box_value b)).name.now)
           (λ b. ((out-SubCommand (box_value b)).name.now, rows_of (found_of (out-SubCommand (box_value b)).matches)))
@@ -42,18 +44,19 @@ module _ (words : List Text) (name : Text) (rows : List Row) (are : AreRead word
   replayed named (Ok q) is = (name, (rows, (are, subst (λ n. IsRequestOf n rows q) named is)))
   replayed named (Err (fault.Usage help text)) is = absurd is
   replayed named (Err fault.Schedule) is =
-      (rows, (is.0, ((are.0, are.1 ∙ ap (λ (n : Text). Some (n, rows)) (sym named)), is.1, is.2)))
+      (rows, (is.0, ((are.0, are.1, are.2, are.3 ∙ ap (λ (n : Text). Some (n, rows)) (sym named)), is.1, is.2)))
   replayed named (Err fault.OutOfMemory) is = tt
 
-module _ (words : List Text) (error : Error) where
-  told_of : HasKind (fault_of command_line words) error → (e : WordsFault) → Tells (kind_of error) e
+module _ (words : List Text) (error : Error) (choices : Choices) (merges : AreMerges choices) where
+  told_of : HasKind (fault_of (command_line choices) words) error → (e : WordsFault) → Tells (kind_of error) e
       → (kind_of error ≡ kind.OutOfMemory → e ≡ fault.OutOfMemory) → AreRefused words e
   told_of (inl out) e tells memory = subst (AreRefused words) (sym (memory out)) tt
-  told_of (inr among) (fault.Usage help text) tells memory = (kind_of error, (among, tells))
+  told_of (inr among) (fault.Usage help text) tells memory = (choices, merges, (kind_of error, among, tells))
   told_of (inr among) fault.Schedule tells memory = absurd tells
   told_of (inr among) fault.OutOfMemory tells memory = tt
 
-  pub told : (app : App) → app ≡ command_line → (is_simple_and_free app ≡ true → HasKind (fault_of app words) error)
-      → (e : WordsFault) → Tells (kind_of error) e → (kind_of error ≡ kind.OutOfMemory → e ≡ fault.OutOfMemory)
-      → AreRefused words e
-  told app is kinds = told_of (subst (λ a. is_simple_and_free a ≡ true → HasKind (fault_of a words) error) is kinds refl)
+pub told : (words : List Text) (error : Error) (app : App) → IsCommandLine app → (is_simple_and_free app ≡ true → HasKind (fault_of app words) error)
+    → (e : WordsFault) → Tells (kind_of error) e → (kind_of error ≡ kind.OutOfMemory → e ≡ fault.OutOfMemory)
+    → AreRefused words e
+told words error app line kinds =
+    told_of words error line.0 line.1 (subst (λ a. is_simple_and_free a ≡ true → HasKind (fault_of a words) error) line.2 kinds refl)

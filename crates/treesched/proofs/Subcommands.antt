@@ -65,14 +65,6 @@ module _ (s : Shape) (names : Names) (words : List Text) (has : Bool) (below : K
   check_passed : check_fault s (rows_after s.rules names words) has ≡ []
   check_passed = (none_of (defaults_fault (settled s.rules (walk s.rules names nothing_held words).held).rows s.rules) _ after_settle).1
 
-  -- a subcommand that is wanted was met
-  pub subcommand_met : s.subcommand_required ≡ true → has ≡ true
-  subcommand_met wanted = go has refl (none_wanted _ (not has && s.subcommand_required) _ check_passed).0
-    where
-      go : (b : Bool) → has ≡ b → (not b && s.subcommand_required) ≡ false → has ≡ true
-      go true e h = e
-      go false e h = absurd (cc)
-
   module _ (regular : AreRegular s.rules s.rules) where
     stands : Stands s regular (walk s.rules names nothing_held words)
     stands = walk_stands s regular names words (walk_from nothing_held) walk_passed (record { rows = tt; stopped = tt })

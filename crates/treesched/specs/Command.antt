@@ -1,8 +1,9 @@
 -- The command line, as clap reads it: what each argument and subcommand is.
-use Rattle.std.specs.Prelude.{[], ◌∷◌, Some, codes, true}
-use Rattle.clap.specs.Words.{App, Rule, new_app, new_rule, with_rule, with_subcommand}
+use Rattle.std.specs.Prelude.{◌≡◌, List, [], ◌∷◌, Some, codes, map, true}
+use Rattle.std.specs.Borrow.{Bor}
+use Rattle.clap.specs.Words.{App, Rule, Text, new_app, new_rule, with_rule, with_subcommand}
 use Rattle.clap.specs.declared.builder.ArgAction.TheVariants.{SetTrue}
-use Rattle.clap.specs.declared.builder.value_parser.ValueParser.TheVariants.{Unsigned}
+use Rattle.clap.specs.declared.builder.value_parser.ValueParser.TheVariants.{Names, Unsigned}
 
 abbrev pub file : Rule
 file = record (new_rule (codes "file")) { value_names = 1; required = true }
@@ -31,6 +32,25 @@ states = record (new_rule (codes "states")) {
   parser = Some (Unsigned 1 2000000);
 }
 
+-- a list of words, as the command line holds it
+abbrev pub Choices : Type 0
+Choices = Bor (List (Bor Text))
+
+-- the words are those for the two ways to merge states
+abbrev pub AreMerges : Choices → Type 0
+AreMerges choices = map (λ c. c.now) choices.now ≡ codes "exact" ∷ codes "names" ∷ []
+
+abbrev pub merge : Choices → Rule
+merge choices = record (new_rule (codes "merge")) {
+  long = Some (codes "merge");
+  value_names = 1;
+  defaults = codes "exact" ∷ [];
+  parser = Some (Names choices);
+}
+
+abbrev pub IsMerge : Rule → Type 0
+IsMerge rule = (choices : Choices) × AreMerges choices × (rule ≡ merge choices)
+
 abbrev pub ledger : Rule
 ledger = record (new_rule (codes "ledger")) { long = Some (codes "ledger"); action = Some SetTrue }
 
@@ -41,9 +61,13 @@ schedule = record (new_rule (codes "schedule")) {
   required = true;
 }
 
--- explore FILE --steps N [--workers W] [--states M] [--ledger]
-abbrev pub explore : App
-explore = with_rule (with_rule (with_rule (with_rule (with_rule (new_app (codes "explore")) file) steps) workers) states) ledger
+-- explore FILE --steps N [--workers W] [--states M] [--merge exact|names] [--ledger]
+abbrev pub explore : Choices → App
+explore choices = with_rule (with_rule (with_rule (with_rule (with_rule (with_rule (new_app (codes "explore"))
+    file) steps) workers) states) (merge choices)) ledger
+
+abbrev pub IsExplore : App → Type 0
+IsExplore app = (choices : Choices) × AreMerges choices × (app ≡ explore choices)
 
 -- replay FILE --schedule LIST
 abbrev pub replay : App
@@ -54,6 +78,10 @@ abbrev pub wanting_subcommand : App → App
 wanting_subcommand a = record a { top = record a.top { subcommand_required = true } }
 
 -- the command line of the program
-abbrev pub command_line : App
-command_line = with_subcommand (with_subcommand
-    (wanting_subcommand (new_app (codes "treesched"))) explore.top) replay.top
+abbrev pub command_line : Choices → App
+command_line choices = with_subcommand (with_subcommand
+    (wanting_subcommand (new_app (codes "treesched"))) (explore choices).top) replay.top
+
+-- the command line with some list of the words for the two merges
+abbrev pub IsCommandLine : App → Type 0
+IsCommandLine app = (choices : Choices) × AreMerges choices × (app ≡ command_line choices)

@@ -5,8 +5,10 @@ use Rattle.std.specs.Str.Parse.{IsNumeral, digits_value, without_leading_plus}
 use Rattle.clap.specs.Words.{IsAmong, Row, Text, fault_of, first_of, one_of, subcommand_of}
 use Rattle.clap.specs.declared.error.kind.ErrorKind.{ErrorKind}
 use Rattle.clap.specs.declared.error.kind.ErrorKind.TheVariants.{DisplayHelp}
+use Rattle.book.specs.declared.book.Merge.{Merge}
+use Rattle.book.specs.declared.book.Merge.TheVariants as merge
 use Rattle.crew.specs.Settings.{AreInRange, Settings}
-use Rattle.treesched.specs.Command.{command_line}
+use Rattle.treesched.specs.Command.{AreMerges, Choices, command_line}
 use Rattle.treesched.specs.Schedule.{IsSchedule}
 use Rattle.treesched.specs.declared.request.Request.{Request}
 use Rattle.treesched.specs.declared.request.Request.TheVariants as request
@@ -25,11 +27,17 @@ text_of = option_map (λ s. s.now)
 abbrev pub IsUsed : List Row → Text → Type 0
 IsUsed rows id = one_of id rows ≡ Some (codes "true")
 
+-- the text of the option names the way to merge states
+abbrev pub MergeIs : List Row → Merge → Type 0
+MergeIs rows merge.Exact = first_of (codes "merge") rows ≡ Some (codes "exact")
+MergeIs rows merge.Names = first_of (codes "merge") rows ≡ Some (codes "names")
+
 -- the bounds are those that the options of `explore` write, and in range: 0 to 400 steps, 1 to 8 workers, 1 to 2,000,000 states
 pub record OptionsAre (rows : List Row) (settings : Settings) : Type 0 where
   pub steps : NumberIs rows (codes "steps") settings.steps
   pub workers : NumberIs rows (codes "workers") settings.workers
   pub limit : NumberIs rows (codes "states") settings.limit
+  pub merge : MergeIs rows settings.merge
   pub range : AreInRange settings
 
 -- the argument has a value
@@ -51,8 +59,8 @@ IsRequestOf name rows (request.Replay file schedule) = (name ≡ codes "replay")
 
 -- clap takes the words, and its exact reading of them is this subcommand with these matches
 abbrev pub AreRead : List Text → Text → List Row → Type 0
-AreRead words name rows = (fault_of command_line words ≡ [])
-    × (subcommand_of command_line words ≡ Some (name, rows))
+AreRead words name rows = (choices : Choices) × AreMerges choices × (fault_of (command_line choices) words ≡ [])
+    × (subcommand_of (command_line choices) words ≡ Some (name, rows))
 
 -- the words ask for the request
 abbrev pub AskFor : List Text → Request → Type 0
@@ -65,8 +73,8 @@ HaveBadSchedule words = (rows : List Row) × ((text : Text) × (AreRead words (c
 
 -- clap finds a fault in the words, which is a call for help or not
 abbrev pub HaveFault : List Text → Bool → Type 0
-HaveFault words help = (kind : ErrorKind) × (IsAmong kind (fault_of command_line words)
-    × (help ≡ true ↔ kind ≡ DisplayHelp))
+HaveFault words help = (choices : Choices) × AreMerges choices
+    × ((kind : ErrorKind) × IsAmong kind (fault_of (command_line choices) words) × (help ≡ true ↔ kind ≡ DisplayHelp))
 
 -- why the words make no request
 abbrev pub AreRefused : List Text → WordsFault → Type 0

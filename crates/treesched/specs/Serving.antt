@@ -15,11 +15,16 @@ use Rattle.natmit.specs.declared.machine.NatMit.{NatMit}
 use Rattle.tree_machine.specs.Atomic.{atomic_rules}
 use Rattle.tree_machine.specs.History.{history_of}
 use Rattle.tree_machine.specs.Rules.{Rules}
+use Rattle.tree_machine.specs.Alike.{AreStatesAlike}
+use Rattle.tree_machine.specs.Step.{Fits}
 use Rattle.tree_machine.specs.declared.atomic.Atomic.{Atomic}
+use Rattle.tree_machine.specs.declared.atomic.AtomicForm.{AtomicForm}
 use Rattle.tree_machine.specs.declared.state.State.{State}
 use Rattle.book.specs.Findings.{IsFindingOf, is_sound, machine_of}
 use Rattle.book.specs.Replay.{StopsAt}
 use Rattle.book.specs.Schedule.{after}
+use Rattle.book.specs.declared.book.Merge.{Merge}
+use Rattle.book.specs.declared.book.Merge.TheVariants.{Exact, Names}
 use Rattle.book.specs.declared.book.Totals.{Totals}
 use Rattle.book.specs.declared.finding.Finding.{Finding}
 use Rattle.book.specs.declared.replayed.ReplayFault.TheVariants as replay_fault
@@ -41,17 +46,25 @@ use Rattle.treesched.specs.declared.serve.Output.{Output}
 abbrev pub IsEquality : {S : Type 0} → (S → S → Bool) → Type 0
 IsEquality {S} same = (r s : S) → same r s ≡ true ↔ (r ≡ s)
 
-module _ (Machine : Type 0) {Memory Place : Type 0} (rules : Rules Memory Place) (program : Program) where
-  -- The output tells an answer of all schedules of the program: the due one, where states count as one that are equal, and a
-  -- true one, with the number of states; if it is asked for, also the share of each worker, and the total, which is their sum.
+module _ (Machine Form : Type 0) {Memory Place : Type 0} (rules : Rules Memory Place) (program : Program) where
+  -- The test counts states as one: equal ones with exact merging; by names, of states that fit the program, those that differ
+  -- in nothing but the numbers of nodes, of records and of steps.
+  abbrev pub CountsAsOne : Merge → (State Machine Memory Place Form → State Machine Memory Place Form → Bool) → Type 0
+  CountsAsOne Exact same = IsEquality same
+  CountsAsOne Names same = (state twin : State Machine Memory Place Form) → Fits rules program state → Fits rules program twin
+      → same state twin ≡ true ↔ AreStatesAlike rules state twin
+
+  -- The output tells an answer of all schedules of the program: the due one, where states count as one by the merge that is asked
+  -- for, and a true one, with the number of states; if it is asked for, also the share of each worker, and the total, which is
+  -- their sum.
   pub record IsExplored (settings : Settings) (with_ledger : Bool) (output : Output) : Type 0 where
-    pub same : State Machine Memory Place → State Machine Memory Place → Bool
-    pub equality : IsEquality same
+    pub same : State Machine Memory Place Form → State Machine Memory Place Form → Bool
+    pub counts : CountsAsOne settings.merge same
     pub answer : Answer
     pub totals : Totals
     pub shares : List Share
     pub due : IsDue (machine_of rules program) same (IsFindingOf rules program) settings.steps settings.limit totals.entries answer
-    pub headline : IsTrueOf Machine rules program answer
+    pub headline : IsTrueOf Machine Form rules program answer
     pub workers : length shares ≡ settings.workers
     pub sums : ledger shares ≡ record { expanded = totals.expanded; entered = totals.entered; met = totals.met }
     pub status : output.status ≡ status_of answer
@@ -60,7 +73,7 @@ module _ (Machine : Type 0) {Memory Place : Type 0} (rules : Rules Memory Place)
 
   -- the output tells the history and the finding of the state that the schedule leads to
   pub record IsReplayed (schedule : List ℕ) (output : Output) : Type 0 where
-    pub state : State Machine Memory Place
+    pub state : State Machine Memory Place Form
     pub finding : Finding
     pub leads : after (machine_of rules program) schedule ≡ Some state
     pub found : IsFindingOf rules program state finding
@@ -72,7 +85,7 @@ module _ (Machine : Type 0) {Memory Place : Type 0} (rules : Rules Memory Place)
   pub record IsStuck (schedule : List ℕ) (output : Output) : Type 0 where
     pub before : ℕ
     pub thread : ℕ
-    pub stops : StopsAt (machine_of {Machine = Machine} rules program) schedule (replay_fault.NotEnabled (before + 1))
+    pub stops : StopsAt (machine_of {Machine = Machine} {Form = Form} rules program) schedule (replay_fault.NotEnabled (before + 1))
     pub is_next : slice_get schedule before ≡ Some thread
     pub told : IsRefusal 4 (no_step_text (before + 1) thread) output
 
@@ -82,12 +95,12 @@ module _ (Machine : Type 0) {Memory Place : Type 0} (rules : Rules Memory Place)
 
 -- the request is answered on the machine that the program names
 abbrev pub IsAnsweredBy : Tree → Program → Request → Output → Type 0
-IsAnsweredBy tree.Atomic program asked output = IsAnswered Atomic atomic_rules program asked output
-IsAnsweredBy tree.Ellen program asked output = IsAnswered Ellen (ellen_rules (record { mark = true; iflag = true })) program asked output
-IsAnsweredBy tree.EllenNoMark program asked output = IsAnswered Ellen (ellen_rules (record { mark = false; iflag = true })) program asked output
-IsAnsweredBy tree.EllenNoIflag program asked output = IsAnswered Ellen (ellen_rules (record { mark = true; iflag = false })) program asked output
-IsAnsweredBy tree.Nm program asked output = IsAnswered NatMit (natmit_rules (record { tag = true })) program asked output
-IsAnsweredBy tree.NmNoTag program asked output = IsAnswered NatMit (natmit_rules (record { tag = false })) program asked output
+IsAnsweredBy tree.Atomic program asked output = IsAnswered Atomic AtomicForm atomic_rules program asked output
+IsAnsweredBy tree.Ellen program asked output = IsAnswered Ellen (List ℕ) (ellen_rules (record { mark = true; iflag = true })) program asked output
+IsAnsweredBy tree.EllenNoMark program asked output = IsAnswered Ellen (List ℕ) (ellen_rules (record { mark = false; iflag = true })) program asked output
+IsAnsweredBy tree.EllenNoIflag program asked output = IsAnswered Ellen (List ℕ) (ellen_rules (record { mark = true; iflag = false })) program asked output
+IsAnsweredBy tree.Nm program asked output = IsAnswered NatMit (List ℕ) (natmit_rules (record { tag = true })) program asked output
+IsAnsweredBy tree.NmNoTag program asked output = IsAnswered NatMit (List ℕ) (natmit_rules (record { tag = false })) program asked output
 
 -- the request is answered for the program of the text, or the text's first fault is told
 abbrev pub IsServed : List ℕ → Request → Output → Type 0

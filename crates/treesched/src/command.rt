@@ -7,6 +7,9 @@ ghost use Rattle.treesched.specs.Command as line;
 use clap::{Arg, ArgAction, Command, value_parser};
 use std::alloc::{AllocError, Global};
 
+/// The words for the ways to merge states.
+static MERGES: [&str; 2] = ["exact", "names"];
+
 fn file<'a>(alloc: Global) -> Arg<'a>
     ensures rule { rule_of result ≡ line.file }
     ensures local { result.global ≡ false }
@@ -47,6 +50,17 @@ fn states<'a>(alloc: Global) -> Arg<'a>
         .value_parser(value_parser!(u64).range(1..=2_000_000))
 }
 
+fn merge<'a>(alloc: Global) -> Arg<'a>
+    ensures rule { line.IsMerge (rule_of result) }
+    ensures local { result.global ≡ false }
+{
+    Arg::new(alloc, "merge")
+        .long("merge")
+        .value_name("STATES")
+        .default_value("exact")
+        .value_parser(MERGES.as_slice())
+}
+
 fn ledger<'a>(alloc: Global) -> Arg<'a>
     ensures rule { rule_of result ≡ line.ledger }
     ensures local { result.global ≡ false }
@@ -67,7 +81,7 @@ fn schedule<'a>(alloc: Global) -> Arg<'a>
 }
 
 fn explore<'a>(alloc: Global) -> Result<Command<'a>, AllocError>
-    ensures app { IfOk result (λ c. app_of c ≡ line.explore) }
+    ensures app { IfOk result (λ c. line.IsExplore (app_of c)) }
     ensures local { IfOk result (λ c. (fields_of c).has_globals ≡ false) }
 {
     Command::new(alloc, "explore")
@@ -76,6 +90,7 @@ fn explore<'a>(alloc: Global) -> Result<Command<'a>, AllocError>
         .arg(steps(alloc))?
         .arg(workers(alloc))?
         .arg(states(alloc))?
+        .arg(merge(alloc))?
         .arg(ledger(alloc))
 }
 
@@ -94,7 +109,7 @@ fn replay<'a>(alloc: Global) -> Result<Command<'a>, AllocError>
 /// # Errors
 /// Memory ran out.
 pub fn treesched_command<'a>(alloc: Global) -> Result<Command<'a>, AllocError>
-    ensures { IfOk result (λ c. app_of c ≡ line.command_line) }
+    ensures { IfOk result (λ c. line.IsCommandLine (app_of c)) }
 {
     Command::new(alloc, "treesched")
         .about("Explores the schedules of concurrent tree programs")

@@ -2,9 +2,10 @@
 ghost use Rattle.std.specs.Prelude.{◌≡◌, ◌↔◌, ◌<◌, ◌^◌, ℕ, true, IfOk, MatchOption, MatchResult, map, codes};
 ghost use Rattle.clap.specs.Words.{first_of, found_of, kind_of, rows_of};
 ghost use Rattle.clap.specs.declared.error.kind.ErrorKind.TheVariants as kind;
+ghost use Rattle.book.specs.declared.book.Merge.{Merge};
 ghost use Rattle.crew.specs.Settings.{Settings};
 ghost use Rattle.treesched.specs.Reading.{AreRefused, AskFor, file_of, HasText, IsFaultOf, IsRequestOf, IsUsed};
-ghost use Rattle.treesched.specs.Reading.{NumberIs, OptionsAre, Tells, text_of};
+ghost use Rattle.treesched.specs.Reading.{MergeIs, NumberIs, OptionsAre, Tells, text_of};
 ghost use Rattle.treesched.specs.declared.request.WordsFault.TheVariants as fault;
 
 use crate::command::treesched_command;
@@ -112,6 +113,18 @@ fn flag(matches: &ArgMatches<'_>, id: &str) -> bool
     matches.get_one::<bool>(id) == Some(true)
 }
 
+/// The way to merge states that the matches of `explore` name.
+fn merge_of(matches: &ArgMatches<'_>) -> Option<Merge>
+    ensures { let rows = rows_of (found_of matches.now) in
+        MatchOption result ((m : Merge) → MergeIs rows m → ⊥) (MergeIs rows) }
+{
+    match text(matches, "merge")? {
+        "exact" => Some(Merge::Exact),
+        "names" => Some(Merge::Names),
+        _ => None,
+    }
+}
+
 /// The bounds that the matches of `explore` name.
 fn options_of(matches: &ArgMatches<'_>) -> Option<Options>
     ensures { let rows = rows_of (found_of matches.now) in
@@ -120,7 +133,8 @@ fn options_of(matches: &ArgMatches<'_>) -> Option<Options>
     let steps = u16::try_from(number(matches, "steps")?).ok()?;
     let workers = u8::try_from(number(matches, "workers")?).ok()?;
     let limit = u32::try_from(number(matches, "states")?).ok()?;
-    Options::new(steps, limit, Merge::Exact, workers)
+    let merge = merge_of(matches)?;
+    Options::new(steps, limit, merge, workers)
 }
 
 /// The request of `explore`, whose arguments have values in range.

@@ -7,7 +7,7 @@ ghost use Rattle.sched_program.specs.Exact.{IsExact};
 ghost use Rattle.book.specs.Books.{counted_as_one};
 ghost use Rattle.book.specs.Findings.{is_sound};
 ghost use Rattle.treesched.specs.Lines as lines;
-ghost use Rattle.treesched.specs.Serving.{IsAnswered, IsEquality, IsExplored, IsReplayed, IsServed, IsServedFrom, IsStuck, IsUnread};
+ghost use Rattle.treesched.specs.Serving.{CountsAsOne, IsAnswered, IsExplored, IsReplayed, IsServed, IsServedFrom, IsStuck, IsUnread};
 
 use crate::input::{Counted, ReadFault};
 use crate::lines::{put_operations, put_report, put_verdict};
@@ -21,7 +21,7 @@ use std::alloc::Global;
 use std::io::Read;
 use std::sync::Wait;
 use std::thread::Threads;
-use tree_machine::{Atomic, Machine, State};
+use tree_machine::{Atomic, Machine, State, StateForm};
 
 /// What the program writes, and the status that it ends with.
 #[derive(Debug, Drop)]
@@ -100,12 +100,16 @@ fn tests_equality<T: Exact>()
     ensures laws { IsEquivalence T.PartialEq.eq }
 {}
 
-/// A book counts states as one exactly if they are equal.
-fn counts_equal_states<M: Machine>(merge: Merge)
-    ensures { IsEquality (counted_as_one {Machine = M} M.Loc.PartialEq.eq M.Mem.PartialEq.eq merge) }
+/// A book counts states as one as the merge says.
+fn counts_as_one<M: Machine>(machine: M, program: &Program, merge: Merge)
+    ensures { CountsAsOne M M.Form (M.rules machine) program.now merge
+        (counted_as_one M.Loc.PartialEq.eq M.Mem.PartialEq.eq M.Form.PartialEq.eq (M.form_of machine) merge) }
 {
+    let _ = machine;
+    let _ = program;
     let _ = merge;
     tests_equality::<State<M>>();
+    tests_equality::<StateForm<M>>();
 }
 
 /// Explores the schedules of a program.
@@ -117,9 +121,9 @@ fn explored<M: Machine, R: Threads + Wait + Sync>(
     options: Options,
     ledger: bool,
 ) -> Result<Output, OutOfMemory>
-    ensures { IfOk result (IsExplored M (M.rules machine) program.now options ledger) }
+    ensures { IfOk result (IsExplored M M.Form (M.rules machine) program.now options ledger) }
 {
-    counts_equal_states::<M>(options.merge());
+    counts_as_one::<M>(machine, program, options.merge());
     let report = explore(rt, alloc, machine, program, options, &Open)?;
     let mut out = String::new(alloc);
     put_report(&mut out, ledger, &report)?;
@@ -144,8 +148,8 @@ fn replayed<M: Machine>(
     program: &Program,
     schedule: &[u8],
 ) -> Result<Output, OutOfMemory>
-    ensures { IfOk result (λ output. IsReplayed M (M.rules machine) program.now schedule.now output
-        ⊎ IsStuck M (M.rules machine) program.now schedule.now output) }
+    ensures { IfOk result (λ output. IsReplayed M M.Form (M.rules machine) program.now schedule.now output
+        ⊎ IsStuck M M.Form (M.rules machine) program.now schedule.now output) }
 {
     let last = match replay(alloc, machine, program, schedule) {
         Ok(last) => last,
@@ -171,7 +175,7 @@ fn answered<M: Machine, R: Threads + Wait + Sync>(
     program: &Program,
     request: &Request<'_>,
 ) -> Result<Output, OutOfMemory>
-    ensures { IfOk result (IsAnswered M (M.rules machine) program.now request.now) }
+    ensures { IfOk result (IsAnswered M M.Form (M.rules machine) program.now request.now) }
 {
     match request {
         Request::Explore {

@@ -1,8 +1,8 @@
 //! A machine with a fault for each kind of operation.
 ghost use Rattle.std.specs.Prelude.{refl};
-ghost use Rattle.crew.specs.Faulty.{faulty_rules, faulty_lawful};
+ghost use Rattle.crew.specs.Faulty.{faulty_rules, faulty_lawful, faulty_form, faulty_forms};
 
-use sched_program::{Exact, Op, OutOfMemory};
+use sched_program::{Exact, Op, OutOfMemory, Sequence};
 use std::alloc::Global;
 use tree_machine::{Machine, Outcome};
 
@@ -20,7 +20,11 @@ impl Machine for Faulty {
 
     type Loc = bool;
 
+    type Form = Sequence<Option<bool>>;
+
     ghost rules = { λ _. faulty_rules };
+
+    ghost form_of = { λ _. faulty_form };
 
     fn copy_mem(&self, _alloc: Global, mem: &bool) -> Result<bool, OutOfMemory> {
         Ok(*mem)
@@ -65,5 +69,18 @@ impl Machine for Faulty {
         !*mem
     }
 
+    fn form(
+        &self,
+        alloc: Global,
+        mem: &bool,
+        places: &[Option<bool>],
+    ) -> Result<Sequence<Option<bool>>, OutOfMemory> {
+        let mut form = Sequence::from_vec(places.iter().copied().collect(alloc)?);
+        form.insert(0, Some(*mem))?;
+        Ok(form)
+    }
+
     ghost lawful = { λ _. faulty_lawful };
+
+    ghost forms = { λ _ memory other held twins _ _ _ _ _. faulty_forms memory other held twins };
 }

@@ -5,7 +5,7 @@ ghost use Rattle.natmit.specs.NatMitRules.{natmit_rules};
 
 use crate::memory::word_on;
 use crate::{NatMit, NatMitLoc, Word};
-use sched_program::{Program, ProgramFault};
+use sched_program::{OutOfMemory, Program, ProgramFault};
 use std::alloc::Global;
 use tree_machine::{Machine, Side, State, StepFault};
 
@@ -54,8 +54,16 @@ impl From<StepFault> for Broken {
     }
 }
 
+impl From<OutOfMemory> for Broken {
+    ghost from_gives = { λ _ _. Unit {0} };
+
+    fn from(_fault: OutOfMemory) -> Broken {
+        Broken::OutOfMemory
+    }
+}
+
 /// The state after so many steps of a thread.
-fn advance(
+pub fn advance(
     alloc: Global,
     machine: NatMit,
     program: &Program,
@@ -111,10 +119,7 @@ fn follow_rows(
     program: &Program,
     rows: &[Row],
 ) -> Result<(), Broken> {
-    let mut state = match State::start(alloc, machine, program) {
-        Ok(state) => state,
-        Err(_) => return Err(Broken::OutOfMemory),
-    };
+    let mut state = State::start(alloc, machine, program)?;
     for (i, (thread, steps, seen)) in rows.iter().enumerate() {
         state = advance(alloc, machine, program, state, *thread, *steps)?;
         if !is_seen(machine, program, &state, *seen) {
@@ -124,13 +129,19 @@ fn follow_rows(
     Ok(())
 }
 
-/// Follows a table from the start of the program of a text.
-pub fn follow(alloc: Global, machine: NatMit, text: &str, rows: &[Row]) -> Result<(), Broken> {
+/// The program of a text.
+pub fn program_of(alloc: Global, text: &str) -> Result<Program, Broken> {
     match Program::from_json(alloc, text.as_bytes()) {
-        Ok(program) => follow_rows(alloc, machine, &program, rows),
+        Ok(program) => Ok(program),
         Err(ProgramFault::OutOfMemory) => Err(Broken::OutOfMemory),
         Err(_) => Err(Broken::NoProgram),
     }
+}
+
+/// Follows a table from the start of the program of a text.
+pub fn follow(alloc: Global, machine: NatMit, text: &str, rows: &[Row]) -> Result<(), Broken> {
+    let program = program_of(alloc, text)?;
+    follow_rows(alloc, machine, &program, rows)
 }
 
 /// Whether a table was followed to its end, or memory was refused.

@@ -103,16 +103,14 @@ fn counts_of(line: &str) -> Result<Counts, Fail> {
     }
 }
 
-/// What so many workers count in all. Fails unless they end with the status and these lines, which leave out the
-/// schedule and the ledger.
-fn work<R: Runtime>(
+/// What so many workers tell. Fails unless they end with the status, a line for each of them, and lines that agree.
+fn tell<R: Runtime>(
     rt: &R,
     file: &str,
     options: &str,
     workers: usize,
     status: u8,
-    lines: &[&str],
-) -> Result<Counts, Fail> {
+) -> Result<Told, Fail> {
     let line = format!(in rt.alloc();
         "treesched explore f {options} --workers {workers} --ledger"
     )?;
@@ -125,16 +123,33 @@ fn work<R: Runtime>(
     for share in &told.shares {
         sum = sum.plus(*share);
     }
-    let verdict = ended(rt, lines)?;
-    let right = output.status == status
+    let agrees = output.status == status
         && output.err.is_empty()
-        && told.verdict == verdict
         && told.steps == number_after(told.verdict.as_str(), "after")
         && told.shares.len() == workers
         && told.total == sum;
-    if !right {
+    if !agrees {
         println!(rt; "{words:?} on {file}: {output:?}")?;
         return Err(Fail::from("another answer"));
+    }
+    Ok(told)
+}
+
+/// What so many workers count in all. Fails unless they end with the status and these lines, which leave out the
+/// schedule and the ledger.
+fn work<R: Runtime>(
+    rt: &R,
+    file: &str,
+    options: &str,
+    workers: usize,
+    status: u8,
+    lines: &[&str],
+) -> Result<Counts, Fail> {
+    let told = tell(rt, file, options, workers, status)?;
+    let verdict = ended(rt, lines)?;
+    if told.verdict != verdict {
+        println!(rt; "{workers} workers, {options} on {file}: {}", told.verdict)?;
+        return Err(Fail::from("another verdict"));
     }
     Ok(told.total)
 }
@@ -152,6 +167,28 @@ fn agree<R: Runtime>(
         let total = work(rt, file, options, workers, status, lines)?;
         if status != 2 && total != alone {
             return Err(Fail::from("another total"));
+        }
+    }
+    Ok(())
+}
+
+/// Fails unless two workers and eight tell what one worker tells, where states are merged by names.
+fn agree_by_names<R: Runtime>(
+    rt: &R,
+    tree: &str,
+    initial: &str,
+    threads: &[&str],
+    steps: u16,
+    status: u8,
+) -> Result<(), Fail> {
+    let file = program(rt, tree, initial, threads)?;
+    let options = format!(in rt.alloc(); "--steps {steps} --merge names")?;
+    let alone = tell(rt, file.as_str(), options.as_str(), 1, status)?;
+    for workers in [2, 8] {
+        let told = tell(rt, file.as_str(), options.as_str(), workers, status)?;
+        if told.verdict != alone.verdict || told.total != alone.total {
+            println!(rt; "{workers} workers on {file}: {}", told.verdict)?;
+            return Err(Fail::from("another verdict"));
         }
     }
     Ok(())
@@ -310,6 +347,26 @@ fn workers_agree_on_the_faults_of_the_variants(rt: HostRuntime) -> Result<(), Fa
 }
 
 #[test]
+fn workers_agree_by_names(rt: HostRuntime) -> Result<(), Fail> {
+    let inserts = [
+        r#"[{"op":"insert","key":1}]"#,
+        r#"[{"op":"insert","key":1}]"#,
+    ];
+    agree_by_names(&rt, "atomic", "[]", inserts.as_slice(), 2, 0)?;
+    agree_by_names(&rt, "ellen", "[10]", &[DELETE_10], 20, 0)?;
+    agree_by_names(&rt, "ellen", "[]", &[FIND_5, FIND_5], 4, 0)?;
+    agree_by_names(&rt, "nm", "[10]", &[DELETE_10], 20, 0)?;
+    agree_by_names(&rt, "nm", "[10,20]", &[INSERT_5, INSERT_25], 8, 0)?;
+    let faulty = [DELETE_10, INSERT_5_FIND_5];
+    agree_by_names(&rt, "ellen", "[10]", faulty.as_slice(), 20, 0)?;
+    agree_by_names(&rt, "ellen-no-mark", "[10]", faulty.as_slice(), 20, 1)?;
+    agree_by_names(&rt, "ellen-no-iflag", "[10]", faulty.as_slice(), 20, 1)?;
+    let faulty = [DELETE_10, INSERT_25_FIND_25];
+    agree_by_names(&rt, "nm", "[10,20]", faulty.as_slice(), 20, 0)?;
+    agree_by_names(&rt, "nm-no-tag", "[10,20]", faulty.as_slice(), 20, 1)
+}
+
+#[test]
 fn every_crew_stops_at_the_limit(rt: HostRuntime) -> Result<(), Fail> {
     stop(&rt, TWICE, "--steps 2", 1..=2, 0)?;
     stop(&rt, TWICE, "--steps 2", 3..=4, 1)?;
@@ -330,6 +387,18 @@ fn every_crew_stops_at_the_limit(rt: HostRuntime) -> Result<(), Fail> {
         &rt,
         finds,
         "--steps 4 --states 13",
+        0,
+        &["holds to 4 steps", "states 13"],
+    )?;
+    let names = "--steps 4 --merge names";
+    stop(&rt, finds, names, 1..=2, 0)?;
+    stop(&rt, finds, names, 3..=5, 1)?;
+    stop(&rt, finds, names, 6..=9, 2)?;
+    stop(&rt, finds, names, 10..=12, 3)?;
+    all_agree(
+        &rt,
+        finds,
+        "--steps 4 --merge names --states 13",
         0,
         &["holds to 4 steps", "states 13"],
     )

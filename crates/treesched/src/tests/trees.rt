@@ -1,7 +1,7 @@
 //! Programs on the step machines of both trees and their variants: numbers of states, faults and replays.
 //!
 //! The numbers of states agree with two explorers that share no code with this one.
-use crate::tests::answers::{explores, explores_first, replays};
+use crate::tests::answers::{explores, explores_first, explores_verdict, replays};
 use crate::tests::shown::Runtime;
 use book::{Book, EnterFault, Entered, Expansion, Merge, Totals};
 use ellen::Ellen;
@@ -204,6 +204,64 @@ fn explores_two_inserts_on_nm(rt: HostRuntime) -> Result<(), Fail> {
         &["holds to 8 steps", "states 34"],
     )?;
     Ok(())
+}
+
+#[test]
+fn merges_states_by_names(rt: HostRuntime) -> Result<(), Fail> {
+    let file = program(&rt, "nm", "[10,20]", &[INSERT_5, INSERT_25])?;
+    explores(
+        &rt,
+        file.as_str(),
+        "--steps 8 --merge names",
+        0,
+        &["holds to 8 steps", "states 33"],
+    )?;
+    let file = program(&rt, "ellen", "[]", &[FIND_5, FIND_5])?;
+    explores(
+        &rt,
+        file.as_str(),
+        "--steps 4 --merge names --ledger",
+        0,
+        &[
+            "holds to 4 steps",
+            "states 13",
+            "worker 1 expanded 10 entered 12 met 2",
+            "total expanded 10 entered 12 met 2",
+        ],
+    )
+}
+
+/// The faults of the variants, whichever states count as one.
+fn finds_the_faults<R: Runtime>(rt: &R, merge: &str) -> Result<(), Fail> {
+    let options = format!(in rt.alloc(); "--steps 20 --merge {merge}")?;
+    let options = options.as_str();
+    let file = program(rt, "ellen-no-mark", "[10]", &[DELETE_10, INSERT_5_FIND_5])?;
+    explores_verdict(
+        rt,
+        file.as_str(),
+        options,
+        "fault history after 17 steps\nschedule 0,0,0,0,0,0,0,1,1,0,1,1,1,1,1,1,1\n",
+    )?;
+    let file = program(rt, "nm-no-tag", "[10,20]", &[DELETE_10, INSERT_25_FIND_25])?;
+    explores_verdict(
+        rt,
+        file.as_str(),
+        options,
+        "fault history after 13 steps\nschedule 0,0,0,0,0,0,1,1,0,1,1,1,1\n",
+    )?;
+    let file = program(rt, "ellen-no-iflag", "[10]", &[DELETE_10, INSERT_5_FIND_5])?;
+    explores_verdict(
+        rt,
+        file.as_str(),
+        options,
+        "fault history after 16 steps\nschedule 0,0,0,0,0,1,1,1,0,0,0,0,1,1,1,1\n",
+    )
+}
+
+#[test]
+fn one_worker_finds_the_same_faults_by_names(rt: HostRuntime) -> Result<(), Fail> {
+    finds_the_faults(&rt, "exact")?;
+    finds_the_faults(&rt, "names")
 }
 
 #[test]

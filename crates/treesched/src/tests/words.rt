@@ -1,6 +1,7 @@
 //! Which words make which request.
 use crate::request::{Request, WordsFault, read_words};
 use crate::tests::shown::{Runtime, TWICE, answer, is_usage, shows, words_of};
+use book::Merge;
 use std::test::Fail;
 
 #[test]
@@ -52,6 +53,25 @@ fn reads_the_number_of_workers(rt: HostRuntime) -> Result<(), Fail> {
 }
 
 #[test]
+fn reads_the_way_to_merge(rt: HostRuntime) -> Result<(), Fail> {
+    let cases = [
+        ("treesched explore f --steps 5", Merge::Exact),
+        ("treesched explore f --steps 5 --merge exact", Merge::Exact),
+        ("treesched explore --merge=names f --steps 5", Merge::Names),
+    ];
+    for (line, merge) in cases {
+        let words = words_of(&rt, line)?;
+        let answer = read_words(rt.alloc(), words.as_slice());
+        match &answer {
+            Ok(Request::Explore { options, .. }) => assert!(rt; options.merge() == merge),
+            Err(WordsFault::OutOfMemory) => println!(rt; "out of memory")?,
+            _ => return Err(Fail::from("another request")),
+        }
+    }
+    Ok(())
+}
+
+#[test]
 fn reads_a_replay(rt: HostRuntime) -> Result<(), Fail> {
     let words = ["treesched", "replay", "--schedule", "0,9,1", "a file"];
     let answer = read_words(rt.alloc(), words.as_slice());
@@ -75,6 +95,8 @@ fn refuses_other_words(rt: HostRuntime) -> Result<(), Fail> {
         "treesched explore f --steps 5 --states 0",
         "treesched explore f --steps 5 --states 2000001",
         "treesched explore f --steps 5 --merge name",
+        "treesched explore f --steps 5 --merge Exact",
+        "treesched explore f --steps 5 --merge",
         "treesched explore f --steps 5 --book b",
         "treesched explore f --steps -5",
         "treesched explore f --steps ",

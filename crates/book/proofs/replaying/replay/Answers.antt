@@ -9,7 +9,7 @@ use Rattle.book.proofs.replaying.replay.Goals as goal
 pub returns-in-Err-NotEnabled-clause-not_enabled : goal.returns-in-Err-NotEnabled-clause-not_enabled
 returns-in-Err-NotEnabled-clause-not_enabled g c =
     let rules = g.M.Machine.rules c.args.machine in
-    let m = machine_of {Machine = g.row.M.Denot} rules c.args.program.now in
+    let m = machine_of {Machine = g.row.M.Denot} {Form = g.row.M-Form.Denot} rules c.args.program.now in
     let t = get_or c.args.schedule.now c.loop-i.i 0 in
     let stuck : step rules c.args.program.now c.loop-i.state t ≡ None = c.step.ensures.not_enabled.0 (c.in-Err-NotEnabled.is ∙ ap Err c.in-Err-NotEnabled.field-0-is) in (
       c.loop-i.i,
@@ -21,7 +21,7 @@ returns-in-Err-NotEnabled-clause-not_enabled g c =
 pub loop-i-preserved : goal.loop-i-preserved
 loop-i-preserved g c =
     let rules = g.M.Machine.rules c.args.machine in
-    let m = machine_of {Machine = g.row.M.Denot} rules c.args.program.now in
+    let m = machine_of {Machine = g.row.M.Denot} {Form = g.row.M-Form.Denot} rules c.args.program.now in
     let t = get_or c.args.schedule.now c.loop-i.i 0 in (
       rw (take_more c.args.schedule.now c.loop-i.i 0 c.loop-i-test.true) (run_push m (take c.loop-i.i c.args.schedule.now) m.start c.loop-i.state c.in-Ok.next t c.loop-i.invariant.0 c.in-Ok.ensures.step),
       c.in-Ok.ensures.fits,

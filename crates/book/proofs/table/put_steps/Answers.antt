@@ -1,9 +1,9 @@
-use Rattle.std.proofs.Common.{◌∷◌, [], Some, Global}
-use Rattle.std.specs.declared.sync.Arc.{Arc}
+use Rattle.std.proofs.Common.{◌∷◌, [], Bool, Some, map}
 use Rattle.indexmap.specs.IndexMap.{keys}
 use Rattle.book.specs.declared.entry.Mark.TheVariants.{Open}
 use Rattle.book.specs.declared.entry.Row.{Row}
-use Rattle.book.specs.Slots.{entries_of, unlisted}
+use Rattle.book.specs.Labels.{Labelled, same_label, same_label_equiv}
+use Rattle.book.specs.Slots.{keyed_of, unlisted}
 use Rattle.book.proofs.SlotLemmas.{put_step, put_turn, take_kept, step_row}
 use Rattle.book.proofs.table.put_steps.Goals as goal
 
@@ -12,10 +12,11 @@ loop-step-preserved g c =
     let step = c.in-Some.step in
     let parts = c.into_parts-thread in
     let row : Row = record { finding = parts.result.2; origin = Some (record { parent = c.args.parent; thread = parts.result.0 }); mark = Open } in
-    let arc_eq : Arc g.row.S.Denot Global → Arc g.row.S.Denot Global → _ = λ x y. g.S.PartialEq.eq x.value y.value in
-    let put = put_step arc_eq g.S.PartialEq.eq (λ k l. g.met.S.Eq.laws.symm k.value l.value) c.loop-step.slots.entries c.put_new.new.slots.entries c.args.parent step parts.result.1 row
+    let eq : Labelled g.row.S.Denot g.row.F.Denot → Labelled g.row.S.Denot g.row.F.Denot → Bool = same_label g.S.PartialEq.eq g.F.PartialEq.eq in
+    let equivalence = same_label_equiv g.S.PartialEq.eq g.F.PartialEq.eq g.met.S.Eq.laws g.met.F.Eq.laws in
+    let put = put_step eq eq equivalence.symm c.loop-step.slots.entries c.put_new.new.slots.entries c.args.parent step parts.result.1 row
     c.in_ok-put_new.ensures.put (step_row c.args.parent step parts.result.1 parts.result.0 parts.result.2 parts.ensures.0 parts.ensures.1 parts.ensures.2) in (
-      put_turn g.S.PartialEq.eq (entries_of c.args.slots.now.entries) (entries_of c.loop-step.slots.entries) (entries_of c.put_new.new.slots.entries) c.args.parent
+      put_turn eq (map keyed_of c.args.slots.now.entries) (map keyed_of c.loop-step.slots.entries) (map keyed_of c.put_new.new.slots.entries) c.args.parent
           c.loop-step.yielded step c.loop-step.invariant.0 put,
-      take_kept c.args.slots.now.entries c.loop-step.slots.entries c.put_new.new.slots.entries (unlisted arc_eq (keys c.loop-step.slots) ((parts.result.1, row) ∷ [])) c.loop-step.invariant.1 c.in_ok-put_new.ensures.put,
+      take_kept c.args.slots.now.entries c.loop-step.slots.entries c.put_new.new.slots.entries (unlisted eq (keys c.loop-step.slots) ((parts.result.1, row) ∷ [])) c.loop-step.invariant.1 c.in_ok-put_new.ensures.put,
     )

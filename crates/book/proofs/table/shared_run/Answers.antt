@@ -1,4 +1,4 @@
-use Rattle.std.proofs.Common.{◌≡◌, ℕ, ◌∙◌, ap, sym, refl, ◌∷◌, [], ◌++◌, List, map, Global}
+use Rattle.std.proofs.Common.{ℕ, ◌∙◌, sym, refl, Global}
 use Rattle.std.specs.declared.sync.Arc.{Arc}
 use Rattle.book.specs.Slots.{entries_of}
 use Rattle.book.proofs.Runs.{numbers_more, states_more}

@@ -1,4 +1,4 @@
-use Rattle.std.proofs.Common.{◌≡◌, ℕ, ◌-◌, List, map}
+use Rattle.std.proofs.Common.{◌≡◌, ℕ, ◌-◌, map}
 use Rattle.std.specs.List.{range_with_len}
 use Rattle.std.specs.declared.sync.Arc.{Arc}
 use Rattle.book.specs.Slots.{entries_of, AreStatesOf}

@@ -16,14 +16,14 @@ pub returns-in-Err-NotEnabled-clause-yes : goal.returns-in-Err-NotEnabled-clause
 returns-in-Err-NotEnabled-clause-yes g c =
     let b = c.args.book.now in
     let m = machine_in g.M.Machine.rules b in
-    let same = counted_as_one {Machine = g.row.M.Denot} g.M.Loc.PartialEq.eq g.M.Mem.PartialEq.eq b.merge in
+    let same = counted_as_one {Machine = g.row.M.Denot} {Form = g.row.M-Form.Denot} g.M.Loc.PartialEq.eq g.M.Mem.PartialEq.eq g.M.Form.PartialEq.eq (g.M.Machine.form_of b.machine) b.merge in
     let right = right_in g.M.Machine.rules b in
     let way = c.requires.way in
     let n = c.in-Err-NotEnabled.field-0-0 in
-    let stops : StopsAt (machine_of {Machine = g.row.M.Denot} (g.M.Machine.rules c.machine.result) c.args.program.now) c.args.schedule.now (NotEnabled n) =
+    let stops : StopsAt (machine_of {Machine = g.row.M.Denot} {Form = g.row.M-Form.Denot} (g.M.Machine.rules c.machine.result) c.args.program.now) c.args.schedule.now (NotEnabled n) =
     rw c.in-Err-NotEnabled.field-0-is at c.in-Err-NotEnabled.ensures.not_enabled in
     let none : after m (take n c.args.schedule.now) ≡ None =
-    given_own (λ x p. after (machine_of {Machine = g.row.M.Denot} (g.M.Machine.rules x) p) (take n c.args.schedule.now) ≡ None) c.machine.result b.machine c.args.program.now b.program
+    given_own (λ x p. after (machine_of {Machine = g.row.M.Denot} {Form = g.row.M-Form.Denot} (g.M.Machine.rules x) p) (take n c.args.schedule.now) ≡ None) c.machine.result b.machine c.args.program.now b.program
     c.machine.ensures c.requires.program stops.3 in
     λ _. absurd (beginning_runs m c.args.schedule.now n m.start way.0.state way.2 none)
 
@@ -31,16 +31,16 @@ pub of-requires-clause-room : goal.of-requires-clause-room
 of-requires-clause-room g c κs within =
     let b = c.args.book.now in
     let m = machine_in g.M.Machine.rules b in
-    let same = counted_as_one {Machine = g.row.M.Denot} g.M.Loc.PartialEq.eq g.M.Mem.PartialEq.eq b.merge in
+    let same = counted_as_one {Machine = g.row.M.Denot} {Form = g.row.M-Form.Denot} g.M.Loc.PartialEq.eq g.M.Mem.PartialEq.eq g.M.Form.PartialEq.eq (g.M.Machine.form_of b.machine) b.merge in
     let right = right_in g.M.Machine.rules b in
     let law = c.law.ensures in
     let way = c.requires.way in
     let ends : after m c.args.schedule.now ≡ Some c.in-Ok.end.state =
-    given_own (λ x p. after (machine_of {Machine = g.row.M.Denot} (g.M.Machine.rules x) p) c.args.schedule.now ≡ Some c.in-Ok.end.state) c.machine.result b.machine c.args.program.now b.program
+    given_own (λ x p. after (machine_of {Machine = g.row.M.Denot} {Form = g.row.M-Form.Denot} (g.M.Machine.rules x) p) c.args.schedule.now ≡ Some c.in-Ok.end.state) c.machine.result b.machine c.args.program.now b.program
     c.machine.ensures c.requires.program c.in-Ok.ensures.state in
     let there : after m c.args.schedule.now ≡ Some way.0.state = way.2 in
     let is : c.in-Ok.end.state ≡ way.0.state = cc in
-    let steps : c.in-Ok.end.state.steps ≡ way.0.state.steps = ap (λ (q : State g.row.M.Denot g.row.M-Mem.Denot g.row.M-Loc.Denot). q.steps) is in
+    let steps : c.in-Ok.end.state.steps ≡ way.0.state.steps = ap (λ (q : State g.row.M.Denot g.row.M-Mem.Denot g.row.M-Loc.Denot g.row.M-Form.Denot). q.steps) is in
     let few : way.0.state.steps < b.limit = few_steps m same right law.machine b.entries law.law.law c.args.id b.limit way.0 way.1 law.law.within in
     let limit : b.limit ≤ 2000000 = law.law.limit in
     omega arith
@@ -49,7 +49,7 @@ pub returns-in-Err-Full-clause-full : goal.returns-in-Err-Full-clause-full
 returns-in-Err-Full-clause-full g c =
     let b = c.args.book.now in
     let m = machine_in g.M.Machine.rules b in
-    let same = counted_as_one {Machine = g.row.M.Denot} g.M.Loc.PartialEq.eq g.M.Mem.PartialEq.eq b.merge in
+    let same = counted_as_one {Machine = g.row.M.Denot} {Form = g.row.M-Form.Denot} g.M.Loc.PartialEq.eq g.M.Mem.PartialEq.eq g.M.Form.PartialEq.eq (g.M.Machine.form_of b.machine) b.merge in
     let right = right_in g.M.Machine.rules b in
     let x = c.in_ok-expansion.expansion in
     let refused : IsTaken b.entries c.args.id × IsOwn {X = g.row.M.Denot} b c.args.id x.machine x.program x.source × (b.limit < length b.entries + length (unknown same (states b.entries) x.successors)) =
@@ -75,12 +75,12 @@ pub returns-in-Err-Stranger-clause-yes : goal.returns-in-Err-Stranger-clause-yes
 returns-in-Err-Stranger-clause-yes g c =
     let b = c.args.book.now in
     let m = machine_in g.M.Machine.rules b in
-    let same = counted_as_one {Machine = g.row.M.Denot} g.M.Loc.PartialEq.eq g.M.Mem.PartialEq.eq b.merge in
+    let same = counted_as_one {Machine = g.row.M.Denot} {Form = g.row.M-Form.Denot} g.M.Loc.PartialEq.eq g.M.Mem.PartialEq.eq g.M.Form.PartialEq.eq (g.M.Machine.form_of b.machine) b.merge in
     let right = right_in g.M.Machine.rules b in
     let x = c.in_ok-expansion.expansion in
     let way = c.requires.way in
     let ends : after m c.args.schedule.now ≡ Some c.in-Ok.end.state =
-    given_own (λ x p. after (machine_of {Machine = g.row.M.Denot} (g.M.Machine.rules x) p) c.args.schedule.now ≡ Some c.in-Ok.end.state) c.machine.result b.machine c.args.program.now b.program
+    given_own (λ x p. after (machine_of {Machine = g.row.M.Denot} {Form = g.row.M-Form.Denot} (g.M.Machine.rules x) p) c.args.schedule.now ≡ Some c.in-Ok.end.state) c.machine.result b.machine c.args.program.now b.program
     c.machine.ensures c.requires.program c.in-Ok.ensures.state in
     let there : after m c.args.schedule.now ≡ Some way.0.state = way.2 in
     let is : c.in-Ok.end.state ≡ way.0.state = cc in
@@ -94,12 +94,12 @@ pub returns-clause-yes : goal.returns-clause-yes
 returns-clause-yes g c =
     let b = c.args.book.now in
     let m = machine_in g.M.Machine.rules b in
-    let same = counted_as_one {Machine = g.row.M.Denot} g.M.Loc.PartialEq.eq g.M.Mem.PartialEq.eq b.merge in
+    let same = counted_as_one {Machine = g.row.M.Denot} {Form = g.row.M-Form.Denot} g.M.Loc.PartialEq.eq g.M.Mem.PartialEq.eq g.M.Form.PartialEq.eq (g.M.Machine.form_of b.machine) b.merge in
     let right = right_in g.M.Machine.rules b in
     let x = c.in_ok-expansion.expansion in
     let way = c.requires.way in
     let ends : after m c.args.schedule.now ≡ Some c.in-Ok.end.state =
-    given_own (λ x p. after (machine_of {Machine = g.row.M.Denot} (g.M.Machine.rules x) p) c.args.schedule.now ≡ Some c.in-Ok.end.state) c.machine.result b.machine c.args.program.now b.program
+    given_own (λ x p. after (machine_of {Machine = g.row.M.Denot} {Form = g.row.M-Form.Denot} (g.M.Machine.rules x) p) c.args.schedule.now ≡ Some c.in-Ok.end.state) c.machine.result b.machine c.args.program.now b.program
     c.machine.ensures c.requires.program c.in-Ok.ensures.state in
     let there : after m c.args.schedule.now ≡ Some way.0.state = way.2 in
     let is : c.in-Ok.end.state ≡ way.0.state = cc in
@@ -109,7 +109,7 @@ returns-clause-yes g c =
     let enters = c.in-Ok-enter.ensures.entered in
     λ full. absurd (
     let same_entry : way.0 ≡ full.entry = (let p : slice_get b.entries c.args.id ≡ Some way.0 = way.1 in let q : slice_get b.entries c.args.id ≡ Some full.entry = full.at in cc) in
-    let expansion = expansion_in g.M.Machine.rules b x full.entry.state machine program (source ∙ ap (λ (r : Entry (State g.row.M.Denot g.row.M-Mem.Denot g.row.M-Loc.Denot)). r.state) same_entry) c.law-2.ensures in
+    let expansion = expansion_in g.M.Machine.rules b x full.entry.state machine program (source ∙ ap (λ (r : Entry (State g.row.M.Denot g.row.M-Mem.Denot g.row.M-Loc.Denot g.row.M-Form.Denot)). r.state) same_entry) c.law-2.ensures in
     let as_many : length (unknown same (states b.entries) x.successors) ≡ length (unknown same (states b.entries) full.successors) =
     same_unknown m full.entry.state same right (states b.entries) x.successors full.successors expansion full.expansion in
     let over : b.limit < length b.entries + length (unknown same (states b.entries) full.successors) = full.full in

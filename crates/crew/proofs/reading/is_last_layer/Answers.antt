@@ -9,7 +9,7 @@ pub returns-then-not-is_left_below : goal.returns-then-not-is_left_below
 returns-then-not-is_left_below g c =
     let es = c.args.book.now.entries in
     let n = c.args.steps in
-    let test = λ (e : Entry (State g.row.M.Denot g.row.M-Mem.Denot g.row.M-Loc.Denot)). leb e.state.steps n in
+    let test = λ (e : Entry (State g.row.M.Denot g.row.M-Mem.Denot g.row.M-Loc.Denot g.row.M-Form.Denot)). leb e.state.steps n in
     let counts : c.count_to.result ≡ count_by test es = c.count_to.ensures.value in
     let all : c.len.result ≡ length es = c.len.ensures in (
       (λ h. (

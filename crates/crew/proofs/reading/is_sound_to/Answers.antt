@@ -14,7 +14,7 @@ pub returns-in_ok-schedule_of-in-Some : goal.returns-in_ok-schedule_of-in-Some
 returns-in_ok-schedule_of-in-Some g c =
     let b = c.args.book.now in
     let m = machine_in g.M.Machine.rules b in
-    let same = counted_as_one {Machine = g.row.M.Denot} g.M.Loc.PartialEq.eq g.M.Mem.PartialEq.eq b.merge in
+    let same = counted_as_one {Machine = g.row.M.Denot} {Form = g.row.M-Form.Denot} g.M.Loc.PartialEq.eq g.M.Mem.PartialEq.eq g.M.Form.PartialEq.eq (g.M.Machine.form_of b.machine) b.merge in
     let right = right_in g.M.Machine.rules b in
     let law = c.law.ensures in
     let first = sym c.first_fault.ensures ∙ c.in-Some.is in

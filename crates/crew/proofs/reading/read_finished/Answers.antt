@@ -9,7 +9,7 @@ pub returns-then-is_last_layer-clause-due : goal.returns-then-is_last_layer-clau
 returns-then-is_last_layer-clause-due g c =
     let b = c.args.book.now in
     let m = machine_in g.M.Machine.rules b in
-    let same = counted_as_one {Machine = g.row.M.Denot} g.M.Loc.PartialEq.eq g.M.Mem.PartialEq.eq b.merge in
+    let same = counted_as_one {Machine = g.row.M.Denot} {Form = g.row.M-Form.Denot} g.M.Loc.PartialEq.eq g.M.Mem.PartialEq.eq g.M.Form.PartialEq.eq (g.M.Machine.form_of b.machine) b.merge in
     let right = right_in g.M.Machine.rules b in
     let law = c.law.ensures in
     let due = holds_due m same right law.machine law.merges law.alike (findings_agree (g.M.Machine.rules b.machine) b.program) b law.law c.args.steps
@@ -20,7 +20,7 @@ pub returns-then-is_last_layer-clause-headline : goal.returns-then-is_last_layer
 returns-then-is_last_layer-clause-headline g c =
     let b = c.args.book.now in
     let m = machine_in g.M.Machine.rules b in
-    let same = counted_as_one {Machine = g.row.M.Denot} g.M.Loc.PartialEq.eq g.M.Mem.PartialEq.eq b.merge in
+    let same = counted_as_one {Machine = g.row.M.Denot} {Form = g.row.M-Form.Denot} g.M.Loc.PartialEq.eq g.M.Mem.PartialEq.eq g.M.Form.PartialEq.eq (g.M.Machine.form_of b.machine) b.merge in
     let right = right_in g.M.Machine.rules b in
     let law = c.law.ensures in
     let last : IsLastLayer m.steps b.entries c.args.steps = subst (λ d. IsLastLayer m.steps b.entries d) c.from.ensures (c.is_last_layer.ensures.0 c.if-is_last_layer.true) in

@@ -16,7 +16,7 @@ pub returns-then-length-from-clause-some : goal.returns-then-length-from-clause-
 returns-then-length-from-clause-some g c =
     let b = c.args.book.now in
     let m = machine_in g.M.Machine.rules b in
-    let same = counted_as_one {Machine = g.row.M.Denot} g.M.Loc.PartialEq.eq g.M.Mem.PartialEq.eq b.merge in
+    let same = counted_as_one {Machine = g.row.M.Denot} {Form = g.row.M-Form.Denot} g.M.Loc.PartialEq.eq g.M.Mem.PartialEq.eq g.M.Form.PartialEq.eq (g.M.Machine.form_of b.machine) b.merge in
     let right = right_in g.M.Machine.rules b in
     let law = c.law.ensures in
     let s = c.in_ok-schedule.ensures in
@@ -35,7 +35,7 @@ pub returns-clause-due : goal.returns-clause-due
 returns-clause-due g c =
     let b = c.args.book.now in
     let m = machine_in g.M.Machine.rules b in
-    let same = counted_as_one {Machine = g.row.M.Denot} g.M.Loc.PartialEq.eq g.M.Mem.PartialEq.eq b.merge in
+    let same = counted_as_one {Machine = g.row.M.Denot} {Form = g.row.M-Form.Denot} g.M.Loc.PartialEq.eq g.M.Mem.PartialEq.eq g.M.Form.PartialEq.eq (g.M.Machine.form_of b.machine) b.merge in
     let right = right_in g.M.Machine.rules b in
     let law = c.law.ensures in
     let s = c.in_ok-schedule.ensures in
@@ -44,7 +44,7 @@ returns-clause-due g c =
     let is : c.len-length.result ≡ length v.items = c.len-length.ensures ∙ len in
     let e = c.fault_at-finding.ensures in
     let same_entry : s.0 ≡ e.0 = (let p : slice_get b.entries c.args.id ≡ Some s.0 = s.1 in let q : slice_get b.entries c.args.id ≡ Some e.0 = e.1 in cc) in
-    let finding = ap (λ (r : Entry (State g.row.M.Denot g.row.M-Mem.Denot g.row.M-Loc.Denot)). r.finding) same_entry ∙ e.2 in
+    let finding = ap (λ (r : Entry (State g.row.M.Denot g.row.M-Mem.Denot g.row.M-Loc.Denot g.row.M-Form.Denot)). r.finding) same_entry ∙ e.2 in
     let agree = findings_agree {Machine = g.row.M.Denot} (g.M.Machine.rules b.machine) b.program in
     let last : IsLastLayer m.steps b.entries (length v.items) = subst (λ d. IsLastLayer m.steps b.entries d) is (c.is_last_layer.ensures.0 c.if-not-is_last_layer.false) in
     let due = fault_due m same right law.machine law.merges law.alike agree b law.law c.args.id c.requires s.0 s.1 v.items s.2 s.3 c.args.steps last in (
@@ -61,20 +61,20 @@ returns-clause-first g c =
     let s = c.in_ok-schedule.ensures in
     let e = c.fault_at-finding.ensures in
     let same_entry : s.0 ≡ e.0 = (let p : slice_get b.entries c.args.id ≡ Some s.0 = s.1 in let q : slice_get b.entries c.args.id ≡ Some e.0 = e.1 in cc) in
-    (c.args.id, s.0, c.requires, s.1, ap (λ (r : Entry (State g.row.M.Denot g.row.M-Mem.Denot g.row.M-Loc.Denot)). r.finding) same_entry ∙ e.2, s.2)
+    (c.args.id, s.0, c.requires, s.1, ap (λ (r : Entry (State g.row.M.Denot g.row.M-Mem.Denot g.row.M-Loc.Denot g.row.M-Form.Denot)). r.finding) same_entry ∙ e.2, s.2)
 
 pub returns-clause-headline : goal.returns-clause-headline
 returns-clause-headline g c =
     let b = c.args.book.now in
     let m = machine_in g.M.Machine.rules b in
-    let same = counted_as_one {Machine = g.row.M.Denot} g.M.Loc.PartialEq.eq g.M.Mem.PartialEq.eq b.merge in
+    let same = counted_as_one {Machine = g.row.M.Denot} {Form = g.row.M-Form.Denot} g.M.Loc.PartialEq.eq g.M.Mem.PartialEq.eq g.M.Form.PartialEq.eq (g.M.Machine.form_of b.machine) b.merge in
     let right = right_in g.M.Machine.rules b in
     let law = c.law.ensures in
     let s = c.in_ok-schedule.ensures in
     let v = c.in_ok-schedule.schedule in
     let e = c.fault_at-finding.ensures in
     let same_entry : s.0 ≡ e.0 = (let p : slice_get b.entries c.args.id ≡ Some s.0 = s.1 in let q : slice_get b.entries c.args.id ≡ Some e.0 = e.1 in cc) in
-    let finding = ap (λ (r : Entry (State g.row.M.Denot g.row.M-Mem.Denot g.row.M-Loc.Denot)). r.finding) same_entry ∙ e.2 in
+    let finding = ap (λ (r : Entry (State g.row.M.Denot g.row.M-Mem.Denot g.row.M-Loc.Denot g.row.M-Form.Denot)). r.finding) same_entry ∙ e.2 in
     let agree = findings_agree {Machine = g.row.M.Denot} (g.M.Machine.rules b.machine) b.program in
     record {
       fault = subst (λ f. LeadsToFault m right v.items f) finding (leads_to_fault m same right law.machine law.merges law.alike agree b law.law c.args.id c.requires s.0 s.1 v.items s.2 s.3);

@@ -12,7 +12,10 @@ returns-clause-app c =
     let steps : app_of c.in_ok-arg-2.field-0 ≡ _ = c.in_ok-arg-2.ensures.shape c.steps.ensures.local ∙ ap₂ with_rule file c.steps.ensures.rule in
     let workers : app_of c.in_ok-arg-3.field-0 ≡ _ = c.in_ok-arg-3.ensures.shape c.workers.ensures.local ∙ ap₂ with_rule steps c.workers.ensures.rule in
     let states : app_of c.in_ok-arg-4.field-0 ≡ _ = c.in_ok-arg-4.ensures.shape c.states.ensures.local ∙ ap₂ with_rule workers c.states.ensures.rule in
-    IfOk-weaker c.arg-5.result _ _ (λ m h. h.shape c.ledger.ensures.local ∙ ap₂ with_rule states c.ledger.ensures.rule) c.arg-5.ensures
+    let choices = c.merge.ensures.rule in
+    let merge : app_of c.in_ok-arg-5.field-0 ≡ _ = c.in_ok-arg-5.ensures.shape c.merge.ensures.local ∙ ap₂ with_rule states choices.2 in
+    IfOk-weaker c.arg-6.result _ _
+    (λ m h. (choices.0, choices.1, h.shape c.ledger.ensures.local ∙ ap₂ with_rule merge c.ledger.ensures.rule)) c.arg-6.ensures
 
 pub returns-clause-local : goal.returns-clause-local
 returns-clause-local c =
@@ -22,4 +25,5 @@ returns-clause-local c =
     let steps = c.in_ok-arg-2.ensures.globals ∙ ap₂ either file c.steps.ensures.local in
     let workers = c.in_ok-arg-3.ensures.globals ∙ ap₂ either steps c.workers.ensures.local in
     let states = c.in_ok-arg-4.ensures.globals ∙ ap₂ either workers c.states.ensures.local in
-    IfOk-weaker c.arg-5.result _ _ (λ m h. h.globals ∙ ap₂ either states c.ledger.ensures.local) c.arg-5.ensures
+    let merge = c.in_ok-arg-5.ensures.globals ∙ ap₂ either states c.merge.ensures.local in
+    IfOk-weaker c.arg-6.result _ _ (λ m h. h.globals ∙ ap₂ either merge c.ledger.ensures.local) c.arg-6.ensures

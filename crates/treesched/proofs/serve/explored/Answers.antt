@@ -1,18 +1,18 @@
 use Rattle.std.proofs.Common.{◌∙◌, ◌++◌, List, ℕ, ap, subst}
 use Rattle.book.specs.Books.{counted_as_one}
 use Rattle.book.specs.declared.book.Merge.{Merge}
-use Rattle.tree_machine.specs.declared.state.State.{State}
 use Rattle.treesched.specs.Lines.{report_text}
-use Rattle.treesched.specs.Serving.{IsEquality}
+use Rattle.treesched.specs.Serving.{CountsAsOne}
 use Rattle.treesched.proofs.serve.explored.Goals as goal
 
 pub returns : goal.returns
 returns g c =
     let report = c.in_ok-report.report in
     record {
-      same = counted_as_one g.M.Loc.PartialEq.eq g.M.Mem.PartialEq.eq c.args.options.merge;
-      equality = subst (λ (merge : Merge). IsEquality {S = State g.row.M.Denot g.row.M-Mem.Denot g.row.M-Loc.Denot}
-          (counted_as_one g.M.Loc.PartialEq.eq g.M.Mem.PartialEq.eq merge)) c.merge.ensures c.counts_equal_states.ensures;
+      same = counted_as_one g.M.Loc.PartialEq.eq g.M.Mem.PartialEq.eq g.M.Form.PartialEq.eq (g.M.Machine.form_of c.args.machine) c.args.options.merge;
+      counts = subst (λ (merge : Merge). CountsAsOne g.row.M.Denot g.row.M-Form.Denot (g.M.Machine.rules c.args.machine) c.args.program.now merge
+          (counted_as_one g.M.Loc.PartialEq.eq g.M.Mem.PartialEq.eq g.M.Form.PartialEq.eq (g.M.Machine.form_of c.args.machine) merge))
+          c.merge.ensures c.counts_as_one.ensures;
       answer = report.answer;
       totals = report.totals;
       shares = report.shares.items;

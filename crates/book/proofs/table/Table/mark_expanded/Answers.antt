@@ -1,6 +1,7 @@
 use Rattle.std.proofs.Common.{◌≡◌, ◌≤◌, length, sym, ap, arith, subst, List}
 use Rattle.book.specs.declared.entry.Mark.TheVariants.{Expanded}
 use Rattle.book.specs.Entries.{Entry, IsTaken, with_mark}
+use Rattle.book.specs.Labels.{Kept}
 use Rattle.book.specs.Slots.{entries_of, IsFirstLeft}
 use Rattle.book.proofs.EntryLemmas.{length-with_mark}
 use Rattle.book.proofs.SlotLemmas.{length-entries}
@@ -10,13 +11,13 @@ use Rattle.book.proofs.table.Table.mark_expanded.Goals as goal
 pub first_left_from-self-inside-requires-clause-before : goal.first_left_from-self-inside-requires-clause-before
 first_left_from-self-inside-requires-clause-before g c =
     let s = c.self.inside in
-    rw c.mark_at.ensures (still_expanded (entries_of s.slots.entries) s.next_open s.first_left s.fault c.self.invariant c.args.index)
+    rw c.mark_at.ensures.entries (still_expanded (entries_of s.slots.entries) s.next_open s.first_left s.fault c.self.invariant c.args.index)
 
 pub first_left_from-self-inside-requires-clause-within : goal.first_left_from-self-inside-requires-clause-within
 first_left_from-self-inside-requires-clause-within g c =
     let s = c.self.inside in
     let n : length (entries_of c.mark_at.new.slots.entries) ≡ length c.mark_at.new.slots.entries = length-entries c.mark_at.new.slots.entries in
-    let m : length (entries_of c.mark_at.new.slots.entries) ≡ length (with_mark (entries_of s.slots.entries) c.args.index Expanded) = ap length c.mark_at.ensures in
+    let m : length (entries_of c.mark_at.new.slots.entries) ≡ length (with_mark (entries_of s.slots.entries) c.args.index Expanded) = ap length c.mark_at.ensures.entries in
     let l : length (with_mark (entries_of s.slots.entries) c.args.index Expanded) ≡ length (entries_of s.slots.entries) = length-with_mark (entries_of s.slots.entries) c.args.index Expanded in
     let w : s.first_left ≤ length (entries_of s.slots.entries) = c.self.invariant.left.within in
     omega arith
@@ -24,7 +25,7 @@ first_left_from-self-inside-requires-clause-within g c =
 pub invariant_of-self : goal.invariant_of-self
 invariant_of-self g c =
     let s = c.self.inside in
-    let taken : IsTaken (entries_of s.slots.entries) c.args.index = subst (λ (es : List (Entry g.row.S.Denot)). IsTaken es c.args.index) (sym c.self.view_is) c.requires in
+    let taken : IsTaken (entries_of s.slots.entries) c.args.index = subst (λ (k : Kept g.row.S.Denot g.row.F.Denot). IsTaken k.entries c.args.index) (sym c.self.view_is) c.requires in
     let is_left : IsFirstLeft (with_mark (entries_of s.slots.entries) c.args.index Expanded) c.first_left_from-self-inside.result =
-    subst (λ (es : List (Entry g.row.S.Denot)). IsFirstLeft es c.first_left_from-self-inside.result) c.mark_at.ensures c.first_left_from-self-inside.ensures in
-    rw c.mark_at.ensures (cursors_expanded (entries_of s.slots.entries) s.next_open s.first_left s.fault c.self.invariant c.args.index taken c.first_left_from-self-inside.result is_left)
+    subst (λ (es : List (Entry g.row.S.Denot)). IsFirstLeft es c.first_left_from-self-inside.result) c.mark_at.ensures.entries c.first_left_from-self-inside.ensures in
+    rw c.mark_at.ensures.entries (cursors_expanded (entries_of s.slots.entries) s.next_open s.first_left s.fault c.self.invariant c.args.index taken c.first_left_from-self-inside.result is_left)

@@ -14,7 +14,7 @@ invariant_of-self-2 g c =
     record {
       expanded_is = c.args.self.now.expanded_is ∙ sym kept.0;
       entered_is = was ∙ sym kept.1;
-      met_is = c.args.self.now.met_is ∙ sym (ap (λ (b : Contents g.row.M.Denot (State g.row.M.Denot g.row.M-Mem.Denot g.row.M-Loc.Denot)). b.met) c.take_layer.ensures.same);
+      met_is = c.args.self.now.met_is ∙ sym (ap (λ (b : Contents g.row.M.Denot (State g.row.M.Denot g.row.M-Mem.Denot g.row.M-Loc.Denot g.row.M-Form.Denot)). b.met) c.take_layer.ensures.same);
     }
 
 pub returns : goal.returns

@@ -1,0 +1,318 @@
+//! The machine's form: a memory with the places that threads hold, up to the numbers of nodes and records.
+ghost use Rattle.std.specs.Prelude.{◌≡◌, [], ◌∷◌, ◌++◌, map, Some, IfSome, IfOk, OnOk, All};
+ghost use Rattle.tree_machine.specs.Parts.{no_part};
+ghost use Rattle.ellen.specs.Range.{IsInRange, IsPlaceInRange};
+ghost use Rattle.ellen.specs.Encoding.{word_number, word_record, node_part, record_part, above_number, above_node, above_record, search_part, help_number, side_number, help_side, help_record, help_node, base_number, place_part, ellen_parts};
+ghost use Rattle.ellen.specs.FormLaws.{ellen_form};
+
+use crate::memory::{EllenMem, Node, Record, UpdateWord};
+use crate::place::{Above, Base, EllenLoc, HelpLoc, Resume, SearchLoc};
+use sched_program::{OutOfMemory, Sequence};
+use std::alloc::Global;
+use tree_machine::{Part, Parts, Side, form_parts};
+
+/// The number that tells the kind of an update word.
+fn word_number(word: UpdateWord) -> u64
+    ensures { result ≡ word_number word }
+{
+    match word {
+        UpdateWord::Untouched => 0,
+        UpdateWord::Clean(_) => 1,
+        UpdateWord::InsertFlag(_) => 2,
+        UpdateWord::DeleteFlag(_) => 3,
+        UpdateWord::Mark(_) => 4,
+    }
+}
+
+/// A node or record as a part names it.
+fn named(number: u32) -> Option<usize>
+    ensures { result ≡ Some number }
+{
+    Some(number as usize)
+}
+
+/// The record that an update word names.
+fn word_record(word: UpdateWord) -> Option<usize>
+    ensures { result ≡ word_record word }
+{
+    match word {
+        UpdateWord::Untouched => None,
+        UpdateWord::Clean(number)
+        | UpdateWord::InsertFlag(number)
+        | UpdateWord::DeleteFlag(number)
+        | UpdateWord::Mark(number) => named(number),
+    }
+}
+
+/// Puts a node into an empty part.
+fn put_node(node: Node, part: &mut Part) -> Result<(), OutOfMemory>
+    requires { part.old ≡ no_part }
+    ensures { OnOk result (part.new ≡ node_part node) }
+{
+    match node {
+        Node::Leaf { key } => part.put(&[0, u64::from(key)], &[], &[]),
+        Node::Internal {
+            key,
+            update,
+            left,
+            right,
+        } => part.put(
+            &[1, u64::from(key), word_number(update)],
+            &[named(left), named(right)],
+            &[word_record(update)],
+        ),
+    }
+}
+
+/// Puts a record into an empty part.
+fn put_record(kept: Record, part: &mut Part) -> Result<(), OutOfMemory>
+    requires { part.old ≡ no_part }
+    ensures { OnOk result (part.new ≡ record_part kept) }
+{
+    match kept {
+        Record::Ins(insert) => part.put(
+            &[0],
+            &[named(insert.parent), named(insert.leaf), named(insert.new)],
+            &[],
+        ),
+        Record::Del(delete) => part.put(
+            &[1, word_number(delete.parent_update)],
+            &[
+                named(delete.grandparent),
+                named(delete.parent),
+                named(delete.leaf),
+            ],
+            &[word_record(delete.parent_update)],
+        ),
+    }
+}
+
+/// The number that tells whether there is a grandparent, and the kind of its update word.
+fn above_number(above: Option<Above>) -> u64
+    ensures { result ≡ above_number above }
+{
+    match above {
+        None => 0,
+        Some(above) => word_number(above.update) + 1,
+    }
+}
+
+/// The grandparent, if there is one.
+fn above_node(above: Option<Above>) -> Option<usize>
+    ensures { result ≡ above_node above }
+{
+    named(above?.node)
+}
+
+/// The record that the update word of the grandparent names.
+fn above_record(above: Option<Above>) -> Option<usize>
+    ensures { result ≡ above_record above }
+{
+    word_record(above?.update)
+}
+
+/// The nodes of the first places of a search: the grandparent, if there is one, and the parent.
+fn search_nodes(above: Option<Above>, parent: u32) -> [Option<usize>; 2]
+    ensures { result ≡ above_node above ∷ Some parent ∷ [] }
+{
+    [above_node(above), named(parent)]
+}
+
+/// Puts a place of a search into an empty part.
+fn put_search(at: SearchLoc, part: &mut Part) -> Result<(), OutOfMemory>
+    requires { part.old ≡ no_part }
+    ensures { OnOk result (part.new ≡ search_part at) }
+{
+    match at {
+        SearchLoc::Update { above, parent } => part.put(
+            &[0, above_number(above)],
+            &search_nodes(above, parent),
+            &[above_record(above)],
+        ),
+        SearchLoc::Child {
+            above,
+            parent,
+            update,
+        } => part.put(
+            &[1, above_number(above), word_number(update)],
+            &search_nodes(above, parent),
+            &[above_record(above), word_record(update)],
+        ),
+        SearchLoc::IFlag {
+            parent,
+            update,
+            leaf,
+        } => part.put(
+            &[2, word_number(update)],
+            &[named(parent), named(leaf)],
+            &[word_record(update)],
+        ),
+        SearchLoc::InsOnly { parent, leaf } => {
+            part.put(&[3], &[named(parent), named(leaf)], &[])
+        }
+        SearchLoc::DFlag {
+            above,
+            parent,
+            update,
+            leaf,
+        } => part.put(
+            &[4, word_number(above.update), word_number(update)],
+            &[named(above.node), named(parent), named(leaf)],
+            &[word_record(above.update), word_record(update)],
+        ),
+    }
+}
+
+/// The number that tells the kind of a help place.
+fn help_number(at: HelpLoc) -> u64
+    ensures { result ≡ help_number at }
+{
+    match at {
+        HelpLoc::InsChild(_) => 0,
+        HelpLoc::InsClean(_) => 1,
+        HelpLoc::Mark(_) => 2,
+        HelpLoc::Right(_) => 3,
+        HelpLoc::Other { .. } => 4,
+        HelpLoc::Splice { .. } => 5,
+        HelpLoc::DelClean(_) => 6,
+        HelpLoc::Back(_) => 7,
+    }
+}
+
+/// The number that tells the side that a help place holds, or that it holds none.
+fn help_side(at: HelpLoc) -> u64
+    ensures { result ≡ help_side at }
+{
+    match at {
+        HelpLoc::Other {
+            side: Side::Left,
+            ..
+        } => 1,
+        HelpLoc::Other {
+            side: Side::Right,
+            ..
+        } => 2,
+        _ => 0,
+    }
+}
+
+/// The record that a help place carries out.
+fn help_record(at: HelpLoc) -> u32
+    ensures { result ≡ help_record at }
+{
+    match at {
+        HelpLoc::InsChild(record)
+        | HelpLoc::InsClean(record)
+        | HelpLoc::Mark(record)
+        | HelpLoc::Right(record)
+        | HelpLoc::Other { record, .. }
+        | HelpLoc::Splice { record, .. }
+        | HelpLoc::DelClean(record)
+        | HelpLoc::Back(record) => record,
+    }
+}
+
+/// The node that a help place holds beside its record.
+fn help_node(at: HelpLoc) -> Option<usize>
+    ensures { result ≡ help_node at }
+{
+    match at {
+        HelpLoc::Splice { other, .. } => named(other),
+        _ => None,
+    }
+}
+
+/// The number that tells what is done behind the backtracks.
+fn base_number(base: Base) -> u64
+    ensures { result ≡ base_number base }
+{
+    match base {
+        Base::Again => 0,
+        Base::Insert => 1,
+        Base::Delete => 2,
+    }
+}
+
+/// Puts the records of a stack behind those that a part names.
+fn put_stack(stack: &[u32], part: &mut Part) -> Result<(), OutOfMemory>
+    ensures { OnOk result (part.new ≡ record { facts = part.old.facts; nodes = part.old.nodes; records = part.old.records ++ map Some stack.now }) }
+{
+    for record in stack {
+        part.push_record(named(*record))?;
+    }
+    Ok(())
+}
+
+/// Puts a place into an empty part.
+fn put_place(place: &EllenLoc, part: &mut Part) -> Result<(), OutOfMemory>
+    requires { part.old ≡ no_part }
+    ensures { OnOk result (part.new ≡ place_part place.now) }
+{
+    match place {
+        EllenLoc::Search(at) => put_search(*at, part),
+        EllenLoc::Help(at, resume) => {
+            let base = base_number(resume.base);
+            part.put(
+                &[5, help_number(*at), help_side(*at), base],
+                &[help_node(*at)],
+                &[named(help_record(*at))],
+            )?;
+            put_stack(resume.stack.as_slice(), part)
+        }
+    }
+}
+
+/// A memory with what the threads hold, as parts.
+#[derive(Drop)]
+struct Held<'a> {
+    memory: &'a EllenMem,
+    places: &'a [Option<EllenLoc>],
+}
+
+impl Parts for Held<'_> {
+    ghost parts = { λ held. ellen_parts held.memory.now held.places.now };
+
+    fn node_count(&self) -> usize {
+        self.memory.nodes.len()
+    }
+
+    fn record_count(&self) -> usize {
+        self.memory.records.len()
+    }
+
+    fn held_count(&self) -> usize {
+        self.places.len()
+    }
+
+    fn put_node(&self, index: usize, part: &mut Part) -> Result<(), OutOfMemory> {
+        put_node(self.memory.nodes.as_slice()[index], part)
+    }
+
+    fn put_record(&self, index: usize, part: &mut Part) -> Result<(), OutOfMemory> {
+        put_record(self.memory.records.as_slice()[index], part)
+    }
+
+    fn put_held(&self, index: usize, part: &mut Part) -> Result<(), OutOfMemory> {
+        match &self.places[index] {
+            Some(place) => put_place(place, part),
+            None => Ok(()),
+        }
+    }
+}
+
+/// The form of a memory with the place that each thread holds: the same for those that differ in nothing but the numbers
+/// of nodes and records. A node or record that neither the root nor a place leads to plays no part.
+///
+/// # Errors
+/// `OutOfMemory` where a growth was refused.
+pub fn form(
+    alloc: Global,
+    memory: &EllenMem,
+    places: &[Option<EllenLoc>],
+) -> Result<Sequence<u8>, OutOfMemory>
+    requires memory_in_range { IsInRange memory.now }
+    requires places_in_range { All (λ place. IfSome place (IsPlaceInRange memory.now)) places.now }
+    ensures { IfOk result (λ form. form ≡ ellen_form memory.now places.now) }
+{
+    form_parts(alloc, 1, &Held { memory, places })
+}

@@ -1,0 +1,58 @@
+-- The nodes and what the threads hold in parts: the numbers of nodes stand apart from all else.
+use Rattle.std.specs.Prelude.{ℕ, Bool, if◌then◌else◌, List, [], ◌∷◌, map, Option, Some, None}
+use Rattle.tree_machine.specs.declared.search_order.Side.{Side}
+use Rattle.tree_machine.specs.declared.search_order.Side.TheVariants.{Left, Right}
+use Rattle.tree_machine.specs.Flat.{flat_form}
+use Rattle.tree_machine.specs.Parts.{Part, Parts}
+use Rattle.natmit.specs.declared.memory.Node.{Node}
+use Rattle.natmit.specs.declared.memory.Node.TheVariants.{Leaf, Internal}
+use Rattle.natmit.specs.declared.memory.NatMitMem.{NatMitMem}
+use Rattle.natmit.specs.declared.place.Mode.{Mode}
+use Rattle.natmit.specs.declared.place.Mode.TheVariants.{Plain, Owner}
+use Rattle.natmit.specs.declared.place.NatMitLoc.{NatMitLoc}
+use Rattle.natmit.specs.declared.place.NatMitLoc.TheVariants.{Begin, Down, Put, Flag, Look, CleanRead, Tag, Sibling, Swing}
+
+abbrev pub bit : Bool → ℕ
+bit b = if b then 1 else 0
+
+abbrev pub side_number : Side → ℕ
+side_number Left = 0
+side_number Right = 1
+
+-- the leaf that the delete flagged
+abbrev pub owned : Mode → Option ℕ
+owned Plain = None
+owned (Owner o) = Some o
+
+-- a part that names no records
+abbrev pub part_of : List ℕ → List (Option ℕ) → Part
+part_of facts nodes = record { facts = facts; nodes = nodes; records = [] }
+
+-- the kind, the key, and the children with their flags and tags
+abbrev pub node_part : Node → Part
+node_part (Leaf k) = part_of (0 ∷ k ∷ []) []
+node_part (Internal k l r) = part_of (1 ∷ k ∷ bit l.flag ∷ bit l.tag ∷ bit r.flag ∷ bit r.tag ∷ []) (Some l.node ∷ Some r.node ∷ [])
+
+-- which place it is, and its locals
+abbrev pub place_part : NatMitLoc → Part
+place_part (Begin m) = part_of (1 ∷ []) (owned m ∷ [])
+place_part (Down a s p l t m) = part_of (2 ∷ bit t ∷ []) (Some a ∷ Some s ∷ Some p ∷ Some l ∷ owned m ∷ [])
+place_part (Put a s p l) = part_of (3 ∷ []) (Some a ∷ Some s ∷ Some p ∷ Some l ∷ [])
+place_part (Flag a s p l) = part_of (4 ∷ []) (Some a ∷ Some s ∷ Some p ∷ Some l ∷ [])
+place_part (Look a s p l) = part_of (5 ∷ []) (Some a ∷ Some s ∷ Some p ∷ Some l ∷ [])
+place_part (CleanRead a s p m) = part_of (6 ∷ []) (Some a ∷ Some s ∷ Some p ∷ owned m ∷ [])
+place_part (Tag a s p d m) = part_of (7 ∷ side_number d ∷ []) (Some a ∷ Some s ∷ Some p ∷ owned m ∷ [])
+place_part (Sibling a s p d m) = part_of (8 ∷ side_number d ∷ []) (Some a ∷ Some s ∷ Some p ∷ owned m ∷ [])
+place_part (Swing a s f x m) = part_of (9 ∷ bit f ∷ []) (Some a ∷ Some s ∷ Some x ∷ owned m ∷ [])
+
+-- a thread between operations holds nothing
+abbrev pub held_part : Option NatMitLoc → Part
+held_part None = part_of (0 ∷ []) []
+held_part (Some place) = place_part place
+
+abbrev pub natmit_parts : NatMitMem → List (Option NatMitLoc) → Parts
+natmit_parts memory held = record { nodes = map node_part memory.nodes; records = []; held = map held_part held }
+
+-- the form of a memory with what the threads hold; nodes 0 and 1 are paired with themselves
+abbrev pub natmit_form : NatMitMem → List (Option NatMitLoc) → List ℕ
+natmit_form memory held = flat_form 2 (natmit_parts memory held)

@@ -1,0 +1,264 @@
+-- Parts are paired exactly if the nodes and what the threads hold are.
+use Rattle.std.specs.Prelude.{◌≡◌, ℕ, zero, suc, ◌<◌, ◌↔◌, Bool, true, false, List, [], ◌∷◌, map, length, refl, Option, Some, None, IfSome, All, unwrap_or}
+use Rattle.std.specs.List.{AllZip, AllByRecursion}
+use Rattle.std.proofs.Common.{arith, sym, ◌∙◌, ap, subst}
+use Rattle.std.proofs.lemmas.List.{length-map}
+use Rattle.std.proofs.lemmas.List.Elements.{All-nil, All-map, All-weaker, All-from_recursion}
+use Rattle.tree_machine.proofs.Lists.{get_at, map-get}
+use Rattle.tree_machine.specs.declared.search_order.Side.{Side}
+use Rattle.tree_machine.specs.declared.search_order.Side.TheVariants.{Left, Right}
+use Rattle.tree_machine.specs.Cells.{IsPairedOrNone}
+use Rattle.tree_machine.specs.FlatLaws.{flat_forms_exact}
+use Rattle.tree_machine.specs.Pairing.{IsAmong, AreHeldPaired, AreAlike}
+use Rattle.tree_machine.specs.Parts.{Parts, part_at, ArePartsPaired, IsPartBelow, ArePartsInRange, IsPartsPairing, CanPartsBePaired}
+use Rattle.natmit.specs.declared.memory.Node.{Node}
+use Rattle.natmit.specs.declared.memory.Node.TheVariants.{Leaf, Internal}
+use Rattle.natmit.specs.declared.memory.NatMitMem.{NatMitMem}
+use Rattle.natmit.specs.declared.place.Mode.{Mode}
+use Rattle.natmit.specs.declared.place.Mode.TheVariants.{Plain, Owner}
+use Rattle.natmit.specs.declared.place.NatMitLoc.{NatMitLoc}
+use Rattle.natmit.specs.declared.place.NatMitLoc.TheVariants.{Begin, Down, Put, Flag, Look, CleanRead, Tag, Sibling, Swing}
+use Rattle.natmit.specs.Memory.{node_at}
+use Rattle.natmit.specs.Range.{IsNodeIn, IsModeIn, IsPlaceIn, IsInRange, IsPlaceInRange}
+use Rattle.natmit.specs.Pairs.{AreNodesPaired, AreModesPaired, ArePlacesPaired, AreMemoriesPaired, natmit_pairs}
+use Rattle.natmit.specs.Parts.{bit, side_number, owned, part_of, node_part, place_part, held_part, natmit_parts, natmit_form}
+
+-- ---- facts tell what they are of
+
+bit_tells : (a b : Bool) → bit a ≡ bit b → a ≡ b
+bit_tells false false e = refl
+bit_tells false true e = absurd (omega arith)
+bit_tells true false e = absurd (omega arith)
+bit_tells true true e = refl
+
+side_tells : (a b : Side) → side_number a ≡ side_number b → a ≡ b
+side_tells Left Left e = refl
+side_tells Left Right e = absurd (omega arith)
+side_tells Right Left e = absurd (omega arith)
+side_tells Right Right e = refl
+
+-- ---- nodes and places, and their parts
+
+module _ (P R : ℕ → ℕ → Type 0) where
+  parts_of_nodes : (a b : Node) → AreNodesPaired P a b → ArePartsPaired P R (node_part a) (node_part b)
+  parts_of_nodes (Leaf k) (Leaf j) h = record { facts = ap (λ x. 0 ∷ x ∷ []) h; nodes = tt; records = tt }
+  parts_of_nodes (Internal k l r) (Internal j m s) h =
+      let key : k ≡ j = h.0 in
+      let left : (l.flag ≡ m.flag) × (l.tag ≡ m.tag) × P l.node m.node = h.1 in
+      let right : (r.flag ≡ s.flag) × (r.tag ≡ s.tag) × P r.node s.node = h.2 in
+      record { facts = λ i. 1 ∷ key i ∷ bit (left.0 i) ∷ bit (left.1 i) ∷ bit (right.0 i) ∷ bit (right.1 i) ∷ []; nodes = (left.2, (right.2, tt)); records = tt }
+  parts_of_nodes _ _ h = absurd h
+
+  nodes_of_parts : (a b : Node) → ArePartsPaired P R (node_part a) (node_part b) → AreNodesPaired P a b
+  nodes_of_parts (Leaf k) (Leaf j) h = let f = h.facts in cc
+  nodes_of_parts (Internal k l r) (Internal j m s) h =
+      let f = h.facts in (
+        (let e : k ≡ j = cc in e),
+        (bit_tells l.flag m.flag cc, bit_tells l.tag m.tag cc, h.nodes.0),
+        (bit_tells r.flag s.flag cc, bit_tells r.tag s.tag cc, h.nodes.1.0),
+      )
+  nodes_of_parts _ _ h = let f = h.facts in cc
+
+  owned_paired : (m o : Mode) → AreModesPaired P m o → IsPairedOrNone P (owned m) (owned o)
+  owned_paired Plain Plain h = tt
+  owned_paired (Owner x) (Owner y) h = h
+  owned_paired _ _ h = absurd h
+
+  modes_paired : (m o : Mode) → IsPairedOrNone P (owned m) (owned o) → AreModesPaired P m o
+  modes_paired Plain Plain h = tt
+  modes_paired (Owner x) (Owner y) h = h
+  modes_paired _ _ h = absurd h
+
+  parts_of_places : (place twin : NatMitLoc) → ArePlacesPaired P place twin → ArePartsPaired P R (place_part place) (place_part twin)
+  parts_of_places (Begin m) (Begin o) h = record { facts = refl; nodes = (owned_paired m o h, tt); records = tt }
+  parts_of_places (Down a s p l t m) (Down b u q k v o) h = record { facts = ap (λ c. 2 ∷ bit c ∷ []) h.4; nodes = (h.0, (h.1, (h.2, (h.3, (owned_paired m o h.5, tt))))); records = tt }
+  parts_of_places (Put a s p l) (Put b u q k) h = record { facts = refl; nodes = (h.0, (h.1, (h.2, (h.3, tt)))); records = tt }
+  parts_of_places (Flag a s p l) (Flag b u q k) h = record { facts = refl; nodes = (h.0, (h.1, (h.2, (h.3, tt)))); records = tt }
+  parts_of_places (Look a s p l) (Look b u q k) h = record { facts = refl; nodes = (h.0, (h.1, (h.2, (h.3, tt)))); records = tt }
+  parts_of_places (CleanRead a s p m) (CleanRead b u q o) h = record { facts = refl; nodes = (h.0, (h.1, (h.2, (owned_paired m o h.3, tt)))); records = tt }
+  parts_of_places (Tag a s p d m) (Tag b u q e o) h = record { facts = ap (λ c. 7 ∷ side_number c ∷ []) h.3; nodes = (h.0, (h.1, (h.2, (owned_paired m o h.4, tt)))); records = tt }
+  parts_of_places (Sibling a s p d m) (Sibling b u q e o) h = record { facts = ap (λ c. 8 ∷ side_number c ∷ []) h.3; nodes = (h.0, (h.1, (h.2, (owned_paired m o h.4, tt)))); records = tt }
+  parts_of_places (Swing a s f x m) (Swing b u g y o) h = record { facts = ap (λ c. 9 ∷ bit c ∷ []) h.2; nodes = (h.0, (h.1, (h.3, (owned_paired m o h.4, tt)))); records = tt }
+  parts_of_places _ _ h = absurd h
+
+  places_of_parts : (place twin : NatMitLoc) → ArePartsPaired P R (place_part place) (place_part twin) → ArePlacesPaired P place twin
+  places_of_parts (Begin m) (Begin o) h = modes_paired m o h.nodes.0
+  places_of_parts (Down a s p l t m) (Down b u q k v o) h =
+      let f = h.facts in let n = h.nodes in (n.0, n.1.0, n.1.1.0, n.1.1.1.0, bit_tells t v cc, modes_paired m o n.1.1.1.1.0)
+  places_of_parts (Put a s p l) (Put b u q k) h = let n = h.nodes in (n.0, n.1.0, n.1.1.0, n.1.1.1.0)
+  places_of_parts (Flag a s p l) (Flag b u q k) h = let n = h.nodes in (n.0, n.1.0, n.1.1.0, n.1.1.1.0)
+  places_of_parts (Look a s p l) (Look b u q k) h = let n = h.nodes in (n.0, n.1.0, n.1.1.0, n.1.1.1.0)
+  places_of_parts (CleanRead a s p m) (CleanRead b u q o) h = let n = h.nodes in (n.0, n.1.0, n.1.1.0, modes_paired m o n.1.1.1.0)
+  places_of_parts (Tag a s p d m) (Tag b u q e o) h =
+      let f = h.facts in let n = h.nodes in (n.0, n.1.0, n.1.1.0, side_tells d e cc, modes_paired m o n.1.1.1.0)
+  places_of_parts (Sibling a s p d m) (Sibling b u q e o) h =
+      let f = h.facts in let n = h.nodes in (n.0, n.1.0, n.1.1.0, side_tells d e cc, modes_paired m o n.1.1.1.0)
+  places_of_parts (Swing a s f x m) (Swing b u g y o) h =
+      let e = h.facts in let n = h.nodes in (n.0, n.1.0, bit_tells f g cc, n.1.1.0, modes_paired m o n.1.1.1.0)
+  places_of_parts _ _ h = let f = h.facts in cc
+
+  -- no place has the part of a thread that holds none
+  never_idle : (place : NatMitLoc) → (held_part None).facts ≡ (place_part place).facts → ⊥
+  never_idle (Begin m) e = cc
+  never_idle _ e = cc
+
+  parts_of_held : (place twin : Option NatMitLoc) → AreHeldPaired (ArePlacesPaired P) place twin → ArePartsPaired P R (held_part place) (held_part twin)
+  parts_of_held None None h = record { facts = refl; nodes = tt; records = tt }
+  parts_of_held (Some place) (Some twin) h = parts_of_places place twin h
+  parts_of_held _ _ h = absurd h
+
+  held_of_parts : (place twin : Option NatMitLoc) → ArePartsPaired P R (held_part place) (held_part twin) → AreHeldPaired (ArePlacesPaired P) place twin
+  held_of_parts None None h = tt
+  held_of_parts (Some place) (Some twin) h = places_of_parts place twin h
+  held_of_parts None (Some twin) h = never_idle twin h.facts
+  held_of_parts (Some place) None h = never_idle place (sym h.facts)
+
+  all_parts_of_held : (held twins : List (Option NatMitLoc)) → AllZip (AreHeldPaired (ArePlacesPaired P)) held twins → AllZip (ArePartsPaired P R) (map held_part held) (map held_part twins)
+  all_parts_of_held [] [] h = tt
+  all_parts_of_held (place ∷ held) (twin ∷ twins) h = (parts_of_held place twin h.0, all_parts_of_held held twins h.1)
+  all_parts_of_held _ _ h = absurd h
+
+  all_held_of_parts : (held twins : List (Option NatMitLoc)) → AllZip (ArePartsPaired P R) (map held_part held) (map held_part twins) → AllZip (AreHeldPaired (ArePlacesPaired P)) held twins
+  all_held_of_parts [] [] h = tt
+  all_held_of_parts (place ∷ held) (twin ∷ twins) h = (held_of_parts place twin h.0, all_held_of_parts held twins h.1)
+  all_held_of_parts _ _ h = absurd h
+
+-- ---- memories, and their parts
+
+part_of_node : (memory : NatMitMem) (x : ℕ) → x < length memory.nodes → part_at (map node_part memory.nodes) x ≡ node_part (node_at memory x)
+part_of_node memory x below =
+    let t = get_at memory.nodes x below in
+    ap (λ o. unwrap_or o (part_of [] [])) (map-get node_part memory.nodes x t.0 t.1) ∙ ap (λ o. node_part (unwrap_or o (Leaf 0))) (sym t.1)
+
+module _ (memory other : NatMitMem) (held others : List (Option NatMitLoc)) where
+  abbrev here : Parts
+  here = natmit_parts memory held
+
+  abbrev there : Parts
+  there = natmit_parts other others
+
+  nodes_are : (P R : ℕ → ℕ → Type 0) (x y : ℕ) → x < length memory.nodes → y < length other.nodes
+      → ArePartsPaired P R (node_part (node_at memory x)) (node_part (node_at other y)) → ArePartsPaired P R (part_at here.nodes x) (part_at there.nodes y)
+  nodes_are P R x y below under h =
+      subst (λ part. ArePartsPaired P R part (part_at there.nodes y)) (sym (part_of_node memory x below))
+      (subst (ArePartsPaired P R (node_part (node_at memory x))) (sym (part_of_node other y under)) h)
+
+  are_nodes : (P R : ℕ → ℕ → Type 0) (x y : ℕ) → x < length memory.nodes → y < length other.nodes
+      → ArePartsPaired P R (part_at here.nodes x) (part_at there.nodes y) → ArePartsPaired P R (node_part (node_at memory x)) (node_part (node_at other y))
+  are_nodes P R x y below under h =
+      subst (λ part. ArePartsPaired P R part (node_part (node_at other y))) (part_of_node memory x below)
+      (subst (ArePartsPaired P R (part_at here.nodes x)) (part_of_node other y under) h)
+
+  first_paired : (P : ℕ → ℕ → Type 0) → P 0 0 → P 1 1 → (x : ℕ) → x < 2 → P x x
+  first_paired P root begin zero below = root
+  first_paired P root begin (suc zero) below = begin
+  first_paired P root begin (suc (suc x)) below = absurd (omega arith)
+
+  node_counts : (x y : ℕ) → (x < length here.nodes) × (y < length there.nodes) ↔ (x < length memory.nodes) × (y < length other.nodes)
+  node_counts x y =
+      let n : length here.nodes ≡ length memory.nodes = length-map memory.nodes node_part in
+      let m : length there.nodes ≡ length other.nodes = length-map other.nodes node_part in
+      ((λ r. let a = r.0 in let b = r.1 in (omega arith, omega arith)), (λ r. let a = r.0 in let b = r.1 in (omega arith, omega arith)))
+
+  parts_alike : AreAlike natmit_pairs memory held other others → CanPartsBePaired 2 here there
+  parts_alike alike =
+      let P = IsAmong alike.0.nodes in
+      let R = IsAmong [] in
+      let h : AreMemoriesPaired P memory other = alike.1 in (
+        alike.0.nodes,
+        [],
+        record {
+          nodes_one_to_one = h.one_to_one;
+          records_one_to_one = λ x y a b none. absurd none;
+          fixed_paired = first_paired P h.root_paired h.begin_paired;
+          nodes_in_range = λ x y at. (node_counts x y).1 (h.in_range x y at);
+          records_in_range = λ x y none. absurd none;
+          nodes_paired = λ x y at. nodes_are P R x y (h.in_range x y at).0 (h.in_range x y at).1 (parts_of_nodes P R (node_at memory x) (node_at other y) (h.nodes_paired x y at));
+          records_paired = λ x y none. absurd none;
+          held_paired = all_parts_of_held P R held others alike.2;
+        },
+      )
+
+  alike_parts : CanPartsBePaired 2 here there → AreAlike natmit_pairs memory held other others
+  alike_parts paired =
+      let P = IsAmong paired.0 in
+      let R = IsAmong paired.1 in
+      let h : IsPartsPairing P R 2 here there = paired.2 in
+      let in_range : (x y : ℕ) → P x y → (x < length memory.nodes) × (y < length other.nodes) = λ x y at. (node_counts x y).0 (h.nodes_in_range x y at) in (
+        record { nodes = paired.0; records = paired.1 },
+        record {
+          one_to_one = h.nodes_one_to_one;
+          root_paired = h.fixed_paired 0 (omega arith);
+          begin_paired = h.fixed_paired 1 (omega arith);
+          in_range = in_range;
+          nodes_paired = λ x y at. nodes_of_parts P R (node_at memory x) (node_at other y) (are_nodes P R x y (in_range x y at).0 (in_range x y at).1 (h.nodes_paired x y at));
+        },
+        all_held_of_parts P R held others h.held_paired,
+      )
+
+  -- the parts can be paired exactly if memories and places are alike
+  pub parts_exactly : CanPartsBePaired 2 here there ↔ AreAlike natmit_pairs memory held other others
+  parts_exactly = (alike_parts, parts_alike)
+
+-- ---- numbers in range
+
+module _ (n r : ℕ) where
+  abbrev IsBelow : Option ℕ → Type 0
+  IsBelow o = IfSome o (λ x. x < n)
+
+  owned_below : (m : Mode) → IsModeIn n m → IsBelow (owned m)
+  owned_below Plain h = tt
+  owned_below (Owner o) h = h
+
+  part_below : (facts : List ℕ) (nodes : List (Option ℕ)) → AllByRecursion IsBelow nodes → IsPartBelow n r (part_of facts nodes)
+  part_below facts nodes h = record { nodes = All-from_recursion IsBelow nodes h; records = All-nil (λ o. IfSome o (λ x. x < r)) }
+
+  node_below : (node : Node) → IsNodeIn n node → IsPartBelow n r (node_part node)
+  node_below (Leaf k) h = part_below _ [] tt
+  node_below (Internal k left right) h = part_below _ (Some left.node ∷ Some right.node ∷ []) (h.0, (h.1, tt))
+
+  four_below : (facts : List ℕ) (a s p l : ℕ) → (a < n) × (s < n) × (p < n) × (l < n) → IsPartBelow n r (part_of facts (Some a ∷ Some s ∷ Some p ∷ Some l ∷ []))
+  four_below facts a s p l h = part_below facts (Some a ∷ Some s ∷ Some p ∷ Some l ∷ []) (h.0, (h.1, (h.2, (h.3, tt))))
+
+  three_below : (facts : List ℕ) (a s p : ℕ) (m : Mode) → (a < n) × (s < n) × (p < n) × IsModeIn n m → IsPartBelow n r (part_of facts (Some a ∷ Some s ∷ Some p ∷ owned m ∷ []))
+  three_below facts a s p m h = part_below facts (Some a ∷ Some s ∷ Some p ∷ owned m ∷ []) (h.0, (h.1, (h.2, (owned_below m h.3, tt))))
+
+  place_below : (place : NatMitLoc) → IsPlaceIn n place → IsPartBelow n r (place_part place)
+  place_below (Begin m) h = part_below (1 ∷ []) (owned m ∷ []) (owned_below m h, tt)
+  place_below (Down a s p l t m) h =
+      part_below (2 ∷ bit t ∷ []) (Some a ∷ Some s ∷ Some p ∷ Some l ∷ owned m ∷ []) (h.0, (h.1, (h.2, (h.3, (owned_below m h.4, tt)))))
+  place_below (Put a s p l) h = four_below (3 ∷ []) a s p l h
+  place_below (Flag a s p l) h = four_below (4 ∷ []) a s p l h
+  place_below (Look a s p l) h = four_below (5 ∷ []) a s p l h
+  place_below (CleanRead a s p m) h = three_below (6 ∷ []) a s p m h
+  place_below (Tag a s p d m) h = three_below (7 ∷ side_number d ∷ []) a s p m h
+  place_below (Sibling a s p d m) h = three_below (8 ∷ side_number d ∷ []) a s p m h
+  place_below (Swing a s f x m) h = three_below (9 ∷ bit f ∷ []) a s x m h
+
+  held_below : (place : Option NatMitLoc) → IfSome place (IsPlaceIn n) → IsPartBelow n r (held_part place)
+  held_below None h = part_below (0 ∷ []) [] tt
+  held_below (Some place) h = place_below place h
+
+pub parts_in_range : (memory : NatMitMem) (held : List (Option NatMitLoc)) → IsInRange memory → All (λ place. IfSome place (IsPlaceInRange memory)) held → ArePartsInRange 2 (natmit_parts memory held)
+parts_in_range memory held h places =
+    let n = length memory.nodes in
+    let same : length (map node_part memory.nodes) ≡ n = length-map memory.nodes node_part in
+    let first = h.first_nodes in
+    record {
+      fixed_in_range = omega arith;
+      nodes = subst (λ m. All (IsPartBelow m 0) (map node_part memory.nodes)) (sym same)
+          (All-map (IsPartBelow n 0) node_part memory.nodes (All-weaker (IsNodeIn n) (λ node. IsPartBelow n 0 (node_part node)) (node_below n 0) memory.nodes h.nodes));
+      records = All-nil (IsPartBelow (length (map node_part memory.nodes)) 0);
+      held = subst (λ m. All (IsPartBelow m 0) (map held_part held)) (sym same)
+          (All-map (IsPartBelow n 0) held_part held (All-weaker (λ place. IfSome place (IsPlaceIn n)) (λ place. IsPartBelow n 0 (held_part place)) (held_below n 0) held places));
+    }
+
+-- two forms are equal exactly if memories and places are alike
+pub natmit_forms_exact : (memory other : NatMitMem) (held others : List (Option NatMitLoc)) → IsInRange memory → All (λ place. IfSome place (IsPlaceInRange memory)) held
+    → IsInRange other → All (λ place. IfSome place (IsPlaceInRange other)) others → length held ≡ length others
+    → (natmit_form memory held ≡ natmit_form other others) ↔ AreAlike natmit_pairs memory held other others
+natmit_forms_exact memory other held others h places k other_places same =
+    let lengths : length (map held_part held) ≡ length (map held_part others) = length-map held held_part ∙ (same ∙ sym (length-map others held_part)) in
+    let exact = flat_forms_exact 2 (natmit_parts memory held) (natmit_parts other others) (parts_in_range memory held h places) (parts_in_range other others k other_places) lengths in
+    let alike = parts_exactly memory other held others in
+    ((λ e. alike.0 (exact.0 e)), (λ a. exact.1 (alike.1 a)))

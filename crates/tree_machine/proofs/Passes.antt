@@ -1,0 +1,332 @@
+-- A walk that writes each cell as it visits it.
+use Rattle.std.proofs.Common.{◌≡◌, ℕ, zero, suc, ◌+◌, ◌-◌, ◌<◌, ◌≤◌, ◌⊎◌, Bool, true, false, cond, ◌||◌, List, [], ◌∷◌, ◌++◌, map, length, take, drop, refl, sym, ◌∙◌, ap, subst, inl, inr, arith, append_assoc, length-append, add-one}
+use Rattle.std.specs.Prelude.{slice_get, Option, Some, None, nat_eq, IfSome}
+use Rattle.std.specs.List.{All, AllByRecursion, list_any, flat_map}
+use Rattle.std.specs.Option.{option_map, option_and_then}
+use Rattle.std.proofs.lemmas.Bool.Decides.{eqb_tells}
+use Rattle.std.proofs.lemmas.Grind.{flat_map-append}
+use Rattle.std.proofs.lemmas.List.{append-nil, map-append, length-map}
+use Rattle.std.proofs.lemmas.List.Concat.{flat_map-cons}
+use Rattle.std.proofs.lemmas.List.Elements.{All-append, All-weaker, All-nil, All-from_recursion, recursion_from_All}
+use Rattle.std.proofs.lemmas.Option.{slice_get_within}
+use Rattle.tree_machine.specs.Cells.{Content, content_at, met, met_all, met_in, visited, order_of, place_in, renamed, canonical, IsRooted}
+use Rattle.tree_machine.specs.CellOrder.{Has, HasAll, Extends, extends_itself, extends_more, get_extends, met_has, met_all_has, met_all_extends, visited_extends, met_in_order, length-order, content_all}
+use Rattle.tree_machine.specs.CellPlaces.{place_from_has, get_place}
+use Rattle.tree_machine.specs.Graphs.{numbers_from, roots_of}
+use Rattle.tree_machine.specs.GraphLaws.{numbers_all, numbers_more, content_back, form_rooted}
+use Rattle.tree_machine.specs.Parts.{Part, Parts, ArePartsInRange, part_at, part_cell, parts_graph, parts_held}
+use Rattle.tree_machine.specs.PartLaws.{content_map, length-parts_graph, parts_fit}
+use Rattle.tree_machine.specs.Flat.{number_code, reference_number, counted_codes, cell_code, flat}
+use Rattle.tree_machine.proofs.Walks.{past_none, met_in_done, met_in_end}
+
+-- ---- a run of cells
+
+fresh : (y : ℕ) (xs : List ℕ) → AllByRecursion (λ x. x < y) xs → list_any (nat_eq y) xs ≡ false
+fresh y [] h = refl
+fresh y (x ∷ xs) h = ap (λ t. t || list_any (nat_eq y) xs) (apart (eqb_tells y x)) ∙ fresh y xs h.1
+  where
+    apart : ((nat_eq y x ≡ true) × (y ≡ x)) ⊎ ((nat_eq y x ≡ false) × (y ≡ x → ⊥)) → nat_eq y x ≡ false
+    apart (inl e) = let same : y ≡ x = e.1 in let less : x < y = h.0 in absurd (omega arith)
+    apart (inr e) = e.0
+
+-- a cell behind all that are met is put at the end
+pub run_next : (old : List ℕ) (first i : ℕ) → All (λ x. x < first) old → met (old ++ numbers_from first i) (first + i) ≡ old ++ numbers_from first (i + 1)
+run_next old first i h =
+    let before = All-append (λ x. x < first + i) old (numbers_from first i) (All-weaker (λ x. x < first) (λ x. x < first + i) (λ x l. omega arith) old h) (numbers_all (λ x. x < first + i) first i (λ x l k. k)) in
+    ap (λ t. cond t (old ++ numbers_from first i) ((old ++ numbers_from first i) ++ (first + i) ∷ [])) (fresh (first + i) (old ++ numbers_from first i) (recursion_from_All _ _ before))
+    ∙ (append_assoc old (numbers_from first i) ((first + i) ∷ []) ∙ ap (λ l. old ++ l) (sym (numbers_more first i)))
+
+-- ---- a place that is known stays
+
+pub place_append : (xs zs : List ℕ) (x k : ℕ) → place_in xs x ≡ Some k → place_in (xs ++ zs) x ≡ Some k
+place_append [] zs x k h = cc
+place_append (y ∷ xs) zs x k h = go (nat_eq x y) (place_in xs x) refl h (λ j e. place_append xs zs x j e)
+  where
+    go : (t : Bool) (r : Option ℕ) → place_in xs x ≡ r → cond t (Some 0) (option_map suc (place_in xs x)) ≡ Some k → ((j : ℕ) → place_in xs x ≡ Some j → place_in (xs ++ zs) x ≡ Some j) → cond t (Some 0) (option_map suc (place_in (xs ++ zs) x)) ≡ Some k
+    go true r e h rest = h
+    go false None e h rest = let f : option_map suc (place_in xs x) ≡ None = ap (option_map suc) e in cc
+    go false (Some j) e h rest = ap (option_map suc) (rest j e) ∙ (sym (ap (option_map suc) e) ∙ h)
+
+pub place_kept : {xs ys : List ℕ} → Extends xs ys → (x : ℕ) → Has xs x → place_in ys x ≡ place_in xs x
+place_kept {xs} e x h =
+    let k = place_from_has xs x h in
+    ap (λ o. place_in o x) e.is ∙ (place_append xs e.rest x k.0 k.1 ∙ sym k.1)
+
+pub places_kept : {xs ys : List ℕ} → Extends xs ys → (refs : List (Option ℕ)) → HasAll xs refs → map (option_and_then (place_in ys)) refs ≡ map (option_and_then (place_in xs)) refs
+places_kept e [] h = refl
+places_kept e (None ∷ refs) h = ap (λ l. None ∷ l) (places_kept e refs h)
+places_kept {xs} {ys} e (Some x ∷ refs) h =
+    ap (λ r. r ∷ map (option_and_then (place_in ys)) refs) (place_kept e x h.0) ∙ ap (λ l. place_in xs x ∷ l) (places_kept e refs h.1)
+
+-- ---- references that are written as they are met
+
+-- the places of refs, in bytes
+abbrev pub places_code : List ℕ → List (Option ℕ) → List ℕ
+places_code order refs = flat_map number_code (map reference_number (map (option_and_then (place_in order)) refs))
+
+abbrev pub place_code : List ℕ → Option ℕ → List ℕ
+place_code order r = number_code (reference_number (option_and_then (place_in order) r))
+
+-- the places of refs, each as it is met
+abbrev pub met_codes : List ℕ → List (Option ℕ) → List ℕ
+met_codes order [] = []
+met_codes order (r ∷ refs) = place_code (met_all order (r ∷ [])) r ++ met_codes (met_all order (r ∷ [])) refs
+
+pub met_all_step : (order : List ℕ) (r : Option ℕ) (refs : List (Option ℕ)) → met_all order (r ∷ refs) ≡ met_all (met_all order (r ∷ [])) refs
+met_all_step order None refs = refl
+met_all_step order (Some x) refs = refl
+
+pub met_all_append : (order : List ℕ) (refs sefs : List (Option ℕ)) → met_all order (refs ++ sefs) ≡ met_all (met_all order refs) sefs
+met_all_append order [] sefs = refl
+met_all_append order (None ∷ refs) sefs = met_all_append order refs sefs
+met_all_append order (Some x ∷ refs) sefs = met_all_append (met order x) refs sefs
+
+first_kept : (order : List ℕ) (r : Option ℕ) (refs : List (Option ℕ)) → option_and_then (place_in (met_all order (r ∷ refs))) r ≡ option_and_then (place_in (met_all order (r ∷ []))) r
+first_kept order None refs = refl
+first_kept order (Some x) refs = place_kept (met_all_extends refs (met order x)) x (met_has order x)
+
+pub met_codes_are : (order : List ℕ) (refs : List (Option ℕ)) → met_codes order refs ≡ places_code (met_all order refs) refs
+met_codes_are order [] = refl
+met_codes_are order (r ∷ refs) =
+    let next = met_all order (r ∷ []) in
+    let rest : met_codes next refs ≡ places_code (met_all order (r ∷ refs)) refs = met_codes_are next refs ∙ ap (λ o. places_code o refs) (sym (met_all_step order r refs)) in
+    ap (λ l. place_code next r ++ l) rest
+    ∙ (ap (λ p. number_code (reference_number p) ++ places_code (met_all order (r ∷ refs)) refs) (sym (first_kept order r refs))
+    ∙ sym (flat_map-cons number_code (reference_number (option_and_then (place_in (met_all order (r ∷ refs))) r)) (map reference_number (map (option_and_then (place_in (met_all order (r ∷ refs)))) refs))))
+
+-- refs that name cells from n on
+abbrev pub shifted : ℕ → List (Option ℕ) → List (Option ℕ)
+shifted n refs = map (option_map (λ x. n + x)) refs
+
+drop_whole : {X : Type 0} (xs : List X) (n : ℕ) → length xs ≤ n → drop n xs ≡ []
+drop_whole [] zero l = refl
+drop_whole [] (suc n) l = refl
+drop_whole (x ∷ xs) zero l = absurd (omega arith)
+drop_whole (x ∷ xs) (suc n) l = drop_whole xs n (omega arith)
+
+-- what is put once nothing is left
+pub references_done : (order now bytes more : List ℕ) (n i : ℕ) (refs : List (Option ℕ)) → length refs ≤ i → met_all now (shifted n (drop i refs)) ≡ met_all order (shifted n refs) → more ++ met_codes now (shifted n (drop i refs)) ≡ bytes ++ met_codes order (shifted n refs) → more ≡ bytes ++ places_code now (shifted n refs)
+references_done order now bytes more n i refs l h g =
+    let none = drop_whole refs i l in
+    let done : now ≡ met_all order (shifted n refs) = subst (λ left. met_all now (shifted n left) ≡ met_all order (shifted n refs)) none h in
+    sym (append-nil more)
+    ∙ (subst (λ left. more ++ met_codes now (shifted n left) ≡ bytes ++ met_codes order (shifted n refs)) none g
+    ∙ ap (λ l. bytes ++ l) (met_codes_are order (shifted n refs) ∙ ap (λ o. places_code o (shifted n refs)) (sym done)))
+
+-- the number of a place fits a word, as the length of the order does
+pub place_below : (order : List ℕ) (x k : ℕ) → place_in order x ≡ Some k → k < length order
+place_below order x k e = slice_get_within order k x (get_place order x k e)
+
+-- ---- a cell in bytes, piece by piece
+
+pub shifted_by_none : (refs : List (Option ℕ)) → shifted 0 refs ≡ refs
+shifted_by_none [] = refl
+shifted_by_none (None ∷ refs) = ap (λ l. None ∷ l) (shifted_by_none refs)
+shifted_by_none (Some x ∷ refs) = let e : 0 + x ≡ x = omega arith in ap (λ y. Some y ∷ shifted 0 refs) e ∙ ap (λ l. Some x ∷ l) (shifted_by_none refs)
+
+places_code_append : (order : List ℕ) (refs sefs : List (Option ℕ)) → places_code order (refs ++ sefs) ≡ places_code order refs ++ places_code order sefs
+places_code_append order refs sefs =
+    ap (λ l. flat_map number_code (map reference_number l)) (map-append (option_and_then (place_in order)) refs sefs)
+    ∙ (ap (flat_map number_code) (map-append reference_number (map (option_and_then (place_in order)) refs) (map (option_and_then (place_in order)) sefs))
+    ∙ flat_map-append number_code (map reference_number (map (option_and_then (place_in order)) refs)) (map reference_number (map (option_and_then (place_in order)) sefs)))
+
+facts_code : (facts : List ℕ) (kind named : ℕ) → counted_codes (kind ∷ named ∷ facts) ≡ number_code (length facts + 2) ++ (number_code kind ++ (number_code named ++ flat_map number_code facts))
+facts_code facts kind named =
+    let count : suc (suc (length facts)) ≡ length facts + 2 = omega arith in
+    ap (λ n. number_code n ++ flat_map number_code (kind ∷ named ∷ facts)) count
+    ∙ ap (λ l. number_code (length facts + 2) ++ l) (flat_map-cons number_code kind (named ∷ facts) ∙ ap (λ l. number_code kind ++ l) (flat_map-cons number_code named facts))
+
+references_code : (order : List ℕ) (refs sefs : List (Option ℕ)) → counted_codes (map reference_number (map (option_and_then (place_in order)) (refs ++ sefs))) ≡ number_code (length refs + length sefs) ++ (places_code order refs ++ places_code order sefs)
+references_code order refs sefs =
+    let count : length (map reference_number (map (option_and_then (place_in order)) (refs ++ sefs))) ≡ length refs + length sefs =
+    length-map (map (option_and_then (place_in order)) (refs ++ sefs)) reference_number ∙ (length-map (refs ++ sefs) (option_and_then (place_in order)) ∙ length-append refs sefs) in
+    ap (λ n. number_code n ++ places_code order (refs ++ sefs)) count ∙ ap (λ l. number_code (length refs + length sefs) ++ l) (places_code_append order refs sefs)
+
+-- what is put behind what was put
+joined : (x y z a b : List ℕ) → y ≡ x ++ a → z ≡ y ++ b → z ≡ x ++ (a ++ b)
+joined x y z a b e f = f ∙ (ap (λ l. l ++ b) e ∙ append_assoc x a b)
+
+-- the facts of a part, number by number
+pub facts_written : (kind named count : ℕ) (p : Part) (facts b c d e f : List ℕ) → named ≡ length p.nodes → count ≡ length p.facts → facts ≡ p.facts → c ≡ b ++ number_code (count + 2) → d ≡ c ++ number_code kind → e ≡ d ++ number_code named → f ≡ e ++ flat_map number_code facts →
+    f ≡ b ++ counted_codes (kind ∷ length p.nodes ∷ p.facts)
+facts_written kind named count p facts b c d e f is_named is_count is_facts h1 h2 h3 h4 =
+    let g1 : c ≡ b ++ number_code (length p.facts + 2) = h1 ∙ ap (λ n. b ++ number_code (n + 2)) is_count in
+    let g3 : e ≡ d ++ number_code (length p.nodes) = h3 ∙ ap (λ n. d ++ number_code n) is_named in
+    let g4 : f ≡ e ++ flat_map number_code p.facts = h4 ∙ ap (λ l. e ++ flat_map number_code l) is_facts in
+    joined b c f (number_code (length p.facts + 2)) (number_code kind ++ (number_code (length p.nodes) ++ flat_map number_code p.facts)) g1
+    (joined c d f (number_code kind) (number_code (length p.nodes) ++ flat_map number_code p.facts) h2
+    (joined d e f (number_code (length p.nodes)) (flat_map number_code p.facts) g3 g4))
+    ∙ ap (λ l. b ++ l) (sym (facts_code p.facts kind (length p.nodes)))
+
+-- the references of a part, written one list after the other, in places of the order after both
+pub part_places : (order first second : List ℕ) (n : ℕ) (p : Part) → first ≡ met_all order (shifted 0 p.nodes) → second ≡ met_all first (shifted n p.records) →
+    (second ≡ met_all order (p.nodes ++ shifted n p.records)) × (places_code first (shifted 0 p.nodes) ≡ places_code second p.nodes)
+part_places order first second n p e f =
+    let at_first : first ≡ met_all order p.nodes = e ∙ ap (met_all order) (shifted_by_none p.nodes) in
+    let has : HasAll first p.nodes = subst (λ o. HasAll o p.nodes) (sym at_first) (met_all_has p.nodes order) in
+    let more : Extends first second = subst (Extends first) (sym f) (met_all_extends (shifted n p.records) first) in (
+      f ∙ (ap (λ o. met_all o (shifted n p.records)) at_first ∙ sym (met_all_append order p.nodes (shifted n p.records))),
+      ap (places_code first) (shifted_by_none p.nodes) ∙ ap (λ l. flat_map number_code (map reference_number l)) (sym (places_kept more p.nodes has)),
+    )
+
+-- a part, in the pieces in which it is written
+pub part_written : (n kind named : ℕ) (p : Part) (nodes records : List (Option ℕ)) (order first second b c d e f : List ℕ) → nodes ≡ p.nodes → records ≡ p.records → named ≡ length p.nodes + length p.records →
+    first ≡ met_all order (shifted 0 nodes) → second ≡ met_all first (shifted n records) →
+    c ≡ b ++ counted_codes (kind ∷ length p.nodes ∷ p.facts) → d ≡ c ++ number_code named → e ≡ d ++ places_code first (shifted 0 nodes) → f ≡ e ++ places_code second (shifted n records) →
+    (second ≡ met_all order (part_cell n kind p).refs) × (f ≡ b ++ cell_code (renamed second (part_cell n kind p)))
+part_written n kind named p nodes records order first second b c d e f is_nodes is_records is_named m1 m2 h1 h2 h3 h4 =
+    let n1 : first ≡ met_all order (shifted 0 p.nodes) = m1 ∙ ap (λ l. met_all order (shifted 0 l)) is_nodes in
+    let n2 : second ≡ met_all first (shifted n p.records) = m2 ∙ ap (λ l. met_all first (shifted n l)) is_records in
+    let places = part_places order first second n p n1 n2 in
+    let count : named ≡ length p.nodes + length (shifted n p.records) = is_named ∙ ap (λ k. length p.nodes + k) (sym (length-map p.records (option_map (λ x. n + x)))) in
+    let g2 : d ≡ c ++ number_code (length p.nodes + length (shifted n p.records)) = h2 ∙ ap (λ k. c ++ number_code k) count in
+    let g3 : e ≡ d ++ places_code second p.nodes = h3 ∙ (ap (λ l. d ++ places_code first (shifted 0 l)) is_nodes ∙ ap (λ l. d ++ l) places.1) in
+    let g4 : f ≡ e ++ places_code second (shifted n p.records) = h4 ∙ ap (λ l. e ++ places_code second (shifted n l)) is_records in
+    let refs = references_code second p.nodes (shifted n p.records) in
+    let rest : f ≡ c ++ counted_codes (map reference_number (map (option_and_then (place_in second)) (p.nodes ++ shifted n p.records))) =
+    joined c d f (number_code (length p.nodes + length (shifted n p.records))) (places_code second p.nodes ++ places_code second (shifted n p.records)) g2
+    (joined d e f (places_code second p.nodes) (places_code second (shifted n p.records)) g3 g4)
+    ∙ ap (λ l. c ++ l) (sym refs) in
+    (places.0, joined b c f (counted_codes (kind ∷ length p.nodes ∷ p.facts)) (counted_codes (map reference_number (map (option_and_then (place_in second)) (p.nodes ++ shifted n p.records)))) h1 rest)
+
+-- ---- the walk in bytes
+
+abbrev pub visited_code : List Content → List ℕ → Option ℕ → List ℕ
+visited_code cells order None = []
+visited_code cells order (Some x) = cell_code (renamed order (content_at cells x))
+
+-- the cells of n visits in bytes, each as it is visited
+abbrev pub code_in : List Content → List ℕ → ℕ → List ℕ
+code_in cells roots zero = []
+code_in cells roots (suc n) = code_in cells roots n ++ visited_code cells (met_in cells roots (suc n)) (slice_get (met_in cells roots n) n)
+
+-- a visit
+pub code_next : (cells : List Content) (roots order after bytes more : List ℕ) (n x : ℕ) (c : Content) → order ≡ met_in cells roots n → bytes ≡ code_in cells roots n → slice_get order n ≡ Some x → c ≡ content_at cells x → after ≡ met_all order c.refs → more ≡ bytes ++ cell_code (renamed after c) →
+    (after ≡ met_in cells roots (n + 1)) × (more ≡ code_in cells roots (n + 1))
+code_next cells roots order after bytes more n x c e b at is a m =
+    let found : slice_get (met_in cells roots n) n ≡ Some x = ap (λ o. slice_get o n) (sym e) ∙ at in
+    let then : after ≡ met_in cells roots (suc n) = a ∙ (ap (met_all order) (ap (λ d. d.refs) is) ∙ (ap (λ o. met_all o (content_at cells x).refs) e ∙ ap (visited cells (met_in cells roots n)) (sym found))) in
+    let code : cell_code (renamed after c) ≡ visited_code cells (met_in cells roots (suc n)) (slice_get (met_in cells roots n) n) =
+    ap (λ d. cell_code (renamed after d)) is ∙ (ap (λ o. cell_code (renamed o (content_at cells x))) then ∙ ap (visited_code cells (met_in cells roots (suc n))) (sym found)) in
+    let whole : more ≡ code_in cells roots (suc n) = m ∙ (ap (λ l. l ++ cell_code (renamed after c)) b ∙ ap (λ l. code_in cells roots n ++ l) code) in
+    (then ∙ ap (met_in cells roots) (sym (add-one n)), whole ∙ ap (code_in cells roots) (sym (add-one n)))
+
+met_in_later : (cells : List Content) (roots : List ℕ) (n k : ℕ) → Extends (met_in cells roots n) (met_in cells roots (k + n))
+met_in_later cells roots n zero = let e : 0 + n ≡ n = omega arith in subst (λ m. Extends (met_in cells roots n) (met_in cells roots m)) (sym e) (extends_itself (met_in cells roots n))
+met_in_later cells roots n (suc k) =
+    let e : suc k + n ≡ suc (k + n) = omega arith in
+    subst (λ m. Extends (met_in cells roots n) (met_in cells roots m)) (sym e)
+    (extends_more (met_in_later cells roots n k) (visited_extends cells (met_in cells roots (k + n)) (slice_get (met_in cells roots (k + n)) (k + n))))
+
+order_later : (cells : List Content) (roots : List ℕ) (n : ℕ) → n ≤ length cells → Extends (met_in cells roots n) (order_of cells roots)
+order_later cells roots n l = let e : (length cells - n) + n ≡ length cells = omega arith in subst (λ m. Extends (met_in cells roots n) (met_in cells roots m)) e (met_in_later cells roots n (length cells - n))
+
+take_at : (xs : List ℕ) (n x : ℕ) → slice_get xs n ≡ Some x → take (suc n) xs ≡ take n xs ++ x ∷ []
+take_at [] n x e = cc
+take_at (y ∷ xs) zero x e = let same : y ≡ x = cc in ap (λ z. z ∷ []) same
+take_at (y ∷ xs) (suc n) x e = ap (λ l. y ∷ l) (take_at xs n x e)
+
+pub take_whole : (xs : List ℕ) (n : ℕ) → length xs ≤ n → take n xs ≡ xs
+take_whole [] zero l = refl
+take_whole [] (suc n) l = refl
+take_whole (x ∷ xs) zero l = absurd (omega arith)
+take_whole (x ∷ xs) (suc n) l = ap (λ l. x ∷ l) (take_whole xs n (omega arith))
+
+-- the first n cells of the order, in bytes
+abbrev front_code : List Content → List ℕ → ℕ → List ℕ
+front_code cells order n = flat (map (λ x. renamed order (content_at cells x)) (take n order))
+
+front_next : (cells : List Content) (order : List ℕ) (n x : ℕ) → slice_get order n ≡ Some x → front_code cells order (suc n) ≡ front_code cells order n ++ cell_code (renamed order (content_at cells x))
+front_next cells order n x e =
+    let f : ℕ → Content = λ y. renamed order (content_at cells y) in
+    ap (λ l. flat (map f l)) (take_at order n x e)
+    ∙ (ap flat (map-append f (take n order) (x ∷ []))
+    ∙ (flat_map-append cell_code (map f (take n order)) (f x ∷ [])
+    ∙ ap (λ l. front_code cells order n ++ l) (flat_map-cons cell_code (f x) [] ∙ append-nil (cell_code (f x)))))
+
+module _ (cells : List Content) (roots : List ℕ) where
+  pub code_is_front : (n : ℕ) → n ≤ length cells → code_in cells roots n ≡ front_code cells (order_of cells roots) n
+  code_is_front zero l = refl
+  code_is_front (suc n) l = go (slice_get (met_in cells roots n) n) refl (code_is_front n (omega arith))
+    where
+      go : (r : Option ℕ) → slice_get (met_in cells roots n) n ≡ r → code_in cells roots n ≡ front_code cells (order_of cells roots) n → code_in cells roots n ++ visited_code cells (visited cells (met_in cells roots n) r) r ≡ front_code cells (order_of cells roots) (suc n)
+      go None at before =
+          let short : length (met_in cells roots n) ≤ n = past_none (met_in cells roots n) n at in
+          let rest : n + (length cells - n) ≡ length cells = omega arith in
+          let done : order_of cells roots ≡ met_in cells roots n = ap (met_in cells roots) (sym rest) ∙ met_in_done cells roots n (length cells - n) at in
+          let within : length (order_of cells roots) ≤ n = subst (λ o. length o ≤ n) (sym done) short in
+          append-nil (code_in cells roots n)
+          ∙ (before ∙ ap (λ l. flat (map (λ x. renamed (order_of cells roots) (content_at cells x)) l)) (take_whole (order_of cells roots) n within ∙ sym (take_whole (order_of cells roots) (suc n) (omega arith))))
+      go (Some x) at before =
+          let after = visited cells (met_in cells roots n) (Some x) in
+          let same : met_in cells roots (suc n) ≡ after = ap (visited cells (met_in cells roots n)) at in
+          let more : Extends after (order_of cells roots) = subst (λ o. Extends o (order_of cells roots)) same (order_later cells roots (suc n) l) in
+          let has : HasAll after (content_at cells x).refs = met_all_has (content_at cells x).refs (met_in cells roots n) in
+          let kept = places_kept more (content_at cells x).refs has in
+          let code : cell_code (renamed after (content_at cells x)) ≡ cell_code (renamed (order_of cells roots) (content_at cells x)) = ap (λ refs. cell_code (record { facts = (content_at cells x).facts; refs = refs })) (sym kept) in
+          let there : slice_get (order_of cells roots) n ≡ Some x = get_extends (order_later cells roots n (omega arith)) n x at in
+          ap (λ l. l ++ cell_code (renamed after (content_at cells x))) before
+          ∙ (ap (λ l. front_code cells (order_of cells roots) n ++ l) code ∙ sym (front_next cells (order_of cells roots) n x there))
+
+  -- what is written once there is nothing more to visit
+  pub code_done : (n : ℕ) (order bytes : List ℕ) → n ≤ length cells → bytes ≡ code_in cells roots n → order ≡ order_of cells roots → length order ≤ n → bytes ≡ flat (canonical cells roots)
+  code_done n order bytes l b e short =
+      b ∙ (code_is_front n l ∙ ap (λ o. flat (map (λ x. renamed (order_of cells roots) (content_at cells x)) o)) (take_whole (order_of cells roots) n (subst (λ o. length o ≤ n) e short)))
+
+  -- the references of a cell are in range
+  pub cell_refs : (n x : ℕ) (c : Content) → IsRooted cells roots → n ≡ length cells → c ≡ content_at cells x → All (λ r. IfSome r (λ y. y < n)) c.refs
+  cell_refs n x c h e is =
+      subst (λ d. All (λ r. IfSome r (λ y. y < n)) d.refs) (sym is)
+      (subst (λ m. All (λ r. IfSome r (λ y. y < m)) (content_at cells x).refs) (sym e)
+      (content_all (λ d. All (λ r. IfSome r (λ y. y < length cells)) d.refs) (All-nil _) cells (recursion_from_All _ cells h.refs_in_range) x))
+
+  -- what is written when each cell had its visit
+  pub code_at_end : (n : ℕ) (order bytes : List ℕ) → IsRooted cells roots → n ≡ length cells → order ≡ met_in cells roots n → bytes ≡ code_in cells roots n → bytes ≡ flat (canonical cells roots)
+  code_at_end n order bytes h l e b =
+      let done : order ≡ order_of cells roots = e ∙ ap (met_in cells roots) l in
+      let short : length order ≤ length cells = subst (λ o. length o ≤ length cells) (sym done) (length-order (length cells) (order_of cells roots) (met_in_order cells roots h (length cells))) in
+      code_done n order bytes (omega arith) b done (omega arith)
+
+  -- what is written when there is no cell to visit
+  pub code_at_stop : (n : ℕ) (order bytes : List ℕ) → n < length cells → order ≡ met_in cells roots n → bytes ≡ code_in cells roots n → slice_get order n ≡ None → bytes ≡ flat (canonical cells roots)
+  code_at_stop n order bytes l e b none = code_done n order bytes (omega arith) b (met_in_end cells roots order n e l none) (past_none order n none)
+
+-- the fixed cells stand before the others
+pub fixed_below : (fixed graph : ℕ) (before order : List ℕ) → before ≡ [] → order ≡ before ++ numbers_from 0 fixed → fixed ≤ graph → All (λ x. x < graph) order
+fixed_below fixed graph before order e f l =
+    let is : order ≡ numbers_from 0 fixed = f ∙ ap (λ b. b ++ numbers_from 0 fixed) e in
+    subst (All (λ x. x < graph)) (sym is) (numbers_all (λ x. x < graph) 0 fixed (λ x k m. omega arith))
+
+pub parts_rooted : (fixed : ℕ) (s : Parts) → ArePartsInRange fixed s → IsRooted (parts_graph s ++ parts_held s) (roots_of fixed (parts_graph s) (parts_held s))
+parts_rooted fixed s h = form_rooted fixed (parts_graph s) (parts_held s) (parts_graph s ++ parts_held s) (roots_of fixed (parts_graph s) (parts_held s)) (parts_fit fixed s h) refl refl
+
+-- the records of a part are in range, as its references are
+pub records_below : (n m : ℕ) (refs sefs : List (Option ℕ)) → All (λ r. IfSome r (λ x. x < m)) (refs ++ shifted n sefs) → All (λ r. IfSome r (λ x. n + x < m)) sefs
+records_below n m refs sefs h = All-from_recursion (λ r. IfSome r (λ x. n + x < m)) sefs (go refs sefs (recursion_from_All _ (refs ++ shifted n sefs) h))
+  where
+    tail : (sefs : List (Option ℕ)) → AllByRecursion (λ r. IfSome r (λ x. x < m)) (shifted n sefs) → AllByRecursion (λ r. IfSome r (λ x. n + x < m)) sefs
+    tail [] h = tt
+    tail (None ∷ sefs) h = (h.0, tail sefs h.1)
+    tail (Some x ∷ sefs) h = (h.0, tail sefs h.1)
+
+    go : (refs sefs : List (Option ℕ)) → AllByRecursion (λ r. IfSome r (λ x. x < m)) (refs ++ shifted n sefs) → AllByRecursion (λ r. IfSome r (λ x. n + x < m)) sefs
+    go [] sefs h = tail sefs h
+    go (r ∷ refs) sefs h = go refs sefs h.1
+
+-- and so are its nodes
+pub nodes_below : (m : ℕ) (refs sefs : List (Option ℕ)) → All (λ r. IfSome r (λ x. x < m)) (refs ++ sefs) → All (λ r. IfSome r (λ x. 0 + x < m)) refs
+nodes_below m refs sefs h = All-from_recursion (λ r. IfSome r (λ x. 0 + x < m)) refs (go refs (recursion_from_All _ (refs ++ sefs) h))
+  where
+    go : (refs : List (Option ℕ)) → AllByRecursion (λ r. IfSome r (λ x. x < m)) (refs ++ sefs) → AllByRecursion (λ r. IfSome r (λ x. 0 + x < m)) refs
+    go [] h = tt
+    go (None ∷ refs) h = (tt, go refs h.1)
+    go (Some x ∷ refs) h = (let below : x < m = h.0 in omega arith, go refs h.1)
+
+-- what a thread holds, among the cells
+pub held_cell_at : (s : Parts) (x : ℕ) → length s.nodes ≤ x → length s.records ≤ x - length s.nodes → x < length (parts_graph s ++ parts_held s) → content_at (parts_graph s ++ parts_held s) x ≡ part_cell (length s.nodes) 2 (part_at s.held (x - length s.nodes - length s.records))
+held_cell_at s x l k h =
+    let place = x - length s.nodes - length s.records in
+    let graph : length (parts_graph s) ≡ length s.nodes + length s.records = length-parts_graph s in
+    let is : length (parts_graph s) + place ≡ x = omega arith in
+    let within : place < length s.held = omega (arith, length-append (parts_graph s) (parts_held s), length-map s.held (part_cell (length s.nodes) 2)) in
+    ap (content_at (parts_graph s ++ parts_held s)) (sym is) ∙ (content_back (parts_graph s) (parts_held s) place ∙ content_map (part_cell (length s.nodes) 2) s.held place within)

@@ -1,0 +1,18 @@
+use Rattle.std.proofs.Common.{◌≡◌, ◌++◌, length}
+use Rattle.tree_machine.specs.Cells.{met_in}
+use Rattle.tree_machine.specs.Graphs.{roots_of}
+use Rattle.tree_machine.specs.Parts.{parts_graph, parts_held}
+use Rattle.tree_machine.proofs.Passes.{code_in}
+use Rattle.tree_machine.proofs.parts.walk_parts.Given as goal
+
+-- so many visits are done
+abbrev pub invariant-loop-visits : goal.invariant-loop-visits
+invariant-loop-visits g l =
+    let s = g.P.Parts.parts l.parts in
+    let cells = parts_graph s ++ parts_held s in
+    let roots = roots_of l.fixed (parts_graph s) (parts_held s) in
+    record {
+      order : l.pass.numbering.order.items ≡ met_in cells roots l.visits;
+      bytes : l.pass.bytes.items ≡ code_in cells roots l.visits;
+      range : length l.pass.numbering.numbers.items ≡ length cells;
+    }

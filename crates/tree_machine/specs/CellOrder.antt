@@ -1,0 +1,246 @@
+-- The cells that a walk meets, in their order: distinct, in range, and closed.
+use Rattle.std.proofs.Common.{◌≡◌, ℕ, zero, suc, ◌+◌, ◌<◌, ◌≤◌, ◌⊎◌, Bool, true, false, cond, ◌||◌, List, [], ◌∷◌, ◌++◌, length, refl, sym, ◌∙◌, ap, subst, inl, inr, arith, append_assoc, add-suc, add-zero, get_or}
+use Rattle.std.specs.Prelude.{slice_get, Option, Some, None, nat_eq, ⊤, IfSome}
+use Rattle.std.specs.Cmp.{IsEquivalence}
+use Rattle.std.specs.List.{list_any, All, AllByRecursion, IsDistinct}
+use Rattle.std.proofs.lemmas.Bool.{eq-eqb, eqb-true}
+use Rattle.std.proofs.lemmas.List.Elements.{recursion_from_All, All-nil}
+use Rattle.std.proofs.lemmas.List.Folds.{list_any-append}
+use Rattle.std.proofs.lemmas.Map.Keys.{IsDistinct-push}
+use Rattle.std.proofs.lemmas.Map.Steps.{length-le_from_distinct_below}
+use Rattle.std.proofs.lemmas.Option.{slice_get_past, slice_get_within, slice_get-get_or}
+use Rattle.tree_machine.specs.Cells.{Content, met, met_all, visited, met_in, content_at, order_of, IsRooted}
+use Rattle.tree_machine.specs.CellSteps.{same_tests}
+
+-- x stands in xs
+abbrev pub Has : List ℕ → ℕ → Type 0
+Has xs x = list_any (nat_eq x) xs ≡ true
+
+-- each cell that refs name stands in xs
+abbrev pub HasAll : List ℕ → List (Option ℕ) → Type 0
+HasAll xs [] = ⊤
+HasAll xs (None ∷ refs) = HasAll xs refs
+HasAll xs (Some x ∷ refs) = Has xs x × HasAll xs refs
+
+-- ys is xs with more behind it
+pub record Extends (xs ys : List ℕ) : Type 0 where
+  pub rest : List ℕ
+  pub is : ys ≡ xs ++ rest
+
+append_nil : (xs : List ℕ) → xs ++ [] ≡ xs
+append_nil [] = refl
+append_nil (x ∷ xs) = ap (λ ys. x ∷ ys) (append_nil xs)
+
+pub extends_itself : (xs : List ℕ) → Extends xs xs
+extends_itself xs = record { rest = []; is = sym (append_nil xs) }
+
+pub extends_more : {xs ys zs : List ℕ} → Extends xs ys → Extends ys zs → Extends xs zs
+extends_more {xs} e f = record { rest = e.rest ++ f.rest; is = f.is ∙ (ap (λ l. l ++ f.rest) e.is ∙ append_assoc xs e.rest f.rest) }
+
+pub or_true : (b : Bool) → (b || true) ≡ true
+or_true true = refl
+or_true false = refl
+
+pub or_cases : (a b : Bool) → (a || b) ≡ true → (a ≡ true) ⊎ (b ≡ true)
+or_cases true b h = inl refl
+or_cases false b h = inr h
+
+pub has_itself : (x : ℕ) → nat_eq x x ≡ true
+has_itself x = eq-eqb x x refl
+
+pub nat_equivalence : IsEquivalence nat_eq
+nat_equivalence = record {
+  refl = has_itself;
+  symm = λ x y. same_tests x y y x (λ e. sym e, λ e. sym e);
+  congr = λ x y z h. ap (λ w. nat_eq w z) (eqb-true x y h);
+}
+
+pub has_extends : {xs ys : List ℕ} → Extends xs ys → (x : ℕ) → Has xs x → Has ys x
+has_extends {xs} e x h =
+    ap (list_any (nat_eq x)) e.is ∙ (list_any-append (nat_eq x) xs e.rest ∙ ap (λ b. b || list_any (nat_eq x) e.rest) h)
+
+pub has_all_extends : {xs ys : List ℕ} → Extends xs ys → (refs : List (Option ℕ)) → HasAll xs refs → HasAll ys refs
+has_all_extends e [] h = tt
+has_all_extends e (None ∷ refs) h = has_all_extends e refs h
+has_all_extends e (Some x ∷ refs) h = (has_extends e x h.0, has_all_extends e refs h.1)
+
+pub get_append : (xs zs : List ℕ) (k x : ℕ) → slice_get xs k ≡ Some x → slice_get (xs ++ zs) k ≡ Some x
+get_append [] zs k x h = cc
+get_append (y ∷ xs) zs zero x h = h
+get_append (y ∷ xs) zs (suc k) x h = get_append xs zs k x h
+
+pub get_extends : {xs ys : List ℕ} → Extends xs ys → (k x : ℕ) → slice_get xs k ≡ Some x → slice_get ys k ≡ Some x
+get_extends {xs} e k x h = ap (λ l. slice_get l k) e.is ∙ get_append xs e.rest k x h
+
+-- ---- one more cell
+
+met_extends_by : (order : List ℕ) (x : ℕ) (t : Bool) → Extends order (cond t order (order ++ x ∷ []))
+met_extends_by order x true = extends_itself order
+met_extends_by order x false = record { rest = x ∷ []; is = refl }
+
+pub met_extends : (order : List ℕ) (x : ℕ) → Extends order (met order x)
+met_extends order x = met_extends_by order x (list_any (nat_eq x) order)
+
+met_has_by : (order : List ℕ) (x : ℕ) (t : Bool) → list_any (nat_eq x) order ≡ t → Has (cond t order (order ++ x ∷ [])) x
+met_has_by order x true h = h
+met_has_by order x false h =
+    list_any-append (nat_eq x) order (x ∷ []) ∙ (ap (λ b. list_any (nat_eq x) order || (b || false)) (has_itself x) ∙ or_true _)
+
+pub met_has : (order : List ℕ) (x : ℕ) → Has (met order x) x
+met_has order x = met_has_by order x (list_any (nat_eq x) order) refl
+
+pub met_all_extends : (refs : List (Option ℕ)) (order : List ℕ) → Extends order (met_all order refs)
+met_all_extends [] order = extends_itself order
+met_all_extends (None ∷ refs) order = met_all_extends refs order
+met_all_extends (Some x ∷ refs) order = extends_more (met_extends order x) (met_all_extends refs (met order x))
+
+pub met_all_has : (refs : List (Option ℕ)) (order : List ℕ) → HasAll (met_all order refs) refs
+met_all_has [] order = tt
+met_all_has (None ∷ refs) order = met_all_has refs order
+met_all_has (Some x ∷ refs) order =
+    (has_extends (met_all_extends refs (met order x)) x (met_has order x), met_all_has refs (met order x))
+
+-- ---- distinct cells, each below n
+
+pub record IsOrder (n : ℕ) (order : List ℕ) : Type 0 where
+  pub distinct : IsDistinct nat_eq order
+  pub below : (x : ℕ) → Has order x → x < n
+
+has_push_cases : (order : List ℕ) (x y : ℕ) → Has (order ++ x ∷ []) y → Has order y ⊎ (y ≡ x)
+has_push_cases order x y h = go (or_cases (list_any (nat_eq y) order) (nat_eq y x || false) (sym (list_any-append (nat_eq y) order (x ∷ [])) ∙ h))
+  where
+    go : (list_any (nat_eq y) order ≡ true) ⊎ ((nat_eq y x || false) ≡ true) → Has order y ⊎ (y ≡ x)
+    go (inl e) = inl e
+    go (inr e) = inr (go2 (or_cases (nat_eq y x) false e))
+      where
+        go2 : (nat_eq y x ≡ true) ⊎ (false ≡ true) → y ≡ x
+        go2 (inl d) = eqb-true y x d
+        go2 (inr d) = cc
+
+met_order_by : (n : ℕ) (order : List ℕ) (x : ℕ) → x < n → IsOrder n order → (t : Bool) → list_any (nat_eq x) order ≡ t → IsOrder n (cond t order (order ++ x ∷ []))
+met_order_by n order x l h true e = h
+met_order_by n order x l h false e = record {
+  distinct = IsDistinct-push nat_equivalence order x h.distinct e;
+  below = λ y g. go y (has_push_cases order x y g);
+}
+  where
+    go : (y : ℕ) → Has order y ⊎ (y ≡ x) → y < n
+    go y (inl g) = h.below y g
+    go y (inr g) = subst (λ z. z < n) (sym g) l
+
+pub met_order : (n : ℕ) (order : List ℕ) (x : ℕ) → x < n → IsOrder n order → IsOrder n (met order x)
+met_order n order x l h = met_order_by n order x l h (list_any (nat_eq x) order) refl
+
+-- each ref is none or below n
+abbrev pub RefsBelow : ℕ → List (Option ℕ) → Type 0
+RefsBelow n refs = AllByRecursion (λ r. IfSome r (λ x. x < n)) refs
+
+pub met_all_order : (n : ℕ) (refs : List (Option ℕ)) (order : List ℕ) → RefsBelow n refs → IsOrder n order → IsOrder n (met_all order refs)
+met_all_order n [] order l h = h
+met_all_order n (None ∷ refs) order l h = met_all_order n refs order l.1 h
+met_all_order n (Some x ∷ refs) order l h = met_all_order n refs (met order x) l.1 (met_order n order x l.0 h)
+
+-- ---- the walk
+
+pub length-order : (n : ℕ) (order : List ℕ) → IsOrder n order → length order ≤ n
+length-order n order h = length-le_from_distinct_below order n h.distinct h.below
+
+-- what holds of each element holds of one that stands there
+pub all_has : (P : ℕ → Type 0) (xs : List ℕ) → AllByRecursion P xs → (x : ℕ) → Has xs x → P x
+all_has P [] h x g = cc
+all_has P (y ∷ xs) h x g = go (λ e. all_has P xs h.1 x e) (or_cases (nat_eq x y) (list_any (nat_eq x) xs) g)
+  where
+    go : (Has xs x → P x) → (nat_eq x y ≡ true) ⊎ Has xs x → P x
+    go rest (inl e) = subst P (sym (eqb-true x y e)) h.0
+    go rest (inr e) = rest e
+
+pub content_all : (P : Content → Type 0) → P (record { facts = []; refs = [] }) → (cells : List Content) → AllByRecursion P cells → (x : ℕ) → P (content_at cells x)
+content_all P none [] h x = none
+content_all P none (c ∷ cells) h zero = h.0
+content_all P none (c ∷ cells) h (suc x) = content_all P none cells h.1 x
+
+module _ (cells : List Content) (roots : List ℕ) (h : IsRooted cells roots) where
+  refs_below : (x : ℕ) → RefsBelow (length cells) (content_at cells x).refs
+  refs_below x =
+      recursion_from_All _ _ (content_all (λ c. All (λ r. IfSome r (λ x. x < length cells)) c.refs) (All-nil _) cells (recursion_from_All _ cells h.refs_in_range) x)
+
+  roots_order : IsOrder (length cells) roots
+  roots_order = record {
+    distinct = h.roots_distinct;
+    below = all_has (λ x. x < length cells) roots (recursion_from_All _ roots h.roots_in_range);
+  }
+
+  visited_order : (order : List ℕ) (r : Option ℕ) → IsOrder (length cells) order → IsOrder (length cells) (visited cells order r)
+  visited_order order None g = g
+  visited_order order (Some x) g = met_all_order (length cells) (content_at cells x).refs order (refs_below x) g
+
+  pub met_in_order : (n : ℕ) → IsOrder (length cells) (met_in cells roots n)
+  met_in_order zero = roots_order
+  met_in_order (suc n) = visited_order (met_in cells roots n) _ (met_in_order n)
+
+  -- after a visit for each cell there is nothing more to visit
+  pub met_in_stable : (n : ℕ) → met_in cells roots (length cells + n) ≡ order_of cells roots
+  met_in_stable zero = ap (met_in cells roots) (add-zero (length cells))
+  met_in_stable (suc n) =
+      let m = length cells + n in
+      let past : slice_get (met_in cells roots m) m ≡ None = slice_get_past (met_in cells roots m) m (omega (arith, length-order (length cells) (met_in cells roots m) (met_in_order m))) in
+      ap (met_in cells roots) (add-suc (length cells) n) ∙ (ap (visited cells (met_in cells roots m)) past ∙ met_in_stable n)
+
+pub visited_extends : (cells : List Content) (order : List ℕ) (r : Option ℕ) → Extends order (visited cells order r)
+visited_extends cells order None = extends_itself order
+visited_extends cells order (Some x) = met_all_extends (content_at cells x).refs order
+
+pub met_in_extends : (cells : List Content) (roots : List ℕ) (n : ℕ) → Extends roots (met_in cells roots n)
+met_in_extends cells roots zero = extends_itself roots
+met_in_extends cells roots (suc n) = extends_more (met_in_extends cells roots n) (visited_extends cells (met_in cells roots n) _)
+
+-- the first n cells of the order have all their refs in it
+abbrev IsClosedBelow : List Content → ℕ → List ℕ → Type 0
+IsClosedBelow cells n order = (k x : ℕ) → k < n → slice_get order k ≡ Some x → HasAll order (content_at cells x).refs
+
+-- an element that stands before the place n of a longer list, where the shorter one has a place n
+get_before : {xs ys : List ℕ} → Extends xs ys → (n z : ℕ) → slice_get xs n ≡ Some z → (k x : ℕ) → k ≤ n → slice_get ys k ≡ Some x → slice_get xs k ≡ Some x
+get_before {xs} {ys} e n z at k x le h = go (slice_get xs k) refl
+  where
+    go : (r : Option ℕ) → slice_get xs k ≡ r → slice_get xs k ≡ Some x
+    go None is =
+        let far : n < length xs = slice_get_within xs n z at in
+        let near : k < length xs = omega arith in
+        let there : slice_get xs k ≡ Some (get_or xs k x) = slice_get-get_or xs k x near in
+        cc
+    go (Some w) is = is ∙ (sym (get_extends e k w is) ∙ h)
+
+below_or_at : (k n : ℕ) → k < suc n → (k < n) ⊎ (k ≡ n)
+below_or_at k n l = grind arith
+
+visited_closed : (cells : List Content) (n : ℕ) (order : List ℕ) → IsClosedBelow cells n order → (r : Option ℕ) → slice_get order n ≡ r → IsClosedBelow cells (suc n) (visited cells order r)
+visited_closed cells n order h None at k x l g = go (below_or_at k n l)
+  where
+    go : (k < n) ⊎ (k ≡ n) → HasAll order (content_at cells x).refs
+    go (inl lt) = h k x lt g
+    go (inr e) = let there : slice_get order n ≡ Some x = subst (λ j. slice_get order j ≡ Some x) e g in cc
+visited_closed cells n order h (Some z) at k x l g = go (below_or_at k n l)
+  where
+    more : Extends order (visited cells order (Some z))
+    more = visited_extends cells order (Some z)
+
+    here : slice_get order k ≡ Some x
+    here = get_before more n z at k x (omega arith) g
+
+    go : (k < n) ⊎ (k ≡ n) → HasAll (visited cells order (Some z)) (content_at cells x).refs
+    go (inl lt) = has_all_extends more (content_at cells x).refs (h k x lt here)
+    go (inr e) =
+        let there : slice_get order n ≡ Some x = subst (λ j. slice_get order j ≡ Some x) e here in
+        let same : z ≡ x = cc in
+        subst (λ w. HasAll (visited cells order (Some z)) (content_at cells w).refs) same (met_all_has (content_at cells z).refs order)
+
+pub met_in_closed : (cells : List Content) (roots : List ℕ) (n : ℕ) → IsClosedBelow cells n (met_in cells roots n)
+met_in_closed cells roots zero = λ k x l. absurd (omega arith)
+met_in_closed cells roots (suc n) = visited_closed cells n (met_in cells roots n) (met_in_closed cells roots n) _ refl
+
+-- each cell of the order has all its refs in it
+pub order_closed : (cells : List Content) (roots : List ℕ) → IsRooted cells roots → (k x : ℕ) → slice_get (order_of cells roots) k ≡ Some x → HasAll (order_of cells roots) (content_at cells x).refs
+order_closed cells roots h k x at =
+    let within : k < length (order_of cells roots) = slice_get_within (order_of cells roots) k x at in
+    let short : length (order_of cells roots) ≤ length cells = length-order (length cells) (order_of cells roots) (met_in_order cells roots h (length cells)) in
+    met_in_closed cells roots (length cells) k x (omega arith) at
