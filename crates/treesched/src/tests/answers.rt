@@ -46,25 +46,6 @@ pub fn explores_first<R: Runtime>(
     Ok(())
 }
 
-/// Fails unless the exploration ends with a fault, and what it prints begins with this text, whatever the number of states.
-pub fn explores_verdict<R: Runtime>(
-    rt: &R,
-    file: &str,
-    options: &str,
-    verdict: &str,
-) -> Result<(), Fail> {
-    let words = format!(in rt.alloc(); "treesched explore f {options}")?;
-    let words = words_of(rt, words.as_str())?;
-    let Ok(output) = answer_again(rt, words.as_slice(), file.as_bytes()) else {
-        return Err(Fail::from("out of memory"));
-    };
-    if output.status != 1 || !output.out.as_str().starts_with(verdict) {
-        println!(rt; "{output:?}")?;
-        return Err(Fail::from("another answer"));
-    }
-    Ok(())
-}
-
 /// Fails unless the replay ends with the status and prints these lines.
 pub fn replays<R: Runtime>(
     rt: &R,

@@ -414,5 +414,14 @@ fn every_crew_is_stopped_before_a_fault_of_a_full_layer(rt: HostRuntime) -> Resu
         1,
         &["fault history after 16 steps", "states 329"],
     )?;
-    stop(&rt, file.as_str(), "--steps 20", 328..=328, 15)
+    stop(&rt, file.as_str(), "--steps 20", 328..=328, 15)?;
+    let names = "--steps 20 --merge names";
+    all_agree(
+        &rt,
+        file.as_str(),
+        "--steps 20 --merge names --states 322",
+        1,
+        &["fault history after 16 steps", "states 322"],
+    )?;
+    stop(&rt, file.as_str(), names, 321..=321, 15)
 }

@@ -1,7 +1,7 @@
 //! Programs on the step machines of both trees and their variants: numbers of states, faults and replays.
 //!
 //! The numbers of states agree with two explorers that share no code with this one.
-use crate::tests::answers::{explores, explores_first, explores_verdict, replays};
+use crate::tests::answers::{explores, explores_first, replays};
 use crate::tests::shown::Runtime;
 use book::{Book, EnterFault, Entered, Expansion, Merge, Totals};
 use ellen::Ellen;
@@ -231,37 +231,73 @@ fn merges_states_by_names(rt: HostRuntime) -> Result<(), Fail> {
     )
 }
 
-/// The faults of the variants, whichever states count as one.
-fn finds_the_faults<R: Runtime>(rt: &R, merge: &str) -> Result<(), Fail> {
-    let options = format!(in rt.alloc(); "--steps 20 --merge {merge}")?;
-    let options = options.as_str();
-    let file = program(rt, "ellen-no-mark", "[10]", &[DELETE_10, INSERT_5_FIND_5])?;
-    explores_verdict(
-        rt,
+#[test]
+fn finds_the_faults_of_the_variants_by_names(rt: HostRuntime) -> Result<(), Fail> {
+    let options = "--steps 20 --merge names";
+    let file = program(&rt, "ellen-no-mark", "[10]", &[DELETE_10, INSERT_5_FIND_5])?;
+    explores(
+        &rt,
         file.as_str(),
         options,
-        "fault history after 17 steps\nschedule 0,0,0,0,0,0,0,1,1,0,1,1,1,1,1,1,1\n",
+        1,
+        &[
+            "fault history after 17 steps",
+            "schedule 0,0,0,0,0,0,0,1,1,0,1,1,1,1,1,1,1",
+            "states 352",
+        ],
     )?;
-    let file = program(rt, "nm-no-tag", "[10,20]", &[DELETE_10, INSERT_25_FIND_25])?;
-    explores_verdict(
-        rt,
+    let file = program(&rt, "nm-no-tag", "[10,20]", &[DELETE_10, INSERT_25_FIND_25])?;
+    explores(
+        &rt,
         file.as_str(),
         options,
-        "fault history after 13 steps\nschedule 0,0,0,0,0,0,1,1,0,1,1,1,1\n",
+        1,
+        &[
+            "fault history after 13 steps",
+            "schedule 0,0,0,0,0,0,1,1,0,1,1,1,1",
+            "states 130",
+        ],
     )?;
-    let file = program(rt, "ellen-no-iflag", "[10]", &[DELETE_10, INSERT_5_FIND_5])?;
-    explores_verdict(
-        rt,
+    let file = program(&rt, "ellen-no-iflag", "[10]", &[DELETE_10, INSERT_5_FIND_5])?;
+    explores(
+        &rt,
         file.as_str(),
         options,
-        "fault history after 16 steps\nschedule 0,0,0,0,0,1,1,1,0,0,0,0,1,1,1,1\n",
+        1,
+        &[
+            "fault history after 16 steps",
+            "schedule 0,0,0,0,0,1,1,1,0,0,0,0,1,1,1,1",
+            "states 322",
+        ],
+    )
+}
+
+/// Fails unless a program holds to so many steps by names, with this number of states.
+fn holds_by_names<R: Runtime>(rt: &R, file: &str, steps: u16, states: u64) -> Result<(), Fail> {
+    let options = format!(in rt.alloc(); "--steps {steps} --merge names")?;
+    let first = format!(in rt.alloc(); "holds to {steps} steps")?;
+    let second = format!(in rt.alloc(); "states {states}")?;
+    explores(
+        rt,
+        file,
+        options.as_str(),
+        0,
+        &[first.as_str(), second.as_str()],
     )
 }
 
 #[test]
-fn one_worker_finds_the_same_faults_by_names(rt: HostRuntime) -> Result<(), Fail> {
-    finds_the_faults(&rt, "exact")?;
-    finds_the_faults(&rt, "names")
+fn counts_states_of_the_whole_machines_by_names(rt: HostRuntime) -> Result<(), Fail> {
+    let file = program(&rt, "ellen", "[10]", &[DELETE_10, INSERT_5_FIND_5])?;
+    holds_by_names(&rt, file.as_str(), 20, 553)?;
+    holds_by_names(&rt, file.as_str(), 400, 831)?;
+    let file = program(&rt, "nm", "[10,20]", &[DELETE_10, INSERT_25_FIND_25])?;
+    holds_by_names(&rt, file.as_str(), 20, 184)?;
+    holds_by_names(&rt, file.as_str(), 400, 198)?;
+    let file = program(&rt, "ellen", "[10]", &[DELETE_10, INSERT_5])?;
+    holds_by_names(&rt, file.as_str(), 400, 276)?;
+    let file = program(&rt, "nm", "[10]", &[DELETE_10, INSERT_5])?;
+    holds_by_names(&rt, file.as_str(), 400, 89)
 }
 
 #[test]
