@@ -1,9 +1,9 @@
 #!/usr/bin/env python3
 """Runs a fixed list of programs with any explorer that takes treesched's words, and prints a table.
 
-usage: bench/run.py [--only WORD] [--repeat N] BINARY [BINARY ..]
+usage: bench/run.py [--only WORD] [--repeat N] [--workers W,W,..] BINARY [BINARY ..]
 
-For each program and binary: the states that it reports, wall seconds, CPU seconds (user and system), states per
+For each program, merge, number of workers and binary: the states that it reports, wall seconds, CPU seconds (user and system), states per
 second of CPU, peak memory in MB and in bytes a state. Of N repeats the one with the least CPU time is told.
 """
 import argparse
@@ -25,6 +25,11 @@ RUNS = [
     ("ellen-3x2.json", ["--steps", "400", "--states", "2000000"]),
     ("nm-2x3.json", ["--steps", "400", "--states", "2000000"]),
     ("nm-3x2.json", ["--steps", "400", "--states", "2000000"]),
+    ("ellen-2x3.json", ["--steps", "400", "--states", "2000000", "--merge", "names"]),
+    ("ellen-3x1.json", ["--steps", "400", "--states", "2000000", "--merge", "names"]),
+    ("ellen-4x1.json", ["--steps", "400", "--states", "2000000", "--merge", "names"]),
+    ("nm-2x3.json", ["--steps", "400", "--states", "2000000", "--merge", "names"]),
+    ("nm-3x2.json", ["--steps", "400", "--states", "2000000", "--merge", "names"]),
 ]
 
 
@@ -50,22 +55,25 @@ def main():
     parser = argparse.ArgumentParser(description=__doc__, formatter_class=argparse.RawDescriptionHelpFormatter)
     parser.add_argument("--only", default="", help="the programs whose names have this word")
     parser.add_argument("--repeat", type=int, default=1)
+    parser.add_argument("--workers", default="", help="numbers of workers, each run in turn")
     parser.add_argument("binary", nargs="+")
     options = parser.parse_args()
     row = "{:<28} {:<24} {:>9} {:>8} {:>8} {:>10} {:>8} {:>8}"
     print(row.format("program", "binary", "states", "seconds", "cpu", "states/s", "MB", "B/state"))
-    for program, words in RUNS:
+    crews = [["--workers", count] for count in options.workers.split(",") if count] or [[]]
+    for program, words, crew in ((program, words, crew) for program, words in RUNS for crew in crews):
         if options.only not in program:
             continue
+        name = " ".join([program[: -len(".json")], *(["names"] if "names" in words else []), *(f"by {count}" for count in crew[1:])])
         for binary in options.binary:
-            tries = [run(os.path.abspath(binary), program, words) for _ in range(options.repeat)]
+            tries = [run(os.path.abspath(binary), program, words + crew) for _ in range(options.repeat)]
             text, status, wall, cpu, memory = min(tries, key=lambda one: one[3])
             found = re.search(r"^states (\d+)$", text, re.MULTILINE)
             if not found:
-                print(f"{program}: {binary}: status {status}, no line 'states N'", file=sys.stderr)
+                print(f"{name}: {binary}: status {status}, no line 'states N'", file=sys.stderr)
                 continue
             states = int(found.group(1))
-            print(row.format(program, os.path.basename(binary), states, f"{wall:.2f}", f"{cpu:.2f}",
+            print(row.format(name, os.path.basename(binary), states, f"{wall:.2f}", f"{cpu:.2f}",
                              int(states / max(cpu, 0.001)), f"{memory / 1e6:.0f}", memory // states))
 
 

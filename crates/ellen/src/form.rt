@@ -289,7 +289,10 @@ impl Parts for Held<'_> {
     }
 
     fn put_record(&self, index: usize, part: &mut Part) -> Result<(), OutOfMemory> {
-        put_record(self.memory.records.as_slice()[index], part)
+        match self.memory.records.get(index) {
+            Some(kept) => put_record(*kept, part),
+            None => Ok(()),
+        }
     }
 
     fn put_held(&self, index: usize, part: &mut Part) -> Result<(), OutOfMemory> {

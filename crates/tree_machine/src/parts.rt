@@ -106,9 +106,8 @@ pub trait Parts {
         requires empty { part.old ≡ no_part }
         ensures { OnOk result (part.new ≡ part_at (parts self.now).nodes index) };
 
-    /// Puts a record into an empty part.
+    /// Puts a record into an empty part, which stays empty where there is no such record.
     fn put_record(&self, index: usize, part: &mut Part) -> Result<(), OutOfMemory>
-        requires in_range { index < length (parts self.now).records }
         requires empty { part.old ≡ no_part }
         ensures { OnOk result (part.new ≡ part_at (parts self.now).records index) };
 

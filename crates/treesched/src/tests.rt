@@ -4,6 +4,7 @@
 mod answers;
 mod crews;
 mod devices;
+mod gates;
 mod programs;
 mod shown;
 mod trees;

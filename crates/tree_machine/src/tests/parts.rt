@@ -93,7 +93,10 @@ impl Parts for Tables {
     }
 
     fn put_record(&self, index: usize, part: &mut Part) -> Result<(), OutOfMemory> {
-        self.records[index].put(part)
+        match self.records.get(index) {
+            Some(row) => row.put(part),
+            None => Ok(()),
+        }
     }
 
     fn put_held(&self, index: usize, part: &mut Part) -> Result<(), OutOfMemory> {
