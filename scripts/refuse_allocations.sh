@@ -15,6 +15,13 @@ trap 'rm -rf "$work"' EXIT
 # for at most 2,000 runs.
 lines='explore two_inserts.json --steps 2 --ledger
 explore two_inserts.json --steps 2 --states 4
+explore two_inserts.json --steps 2 --states 4 --workers 2
+explore two_inserts.json --steps 2 --states 4 --workers 8
+explore two_finds.json --steps 4
+explore two_finds.json --steps 4 --workers 2
+explore two_finds.json --steps 4 --workers 8
+explore two_finds.json --steps 4 --merge names
+explore two_finds.json --steps 4 --merge names --workers 8
 explore three_threads.json --steps 3
 replay two_inserts.json --schedule 1,0
 replay two_inserts.json --schedule 0,0
