@@ -51,26 +51,26 @@ const BACKTRACK: (&str, &str) = (
 1 Update 0:U 5
 1 Child 0:U 5 U
 1 IFlag 5 U 3
-1 InsChild 0 [] insert | 5: 101 I0 3 4 | 6: 5 | 7: 10 | 8: 10 U 6 7 | Ins 5 3 8
-0 Mark 1 [] delete | 0: 102 D1 5 2 | Del 0 5 3 U
+1 InsChild 0 [] insert | 5: 101 IFLAG0 3 4 | 6: 5 | 7: 10 | 8: 10 U 6 7 | Ins 5 3 8
+0 Mark 1 [] delete | 0: 102 DFLAG1 5 2 | Del 0 5 3 U
 0 InsChild 0 [1] delete
-0 InsClean 0 [1] delete | 5: 101 I0 8 4
-0 Back 1 [] delete | 5: 101 C0 8 4
-0 Update - 0 | 0: 102 C1 5 2
+0 InsClean 0 [1] delete | 5: 101 IFLAG0 8 4
+0 Back 1 [] delete | 5: 101 CLEAN0 8 4
+0 Update - 0 | 0: 102 CLEAN1 5 2
 1 InsClean 0 [] insert
 1 true
-0 Child - 0 C1
-0 Update 0:C1 5
-0 Child 0:C1 5 C0
-0 Update 5:C0 8
-0 Child 5:C0 8 U
-0 DFlag 5:C0 8 U 7
-0 Mark 2 [] delete | 5: 101 D2 8 4 | Del 5 8 7 U
-0 Right 2 [] delete | 8: 10 M2 6 7
+0 Child - 0 CLEAN1
+0 Update 0:CLEAN1 5
+0 Child 0:CLEAN1 5 CLEAN0
+0 Update 5:CLEAN0 8
+0 Child 5:CLEAN0 8 U
+0 DFlag 5:CLEAN0 8 U 7
+0 Mark 2 [] delete | 5: 101 DFLAG2 8 4 | Del 5 8 7 U
+0 Right 2 [] delete | 8: 10 MARK2 6 7
 0 Other 2 left [] delete
 0 Splice 2 6 [] delete
-0 DelClean 2 [] delete | 5: 101 D2 6 4
-0 true | 5: 101 C2 6 4
+0 DelClean 2 [] delete | 5: 101 DFLAG2 6 4
+0 true | 5: 101 CLEAN2 6 4
 ",
 );
 
@@ -92,32 +92,32 @@ const NESTED_DELETES: (&str, &str) = (
 1 Update 8:U 11
 1 Child 8:U 11 U
 1 DFlag 8:U 11 U 10
-1 Mark 0 [] delete | 8: 20 D0 11 6 | Del 8 11 10 U
-0 Mark 1 [] delete | 5: 101 D1 8 4 | Del 5 8 6 U
+1 Mark 0 [] delete | 8: 20 DFLAG0 11 6 | Del 8 11 10 U
+0 Mark 1 [] delete | 5: 101 DFLAG1 8 4 | Del 5 8 6 U
 0 Mark 0 [1] delete
-0 Right 0 [1] delete | 11: 15 M0 10 9
+0 Right 0 [1] delete | 11: 15 MARK0 10 9
 1 Right 0 [] delete
 0 Other 0 right [1] delete
 1 Other 0 right [] delete
 0 Splice 0 9 [1] delete
 1 Splice 0 9 [] delete
-0 DelClean 0 [1] delete | 8: 20 D0 9 6
+0 DelClean 0 [1] delete | 8: 20 DFLAG0 9 6
 1 DelClean 0 [] delete
-0 Back 1 [] delete | 8: 20 C0 9 6
+0 Back 1 [] delete | 8: 20 CLEAN0 9 6
 1 true
-0 Update - 0 | 5: 101 C1 8 4
+0 Update - 0 | 5: 101 CLEAN1 8 4
 0 Child - 0 U
 0 Update 0:U 5
-0 Child 0:U 5 C1
-0 Update 5:C1 8
-0 Child 5:C1 8 C0
-0 DFlag 5:C1 8 C0 6
-0 Mark 2 [] delete | 5: 101 D2 8 4 | Del 5 8 6 C0
-0 Right 2 [] delete | 8: 20 M2 9 6
+0 Child 0:U 5 CLEAN1
+0 Update 5:CLEAN1 8
+0 Child 5:CLEAN1 8 CLEAN0
+0 DFlag 5:CLEAN1 8 CLEAN0 6
+0 Mark 2 [] delete | 5: 101 DFLAG2 8 4 | Del 5 8 6 CLEAN0
+0 Right 2 [] delete | 8: 20 MARK2 9 6
 0 Other 2 left [] delete
 0 Splice 2 9 [] delete
-0 DelClean 2 [] delete | 5: 101 D2 9 4
-0 true | 5: 101 C2 9 4
+0 DelClean 2 [] delete | 5: 101 DFLAG2 9 4
+0 true | 5: 101 CLEAN2 9 4
 ",
 );
 
@@ -131,18 +131,18 @@ const DELETE_HELPS_DELETE: (&str, &str) = (
 0 Update 5:U 8
 0 Child 5:U 8 U
 0 DFlag 5:U 8 U 7
-0 Mark 0 [] delete | 5: 101 D0 8 4 | Del 5 8 7 U
+0 Mark 0 [] delete | 5: 101 DFLAG0 8 4 | Del 5 8 7 U
 1 Child - 0 U
 1 Update 0:U 5
-1 Child 0:U 5 D0
-1 Update 5:D0 8
-1 Child 5:D0 8 U
+1 Child 0:U 5 DFLAG0
+1 Update 5:DFLAG0 8
+1 Child 5:DFLAG0 8 U
 1 Mark 0 [] again
-1 Right 0 [] again | 8: 20 M0 7 6
+1 Right 0 [] again | 8: 20 MARK0 7 6
 1 Other 0 right [] again
 1 Splice 0 6 [] again
-1 DelClean 0 [] again | 5: 101 D0 6 4
-1 Update - 0 | 5: 101 C0 6 4
+1 DelClean 0 [] again | 5: 101 DFLAG0 6 4
+1 Update - 0 | 5: 101 CLEAN0 6 4
 0 Right 0 [] delete
 0 Other 0 right [] delete
 0 Splice 0 6 [] delete
@@ -150,14 +150,14 @@ const DELETE_HELPS_DELETE: (&str, &str) = (
 0 true
 1 Child - 0 U
 1 Update 0:U 5
-1 Child 0:U 5 C0
-1 DFlag 0:U 5 C0 6
-1 Mark 1 [] delete | 0: 102 D1 5 2 | Del 0 5 6 C0
-1 Right 1 [] delete | 5: 101 M1 6 4
+1 Child 0:U 5 CLEAN0
+1 DFlag 0:U 5 CLEAN0 6
+1 Mark 1 [] delete | 0: 102 DFLAG1 5 2 | Del 0 5 6 CLEAN0
+1 Right 1 [] delete | 5: 101 MARK1 6 4
 1 Other 1 right [] delete
 1 Splice 1 4 [] delete
-1 DelClean 1 [] delete | 0: 102 D1 4 2
-1 true | 0: 102 C1 4 2
+1 DelClean 1 [] delete | 0: 102 DFLAG1 4 2
+1 true | 0: 102 CLEAN1 4 2
 ",
 );
 
@@ -177,35 +177,35 @@ const HELPER_BACKTRACKS: (&str, &str) = (
 1 Update 5:U 8
 1 Child 5:U 8 U
 1 DFlag 5:U 8 U 6
-0 Mark 0 [] delete | 5: 101 D0 8 4 | Del 5 8 7 U
+0 Mark 0 [] delete | 5: 101 DFLAG0 8 4 | Del 5 8 7 U
 1 Mark 0 [] again
 2 Child - 0 U
 2 Update 0:U 5
-2 Child 0:U 5 D0
-2 Update 5:D0 8
-2 Child 5:D0 8 U
+2 Child 0:U 5 DFLAG0
+2 Update 5:DFLAG0 8
+2 Child 5:DFLAG0 8 U
 2 IFlag 8 U 7
-2 InsChild 1 [] insert | 8: 20 I1 7 6 | 9: 15 | 10: 10 | 11: 15 U 10 9 | Ins 8 7 11
+2 InsChild 1 [] insert | 8: 20 IFLAG1 7 6 | 9: 15 | 10: 10 | 11: 15 U 10 9 | Ins 8 7 11
 1 InsChild 1 [0] again
-1 InsClean 1 [0] again | 8: 20 I1 11 6
-1 Back 0 [] again | 8: 20 C1 11 6
+1 InsClean 1 [0] again | 8: 20 IFLAG1 11 6
+1 Back 0 [] again | 8: 20 CLEAN1 11 6
 0 Back 0 [] delete
-0 Update - 0 | 5: 101 C0 8 4
+0 Update - 0 | 5: 101 CLEAN0 8 4
 3 Child - 0 U
 3 Update 0:U 5
-3 Child 0:U 5 C0
-3 Update 5:C0 8
-3 Child 5:C0 8 C1
-3 DFlag 5:C0 8 C1 6
-3 Mark 2 [] delete | 5: 101 D2 8 4 | Del 5 8 6 C1
+3 Child 0:U 5 CLEAN0
+3 Update 5:CLEAN0 8
+3 Child 5:CLEAN0 8 CLEAN1
+3 DFlag 5:CLEAN0 8 CLEAN1 6
+3 Mark 2 [] delete | 5: 101 DFLAG2 8 4 | Del 5 8 6 CLEAN1
 1 Update - 0
 2 InsClean 1 [] insert
 2 true
-3 Right 2 [] delete | 8: 20 M2 11 6
+3 Right 2 [] delete | 8: 20 MARK2 11 6
 3 Other 2 left [] delete
 3 Splice 2 11 [] delete
-3 DelClean 2 [] delete | 5: 101 D2 11 4
-3 true | 5: 101 C2 11 4
+3 DelClean 2 [] delete | 5: 101 DFLAG2 11 4
+3 true | 5: 101 CLEAN2 11 4
 ",
 );
 
@@ -217,21 +217,21 @@ const INSERTS_HELP_INSERT: (&str, &str) = (
 0 IFlag 0 U 1
 1 Child - 0 U
 1 IFlag 0 U 1
-0 InsChild 0 [] insert | 0: 102 I0 1 2 | 3: 5 | 4: 101 | 5: 101 U 3 4 | Ins 0 1 5
-2 Child - 0 I0
+0 InsChild 0 [] insert | 0: 102 IFLAG0 1 2 | 3: 5 | 4: 101 | 5: 101 U 3 4 | Ins 0 1 5
+2 Child - 0 IFLAG0
 2 InsChild 0 [] again
 1 InsChild 0 [] again
-1 InsClean 0 [] again | 0: 102 I0 5 2
-1 Update - 0 | 0: 102 C0 5 2
+1 InsClean 0 [] again | 0: 102 IFLAG0 5 2
+1 Update - 0 | 0: 102 CLEAN0 5 2
 0 InsClean 0 [] insert
 0 true
-1 Child - 0 C0
-1 Update 0:C0 5
-1 Child 0:C0 5 U
+1 Child - 0 CLEAN0
+1 Update 0:CLEAN0 5
+1 Child 0:CLEAN0 5 U
 1 IFlag 5 U 3
-1 InsChild 1 [] insert | 5: 101 I1 3 4 | 6: 7 | 7: 5 | 8: 7 U 7 6 | Ins 5 3 8
-1 InsClean 1 [] insert | 5: 101 I1 8 4
-1 true | 5: 101 C1 8 4
+1 InsChild 1 [] insert | 5: 101 IFLAG1 3 4 | 6: 7 | 7: 5 | 8: 7 U 7 6 | Ins 5 3 8
+1 InsClean 1 [] insert | 5: 101 IFLAG1 8 4
+1 true | 5: 101 CLEAN1 8 4
 2 InsClean 0 [] again
 2 Update - 0
 ",
@@ -245,9 +245,9 @@ const LATE_INSERT: (&str, &str) = (
 0 IFlag 0 U 1
 1 Child - 0 U
 1 IFlag 0 U 1
-0 InsChild 0 [] insert | 0: 102 I0 1 2 | 3: 5 | 4: 101 | 5: 101 U 3 4 | Ins 0 1 5
-0 InsClean 0 [] insert | 0: 102 I0 5 2
-0 true | 0: 102 C0 5 2
+0 InsChild 0 [] insert | 0: 102 IFLAG0 1 2 | 3: 5 | 4: 101 | 5: 101 U 3 4 | Ins 0 1 5
+0 InsClean 0 [] insert | 0: 102 IFLAG0 5 2
+0 true | 0: 102 CLEAN0 5 2
 1 Update - 0
 ",
 );
@@ -264,14 +264,14 @@ const LATE_DELETE: (&str, &str) = (
 1 Update 0:U 5
 1 Child 0:U 5 U
 1 DFlag 0:U 5 U 3
-0 Mark 0 [] delete | 0: 102 D0 5 2 | Del 0 5 3 U
-0 Right 0 [] delete | 5: 101 M0 3 4
+0 Mark 0 [] delete | 0: 102 DFLAG0 5 2 | Del 0 5 3 U
+0 Right 0 [] delete | 5: 101 MARK0 3 4
 0 Other 0 right [] delete
 0 Splice 0 4 [] delete
-0 DelClean 0 [] delete | 0: 102 D0 4 2
-0 true | 0: 102 C0 4 2
+0 DelClean 0 [] delete | 0: 102 DFLAG0 4 2
+0 true | 0: 102 CLEAN0 4 2
 1 Update - 0
-1 Child - 0 C0
+1 Child - 0 CLEAN0
 1 false
 ",
 );
@@ -286,26 +286,26 @@ const LATE_INSERT_HELPER: (&str, &str) = (
 0 Update 5:U 8
 0 Child 5:U 8 U
 0 IFlag 8 U 7
-0 InsChild 0 [] insert | 8: 20 I0 7 6 | 9: 15 | 10: 10 | 11: 15 U 10 9 | Ins 8 7 11
+0 InsChild 0 [] insert | 8: 20 IFLAG0 7 6 | 9: 15 | 10: 10 | 11: 15 U 10 9 | Ins 8 7 11
 1 Child - 0 U
 1 Update 0:U 5
 1 Child 0:U 5 U
 1 Update 5:U 8
-1 Child 5:U 8 I0
+1 Child 5:U 8 IFLAG0
 1 InsChild 0 [] again
-1 InsClean 0 [] again | 8: 20 I0 11 6
+1 InsClean 0 [] again | 8: 20 IFLAG0 11 6
 0 InsClean 0 [] insert
-0 true | 8: 20 C0 11 6
+0 true | 8: 20 CLEAN0 11 6
 0 Child - 0 U
 0 Update 0:U 5
 0 Child 0:U 5 U
 0 Update 5:U 8
-0 Child 5:U 8 C0
-0 IFlag 8 C0 6
-0 InsChild 1 [] insert | 8: 20 I1 11 6 | 12: 30 | 13: 20 | 14: 30 U 13 12 | Ins 8 6 14
+0 Child 5:U 8 CLEAN0
+0 IFlag 8 CLEAN0 6
+0 InsChild 1 [] insert | 8: 20 IFLAG1 11 6 | 12: 30 | 13: 20 | 14: 30 U 13 12 | Ins 8 6 14
 1 Update - 0
-0 InsClean 1 [] insert | 8: 20 I1 11 14
-0 true | 8: 20 C1 11 14
+0 InsClean 1 [] insert | 8: 20 IFLAG1 11 14
+0 true | 8: 20 CLEAN1 11 14
 ",
 );
 
@@ -319,35 +319,35 @@ const LATE_DELETE_HELPER: (&str, &str) = (
 0 Update 5:U 8
 0 Child 5:U 8 U
 0 DFlag 5:U 8 U 6
-0 Mark 0 [] delete | 5: 101 D0 8 4 | Del 5 8 6 U
+0 Mark 0 [] delete | 5: 101 DFLAG0 8 4 | Del 5 8 6 U
 1 Child - 0 U
 1 Update 0:U 5
-1 Child 0:U 5 D0
-1 Update 5:D0 8
-1 Child 5:D0 8 U
+1 Child 0:U 5 DFLAG0
+1 Update 5:DFLAG0 8
+1 Child 5:DFLAG0 8 U
 1 Mark 0 [] again
-1 Right 0 [] again | 8: 20 M0 11 6
+1 Right 0 [] again | 8: 20 MARK0 11 6
 1 Other 0 left [] again
 1 Splice 0 11 [] again
-1 DelClean 0 [] again | 5: 101 D0 11 4
+1 DelClean 0 [] again | 5: 101 DFLAG0 11 4
 0 Right 0 [] delete
 0 Other 0 left [] delete
 0 Splice 0 11 [] delete
 0 DelClean 0 [] delete
-0 true | 5: 101 C0 11 4
+0 true | 5: 101 CLEAN0 11 4
 0 Child - 0 U
 0 Update 0:U 5
-0 Child 0:U 5 C0
-0 Update 5:C0 11
-0 Child 5:C0 11 U
-0 DFlag 5:C0 11 U 9
-0 Mark 1 [] delete | 5: 101 D1 11 4 | Del 5 11 9 U
+0 Child 0:U 5 CLEAN0
+0 Update 5:CLEAN0 11
+0 Child 5:CLEAN0 11 U
+0 DFlag 5:CLEAN0 11 U 9
+0 Mark 1 [] delete | 5: 101 DFLAG1 11 4 | Del 5 11 9 U
 1 Update - 0
-0 Right 1 [] delete | 11: 15 M1 10 9
+0 Right 1 [] delete | 11: 15 MARK1 10 9
 0 Other 1 left [] delete
 0 Splice 1 10 [] delete
-0 DelClean 1 [] delete | 5: 101 D1 10 4
-0 true | 5: 101 C1 10 4
+0 DelClean 1 [] delete | 5: 101 DFLAG1 10 4
+0 true | 5: 101 CLEAN1 10 4
 ",
 );
 
@@ -361,29 +361,29 @@ const LATE_SPLICE: (&str, &str) = (
 0 Update 5:U 8
 0 Child 5:U 8 U
 0 DFlag 5:U 8 U 7
-0 Mark 0 [] delete | 5: 101 D0 8 4 | Del 5 8 7 U
+0 Mark 0 [] delete | 5: 101 DFLAG0 8 4 | Del 5 8 7 U
 1 Child - 0 U
 1 Update 0:U 5
-1 Child 0:U 5 D0
-1 Update 5:D0 8
-1 Child 5:D0 8 U
+1 Child 0:U 5 DFLAG0
+1 Update 5:DFLAG0 8
+1 Child 5:DFLAG0 8 U
 1 Mark 0 [] again
-1 Right 0 [] again | 8: 20 M0 7 6
+1 Right 0 [] again | 8: 20 MARK0 7 6
 1 Other 0 right [] again
 1 Splice 0 6 [] again
 0 Right 0 [] delete
 0 Other 0 right [] delete
 0 Splice 0 6 [] delete
-0 DelClean 0 [] delete | 5: 101 D0 6 4
-0 true | 5: 101 C0 6 4
+0 DelClean 0 [] delete | 5: 101 DFLAG0 6 4
+0 true | 5: 101 CLEAN0 6 4
 0 Child - 0 U
 0 Update 0:U 5
-0 Child 0:U 5 C0
-0 IFlag 5 C0 6
-0 InsChild 1 [] insert | 5: 101 I1 6 4 | 9: 30 | 10: 20 | 11: 30 U 10 9 | Ins 5 6 11
-0 InsClean 1 [] insert | 5: 101 I1 11 4
+0 Child 0:U 5 CLEAN0
+0 IFlag 5 CLEAN0 6
+0 InsChild 1 [] insert | 5: 101 IFLAG1 6 4 | 9: 30 | 10: 20 | 11: 30 U 10 9 | Ins 5 6 11
+0 InsClean 1 [] insert | 5: 101 IFLAG1 11 4
 1 DelClean 0 [] again
-0 true | 5: 101 C1 11 4
+0 true | 5: 101 CLEAN1 11 4
 1 Update - 0
 ",
 );
@@ -396,22 +396,22 @@ const LATE_CHILD: (&str, &str) = (
 0 IFlag 0 U 1
 1 Child - 0 U
 1 IFlag 0 U 1
-0 InsChild 0 [] insert | 0: 102 I0 1 2 | 3: 5 | 4: 101 | 5: 101 U 3 4 | Ins 0 1 5
+0 InsChild 0 [] insert | 0: 102 IFLAG0 1 2 | 3: 5 | 4: 101 | 5: 101 U 3 4 | Ins 0 1 5
 1 InsChild 0 [] again
-0 InsClean 0 [] insert | 0: 102 I0 5 2
-0 true | 0: 102 C0 5 2
-0 Child - 0 C0
-0 Update 0:C0 5
-0 Child 0:C0 5 U
-0 DFlag 0:C0 5 U 3
-0 Mark 1 [] delete | 0: 102 D1 5 2 | Del 0 5 3 U
-0 Right 1 [] delete | 5: 101 M1 3 4
+0 InsClean 0 [] insert | 0: 102 IFLAG0 5 2
+0 true | 0: 102 CLEAN0 5 2
+0 Child - 0 CLEAN0
+0 Update 0:CLEAN0 5
+0 Child 0:CLEAN0 5 U
+0 DFlag 0:CLEAN0 5 U 3
+0 Mark 1 [] delete | 0: 102 DFLAG1 5 2 | Del 0 5 3 U
+0 Right 1 [] delete | 5: 101 MARK1 3 4
 0 Other 1 right [] delete
 0 Splice 1 4 [] delete
-0 DelClean 1 [] delete | 0: 102 D1 4 2
+0 DelClean 1 [] delete | 0: 102 DFLAG1 4 2
 1 InsClean 0 [] again
 1 Update - 0
-0 true | 0: 102 C1 4 2
+0 true | 0: 102 CLEAN1 4 2
 ",
 );
 
@@ -425,19 +425,19 @@ const INSERT_HELPS_MARK: (&str, &str) = (
 0 Update 5:U 8
 0 Child 5:U 8 U
 0 DFlag 5:U 8 U 7
-0 Mark 0 [] delete | 5: 101 D0 8 4 | Del 5 8 7 U
-0 Right 0 [] delete | 8: 20 M0 7 6
+0 Mark 0 [] delete | 5: 101 DFLAG0 8 4 | Del 5 8 7 U
+0 Right 0 [] delete | 8: 20 MARK0 7 6
 1 Child - 0 U
 1 Update 0:U 5
-1 Child 0:U 5 D0
-1 Update 5:D0 8
-1 Child 5:D0 8 M0
+1 Child 0:U 5 DFLAG0
+1 Update 5:DFLAG0 8
+1 Child 5:DFLAG0 8 MARK0
 1 Right 0 [] again
 1 Other 0 right [] again
 0 Other 0 right [] delete
 0 Splice 0 6 [] delete
-0 DelClean 0 [] delete | 5: 101 D0 6 4
-0 true | 5: 101 C0 6 4
+0 DelClean 0 [] delete | 5: 101 DFLAG0 6 4
+0 true | 5: 101 CLEAN0 6 4
 1 Splice 0 6 [] again
 1 DelClean 0 [] again
 1 Update - 0
@@ -454,12 +454,12 @@ const DELETE_HELPS_INSERT: (&str, &str) = (
 0 Update 5:U 8
 0 Child 5:U 8 U
 0 IFlag 8 U 7
-0 InsChild 0 [] insert | 8: 20 I0 7 6 | 9: 15 | 10: 10 | 11: 15 U 10 9 | Ins 8 7 11
+0 InsChild 0 [] insert | 8: 20 IFLAG0 7 6 | 9: 15 | 10: 10 | 11: 15 U 10 9 | Ins 8 7 11
 1 Child - 0 U
 1 Update 0:U 5
 1 Child 0:U 5 U
 1 Update 5:U 8
-1 Child 5:U 8 I0
+1 Child 5:U 8 IFLAG0
 1 InsChild 0 [] again
 ",
 );
@@ -476,14 +476,14 @@ const INSERT_HELPS_DELETE: (&str, &str) = (
 0 Update 8:U 11
 0 Child 8:U 11 U
 0 DFlag 8:U 11 U 10
-0 Mark 0 [] delete | 8: 20 D0 11 6 | Del 8 11 10 U
+0 Mark 0 [] delete | 8: 20 DFLAG0 11 6 | Del 8 11 10 U
 1 Child - 0 U
 1 Update 0:U 5
 1 Child 0:U 5 U
 1 Update 5:U 8
-1 Child 5:U 8 D0
+1 Child 5:U 8 DFLAG0
 1 Mark 0 [] again
-1 Right 0 [] again | 11: 15 M0 10 9
+1 Right 0 [] again | 11: 15 MARK0 10 9
 ",
 );
 
@@ -495,18 +495,18 @@ const WITHOUT_MARK: (&str, &str) = (
 0 Update 0:U 5
 0 Child 0:U 5 U
 0 DFlag 0:U 5 U 3
-0 Right 0 [] delete | 0: 102 D0 5 2 | Del 0 5 3 U
+0 Right 0 [] delete | 0: 102 DFLAG0 5 2 | Del 0 5 3 U
 0 Other 0 right [] delete
 0 Splice 0 4 [] delete
-1 Child - 0 D0
-1 Update 0:D0 5
-0 DelClean 0 [] delete | 0: 102 D0 4 2
-1 Child 0:D0 5 U
+1 Child - 0 DFLAG0
+1 Update 0:DFLAG0 5
+0 DelClean 0 [] delete | 0: 102 DFLAG0 4 2
+1 Child 0:DFLAG0 5 U
 1 IFlag 5 U 3
-1 InsChild 1 [] insert | 5: 101 I1 3 4 | 6: 5 | 7: 10 | 8: 10 U 6 7 | Ins 5 3 8
-1 InsClean 1 [] insert | 5: 101 I1 8 4
-1 true | 5: 101 C1 8 4
-1 Child - 0 D0
+1 InsChild 1 [] insert | 5: 101 IFLAG1 3 4 | 6: 5 | 7: 10 | 8: 10 U 6 7 | Ins 5 3 8
+1 InsClean 1 [] insert | 5: 101 IFLAG1 8 4
+1 true | 5: 101 CLEAN1 8 4
+1 Child - 0 DFLAG0
 1 false
 ",
 );
@@ -519,10 +519,10 @@ const HELP_WITHOUT_MARK: (&str, &str) = (
 0 Update 0:U 5
 0 Child 0:U 5 U
 0 DFlag 0:U 5 U 3
-0 Right 0 [] delete | 0: 102 D0 5 2 | Del 0 5 3 U
-1 Child - 0 D0
-1 Update 0:D0 5
-1 Child 0:D0 5 U
+0 Right 0 [] delete | 0: 102 DFLAG0 5 2 | Del 0 5 3 U
+1 Child - 0 DFLAG0
+1 Update 0:DFLAG0 5
+1 Child 0:DFLAG0 5 U
 1 Right 0 [] again
 ",
 );
@@ -535,17 +535,17 @@ const WITHOUT_FLAG: (&str, &str) = (
 0 Update 0:U 5
 0 Child 0:U 5 U
 0 DFlag 0:U 5 U 3
-0 Mark 0 [] delete | 0: 102 D0 5 2 | Del 0 5 3 U
-1 Child - 0 D0
-1 Update 0:D0 5
-1 Child 0:D0 5 U
-0 Right 0 [] delete | 5: 101 M0 3 4
+0 Mark 0 [] delete | 0: 102 DFLAG0 5 2 | Del 0 5 3 U
+1 Child - 0 DFLAG0
+1 Update 0:DFLAG0 5
+1 Child 0:DFLAG0 5 U
+0 Right 0 [] delete | 5: 101 MARK0 3 4
 0 Other 0 right [] delete
 0 Splice 0 4 [] delete
-0 DelClean 0 [] delete | 0: 102 D0 4 2
+0 DelClean 0 [] delete | 0: 102 DFLAG0 4 2
 1 InsOnly 5 3
-1 true | 5: 101 M0 8 4 | 6: 5 | 7: 10 | 8: 10 U 6 7
-1 Child - 0 D0
+1 true | 5: 101 MARK0 8 4 | 6: 5 | 7: 10 | 8: 10 U 6 7
+1 Child - 0 DFLAG0
 1 false
 ",
 );

@@ -1,7 +1,7 @@
 //! What a step did, as one line of text.
 //!
 //! A line has the thread; the place where it stands then, or its reply, or `astray`; and behind each `|` a node that the
-//! step wrote or made, or a record that it made. An update word is `U` for (CLEAN, none), or the first letter of its
+//! step wrote or made, or a record that it made. An update word is `U` for (CLEAN, none), or its
 //! state with the number of its record. A place has its locals in the order of the table, `above` as `node:word` or `-`,
 //! and a help place its stack and its base behind them. A node is its number with its key, and its update word and
 //! children if it has them.
@@ -16,10 +16,10 @@ use tree_machine::{Side, State, StepFault, Thread};
 fn add_word(text: &mut String, word: UpdateWord) -> Result<(), OutOfMemory> {
     match word {
         UpdateWord::Untouched => write!(text, "U"),
-        UpdateWord::Clean(record) => write!(text, "C{record}"),
-        UpdateWord::InsertFlag(record) => write!(text, "I{record}"),
-        UpdateWord::DeleteFlag(record) => write!(text, "D{record}"),
-        UpdateWord::Mark(record) => write!(text, "M{record}"),
+        UpdateWord::Clean(record) => write!(text, "CLEAN{record}"),
+        UpdateWord::InsertFlag(record) => write!(text, "IFLAG{record}"),
+        UpdateWord::DeleteFlag(record) => write!(text, "DFLAG{record}"),
+        UpdateWord::Mark(record) => write!(text, "MARK{record}"),
     }
 }
 
