@@ -1,6 +1,7 @@
 pub mod EntryLemmas
 pub mod Unknown
 pub mod Coverage
+pub mod Leaving
 pub mod Kept
 pub mod Next
 pub mod LawfulBooks

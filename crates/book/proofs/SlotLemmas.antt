@@ -1,5 +1,5 @@
 -- Rows put under keys that are new.
-use Rattle.std.proofs.Common.{◌≡◌, ℕ, zero, suc, Bool, true, false, cond, Some, None, is_some, unwrap_or, List, [], ◌∷◌, ◌++◌, length, map, take, refl, sym, ap, ◌∙◌, append-nil, append_assoc, slice_get, ◌||◌}
+use Rattle.std.proofs.Common.{◌≡◌, ℕ, zero, suc, Bool, true, false, cond, Some, None, is_some, List, [], ◌∷◌, ◌++◌, length, map, take, refl, sym, ap, ◌∙◌, append-nil, append_assoc, slice_get, ◌||◌}
 use Rattle.std.specs.List.{list_any}
 use Rattle.std.specs.Map.{lookup, keys_of, values_of}
 use Rattle.std.proofs.Math.ListN.{length-map}
@@ -15,26 +15,29 @@ use Rattle.book.specs.Labels.{Labelled}
 use Rattle.book.specs.Slots.{unlisted, keyed_of, entry_of, entries_of, forms_of}
 
 module _ {K V : Type 0} (eq : K → K → Bool) where
-  -- a key that is there is written with its own value, and one that is new goes last
-  inserted : (es : List (K × V)) (k : K) (v w : V) → w ≡ unwrap_or (lookup (eq k) es) v
-      → insert_entry eq es k w ≡ es ++ cond (is_some (lookup (eq k) es)) [] ((k, v) ∷ [])
-  inserted [] k v w h = ap (λ x. (k, x) ∷ []) h
-  inserted (e ∷ es) k v w h =
-      by (eq k e.0) refl (λ r. inserted es k v w r)
+  -- a key that is not there goes last
+  put_last : (es : List (K × V)) (k : K) (v : V) → list_any (eq k) (keys_of es) ≡ false → insert_entry eq es k v ≡ es ++ (k, v) ∷ []
+  put_last [] k v none = refl
+  put_last (e ∷ es) k v none = by (eq k e.0) refl (λ h. put_last es k v h)
     where
-      by : (b : Bool) → eq k e.0 ≡ b → (w ≡ unwrap_or (lookup (eq k) es) v → insert_entry eq es k w ≡ es ++ cond (is_some (lookup (eq k) es)) [] ((k, v) ∷ [])) → insert_entry eq (e ∷ es) k w ≡ (e ∷ es) ++ cond (is_some (lookup (eq k) (e ∷ es))) [] ((k, v) ∷ [])
-      by true t again =
-          let own : w ≡ e.1 = h ∙ ap (λ b. unwrap_or (cond b (Some e.1) (lookup (eq k) es)) v) t in
-          ap (λ b. cond b ((e.0, w) ∷ es) (e ∷ insert_entry eq es k w)) t ∙ ap (λ x. (e.0, x) ∷ es) own ∙ sym (append-nil (e ∷ es))
-          ∙ sym (ap (λ b. (e ∷ es) ++ cond (is_some (cond b (Some e.1) (lookup (eq k) es))) [] ((k, v) ∷ [])) t)
+      by : (b : Bool) → eq k e.0 ≡ b → (list_any (eq k) (keys_of es) ≡ false → insert_entry eq es k v ≡ es ++ (k, v) ∷ []) → insert_entry eq (e ∷ es) k v ≡ (e ∷ es) ++ (k, v) ∷ []
+      by true t again = let no : true ≡ false = ap (λ b. b || list_any (eq k) (keys_of es)) (sym t) ∙ none in cc
       by false f again =
-          let rest : w ≡ unwrap_or (lookup (eq k) es) v = h ∙ ap (λ b. unwrap_or (cond b (Some e.1) (lookup (eq k) es)) v) f in
-          ap (λ b. cond b ((e.0, w) ∷ es) (e ∷ insert_entry eq es k w)) f ∙ ap (λ xs. e ∷ xs) (again rest)
-          ∙ sym (ap (λ b. (e ∷ es) ++ cond (is_some (cond b (Some e.1) (lookup (eq k) es))) [] ((k, v) ∷ [])) f)
+          ap (λ b. cond b ((e.0, v) ∷ es) (e ∷ insert_entry eq es k v)) f
+          ∙ ap (λ xs. e ∷ xs) (again (ap (λ b. b || list_any (eq k) (keys_of es)) (sym f) ∙ none))
 
-  pub put_one : (es : List (K × V)) (k : K) (v w : V) → w ≡ unwrap_or (lookup (eq k) es) v
-      → insert_entry eq es k w ≡ es ++ unlisted eq (keys_of es) ((k, v) ∷ [])
-  put_one es k v w h = inserted es k v w h ∙ ap (λ b. es ++ cond b [] ((k, v) ∷ [])) (is_some-lookup (eq k) es)
+  -- where the key is not there
+  pub put_new_key : (es : List (K × V)) (k : K) (v : V) → is_some (lookup (eq k) es) ≡ false
+      → insert_entry eq es k v ≡ es ++ unlisted eq (keys_of es) ((k, v) ∷ [])
+  put_new_key es k v none =
+      let f : list_any (eq k) (keys_of es) ≡ false = sym (is_some-lookup (eq k) es) ∙ none in
+      put_last es k v f ∙ ap (λ b. es ++ cond b [] ((k, v) ∷ [])) (sym f)
+
+  -- where it is
+  pub put_known_key : (es : List (K × V)) (k : K) (v : V) → is_some (lookup (eq k) es) ≡ true
+      → es ≡ es ++ unlisted eq (keys_of es) ((k, v) ∷ [])
+  put_known_key es k v some =
+      sym (append-nil es) ∙ ap (λ b. es ++ cond b [] ((k, v) ∷ [])) (sym (sym (is_some-lookup (eq k) es) ∙ some))
 
 -- the front is what stood there before
 pub take-front : {X : Type 0} (xs ys : List X) → take (length xs) (xs ++ ys) ≡ xs

@@ -2,6 +2,7 @@ pub mod Schedule
 pub mod Findings
 pub mod Entries
 pub mod Labels
+pub mod Leftovers
 pub mod Law
 pub mod Layers
 pub mod Counts

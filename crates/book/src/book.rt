@@ -13,6 +13,7 @@ ghost use Rattle.tree_machine.specs.Alike.{state_form};
 ghost use Rattle.book.specs.Labels.{AreStepsKnownBy, bares, form_by};
 ghost use Rattle.book.specs.Books.{counted_as_one, machine_in, right_in, totals_of, IsLawfulIn};
 ghost use Rattle.book.specs.Law.{IsExpansion};
+ghost use Rattle.book.specs.Leftovers.{Keeps};
 ghost use Rattle.book.specs.Counts.{IsCount};
 ghost use Rattle.book.specs.Layers.{IsExpandedTo, IsExpandedBelow, IsLeftTo};
 ghost use Rattle.book.specs.Schedule.{after, IsMachine, Merges};
@@ -20,6 +21,7 @@ ghost use Rattle.book.specs.Schedule.{after, IsMachine, Merges};
 use crate::entry::{Mark, Row};
 use crate::expansion::{Expansion, Stepped, label};
 use crate::finding::{Finding, find};
+use crate::leftovers::Leftovers;
 use crate::table::{Table, TableFault};
 use sched_program::{Exact, OutOfMemory, Program, same};
 use std::alloc::Global;
@@ -237,19 +239,21 @@ impl<M: Machine> Book<M> {
         &mut self,
         id: usize,
         successors: Vec<Stepped<State<M>, StateForm<M>>>,
+        leftovers: &mut Leftovers<State<M>, StateForm<M>>,
     ) -> Result<Entered, EnterFault>
         requires taken { (e : Entry (State M M.Mem M.Loc M.Form)) × At self.old.entries id e × (e.mark ≡ Mark.Taken) × IsExpansion (machine_in M.rules self.old) (right_in M.rules self.old) e.state (bares successors.items) }
         requires known { AreStepsKnownBy (form_by self.old.merge (state_form (M.form_of self.old.machine))) successors.items }
         ensures entries { OnOk result (self.new.entries ≡ with_successors (counted_as_one M.Loc.PartialEq.eq M.Mem.PartialEq.eq M.Form.PartialEq.eq (M.form_of self.old.machine) self.old.merge) self.old.entries id (bares successors.items)) }
         ensures counts { IfOk result (λ r. (r.entered ≡ length (unknown (counted_as_one M.Loc.PartialEq.eq M.Mem.PartialEq.eq M.Form.PartialEq.eq (M.form_of self.old.machine) self.old.merge) (states self.old.entries) (bares successors.items))) × (r.entered + r.met ≡ length (bares successors.items)) × (self.new.met ≡ self.old.met + r.met)) }
         ensures room { IfOk result (λ r. length self.old.entries + r.entered ≤ self.old.limit) }
+        ensures left { IfOk result (λ r. Keeps leftovers.old leftovers.new r.met) }
         ensures same { (self.new.machine ≡ self.old.machine) × (self.new.program ≡ self.old.program) × (self.new.merge ≡ self.old.merge) × (self.new.limit ≡ self.old.limit) }
         ensures full { IfErr result (λ fault. (fault ≡ EnterFault.OutOfMemory) ⊎ ((fault ≡ EnterFault.Full) × (self.old.limit < length self.old.entries + length (unknown (counted_as_one M.Loc.PartialEq.eq M.Mem.PartialEq.eq M.Form.PartialEq.eq (M.form_of self.old.machine) self.old.merge) (states self.old.entries) (bares successors.items))))) }
         ensures err { OnErr result (self.new ≡ self.old) }
     {
         let was = self.table.len();
         let steps = successors.len();
-        match self.table.append_new(self.limit, id, successors) {
+        match self.table.append_new(self.limit, id, successors, leftovers) {
             Err(TableFault::Full) => Err(EnterFault::Full),
             Err(TableFault::OutOfMemory) => Err(EnterFault::OutOfMemory),
             Ok(()) => {
@@ -269,11 +273,27 @@ impl<M: Machine> Book<M> {
         ensures refused { IfErr result (Refuses (counted_as_one M.Loc.PartialEq.eq M.Mem.PartialEq.eq M.Form.PartialEq.eq (M.form_of self.old.machine) self.old.merge) self.old id expansion.entry) }
         ensures err { OnErr result (self.new ≡ self.old) }
     {
+        let mut leftovers = Leftovers::none(self.table.allocator());
+        self.enter_leaving(id, expansion, &mut leftovers)
+    }
+
+    /// Enters as `enter` does. The states that the book knew go to the leftovers, as far as these have room.
+    pub fn enter_leaving(
+        &mut self,
+        id: usize,
+        expansion: Expansion<'_, M>,
+        leftovers: &mut Leftovers<State<M>, StateForm<M>>,
+    ) -> Result<Entered, EnterFault>
+        ensures entered { IfOk result (λ r. Enters (counted_as_one M.Loc.PartialEq.eq M.Mem.PartialEq.eq M.Form.PartialEq.eq (M.form_of self.old.machine) self.old.merge) self.old self.new id expansion.entry r.entered r.met) }
+        ensures left { IfOk result (λ r. Keeps leftovers.old leftovers.new r.met) }
+        ensures refused { IfErr result (Refuses (counted_as_one M.Loc.PartialEq.eq M.Mem.PartialEq.eq M.Form.PartialEq.eq (M.form_of self.old.machine) self.old.merge) self.old id expansion.entry) }
+        ensures err { OnErr result (self.new ≡ self.old) }
+    {
         match self.admits(id, &expansion) {
             Err(fault) => Err(fault),
             Ok(()) => match expansion.into_steps(self.table.allocator(), self.merge) {
                 Err(OutOfMemory) => Err(EnterFault::OutOfMemory),
-                Ok(steps) => self.put(id, steps),
+                Ok(steps) => self.put(id, steps, leftovers),
             },
         }
     }

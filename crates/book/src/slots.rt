@@ -1,5 +1,5 @@
 //! Values under keys that are new.
-ghost use Rattle.std.specs.Prelude.{◌≡◌, ◌++◌, ◌∷◌, [], OnOk, OnErr};
+ghost use Rattle.std.specs.Prelude.{◌≡◌, ◌+◌, ◌++◌, ◌∷◌, [], if◌then◌else◌, is_some, length, IfOk, OnOk, OnErr};
 ghost use Rattle.indexmap.specs.IndexMap.{keys};
 ghost use Rattle.book.specs.Slots.{unlisted};
 
@@ -7,15 +7,19 @@ use indexmap::IndexMap;
 use std::alloc::AllocError;
 use std::hash::Hash;
 
-/// Puts a value in if its key is new. The key is hashed once.
+/// Puts a value in if its key is new. Else it is given back with its key.
 pub fn put_new<K: Eq + Hash + Drop, V: Drop>(
     slots: &mut IndexMap<K, V>,
     key: K,
     value: V,
-) -> Result<(), AllocError>
+) -> Result<Option<(K, V)>, AllocError>
     ensures put { OnOk result (slots.new.entries ≡ slots.old.entries ++ unlisted K.eq (keys slots.old) ((key, value) ∷ [])) }
+    ensures len { IfOk result (λ known. length slots.new.entries ≡ length slots.old.entries + (if is_some known then 0 else 1)) }
     ensures err { OnErr result (slots.new.entries ≡ slots.old.entries) }
 {
-    slots.entry(key)?.or_insert(value);
-    Ok(())
+    if slots.contains_key(&key) {
+        return Ok(Some((key, value)));
+    }
+    slots.insert(key, value)?;
+    Ok(None)
 }

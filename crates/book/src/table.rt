@@ -5,6 +5,7 @@ ghost use Rattle.indexmap.specs.IndexMap.{values};
 ghost use Rattle.book.specs.Entries.{Entry, At, IsTaken, is_open, is_taken, is_expanded, opened, states, unknown, with_mark, with_marks};
 ghost use Rattle.book.specs.Findings.{is_sound};
 ghost use Rattle.book.specs.Labels.{AreKnownBy, AreStepsKnownBy, bares, same_as, same_label};
+ghost use Rattle.book.specs.Leftovers.{KeepsMet};
 ghost use Rattle.book.specs.Slots.{entry_of, entries_of, forms_of, keyed_of, AreStatesOf, IsFirstLeft, IsOpenFrom};
 
 use crate::entry::{Mark, Origin, Row};
@@ -12,6 +13,7 @@ use crate::expansion::Stepped;
 use crate::finding::Finding;
 use crate::hashed::Hashed;
 use crate::known::Known;
+use crate::leftovers::Leftovers;
 use crate::slots::put_new;
 use indexmap::IndexMap;
 use std::alloc::{AllocError, Global};
@@ -95,15 +97,17 @@ fn shared_run<S: Eq + Hash + Drop, F: Eq + Hash + Drop>(
     Ok(run)
 }
 
-/// Puts in, in their order, open rows for the steps that lead to new states.
+/// Puts in, in their order, open rows for the steps that lead to new states. The others go to the leftovers.
 fn put_steps<S: Eq + Hash + Drop, F: Eq + Hash + Drop>(
     slots: &mut IndexMap<Hashed<Known<S, F>>, Row>,
     parent: usize,
     successors: Vec<Stepped<S, F>>,
+    leftovers: &mut Leftovers<S, F>,
 ) -> Result<(), AllocError>
     ensures put { OnOk result (map keyed_of slots.new.entries ≡ map keyed_of slots.old.entries
         ++ map (opened parent) (unknown (same_label S.eq F.eq) (states (map keyed_of slots.old.entries)) successors.items)) }
     ensures kept { take (length slots.old.entries) slots.new.entries ≡ slots.old.entries }
+    ensures left { OnOk result (KeepsMet leftovers.old leftovers.new (length slots.old.entries) (length slots.new.entries) (length successors.items)) }
 {
     for step in successors {
         let (thread, known, finding) = step.into_parts();
@@ -112,7 +116,8 @@ fn put_steps<S: Eq + Hash + Drop, F: Eq + Hash + Drop>(
             origin: Some(Origin { parent, thread }),
             mark: Mark::Open,
         };
-        put_new(slots, known, row)?;
+        let left = put_new(slots, known, row)?;
+        leftovers.keep(left);
     }
     Ok(())
 }
@@ -328,12 +333,13 @@ impl<S: Eq + Hash + Drop, F: Eq + Hash + Drop> Table<S, F> {
     }
 
     /// Appends, in their order, open entries for the steps that lead to new states, or, if they have no room or
-    /// memory is refused, none.
+    /// memory is refused, none. The steps that lead to known states go to the leftovers.
     pub fn append_new(
         &mut self,
         limit: usize,
         parent: usize,
         successors: Vec<Stepped<S, F>>,
+        leftovers: &mut Leftovers<S, F>,
     ) -> Result<(), TableFault>
         requires { length self.old.entries ≤ limit }
         ensures put { OnOk result ((form_of : S → Option F) → AreKnownBy form_of self.old → AreStepsKnownBy form_of successors.items
@@ -342,10 +348,11 @@ impl<S: Eq + Hash + Drop, F: Eq + Hash + Drop> Table<S, F> {
         ensures full { IfErr result (λ fault. fault ≡ TableFault.Full → (form_of : S → Option F) → AreKnownBy form_of self.old → AreStepsKnownBy form_of successors.items
             → limit < length self.old.entries + length (unknown (same_as S.eq F.eq form_of) (states self.old.entries) (bares successors.items))) }
         ensures room { OnOk result (length self.new.entries ≤ limit) }
+        ensures left { OnOk result (KeepsMet leftovers.old leftovers.new (length self.old.entries) (length self.new.entries) (length successors.items)) }
         ensures err { OnErr result (self.new ≡ self.old) }
     {
         let was = self.slots.len();
-        let Ok(()) = put_steps(&mut self.slots, parent, successors) else {
+        let Ok(()) = put_steps(&mut self.slots, parent, successors, leftovers) else {
             self.slots.truncate(was);
             return Err(TableFault::OutOfMemory);
         };

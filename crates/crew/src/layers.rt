@@ -6,7 +6,7 @@ ghost use Rattle.crew.specs.Working.{IsReady};
 use crate::claims::{Claims, Seat};
 use crate::gate::Gate;
 use crate::tally::{Parts, Run, Tally};
-use crate::working::{Exploration, Layer, Stop, Worker};
+use crate::working::{Exploration, Layer, Stop, Worker, run_of};
 use sched_program::OutOfMemory;
 use std::alloc::Global;
 use std::sync::Wait;
@@ -82,10 +82,12 @@ impl<'a, J: Run + Send + Sync, M: Machine, G: Gate, R: Threads + Wait + Sync> Ex
             return Ok(false);
         }
         let (claims, seats) = Claims::new(self.alloc, leads.len(), workers.len())?;
+        let run = run_of(leads.len(), workers.len());
         let layer = Layer {
             number,
             leads,
             claims,
+            run,
         };
         seat_all(&layer.claims, workers, seats);
         self.work_at_once(&layer, workers);

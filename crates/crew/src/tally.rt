@@ -5,13 +5,13 @@ ghost use Rattle.crew.specs.Driving.{IsLedgerOf};
 ghost use Rattle.crew.specs.Working.{IsReady};
 
 use crate::answer::Share;
-use book::{Book, EnterFault, Expansion, same_program};
+use book::{Book, EnterFault, Expansion, Leftovers, same_program};
 use sched_program::{OutOfMemory, Program, same};
 use std::alloc::Global;
 use std::marker::{Brand, PhantomData};
 use std::sync::ledger::{Blank, Ledger};
 use std::sync::{Arc, ledger};
-use tree_machine::{Machine, State};
+use tree_machine::{Machine, State, StateForm};
 
 /// The three ledgers of one exploration: into how many parts each is cut, and their names.
 pub trait Run {
@@ -209,12 +209,13 @@ impl<J: Run, M: Machine> Desk<J, M> {
         Ok(layer)
     }
 
-    /// Enters an expansion, and counts it in the worker's tally.
+    /// Enters an expansion, and counts it in the worker's tally. What the book knew goes to the leftovers.
     pub fn enter(
         &mut self,
         tally: &mut Tally<J>,
         id: usize,
         expansion: Expansion<'_, M>,
+        leftovers: &mut Leftovers<State<M>, StateForm<M>>,
     ) -> Result<(), EnterFault> {
         let Desk {
             book,
@@ -224,7 +225,7 @@ impl<J: Run, M: Machine> Desk<J, M> {
         } = self;
         book.law();
         expansion.law();
-        let counts = book.enter(id, expansion)?;
+        let counts = book.enter_leaving(id, expansion, leftovers)?;
         let parts = &mut tally.parts;
         expanded.audit(&mut parts.expanded);
         entered.audit(&mut parts.entered);

@@ -1,16 +1,16 @@
 //! What one worker does in one layer.
-ghost use Rattle.std.specs.Prelude.{◌≡◌, ◌<◌, All, length, IfSome};
+ghost use Rattle.std.specs.Prelude.{◌≡◌, ◌<◌, ◌^◌, All, length, IfSome};
 ghost use Rattle.crew.specs.ClaimSeats.{IsSeatOf};
 ghost use Rattle.crew.specs.Working.{IsReady};
 
 use crate::claims::{Claims, Seat};
 use crate::gate::Gate;
 use crate::tally::{Desk, Run, Tally};
-use book::{EnterFault, Expansion, Merge};
+use book::{EnterFault, Expansion, Leftovers, Merge};
 use sched_program::Program;
 use std::alloc::Global;
-use std::sync::{Arc, Mutex, Wait};
-use tree_machine::{Machine, State};
+use std::sync::{Arc, Mutex, MutexGuard, Wait};
+use tree_machine::{Machine, State, StateForm};
 
 /// Why a worker draws no more.
 #[derive(Clone, Copy, Debug, PartialEq, Eq)]
@@ -36,6 +36,28 @@ pub struct Worker<J: Run> {
     pub stop: Option<Stop>,
 }
 
+/// How many places a worker draws in one turn. While a worker has the lock others wait for it, and to give it over takes
+/// longer than to enter one expansion, so it enters several at once; few enough that all workers come to the end of the
+/// layer at about the same time, and that the expansions do not leave the processor's cache meanwhile.
+pub fn run_of(places: usize, workers: usize) -> usize
+    requires some { 0 < workers }
+    requires few { workers < 2 ^ 8 }
+{
+    (places / (8 * workers)).clamp(1, 8)
+}
+
+/// The last of the rounds in which a worker draws a run of places each before it enters the expansions. In those before it
+/// enters them only where no other worker has the lock, and else makes more of them rather than wait.
+const LAST_ROUND: usize = 7;
+
+/// How many steps expansions have together.
+fn steps_of<M: Machine>(made: &Vec<(usize, Expansion<'_, M>)>) -> usize {
+    made.iter().fold(
+        0usize,
+        |steps, (_, expansion)| steps.saturating_add(expansion.len()),
+    )
+}
+
 /// The entries of a layer, which are taken, and the counter of their places.
 #[derive(Drop)]
 pub struct Layer<M: Machine> {
@@ -44,6 +66,8 @@ pub struct Layer<M: Machine> {
     /// The entries' numbers and states, by their places.
     pub leads: Vec<(usize, Arc<State<M>>)>,
     pub claims: Claims,
+    /// How many places a worker draws before it enters the expansions there.
+    pub run: usize,
     pub ghost as_long: { claims.size.len ≡ length leads.items },
 }
 
@@ -60,14 +84,13 @@ pub struct Exploration<'a, J: Run, M: Machine, G: Gate, R: Wait> {
 }
 
 impl<'a, J: Run, M: Machine, G: Gate, R: Wait> Exploration<'a, J, M, G, R> {
-    /// Expands the entry at a place, and enters its steps.
-    fn expand(
-        &self,
-        layer: &Layer<M>,
+    /// Makes the expansion of the entry at a place.
+    fn expand<'l>(
+        &'l self,
+        layer: &'l Layer<M>,
         number: u8,
-        tally: &mut Tally<J>,
         place: usize,
-    ) -> Result<(), Stop>
+    ) -> Result<(usize, Expansion<'l, M>), Stop>
         requires within { place < length layer.now.leads.items }
         requires ready { All (λ lead. IsReady (M.rules self.now.machine) self.now.program.now lead.1.value) layer.now.leads.items }
     {
@@ -82,17 +105,92 @@ impl<'a, J: Run, M: Machine, G: Gate, R: Wait> Exploration<'a, J, M, G, R> {
             return Err(Stop::OutOfMemory);
         };
         self.gate.arrive(number, layer.number, place);
-        let entered = self.desk.lock(self.rt).enter(tally, *id, expansion);
-        match entered {
-            Ok(()) => Ok(()),
-            Err(EnterFault::Full) => Err(Stop::Full(*id)),
-            Err(EnterFault::OutOfMemory) => Err(Stop::OutOfMemory),
-            Err(EnterFault::NotTaken | EnterFault::Stranger) => Err(Stop::Refused),
+        Ok((*id, expansion))
+    }
+
+    /// Draws so many places as a layer's run is, fewer at the end of the layer, and makes the expansions there.
+    fn draw<'l>(
+        &'l self,
+        layer: &'l Layer<M>,
+        number: u8,
+        seat: &mut Seat,
+        made: &mut Vec<(usize, Expansion<'l, M>)>,
+    ) -> Result<(), Stop>
+        requires seat { IsSeatOf layer.now.claims seat.old }
+        requires ready { All (λ lead. IsReady (M.rules self.now.machine) self.now.program.now lead.1.value) layer.now.leads.items }
+        ensures seat { IsSeatOf layer.now.claims seat.new }
+    {
+        for _place in 0..layer.run {
+            let Some(place) = layer.claims.claim(seat) else {
+                return Ok(());
+            };
+            let one = self.expand(layer, number, place)?;
+            if made.push(one).is_err() {
+                return Err(Stop::OutOfMemory);
+            }
+        }
+        Ok(())
+    }
+
+    /// Enters expansions, all in one holding of the lock.
+    fn enter_all(
+        &self,
+        mut desk: MutexGuard<'_, Desk<J, M>>,
+        made: Vec<(usize, Expansion<'_, M>)>,
+        tally: &mut Tally<J>,
+        leftovers: &mut Leftovers<State<M>, StateForm<M>>,
+    ) -> Result<(), Stop> {
+        for (id, expansion) in made {
+            match desk.enter(tally, id, expansion, leftovers) {
+                Ok(()) => {}
+                Err(EnterFault::Full) => return Err(Stop::Full(id)),
+                Err(EnterFault::OutOfMemory) => return Err(Stop::OutOfMemory),
+                Err(EnterFault::NotTaken | EnterFault::Stranger) => return Err(Stop::Refused),
+            }
+        }
+        Ok(())
+    }
+
+    /// The lock of the book. In all rounds but the last it is none where another worker has it.
+    fn desk_in(&self, round: usize) -> Option<MutexGuard<'_, Desk<J, M>>> {
+        if round < LAST_ROUND {
+            self.desk.try_lock()
+        } else {
+            Some(self.desk.lock(self.rt))
         }
     }
 
+    /// Expands the entries at the next places that the worker draws. Whether there were any.
+    fn turn<'l>(
+        &'l self,
+        layer: &'l Layer<M>,
+        number: u8,
+        seat: &mut Seat,
+        tally: &mut Tally<J>,
+    ) -> Result<bool, Stop>
+        requires seat { IsSeatOf layer.now.claims seat.old }
+        requires ready { All (λ lead. IsReady (M.rules self.now.machine) self.now.program.now lead.1.value) layer.now.leads.items }
+        ensures seat { IsSeatOf layer.now.claims seat.new }
+    {
+        let mut made = Vec::new(self.alloc);
+        for round in 0..=LAST_ROUND {
+            self.draw(layer, number, seat, &mut made)?;
+            if made.is_empty() {
+                return Ok(false);
+            }
+            let Ok(mut leftovers) = Leftovers::with_room(self.alloc, steps_of(&made)) else {
+                return Err(Stop::OutOfMemory);
+            };
+            if let Some(desk) = self.desk_in(round) {
+                self.enter_all(desk, made, tally, &mut leftovers)?;
+                return Ok(true);
+            }
+        }
+        Ok(true)
+    }
+
     /// Expands the entries at the places that the worker draws, until none is left or it has to stop.
-    pub fn work(&self, layer: &Layer<M>, worker: &mut Worker<J>)
+    pub fn work<'l>(&'l self, layer: &'l Layer<M>, worker: &mut Worker<J>)
         requires seat { IfSome worker.old.seat (IsSeatOf layer.now.claims) }
         requires ready { All (λ lead. IsReady (M.rules self.now.machine) self.now.program.now lead.1.value) layer.now.leads.items }
     {
@@ -105,13 +203,14 @@ impl<'a, J: Run, M: Machine, G: Gate, R: Wait> Exploration<'a, J, M, G, R> {
         let Some(seat) = seat else {
             return;
         };
-        for _draw in 0..=layer.leads.len() {
-            let Some(place) = layer.claims.claim(seat) else {
-                return;
-            };
-            if let Err(why) = self.expand(layer, *number, tally, place) {
-                *stop = Some(why);
-                return;
+        for _turn in 0..=layer.leads.len() {
+            match self.turn(layer, *number, seat, tally) {
+                Ok(true) => {}
+                Ok(false) => return,
+                Err(why) => {
+                    *stop = Some(why);
+                    return;
+                }
             }
         }
     }

@@ -19,6 +19,7 @@ use natmit::NatMit;
 use sched_program::{Exact, OutOfMemory, Program, ProgramFault, Tree};
 use std::alloc::Global;
 use std::io::Read;
+use std::mem::forget;
 use std::sync::Wait;
 use std::thread::Threads;
 use tree_machine::{Atomic, Machine, State, StateForm};
@@ -127,8 +128,12 @@ fn explored<M: Machine, R: Threads + Wait + Sync>(
     let report = explore(rt, alloc, machine, program, options, &Open)?;
     let mut out = String::new(alloc);
     put_report(&mut out, ledger, &report)?;
+    let status = status_of(&report.answer);
+    // The program ends with this answer, and its memory with it. To give back each state of the book first takes one
+    // thread a sixth of the time of an exploration by four.
+    forget(report);
     Ok(Output {
-        status: status_of(&report.answer),
+        status,
         out,
         err: String::new(alloc),
     })

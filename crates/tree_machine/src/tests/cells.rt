@@ -5,7 +5,6 @@ ghost use Rattle.std.specs.List.{All};
 use crate::{Cell, canon};
 use sched_program::OutOfMemory;
 use std::alloc::Global;
-use std::test::Fail;
 
 /// A cell of one fact.
 fn cell(alloc: Global, fact: u64, refs: &[Option<usize>]) -> Result<Cell, OutOfMemory> {
@@ -55,9 +54,8 @@ fn ring(alloc: Global) -> Result<Vec<Cell>, OutOfMemory> {
     Ok(cells)
 }
 
-#[test]
-fn a_ring_under_other_numbers_is_equal(rt: HostRuntime) -> Result<(), Fail> {
-    let alloc = rt.alloc();
+/// Whether a ring has one form, whatever its numbers are.
+fn is_ring_one(alloc: Global) -> Result<bool, OutOfMemory> {
     let mut there = Vec::new(alloc);
     there.push(cell(alloc, 8, &[Some(1)])?)?;
     there.push(cell(alloc, 7, &[Some(0), None])?)?;
@@ -66,13 +64,11 @@ fn a_ring_under_other_numbers_is_equal(rt: HostRuntime) -> Result<(), Fail> {
     expected.push(cell(alloc, 8, &[Some(0)])?)?;
     let here = canon_from(alloc, &ring(alloc)?, 0)?;
     let there = canon_from(alloc, &there, 1)?;
-    assert!(&rt; are_equal(&here, &expected) && are_equal(&there, &expected));
-    Ok(())
+    Ok(are_equal(&here, &expected) && are_equal(&there, &expected))
 }
 
-#[test]
-fn other_facts_and_other_references_differ(rt: HostRuntime) -> Result<(), Fail> {
-    let alloc = rt.alloc();
+/// Whether a ring is told from one with another fact, and from one with a reference less.
+fn are_rings_told_apart(alloc: Global) -> Result<bool, OutOfMemory> {
     let here = canon_from(alloc, &ring(alloc)?, 0)?;
     let mut other_fact = Vec::new(alloc);
     other_fact.push(cell(alloc, 7, &[Some(1), None])?)?;
@@ -82,7 +78,27 @@ fn other_facts_and_other_references_differ(rt: HostRuntime) -> Result<(), Fail> 
     none_on_one_side.push(cell(alloc, 8, &[None])?)?;
     let other_fact = canon_from(alloc, &other_fact, 0)?;
     let none_on_one_side = canon_from(alloc, &none_on_one_side, 0)?;
-    assert!(&rt; here.len() == 2 && other_fact.len() == 2 && none_on_one_side.len() == 2);
-    assert!(&rt; !are_equal(&here, &other_fact) && !are_equal(&here, &none_on_one_side));
-    Ok(())
+    let whole = here.len() == 2 && other_fact.len() == 2 && none_on_one_side.len() == 2;
+    Ok(whole && !are_equal(&here, &other_fact) && !are_equal(&here, &none_on_one_side))
+}
+
+// Each test runs once more where a growth was refused: that happens once at most.
+#[test]
+fn a_ring_under_other_numbers_is_equal(rt: HostRuntime) {
+    let alloc = rt.alloc();
+    assert!(rt;
+        is_ring_one(alloc)
+            .or_else(|_| is_ring_one(alloc))
+            .unwrap_or(false)
+    );
+}
+
+#[test]
+fn other_facts_and_other_references_differ(rt: HostRuntime) {
+    let alloc = rt.alloc();
+    assert!(rt;
+        are_rings_told_apart(alloc)
+            .or_else(|_| are_rings_told_apart(alloc))
+            .unwrap_or(false)
+    );
 }

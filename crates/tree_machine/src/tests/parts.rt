@@ -7,7 +7,6 @@ use crate::{Part, Parts, form_parts};
 use sched_program::{OutOfMemory, Sequence};
 use std::alloc::Global;
 use std::marker::Model;
-use std::test::Fail;
 
 /// A part that is there already.
 #[derive(Drop)]
@@ -180,9 +179,8 @@ fn ring(alloc: Global, fact: u64, turned: bool) -> Result<Tables, OutOfMemory> {
     })
 }
 
-#[test]
-fn names_up_to_numbers_are_equal(rt: HostRuntime) -> Result<(), Fail> {
-    let alloc = rt.alloc();
+/// Whether a ring has the form that is written here, whatever its numbers are.
+fn is_ring_one(alloc: Global) -> Result<bool, OutOfMemory> {
     let here = form_of(alloc, &ring(alloc, 511, false)?)?;
     let there = form_of(alloc, &ring(alloc, 511, true)?)?;
     // Each cell: how many facts, then its kind, how many nodes it names, and its own facts; how many references, and
@@ -194,35 +192,54 @@ fn names_up_to_numbers_are_equal(rt: HostRuntime) -> Result<(), Fail> {
         3, 0, 1, 255, 45, 2, 1, 5, // the node, of fact 300
         2, 1, 1, 2, 4, 0, // the record
     ];
-    assert!(&rt; here.as_slice() == expected.as_slice());
-    assert!(&rt; here == there);
-    Ok(())
+    Ok(here.as_slice() == expected.as_slice() && here == there)
 }
 
-#[test]
-fn a_fact_above_a_byte_tells_apart(rt: HostRuntime) -> Result<(), Fail> {
-    let alloc = rt.alloc();
-    let here = ring(alloc, 511, false)?;
-    for fact in [0, 1, 255, 256, 510, 512] {
-        let there = ring(alloc, fact, false)?;
-        assert!(&rt; are_told_apart(alloc, &here, &there)?, "at {fact}");
-    }
-    Ok(())
+/// Whether the form tells a root of this fact from one of fact 511.
+fn is_fact_told(alloc: Global, fact: u64) -> Result<bool, OutOfMemory> {
+    are_told_apart(alloc, &ring(alloc, 511, false)?, &ring(alloc, fact, false)?)
 }
 
-#[test]
-fn a_reference_that_one_side_has_tells_apart(rt: HostRuntime) -> Result<(), Fail> {
-    let alloc = rt.alloc();
+/// Whether a reference of a record, and one of a thread, that the other side lacks are told.
+fn are_references_told(alloc: Global) -> Result<bool, OutOfMemory> {
     let here = ring(alloc, 511, false)?;
     let mut other_record = ring(alloc, 511, false)?;
     if let Some(row) = other_record.records.get_mut(0) {
         *row = Row::new(alloc, &[], &[Some(1)], &[Some(0)])?;
     }
-    assert!(&rt; are_told_apart(alloc, &here, &other_record)?);
     let mut other_thread = ring(alloc, 511, false)?;
     if let Some(row) = other_thread.held.get_mut(0) {
         *row = Row::new(alloc, &[2], &[None], &[Some(0)])?;
     }
-    assert!(&rt; are_told_apart(alloc, &here, &other_thread)?);
-    Ok(())
+    Ok(are_told_apart(alloc, &here, &other_record)? && are_told_apart(alloc, &here, &other_thread)?)
+}
+
+// Each test runs once more where a growth was refused: that happens once at most.
+#[test]
+fn names_up_to_numbers_are_equal(rt: HostRuntime) {
+    let alloc = rt.alloc();
+    assert!(rt;
+        is_ring_one(alloc)
+            .or_else(|_| is_ring_one(alloc))
+            .unwrap_or(false)
+    );
+}
+
+#[test]
+fn a_fact_above_a_byte_tells_apart(rt: HostRuntime) {
+    let alloc = rt.alloc();
+    for fact in [0, 1, 255, 256, 510, 512] {
+        let told = is_fact_told(alloc, fact).or_else(|_| is_fact_told(alloc, fact));
+        assert!(&rt; told.unwrap_or(false), "at {fact}");
+    }
+}
+
+#[test]
+fn a_reference_that_one_side_has_tells_apart(rt: HostRuntime) {
+    let alloc = rt.alloc();
+    assert!(rt;
+        are_references_told(alloc)
+            .or_else(|_| are_references_told(alloc))
+            .unwrap_or(false)
+    );
 }

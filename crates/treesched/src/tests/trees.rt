@@ -3,7 +3,7 @@
 //! The numbers of states agree with two explorers that share no code with this one.
 use crate::tests::answers::{explores, explores_first, replays};
 use crate::tests::shown::Runtime;
-use book::{Book, EnterFault, Entered, Expansion, Merge, Totals};
+use book::{Book, EnterFault, Entered, Expansion, Leftovers, Merge, Totals};
 use ellen::Ellen;
 use sched_program::{OutOfMemory, Program};
 use std::alloc::Global;
@@ -491,7 +491,7 @@ fn finds_broken_search_order(rt: HostRuntime) -> Result<(), Fail> {
 }
 
 /// Takes the next entry and enters its steps: the entry's number with the counts of steps, or none where there is no
-/// such entry or its steps are refused.
+/// such entry, its steps are refused or not all states that the book knew are left.
 fn enter_next(
     alloc: Global,
     book: &mut Book<Ellen>,
@@ -502,8 +502,9 @@ fn enter_next(
     };
     let own = book.program().copy(alloc)?;
     let expansion = Expansion::of(alloc, book.machine(), &own, &state)?;
-    match book.enter(id, expansion) {
-        Ok(entered) => Ok(Some((id, entered))),
+    let mut leftovers = Leftovers::with_room(alloc, expansion.len())?;
+    match book.enter_leaving(id, expansion, &mut leftovers) {
+        Ok(entered) if leftovers.len() == entered.met => Ok(Some((id, entered))),
         Err(EnterFault::OutOfMemory) => Err(OutOfMemory),
         Err(_) => Ok(None),
     }

@@ -20,7 +20,7 @@ returns g c =
       headline = c.in_ok-report.ensures.headline;
       workers = c.in_ok-report.ensures.shares;
       sums = c.in_ok-report.ensures.ledger;
-      status = c.status_of.ensures;
+      status = c.status_of-status.ensures;
       out = c.in_ok-put_report.ensures
           ∙ ap (λ (page : List ℕ). page ++ report_text c.args.ledger report.answer report.totals report.shares.items) c.new-out.ensures.bytes;
       err = c.new.ensures.bytes;

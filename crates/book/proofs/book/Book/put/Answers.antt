@@ -10,6 +10,7 @@ use Rattle.book.specs.Labels.{AreKnownBy, AreStepsKnownBy, Kept, bare, bares, fo
 use Rattle.book.specs.Law.{IsExpansion}
 use Rattle.book.proofs.Entering.{length_appended, entered_is, few_entered, still_taken, entered_entries, lawful_entered, small_met}
 use Rattle.book.proofs.Labels.{known_mark}
+use Rattle.book.proofs.Leaving.{keeps_met}
 use Rattle.book.proofs.Machines.{counted_by_label}
 use Rattle.book.proofs.book.Book.put.Goals as goal
 
@@ -207,3 +208,14 @@ returns-in-Ok-clause-counts g c =
     let count : c.len.result - c.len-was.result ≡ length (unknown same (states s.table.entries) (bares c.args.successors.items)) =
     entered_is m same right book.machine book.merges b book.law c.args.id taken.0 taken.1 taken.2 (bares c.args.successors.items) taken.3 c.append_new.new.self.entries appended (c.len.result - c.len-was.result) c.len-was.result c.len.result refl c.len-was.ensures c.len.ensures in
     rw (← c.self.view_is) (count, (omega arith), refl)
+
+pub returns-in-Ok-clause-left : goal.returns-in-Ok-clause-left
+returns-in-Ok-clause-left g c =
+    let was : c.len-was.result ≡ length c.self.inside.table.entries = c.len-was.ensures in
+    let now : c.len.result ≡ length c.append_new.new.self.entries = c.len.ensures in
+    let steps : c.len-steps.result ≡ length c.args.successors.items = c.len-steps.ensures ∙ c.args.successors.ok.0 in
+    let left = c.in-Ok.ensures.left in
+    let grown = left.1 in
+    let sum = left.2 in
+    keeps_met c.args.leftovers.now c.append_new.new.leftovers (length c.self.inside.table.entries) (length c.append_new.new.self.entries) (length c.args.successors.items)
+    (c.len-steps.result - (c.len.result - c.len-was.result)) left (omega arith)

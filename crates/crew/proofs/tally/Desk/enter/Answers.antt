@@ -9,7 +9,7 @@ use Rattle.crew.proofs.tally.Desk.enter.Goals as goal
 pub invariant_of-self-2-clause-expanded_is : goal.invariant_of-self-2-clause-expanded_is
 invariant_of-self-2-clause-expanded_is g c =
     let old = c.args.self.now.book in
-    let new = c.enter.new.self in
+    let new = c.enter_leaving.new.self in
     let same = counted_as_one {Machine = g.row.M.Denot} {Form = g.row.M-Form.Denot} g.M.Loc.PartialEq.eq g.M.Mem.PartialEq.eq g.M.Form.PartialEq.eq (g.M.Machine.form_of old.machine) old.merge in
     let more : count_by (λ (r : Entry (State g.row.M.Denot g.row.M-Mem.Denot g.row.M-Loc.Denot g.row.M-Form.Denot)). is_expanded r.mark) new.entries
     ≡ count_by (λ (r : Entry (State g.row.M.Denot g.row.M-Mem.Denot g.row.M-Loc.Denot g.row.M-Form.Denot)). is_expanded r.mark) old.entries + 1 =
@@ -20,7 +20,7 @@ invariant_of-self-2-clause-expanded_is g c =
 pub invariant_of-self-2-clause-entered_is : goal.invariant_of-self-2-clause-entered_is
 invariant_of-self-2-clause-entered_is g c =
     let old = c.args.self.now.book in
-    let new = c.enter.new.self in
+    let new = c.enter_leaving.new.self in
     let same = counted_as_one {Machine = g.row.M.Denot} {Form = g.row.M-Form.Denot} g.M.Loc.PartialEq.eq g.M.Mem.PartialEq.eq g.M.Form.PartialEq.eq (g.M.Machine.form_of old.machine) old.merge in
     let more : length new.entries ≡ length old.entries + c.in_ok-counts.counts.entered =
     more_entries (machine_in g.M.Machine.rules old) same old new c.args.id c.args.expansion c.in_ok-counts.counts.entered c.in_ok-counts.counts.met c.in_ok-counts.ensures.entered in
@@ -30,7 +30,7 @@ invariant_of-self-2-clause-entered_is g c =
 pub add-requires-4-clause-met : goal.add-requires-4-clause-met
 add-requires-4-clause-met g c =
     let old = c.args.self.now.book in
-    let new = c.enter.new.self in
+    let new = c.enter_leaving.new.self in
     let m = machine_in g.M.Machine.rules old in
     let same = counted_as_one {Machine = g.row.M.Denot} {Form = g.row.M-Form.Denot} g.M.Loc.PartialEq.eq g.M.Mem.PartialEq.eq g.M.Form.PartialEq.eq (g.M.Machine.form_of old.machine) old.merge in
     let right = right_in g.M.Machine.rules old in

@@ -1,5 +1,5 @@
 use Rattle.crew.specs.ClaimSeats.{IsSeatOf}
 use Rattle.crew.proofs.working.Exploration.work.Given as goal
 
-abbrev pub invariant-loop-draw : goal.invariant-loop-draw
-invariant-loop-draw g l = IsSeatOf l.layer.claims l.seat
+abbrev pub invariant-loop-turn : goal.invariant-loop-turn
+invariant-loop-turn g l = IsSeatOf l.layer.claims l.seat

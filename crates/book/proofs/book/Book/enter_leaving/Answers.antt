@@ -7,7 +7,7 @@ use Rattle.book.specs.Labels.{AreStepsKnownBy, bares, form_by}
 use Rattle.book.specs.Law.{IsExpansion}
 use Rattle.book.specs.Findings.{machine_of, IsFindingOf}
 use Rattle.book.proofs.Entering.{enters_by, expansion_of_own, refuses_by}
-use Rattle.book.proofs.book.Book.enter.Goals as goal
+use Rattle.book.proofs.book.Book.enter_leaving.Goals as goal
 
 pub put-requires-clause-taken : goal.put-requires-clause-taken
 put-requires-clause-taken g c =

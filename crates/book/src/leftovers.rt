@@ -1,0 +1,63 @@
+//! What a book had no use for.
+ghost use Rattle.std.specs.Prelude.{◌≡◌, ◌≤◌, if◌then◌else◌, is_some, IfOk};
+ghost use Rattle.book.specs.Leftovers.{Keeps};
+
+use crate::entry::Row;
+use crate::hashed::Hashed;
+use crate::known::Known;
+use sched_program::OutOfMemory;
+use std::alloc::Global;
+use std::hash::Hash;
+use std::marker::Model;
+
+/// States that a book knew already, with what else the expansions that were entered held of them. To drop a state takes
+/// longer than to find that it is known, so whoever enters under a lock drops these after it.
+#[derive(Drop)]
+pub struct Leftovers<S: Hash, F: Hash> {
+    known: Vec<(Hashed<Known<S, F>>, Row)>,
+}
+
+impl<S: Hash, F: Hash> Model for Leftovers<S, F> {
+    ghost use Rattle.std.specs.Prelude.{◌-◌, vec_len, vec_capacity};
+    ghost use Rattle.book.specs.Leftovers.{Left};
+
+    ghost Value = { Left };
+
+    ghost view = { λ l. record { kept = vec_len l.known; room = vec_capacity l.known - vec_len l.known } };
+}
+
+impl<S: Hash + Drop, F: Hash + Drop> Leftovers<S, F> {
+    /// Nothing, with room for so many states.
+    pub fn with_room(alloc: Global, room: usize) -> Result<Leftovers<S, F>, OutOfMemory>
+        ensures kept { IfOk result (λ l. l.kept ≡ 0) }
+        ensures room { IfOk result (λ l. room ≤ l.room) }
+    {
+        let known = Vec::with_capacity(alloc, room)?;
+        Ok(Leftovers { known })
+    }
+
+    /// Nothing, with no room.
+    pub(crate) fn none(alloc: Global) -> Leftovers<S, F> {
+        Leftovers {
+            known: Vec::new(alloc),
+        }
+    }
+
+    /// How many states are kept.
+    pub fn len(&self) -> usize
+        ensures { result ≡ self.now.kept }
+    {
+        self.known.len()
+    }
+
+    /// Keeps a state, if there is one, where there is room, and else drops it.
+    pub(crate) fn keep(&mut self, state: Option<(Hashed<Known<S, F>>, Row)>)
+        ensures { Keeps self.old self.new (if is_some state then 1 else 0) }
+    {
+        if let Some(state) = state {
+            if self.known.len() < self.known.capacity() {
+                self.known.push_reserved(state);
+            }
+        }
+    }
+}
