@@ -506,7 +506,7 @@ fn enter_next(
     match book.enter_leaving(id, expansion, &mut leftovers) {
         Ok(entered) if leftovers.len() == entered.met => Ok(Some((id, entered))),
         Err(EnterFault::OutOfMemory) => Err(OutOfMemory),
-        Err(_) => Ok(None),
+        _ => Ok(None),
     }
 }
 
