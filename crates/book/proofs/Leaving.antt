@@ -1,36 +1,19 @@
 -- States that go to the leftovers one after the other.
-use Rattle.std.proofs.Common.{◌≡◌, ℕ, ◌+◌, ◌≤◌, Bool, true, false, cond, arith, subst}
+use Rattle.std.proofs.Common.{◌≡◌, ℕ, ◌+◌, Bool, true, false, cond, arith, subst}
 use Rattle.book.specs.Leftovers.{Left, Keeps, KeepsMet}
 
 pub keeps_none : (l : Left) (n : ℕ) → KeepsMet l l n n 0
-keeps_none l n = (0, omega arith, omega arith, λ room. (omega arith, omega arith))
+keeps_none l n = (0, omega arith, omega arith, (omega arith, omega arith))
 
 -- one step more
 pub keeps_one : (known : Bool) (old mid new : Left) (was is now steps : ℕ) → KeepsMet old mid was is steps
     → now ≡ is + cond known 0 1 → Keeps mid new (cond known 1 0) → KeepsMet old new was now (steps + 1)
 keeps_one false old mid new was is now steps before len keeps =
-    let earlier = before.3 in (
-      before.0,
-      omega arith,
-      omega arith,
-      λ room.
-          let a = earlier room in
-          let none : 0 ≤ mid.room = omega arith in
-          let b = keeps none in
-          (omega arith, omega arith),
-    )
+    let a = before.3 in
+    (before.0, omega arith, omega arith, (omega arith, omega arith))
 keeps_one true old mid new was is now steps before len keeps =
-    let earlier = before.3 in (
-      before.0 + 1,
-      omega arith,
-      omega arith,
-      λ room.
-          let less : before.0 ≤ old.room = omega arith in
-          let a = earlier less in
-          let one : 1 ≤ mid.room = omega arith in
-          let b = keeps one in
-          (omega arith, omega arith),
-    )
+    let a = before.3 in
+    (before.0 + 1, omega arith, omega arith, (omega arith, omega arith))
 
 -- as many as led to no new entry
 pub keeps_met : (old new : Left) (was is steps met : ℕ) → KeepsMet old new was is steps → is + met ≡ was + steps → Keeps old new met

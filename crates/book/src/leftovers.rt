@@ -10,8 +10,8 @@ use std::alloc::Global;
 use std::hash::Hash;
 use std::marker::Model;
 
-/// States that a book knew already, with what else the expansions that were entered held of them. To drop a state takes
-/// longer than to find that it is known, so whoever enters under a lock drops these after it.
+/// States that a book knew already, with what else the expansions that were entered held of them. Whoever enters under a
+/// lock can drop these after it.
 #[derive(Drop)]
 pub struct Leftovers<S: Hash, F: Hash> {
     known: Vec<(Hashed<Known<S, F>>, Row)>,
@@ -27,7 +27,7 @@ impl<S: Hash, F: Hash> Model for Leftovers<S, F> {
 }
 
 impl<S: Hash + Drop, F: Hash + Drop> Leftovers<S, F> {
-    /// Nothing, with room for so many states.
+    /// Nothing, with room for so many states. A refused growth is answered by `OutOfMemory`.
     pub fn with_room(alloc: Global, room: usize) -> Result<Leftovers<S, F>, OutOfMemory>
         ensures kept { IfOk result (λ l. l.kept ≡ 0) }
         ensures room { IfOk result (λ l. room ≤ l.room) }

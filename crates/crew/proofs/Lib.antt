@@ -10,6 +10,7 @@ pub mod Drives
 pub mod Counted
 pub mod Layer
 pub mod Reports
+pub mod Room
 pub mod WorkedOff
 pub mod Reaching
 pub mod Verdicts

@@ -6,10 +6,10 @@ ghost use Rattle.crew.specs.Working.{IsReady};
 use crate::claims::{Claims, Seat};
 use crate::gate::Gate;
 use crate::tally::{Parts, Run, Tally};
-use crate::working::{Exploration, Layer, Stop, Worker, run_of};
+use crate::working::{Exploration, Layer, Leads, Stop, Worker, run_of};
 use sched_program::OutOfMemory;
 use std::alloc::Global;
-use std::sync::Wait;
+use std::sync::{Mutex, Wait};
 use std::thread;
 use std::thread::Threads;
 use tree_machine::Machine;
@@ -54,21 +54,49 @@ impl<'a, J: Run + Send + Sync, M: Machine, G: Gate, R: Threads + Wait + Sync> Ex
     G,
     R,
 > {
-    /// Lets each worker work in a thread of its own, until all have come to their ends.
-    fn work_at_once(&self, layer: &Layer<M>, workers: &mut [Worker<J>])
+    /// Lets each worker work in a thread of its own, until all have come to their ends. This thread starts all others: a
+    /// thread that a new one starts often shares its processor while another is idle.
+    #[cycle(starts)]
+    fn work_at_once<'l>(&'l self, layer: &'l Layer<M>, workers: &mut [Worker<J>])
         requires seats { All (λ w. IfSome w.seat (IsSeatOf layer.now.claims)) workers.old }
         requires ready { All (λ lead. IsReady (M.rules self.now.machine) self.now.program.now lead.1.value) layer.now.leads.items }
         ensures { length workers.new ≡ length workers.old }
     {
-        let threads = workers.len().max(1);
-        let one = |_index: usize, worker: &mut Worker<J>|
-            requires { IfSome worker.now.seat (IsSeatOf layer.now.claims) × All (λ lead. IsReady (M.rules self.now.machine) self.now.program.now lead.1.value) layer.now.leads.items }
-        { self.work(layer, worker) };
-        thread::for_each_mut(self.rt, workers, threads, &one);
+        if let Some((last, others)) = workers.split_last_mut() {
+            if others.is_empty() {
+                self.work(layer, last);
+            } else {
+                self.work_beside(layer, last, others);
+            }
+        }
     }
 
-    /// Expands the next layer. Whether there was one to expand.
-    fn expand_layer(&self, number: u16, workers: &mut [Worker<J>]) -> Result<bool, OutOfMemory>
+    /// Lets one worker work in a new thread, and the others beside it.
+    #[cycle(starts)]
+    fn work_beside<'l>(&'l self, layer: &'l Layer<M>, one: &mut Worker<J>, others: &mut [Worker<J>])
+        requires seat { IfSome one.old.seat (IsSeatOf layer.now.claims) }
+        requires seats { All (λ w. IfSome w.seat (IsSeatOf layer.now.claims)) others.old }
+        requires ready { All (λ lead. IsReady (M.rules self.now.machine) self.now.program.now lead.1.value) layer.now.leads.items }
+        ensures { length others.new ≡ length others.old }
+    {
+        let mut alone = ||
+            requires { IfSome one.now.seat (IsSeatOf layer.now.claims) × All (λ lead. IsReady (M.rules self.now.machine) self.now.program.now lead.1.value) layer.now.leads.items }
+        { self.work(layer, one) };
+        let mut rest = ||
+            requires { All (λ w. IfSome w.seat (IsSeatOf layer.now.claims)) others.now × All (λ lead. IsReady (M.rules self.now.machine) self.now.program.now lead.1.value) layer.now.leads.items }
+            ensures { length others.exit.now ≡ length others.entry.now }
+        { self.work_at_once(layer, others) };
+        thread::join_mut(self.rt, &mut alone, &mut rest);
+    }
+
+    /// Expands the next layer, and lays its entries in the place of those of the layer before. Whether there was one to
+    /// expand.
+    fn expand_layer(
+        &self,
+        number: u16,
+        workers: &mut [Worker<J>],
+        spent: &mut Option<Leads<M>>,
+    ) -> Result<bool, OutOfMemory>
         requires some { 0 < length workers.old }
         requires few { length workers.old < 2 ^ 8 }
         ensures { length workers.new ≡ length workers.old }
@@ -88,9 +116,18 @@ impl<'a, J: Run + Send + Sync, M: Machine, G: Gate, R: Threads + Wait + Sync> Ex
             leads,
             claims,
             run,
+            spent: Mutex::new(spent.take()),
         };
         seat_all(&layer.claims, workers, seats);
         self.work_at_once(&layer, workers);
+        let Layer {
+            number: _,
+            leads,
+            claims: _,
+            run: _,
+            spent: _,
+        } = layer;
+        *spent = Some(leads);
         Ok(true)
     }
 
@@ -99,8 +136,9 @@ impl<'a, J: Run + Send + Sync, M: Machine, G: Gate, R: Threads + Wait + Sync> Ex
         requires some { 0 < length workers.old }
         requires few { length workers.old < 2 ^ 8 }
     {
+        let mut spent = None;
         for number in 0..steps {
-            if !self.expand_layer(number, workers)? {
+            if !self.expand_layer(number, workers, &mut spent)? {
                 return Ok(());
             }
             if workers

@@ -1,5 +1,5 @@
 //! The ledger of an exploration: what each worker did, and what lies under the lock, which counts it.
-ghost use Rattle.std.specs.Prelude.{◌≡◌, ℕ, ◌+◌, ◌<◌, ◌↔◌, IsTrue, IfOk, All, length, count_by};
+ghost use Rattle.std.specs.Prelude.{◌≡◌, ℕ, ◌+◌, ◌<◌, ◌≤◌, ◌↔◌, IsTrue, IfOk, All, length, count_by};
 ghost use Rattle.book.specs.Entries.{is_expanded};
 ghost use Rattle.crew.specs.Driving.{IsLedgerOf};
 ghost use Rattle.crew.specs.Working.{IsReady};
@@ -216,7 +216,11 @@ impl<J: Run, M: Machine> Desk<J, M> {
         id: usize,
         expansion: Expansion<'_, M>,
         leftovers: &mut Leftovers<State<M>, StateForm<M>>,
-    ) -> Result<(), EnterFault> {
+    ) -> Result<(), EnterFault>
+        requires room { length expansion.successors ≤ leftovers.old.room }
+        ensures room { IfOk result (λ _. leftovers.old.room ≤ leftovers.new.room + length expansion.entry.successors) }
+        ensures kept { IfOk result (λ _. leftovers.new.kept + tally.old.share.met ≡ leftovers.old.kept + tally.new.share.met) }
+    {
         let Desk {
             book,
             expanded,

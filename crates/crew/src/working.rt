@@ -1,5 +1,5 @@
 //! What one worker does in one layer.
-ghost use Rattle.std.specs.Prelude.{◌≡◌, ◌<◌, ◌^◌, All, length, IfSome};
+ghost use Rattle.std.specs.Prelude.{◌≡◌, ◌+◌, ◌<◌, ◌≤◌, ◌^◌, All, length, IfOk, IfSome, sum_by};
 ghost use Rattle.crew.specs.ClaimSeats.{IsSeatOf};
 ghost use Rattle.crew.specs.Working.{IsReady};
 
@@ -7,7 +7,7 @@ use crate::claims::{Claims, Seat};
 use crate::gate::Gate;
 use crate::tally::{Desk, Run, Tally};
 use book::{EnterFault, Expansion, Leftovers, Merge};
-use sched_program::Program;
+use sched_program::{OutOfMemory, Program};
 use std::alloc::Global;
 use std::sync::{Arc, Mutex, MutexGuard, Wait};
 use tree_machine::{Machine, State, StateForm};
@@ -36,9 +36,8 @@ pub struct Worker<J: Run> {
     pub stop: Option<Stop>,
 }
 
-/// How many places a worker draws in one turn. While a worker has the lock others wait for it, and to give it over takes
-/// longer than to enter one expansion, so it enters several at once; few enough that all workers come to the end of the
-/// layer at about the same time, and that the expansions do not leave the processor's cache meanwhile.
+/// How many places a worker draws in one round: several, so that it asks for the lock less often than once for each
+/// entry, but few beside its part of the layer, so that all workers come to the layer's end at about the same time.
 pub fn run_of(places: usize, workers: usize) -> usize
     requires some { 0 < workers }
     requires few { workers < 2 ^ 8 }
@@ -50,13 +49,25 @@ pub fn run_of(places: usize, workers: usize) -> usize
 /// enters them only where no other worker has the lock, and else makes more of them rather than wait.
 const LAST_ROUND: usize = 7;
 
-/// How many steps expansions have together.
-fn steps_of<M: Machine>(made: &Vec<(usize, Expansion<'_, M>)>) -> usize {
-    made.iter().fold(
-        0usize,
-        |steps, (_, expansion)| steps.saturating_add(expansion.len()),
-    )
+/// Leftovers with room for all steps of expansions.
+fn room_for<M: Machine>(
+    alloc: Global,
+    made: &[(usize, Expansion<'_, M>)],
+) -> Result<Leftovers<State<M>, StateForm<M>>, OutOfMemory>
+    ensures { IfOk result (λ l. sum_by (λ one. length one.1.successors) made.now ≤ l.room) }
+{
+    let mut steps = 0usize;
+    for (_, expansion) in made {
+        let Some(sum) = steps.checked_add(expansion.len()) else {
+            return Err(OutOfMemory);
+        };
+        steps = sum;
+    }
+    Leftovers::with_room(alloc, steps)
 }
+
+/// The numbers and states of entries.
+pub type Leads<M: Machine> = Vec<(usize, Arc<State<M>>)>;
 
 /// The entries of a layer, which are taken, and the counter of their places.
 #[derive(Drop)]
@@ -64,10 +75,12 @@ pub struct Layer<M: Machine> {
     /// How many steps its states have.
     pub number: u16,
     /// The entries' numbers and states, by their places.
-    pub leads: Vec<(usize, Arc<State<M>>)>,
+    pub leads: Leads<M>,
     pub claims: Claims,
-    /// How many places a worker draws before it enters the expansions there.
+    /// How many places a worker draws in one round.
     pub run: usize,
+    /// The entries of the layer before. The first worker to come gives them back while the others work.
+    pub spent: Mutex<Option<Leads<M>>>,
     pub ghost as_long: { claims.size.len ≡ length leads.items },
 }
 
@@ -132,14 +145,17 @@ impl<'a, J: Run, M: Machine, G: Gate, R: Wait> Exploration<'a, J, M, G, R> {
         Ok(())
     }
 
-    /// Enters expansions, all in one holding of the lock.
+    /// Enters expansions, all in one holding of the lock. What the book knew is left for after it.
     fn enter_all(
         &self,
         mut desk: MutexGuard<'_, Desk<J, M>>,
         made: Vec<(usize, Expansion<'_, M>)>,
         tally: &mut Tally<J>,
         leftovers: &mut Leftovers<State<M>, StateForm<M>>,
-    ) -> Result<(), Stop> {
+    ) -> Result<(), Stop>
+        requires room { sum_by (λ one. length one.1.successors) made.items ≤ leftovers.old.room }
+        ensures kept { IfOk result (λ _. leftovers.new.kept + tally.old.share.met ≡ leftovers.old.kept + tally.new.share.met) }
+    {
         for (id, expansion) in made {
             match desk.enter(tally, id, expansion, leftovers) {
                 Ok(()) => {}
@@ -178,7 +194,7 @@ impl<'a, J: Run, M: Machine, G: Gate, R: Wait> Exploration<'a, J, M, G, R> {
             if made.is_empty() {
                 return Ok(false);
             }
-            let Ok(mut leftovers) = Leftovers::with_room(self.alloc, steps_of(&made)) else {
+            let Ok(mut leftovers) = room_for(self.alloc, made.as_slice()) else {
                 return Err(Stop::OutOfMemory);
             };
             if let Some(desk) = self.desk_in(round) {
@@ -203,6 +219,8 @@ impl<'a, J: Run, M: Machine, G: Gate, R: Wait> Exploration<'a, J, M, G, R> {
         let Some(seat) = seat else {
             return;
         };
+        let spent = layer.spent.lock(self.rt).take();
+        drop(spent);
         for _turn in 0..=layer.leads.len() {
             match self.turn(layer, *number, seat, tally) {
                 Ok(true) => {}

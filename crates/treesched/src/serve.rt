@@ -129,8 +129,7 @@ fn explored<M: Machine, R: Threads + Wait + Sync>(
     let mut out = String::new(alloc);
     put_report(&mut out, ledger, &report)?;
     let status = status_of(&report.answer);
-    // The program ends with this answer, and its memory with it. To give back each state of the book first takes one
-    // thread a sixth of the time of an exploration by four.
+    // The program ends with this answer, and its memory with it, so that each state need not be given back first.
     forget(report);
     Ok(Output {
         status,

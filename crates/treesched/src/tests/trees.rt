@@ -511,12 +511,12 @@ fn enter_next(
 }
 
 /// Whether the two orders of two first steps of finds are met once: the later one is no new entry.
-fn two_finds_meet(alloc: Global, program: Program) -> Result<bool, OutOfMemory> {
+fn two_finds_meet(alloc: Global, program: &Program) -> Result<bool, OutOfMemory> {
     let ellen = Ellen {
         mark: true,
         iflag: true,
     };
-    let mut book = Book::open(alloc, ellen, program, 100, Merge::Exact)?;
+    let mut book = Book::open(alloc, ellen, program.copy(alloc)?, 100, Merge::Exact)?;
     let first = enter_next(alloc, &mut book)?;
     let second = enter_next(alloc, &mut book)?;
     let before = book.totals().entries;
@@ -550,6 +550,11 @@ fn finds_in_either_order_meet(rt: HostRuntime) -> Result<(), Fail> {
     let Ok(program) = Program::from_json(rt.alloc(), file.as_bytes()) else {
         return Err(Fail::from("no program"));
     };
-    assert!(rt; two_finds_meet(rt.alloc(), program).unwrap_or(true));
+    // Runs once more where a growth was refused: that happens once at most.
+    assert!(rt;
+        two_finds_meet(rt.alloc(), &program)
+            .or_else(|_| two_finds_meet(rt.alloc(), &program))
+            .unwrap_or(false)
+    );
     Ok(())
 }
