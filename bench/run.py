@@ -4,13 +4,14 @@
 usage: bench/run.py [--only WORD] [--repeat N] [--workers W,W,..] BINARY [BINARY ..]
 
 For each program, merge, number of workers and binary: the states that it reports, wall seconds, CPU seconds (user and system), states per
-second of CPU, peak memory in MB and in bytes a state. Of N repeats the one with the least CPU time is told.
+second of CPU, peak memory in MB and in bytes a state. With N repeats, numbers of workers and binaries take turns, and medians are told.
 """
 import argparse
 import os
 import re
 import sys
 import time
+from statistics import median
 
 HERE = os.path.dirname(os.path.abspath(__file__))
 
@@ -60,21 +61,26 @@ def main():
     options = parser.parse_args()
     row = "{:<28} {:<24} {:>9} {:>8} {:>8} {:>10} {:>8} {:>8}"
     print(row.format("program", "binary", "states", "seconds", "cpu", "states/s", "MB", "B/state"))
-    crews = [["--workers", count] for count in options.workers.split(",") if count] or [[]]
-    for program, words, crew in ((program, words, crew) for program, words in RUNS for crew in crews):
+    crews = [("--workers", count) for count in options.workers.split(",") if count] or [()]
+    turns = [(crew, binary) for crew in crews for binary in options.binary]
+    for program, words in RUNS:
         if options.only not in program:
             continue
-        name = " ".join([program[: -len(".json")], *(["names"] if "names" in words else []), *(f"by {count}" for count in crew[1:])])
-        for binary in options.binary:
-            tries = [run(os.path.abspath(binary), program, words + crew) for _ in range(options.repeat)]
-            text, status, wall, cpu, memory = min(tries, key=lambda one: one[3])
-            found = re.search(r"^states (\d+)$", text, re.MULTILINE)
+        runs = {turn: [] for turn in turns}
+        for _ in range(options.repeat):
+            for crew, binary in turns:
+                runs[crew, binary].append(run(os.path.abspath(binary), program, [*words, *crew]))
+        for crew, binary in turns:
+            name = " ".join([program[: -len(".json")], *(["names"] if "names" in words else []), *(f"by {count}" for count in crew[1:])])
+            texts, statuses, walls, cpus, peaks = zip(*runs[crew, binary])
+            found = re.search(r"^states (\d+)$", texts[0], re.MULTILINE)
             if not found:
-                print(f"{name}: {binary}: status {status}, no line 'states N'", file=sys.stderr)
+                print(f"{name}: {binary}: status {statuses[0]}, no line 'states N'", file=sys.stderr)
                 continue
             states = int(found.group(1))
+            wall, cpu, memory = median(walls), median(cpus), max(peaks)
             print(row.format(name, os.path.basename(binary), states, f"{wall:.2f}", f"{cpu:.2f}",
-                             int(states / max(cpu, 0.001)), f"{memory / 1e6:.0f}", memory // states))
+                             int(states / max(cpu, 0.001)), f"{memory / 1e6:.0f}", memory // states), flush=True)
 
 
 if __name__ == "__main__":
