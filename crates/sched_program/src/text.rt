@@ -16,9 +16,6 @@ use crate::sequence::Sequence;
 use serde_json::Value;
 use std::alloc::Global;
 
-#[cfg(test)]
-mod tests;
-
 /// Whether a value says that it is of version 1.
 fn is_version_1(value: &Value) -> bool
     ensures { IsTrue result ↔ HasVersion (view value.now) 1 }

@@ -1,0 +1,5 @@
+//! Tests of `sched_program`, by its public calls alone.
+#![tactic(auto)]
+
+#[cfg(test)]
+mod from_json;
