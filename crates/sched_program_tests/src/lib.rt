@@ -3,3 +3,5 @@
 
 #[cfg(test)]
 mod from_json;
+#[cfg(test)]
+mod refused_texts;
