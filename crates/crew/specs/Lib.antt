@@ -10,4 +10,3 @@ pub mod ClaimRule
 pub mod ClaimSeats
 pub mod Working
 pub mod Reporting
-pub mod Faulty

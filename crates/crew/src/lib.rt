@@ -12,8 +12,6 @@ mod reading;
 mod reporting;
 mod settling;
 mod tally;
-#[cfg(test)]
-mod tests;
 mod working;
 
 pub use crate::answer::{Answer, Report, Share};

@@ -1,7 +1,7 @@
 -- A machine with a fault for each kind of operation, for the tests: an insert replies true, a delete goes astray at its
 -- second step, and a find leaves the memory out of order. A place says whether the operation's first step is done, the
 -- memory whether it is out of order.
-use Rattle.std.specs.Prelude.{◌≡◌, ◌↔◌, Bool, true, false, refl, List, [], ◌∷◌, Option, Some}
+use Rattle.std.specs.Prelude.{◌≡◌, ◌↔◌, Bool, true, false, refl, List, ◌∷◌, Option, Some}
 use Rattle.sched_program.specs.declared.operation.Op.{Op}
 use Rattle.sched_program.specs.declared.operation.Op.TheVariants.{Insert, Delete, Find}
 use Rattle.tree_machine.specs.Rules.{Rules, AreLawful, IsOutcomeInRange}

@@ -2,20 +2,12 @@
 ghost use Rattle.std.specs.Prelude.{◌≡◌, ◌<◌, ◌+◌, ◌-◌, ◌^◌, ℕ, All, IfOk, vec_len};
 ghost use Rattle.crew.specs.ClaimSeats.{IsSeatOf};
 
-use crate::{Claimed, Claims, Seat};
+use crew::{Claimed, Claims, Seat};
 use sched_program::OutOfMemory;
 use std::alloc::Global;
+use std::process::Abort;
 use std::thread;
 use std::thread::Threads;
-
-/// Of two runs of a case one is not refused memory, and what is answered is right.
-fn is_right(first: Result<bool, OutOfMemory>, second: Result<bool, OutOfMemory>) -> bool {
-    match (first, second) {
-        (Ok(first), Ok(second)) => first && second,
-        (Ok(only), Err(_)) | (Err(_), Ok(only)) => only,
-        (Err(_), Err(_)) => false,
-    }
-}
 
 /// A seat, and the places that it drew.
 #[derive(Drop)]
@@ -90,14 +82,20 @@ fn gathered(
     Ok(seats)
 }
 
-/// Whether threads with a seat each draw every place once, and a spent seat is told so again.
-#[tactic(auto, using(crate::proofs::ClaimTurns::one_part_each))]
-fn is_each_drawn_once<R: Threads + Sync>(
+/// Whether these are all places below a length, each once.
+fn are_below(mut places: Vec<usize>, len: usize) -> Result<bool, OutOfMemory> {
+    places.sort()?;
+    Ok(places.iter().copied().eq(0..len))
+}
+
+/// Threads with a seat each draw every place once, and a spent seat is told so again.
+#[tactic(auto, using(crew::proofs::ClaimTurns::one_part_each))]
+fn draw_each_once<R: Abort + Threads + Sync>(
     rt: &R,
     alloc: Global,
     len: usize,
     seats: usize,
-) -> Result<bool, OutOfMemory>
+) -> Result<(), OutOfMemory>
     requires { (0 < seats) × (len + seats < 2 ^ 64) }
 {
     let (claims, fresh) = Claims::new(alloc, len, seats)?;
@@ -105,53 +103,51 @@ fn is_each_drawn_once<R: Threads + Sync>(
     let drawers = draw_at_once(rt, alloc, &claims, fresh)?;
     let mut spent = gathered(alloc, &claims, drawers, &mut drawn)?;
     let again = claims.claim(&mut spent[0]);
+    let closed = claims.close(spent);
     let expected = Claimed {
         drawn: len,
         spent: seats,
     };
-    drawn.sort()?;
-    let once = drawn.iter().copied().eq(0..len);
-    let closed = claims.close(spent);
-    Ok(once && again.is_none() && closed == expected)
+    assert!(rt; again.is_none());
+    assert_eq!(rt; closed, expected);
+    assert!(rt; are_below(drawn, len)?);
+    Ok(())
 }
 
 #[test]
 fn two_threads_draw_three_places(rt: HostRuntime) {
-    let alloc = rt.alloc();
-    let first = is_each_drawn_once(&rt, alloc, 3, 2);
-    assert!(rt; is_right(first, is_each_drawn_once(&rt, alloc, 3, 2)));
+    passes!(rt; draw_each_once(&rt, rt.alloc(), 3, 2));
 }
 
 #[test]
 fn eight_threads_draw_a_thousand_places(rt: HostRuntime) {
-    let alloc = rt.alloc();
-    let first = is_each_drawn_once(&rt, alloc, 1_000, 8);
-    assert!(rt; is_right(first, is_each_drawn_once(&rt, alloc, 1_000, 8)));
+    passes!(rt; draw_each_once(&rt, rt.alloc(), 1_000, 8));
 }
 
-/// Whether two seats of a counter of no places are told so.
-fn is_none_drawn(alloc: Global) -> Result<bool, OutOfMemory> {
+/// Two seats of a counter of no places are told so.
+fn draw_of_none(rt: &impl Abort, alloc: Global) -> Result<(), OutOfMemory> {
     let (claims, mut seats) = Claims::new(alloc, 0, 2)?;
-    let first = claims.claim(&mut seats[0]);
-    let second = claims.claim(&mut seats[1]);
-    Ok(first.is_none() && second.is_none())
+    assert!(rt; claims.claim(&mut seats[0]).is_none());
+    assert!(rt; claims.claim(&mut seats[1]).is_none());
+    Ok(())
 }
 
 #[test]
 fn no_place_is_drawn_of_none(rt: HostRuntime) {
-    assert!(rt; is_right(is_none_drawn(rt.alloc()), is_none_drawn(rt.alloc())));
+    passes!(rt; draw_of_none(&rt, rt.alloc()));
 }
 
-/// Whether a counter is closed where one of two seats drew one place.
-#[tactic(auto, using(crate::proofs::ClaimTurns::one_part_each))]
-fn is_one_drawn(alloc: Global) -> Result<bool, OutOfMemory> {
+/// A counter is closed where one of two seats drew one place.
+#[tactic(auto, using(crew::proofs::ClaimTurns::one_part_each))]
+fn draw_one(rt: &impl Abort, alloc: Global) -> Result<(), OutOfMemory> {
     let (claims, mut seats) = Claims::new(alloc, 3, 2)?;
-    let first = claims.claim(&mut seats[0]);
+    assert_eq!(rt; claims.claim(&mut seats[0]), Some(0));
     let expected = Claimed { drawn: 1, spent: 0 };
-    Ok(first == Some(0) && claims.close(seats) == expected)
+    assert_eq!(rt; claims.close(seats), expected);
+    Ok(())
 }
 
 #[test]
 fn one_draw_of_two_seats(rt: HostRuntime) {
-    assert!(rt; is_right(is_one_drawn(rt.alloc()), is_one_drawn(rt.alloc())));
+    passes!(rt; draw_one(&rt, rt.alloc()));
 }

@@ -1,6 +1,6 @@
 //! A machine with a fault for each kind of operation.
 ghost use Rattle.std.specs.Prelude.{refl};
-ghost use Rattle.crew.specs.Faulty.{faulty_rules, faulty_lawful, faulty_form, faulty_forms};
+ghost use Rattle.crew_tests.specs.Faulty.{faulty_rules, faulty_lawful, faulty_form, faulty_forms};
 
 use sched_program::{Exact, Op, OutOfMemory, Sequence};
 use std::alloc::Global;

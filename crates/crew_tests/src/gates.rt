@@ -1,58 +1,80 @@
 //! Gates that count the workers' arrivals, and hold some of them.
-use crate::{Gate, Report};
-use std::alloc::{AllocError, Global};
+use crate::told::Told;
+use crew::{Gate, Share};
 use std::process::Abort;
 use std::sync::atomic::{AtomicU64, Ordering};
-use tree_machine::Machine;
 
 /// How many loads of a flag a worker is held at most.
 const TURNS: u64 = 1_000_000_000;
 
-fn count(counts: &Vec<AtomicU64>, index: usize) {
+fn count(counts: &[AtomicU64], index: usize) {
     if let Some(counter) = counts.get(index) {
         counter.fetch_add(1, Ordering::SeqCst);
     }
 }
 
-fn zeros(alloc: Global, len: usize) -> Result<Vec<AtomicU64>, AllocError> {
-    let mut all = Vec::new(alloc);
-    for _one in 0..len {
-        all.push(AtomicU64::new(0))?;
+/// What was counted; nothing where there is no counter.
+fn times(counts: &[AtomicU64], index: usize) -> u64 {
+    match counts.get(index) {
+        Some(counter) => counter.load(Ordering::SeqCst),
+        None => 0,
     }
-    Ok(all)
+}
+
+fn zero() -> AtomicU64 {
+    AtomicU64::new(0)
 }
 
 /// How often each worker arrived, the first worker's number first.
 #[derive(Drop)]
 pub struct Arrivals {
-    counts: Vec<AtomicU64>,
+    counts: [AtomicU64; 8],
 }
 
 impl Arrivals {
-    fn new(alloc: Global) -> Result<Arrivals, AllocError> {
-        let counts = zeros(alloc, 8)?;
-        Ok(Arrivals { counts })
+    fn new() -> Arrivals {
+        let counts = [
+            zero(),
+            zero(),
+            zero(),
+            zero(),
+            zero(),
+            zero(),
+            zero(),
+            zero(),
+        ];
+        Arrivals { counts }
     }
 
     fn add(&self, worker: u8) {
-        count(&self.counts, usize::from(worker).wrapping_sub(1));
+        count(self.counts.as_slice(), usize::from(worker).wrapping_sub(1));
     }
 
     /// Each worker arrived as often as it expanded an entry, and all did what the totals tell.
-    pub fn compare<M: Machine>(&self, rt: &impl Abort, report: &Report<M>) {
-        let mut expanded = 0usize;
-        let mut entered = 0usize;
-        let mut met = 0usize;
-        for (share, count) in report.shares.iter().zip(&self.counts) {
-            assert_eq!(rt; share.expanded as u64, count.load(Ordering::SeqCst));
-            expanded = expanded.wrapping_add(share.expanded);
-            entered = entered.wrapping_add(share.entered);
-            met = met.wrapping_add(share.met);
+    pub fn compare(&self, rt: &impl Abort, told: &Told) {
+        for (index, share) in told.shares.iter().enumerate() {
+            assert_eq!(rt; share.expanded as u64, times(self.counts.as_slice(), index));
         }
-        assert_eq!(rt; expanded, report.totals.expanded);
-        assert_eq!(rt; entered, report.totals.entered);
-        assert_eq!(rt; met, report.totals.met);
+        let all = sum_of(told.shares.as_slice());
+        assert_eq!(rt; all.expanded, told.totals.expanded);
+        assert_eq!(rt; all.entered, told.totals.entered);
+        assert_eq!(rt; all.met, told.totals.met);
     }
+}
+
+/// What all workers did.
+fn sum_of(shares: &[Share]) -> Share {
+    let mut all = Share {
+        expanded: 0,
+        entered: 0,
+        met: 0,
+    };
+    for share in shares {
+        all.expanded = all.expanded.wrapping_add(share.expanded);
+        all.entered = all.entered.wrapping_add(share.entered);
+        all.met = all.met.wrapping_add(share.met);
+    }
+    all
 }
 
 /// Holds each arrival at an odd place for a while.
@@ -62,9 +84,10 @@ pub struct Slow {
 }
 
 impl Slow {
-    pub fn new(alloc: Global) -> Result<Slow, AllocError> {
-        let arrivals = Arrivals::new(alloc)?;
-        Ok(Slow { arrivals })
+    pub fn new() -> Slow {
+        Slow {
+            arrivals: Arrivals::new(),
+        }
     }
 }
 
@@ -85,9 +108,9 @@ impl Gate for Slow {
 pub struct Both {
     pub arrivals: Arrivals,
     /// The number of the worker that arrived last at each place of layer 1.
-    flags: Vec<AtomicU64>,
+    flags: [AtomicU64; 2],
     /// How often a worker arrived at each place of layer 1, and at others.
-    seen: Vec<AtomicU64>,
+    seen: [AtomicU64; 3],
     /// How often a worker was held to the limit.
     late: AtomicU64,
 }
@@ -104,23 +127,20 @@ fn is_met(flag: &AtomicU64, worker: u8) -> bool {
 }
 
 impl Both {
-    pub fn new(alloc: Global) -> Result<Both, AllocError> {
-        let arrivals = Arrivals::new(alloc)?;
-        let flags = zeros(alloc, 2)?;
-        let seen = zeros(alloc, 3)?;
-        Ok(Both {
-            arrivals,
-            flags,
-            seen,
-            late: AtomicU64::new(0),
-        })
+    pub fn new() -> Both {
+        Both {
+            arrivals: Arrivals::new(),
+            flags: [zero(), zero()],
+            seen: [zero(), zero(), zero()],
+            late: zero(),
+        }
     }
 
     /// Two workers stood in layer 1 at once, one at place 0 and one at place 1, and no worker came to another place.
     pub fn compare(&self, rt: &impl Abort) {
         assert_eq!(rt; self.late.load(Ordering::SeqCst), 0);
-        for (count, times) in self.seen.iter().zip([1, 1, 0]) {
-            assert_eq!(rt; count.load(Ordering::SeqCst), times);
+        for (place, arrivals) in [1, 1, 0].iter().enumerate() {
+            assert_eq!(rt; times(self.seen.as_slice(), place), *arrivals);
         }
     }
 }
@@ -131,7 +151,7 @@ impl Gate for Both {
         if layer != 1 {
             return;
         }
-        count(&self.seen, place.min(2));
+        count(self.seen.as_slice(), place.min(2));
         if let (Some(here), Some(there)) = (
             self.flags.get(place.min(1)),
             self.flags.get(1 - place.min(1)),

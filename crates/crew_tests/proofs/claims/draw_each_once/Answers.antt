@@ -1,7 +1,7 @@
 -- All seats of the counter are given back.
 use Rattle.std.proofs.Common.{rules, ◌∙◌, slice_set}
 use Rattle.crew.proofs.ClaimTurns.{one_part_each}
-use Rattle.crew.proofs.tests.claims.is_each_drawn_once.Goals as goal
+use Rattle.crew_tests.proofs.claims.draw_each_once.Goals as goal
 
 pub close-closed-requires-clause-every : goal.close-closed-requires-clause-every
 close-closed-requires-clause-every g c =

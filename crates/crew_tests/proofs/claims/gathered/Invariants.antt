@@ -1,6 +1,6 @@
 use Rattle.std.proofs.Common.{◌≡◌, ◌+◌, All, vec_len, length}
 use Rattle.crew.specs.ClaimSeats.{IsSeatOf}
-use Rattle.crew.proofs.tests.claims.gathered.Given as goal
+use Rattle.crew_tests.proofs.claims.gathered.Given as goal
 
 abbrev pub invariant-loop-drawer : goal.invariant-loop-drawer
 invariant-loop-drawer l = record {

@@ -2,8 +2,8 @@
 use Rattle.std.proofs.Common.{arith, ap, Some, ◌≡◌, ◌+◌, ◌++◌, ◌∷◌, [], List, length, length-append}
 use Rattle.std.proofs.lemmas.List.Elements.{All-pop, All-push, All-same}
 use Rattle.crew.specs.ClaimSeats.{IsSeatOf}
-use Rattle.crew.specs.declared.tests.claims.Drawer.{Drawer}
-use Rattle.crew.proofs.tests.claims.gathered.Goals as goal
+use Rattle.crew_tests.specs.declared.claims.Drawer.{Drawer}
+use Rattle.crew_tests.proofs.claims.gathered.Goals as goal
 
 fewer : (xs ys : List Drawer) (d : Drawer) → xs ≡ ys ++ d ∷ [] → length xs ≡ length ys + 1
 fewer xs ys d is = omega (arith, ap (λ (l : List Drawer). length l) is, length-append ys (d ∷ []))

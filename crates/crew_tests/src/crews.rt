@@ -1,0 +1,169 @@
+//! Explorations by several workers.
+use crate::faulty::Faulty;
+use crate::gates::{Both, Slow};
+use crate::rows::{DELETES, FINDS, INSERTS};
+use crate::told::{Bounds, Line, Told, told_of};
+use crew::Share;
+use sched_program::OutOfMemory;
+use std::alloc::Global;
+use std::process::Abort;
+use std::sync::Wait;
+use std::thread::Threads;
+use tree_machine::{Atomic, Machine};
+
+/// The gate holds the first arrival in layer 1 until another worker has arrived at the other place, so a body that does
+/// all the work on one thread, or lets its workers work one after the other, is held to the limit, which the gate tells.
+/// One whose workers arrive and enter nothing, and that then explores anew on one thread, never comes to layer 1, and
+/// tells of three expansions by the first worker, though there was one arrival. One whose worker lays a fresh book under
+/// the lock tells of shares that are not the arrivals, or of an exploration anew.
+fn meet_in_a_layer<R: Abort + Threads + Wait + Sync>(
+    rt: &R,
+    alloc: Global,
+    workers: u8,
+) -> Result<(), OutOfMemory> {
+    let gate = Both::new();
+    let bounds = Bounds {
+        steps: 2,
+        limit: 200_000,
+        workers,
+    };
+    let told = told_of(rt, alloc, Atomic, INSERTS, bounds, &gate)?;
+    gate.compare(rt);
+    gate.arrivals.compare(rt, &*told);
+    assert_eq!(rt; told.line, Line::Holds(2));
+    assert_eq!(rt; told.totals.entries, 5);
+    assert_eq!(rt; told.totals.expanded, 3);
+    assert_eq!(rt; told.shares.len(), usize::from(workers));
+    Ok(())
+}
+
+#[test]
+fn two_workers_and_more_are_in_one_layer_at_once(rt: HostRuntime) {
+    for workers in 2..=8 {
+        passes!(rt; meet_in_a_layer(&rt, rt.alloc(), workers));
+    }
+}
+
+/// A program, how far it is explored, and the answer with the number of states.
+#[derive(Clone, Copy)]
+struct Row {
+    text: &'static [u8],
+    steps: u16,
+    limit: u32,
+    line: Line,
+    entries: usize,
+}
+
+impl Row {
+    /// The answer and the number of states. Each worker arrived as often as its share tells, if the exploration was not
+    /// stopped.
+    fn compare(&self, rt: &impl Abort, workers: u8, gate: &Slow, told: &Told) {
+        assert_eq!(rt; told.line, self.line);
+        assert_eq!(rt; told.shares.len(), usize::from(workers));
+        if !matches!(self.line, Line::Stopped(_, _)) {
+            assert_eq!(rt; told.totals.entries, self.entries);
+            gate.arrivals.compare(rt, told);
+        }
+    }
+}
+
+fn try_row<M: Machine, R: Abort + Threads + Wait + Sync>(
+    rt: &R,
+    alloc: Global,
+    machine: M,
+    row: Row,
+    workers: u8,
+) -> Result<(), OutOfMemory> {
+    let gate = Slow::new();
+    let bounds = Bounds {
+        steps: row.steps,
+        limit: row.limit,
+        workers,
+    };
+    let told = told_of(rt, alloc, machine, row.text, bounds, &gate)?;
+    row.compare(rt, workers, &gate, &*told);
+    Ok(())
+}
+
+/// For 1, 2 and 8 workers.
+fn compare_all<M: Machine, R: Abort + Threads + Wait + Sync>(
+    rt: &R,
+    alloc: Global,
+    machine: M,
+    row: Row,
+) {
+    for workers in [1, 2, 8] {
+        passes!(rt; try_row(rt, alloc, machine, row, workers));
+    }
+}
+
+#[test]
+fn the_number_of_workers_changes_no_answer(rt: HostRuntime) {
+    let alloc = rt.alloc();
+    for (steps, limit, line, entries) in [
+        (0, 200_000, Line::Holds(0), 1),
+        (1, 200_000, Line::Holds(1), 3),
+        (2, 200_000, Line::Holds(2), 5),
+        (400, 5, Line::Holds(400), 5),
+        (2, 4, Line::Stopped(4, 1), 4),
+        (2, 2, Line::Stopped(2, 0), 1),
+    ] {
+        let row = Row {
+            text: INSERTS,
+            steps,
+            limit,
+            line,
+            entries,
+        };
+        compare_all(&rt, alloc, Atomic, row);
+    }
+    for (text, steps, limit, line, entries) in [
+        (INSERTS, 20, 5, Line::History(2), 5),
+        (INSERTS, 1, 5, Line::Holds(1), 3),
+        (INSERTS, 20, 4, Line::Stopped(4, 1), 4),
+        (DELETES, 20, 200_000, Line::Astray(2), 6),
+        (FINDS, 20, 200_000, Line::Order(1), 3),
+        (FINDS, 20, 2, Line::Stopped(2, 0), 1),
+    ] {
+        let row = Row {
+            text,
+            steps,
+            limit,
+            line,
+            entries,
+        };
+        compare_all(&rt, alloc, Faulty, row);
+    }
+}
+
+/// One step of two inserts, by two workers.
+fn step_once<R: Abort + Threads + Wait + Sync>(rt: &R, alloc: Global) -> Result<(), OutOfMemory> {
+    let gate = Slow::new();
+    let bounds = Bounds {
+        steps: 1,
+        limit: 200_000,
+        workers: 2,
+    };
+    let told = told_of(rt, alloc, Atomic, INSERTS, bounds, &gate)?;
+    assert_eq!(rt; told.line, Line::Holds(1));
+    assert_eq!(rt; told.totals.entries, 3);
+    gate.arrivals.compare(rt, &*told);
+    let none = Share {
+        expanded: 0,
+        entered: 0,
+        met: 0,
+    };
+    let all = Share {
+        expanded: 1,
+        entered: 2,
+        met: 0,
+    };
+    let shares = told.shares.as_slice();
+    assert!(rt; shares == [all, none].as_slice() || shares == [none, all].as_slice());
+    Ok(())
+}
+
+#[test]
+fn one_step_is_one_worker_s_work(rt: HostRuntime) {
+    passes!(rt; step_once(&rt, rt.alloc()));
+}
