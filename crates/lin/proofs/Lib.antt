@@ -3,7 +3,6 @@ pub mod Lists
 pub mod Bits
 pub mod OpBits
 pub mod Completions
-pub mod Extensions
 pub mod Search
 pub mod Configurations
 pub mod Timelines

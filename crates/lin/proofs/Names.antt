@@ -67,10 +67,6 @@ module _ {V : Type 0} where
   each_all Q items entries i e past each a some =
       each a (subst (λ xs. IsSome (value_at xs a)) (sym e ∙ sym (take_all i items past)) some)
 
-  -- what stands at a place of a list that is another name for the entries
-  pub IsSome-value_at_in : (items entries : List (OpId × V)) (i : ℕ) (d : OpId × V) → items ≡ entries → i < length items → IsSome (value_at entries (get_or items i d).0)
-  IsSome-value_at_in items entries i d e h = rw (← e) (IsSome-value_at items i d h)
-
   -- an entry that was read has a name with a value
   pub IsSome-value_at_read : (items entries : List (OpId × V)) (i : ℕ) (x : OpId × V) → items ≡ entries → i < length items → x ≡ get_or items i x → IsSome (value_at entries x.0)
   IsSome-value_at_read items entries i x e h read =

@@ -1,5 +1,5 @@
 -- What a search place by place knows of the operations that it tried.
-use Rattle.std.proofs.Common.{◌≡◌, ℕ, ◌+◌, ◌<◌, ◌≤◌, ◌||◌, inl, inr, Bool, true, false, cond, true≢false, List, [], ◌∷◌, ◌++◌, length, get_or, take, Option, Some, None, IsSome, MatchOption, refl, sym, ◌∙◌, ap, arith, subst, subst₂, append_assoc}
+use Rattle.std.proofs.Common.{◌≡◌, ℕ, ◌+◌, ◌<◌, ◌≤◌, ◌||◌, inl, inr, Bool, true, false, cond, true≢false, List, [], ◌∷◌, ◌++◌, length, Option, Some, None, IsSome, refl, sym, ◌∙◌, ap, arith, subst, subst₂, append_assoc}
 use Rattle.std.proofs.lemmas.Bool.{or_right}
 use mathlib.Core.Path.{fun_ext}
 use Rattle.std.specs.Option.{option_to_list}
@@ -8,14 +8,12 @@ use Rattle.std.proofs.lemmas.List.Folds.{list_any-append}
 use Rattle.sched_program.specs.declared.operation.OpId.{OpId}
 use Rattle.sched_program.specs.Program.{Program}
 use Rattle.sched_program.specs.History.{History}
-use Rattle.lin.specs.declared.key_set.KeySet.{KeySet}
 use Rattle.lin.specs.Keys.{Keys, keys_of}
-use Rattle.lin.specs.KeySet.{keys_in}
 use Rattle.sched_program.specs.Name.{same_name, value_at}
 use Rattle.sched_program.specs.History.{IsBegun}
 use Rattle.lin.specs.Linearization.{IsLinearization}
-use Rattle.lin.specs.Completion.{Listed, listed_in, with_name, StandsNext, Completes, EveryFinishedIsListed, IsHopeless, ComesFirst, MustWait}
-use Rattle.lin.proofs.Names.{same_name_self, same_name-is, IsSome-value_at_in, each_all}
+use Rattle.lin.specs.Completion.{Listed, listed_in, with_name, StandsNext, Completes, EveryFinishedIsListed, IsHopeless, MustWait}
+use Rattle.lin.proofs.Names.{same_name_self, same_name-is}
 use Rattle.lin.proofs.Completions.{completes_linearization_after, StandsNext-same, IsLinearization-completes, Completes-linearization}
 
 or_nothing : (a b : Bool) → (a || (b || false)) ≡ (a || b)
@@ -76,17 +74,6 @@ pub unlisted_push : {V : Type 0} (order pushed : List OpId) (a : OpId) (xs : Lis
 unlisted_push order pushed a xs e new some =
     subst (λ listed. unlisted_count listed xs < unlisted_count (listed_in order) xs) (sym (ap listed_in e ∙ listed_push order a)) (unlisted_falls (listed_in order) a xs new some)
 
-module _ (history : History) where
-  -- one of the finished operations comes first
-  pub waits : (listed : Listed) (a : OpId) (items : List (OpId × Bool)) (i : ℕ) (d : OpId × Bool) → items ≡ history.finished → i < length items
-      → ComesFirst history listed (get_or items i d).0 a → MustWait history listed a
-  waits listed a items i d e h first = ((get_or items i d).0, IsSome-value_at_in items history.finished i d e h, first)
-
-  -- none of them does
-  pub waits_not : (listed : Listed) (a : OpId) (items : List (OpId × Bool)) (i : ℕ) → items ≡ history.finished → length items ≤ i
-      → ((b : OpId) → IsSome (value_at (take i items) b) → ComesFirst history listed b a → ⊥) → MustWait history listed a → ⊥
-  waits_not listed a items i e past none w = each_all (λ b. ComesFirst history listed b a → ⊥) items history.finished i e past none w.0 w.1 w.2
-
 module _ (program : Program) (history : History) where
   -- what may follow with this operation in front may follow
   pub found_more : (order pushed order' : List OpId) (keys next : Keys) (a : OpId) → StandsNext program history (listed_in order) keys a next → pushed ≡ order ++ a ∷ []
@@ -98,12 +85,7 @@ module _ (program : Program) (history : History) where
     (next, s, subst (λ listed. Completes program history listed next found.0) (ap listed_in e ∙ listed_push order a) found.2),
   )
 
-  -- no list with this operation in front completes: the operation can't stand next,
-  pub not_next : (listed : Listed) (keys : Keys) (a : OpId) → ((next : Keys) → StandsNext program history listed keys a next → ⊥)
-      → (rest : List OpId) → Completes program history listed keys (a ∷ rest) → ⊥
-  not_next listed keys a none rest c = none c.0 c.1
-
-  -- or nothing may follow it,
+  -- no list with this operation in front completes: nothing may follow it,
   pub not_after : (order pushed : List OpId) (keys next : Keys) (a : OpId) → StandsNext program history (listed_in order) keys a next → pushed ≡ order ++ a ∷ []
       → IsHopeless program history (listed_in pushed) next → (rest : List OpId) → Completes program history (listed_in order) keys (a ∷ rest) → ⊥
   not_after order pushed keys next a s pushed_is none rest c =
@@ -125,13 +107,6 @@ module _ (program : Program) (history : History) where
       → ((a : OpId) → IsBegun history a → (rest : List OpId) → Completes program history listed keys (a ∷ rest) → ⊥) → IsHopeless program history listed keys
   nothing_left listed keys missing tried [] every = missing every
   nothing_left listed keys missing tried (a ∷ rest) c = tried a c.1.begun rest c
-
-  -- an operation that can't stand next has no list after it
-  pub placed : (listed : Listed) (keys : Keys) (a : OpId) (r : Option KeySet)
-      → MatchOption r ((next : Keys) → StandsNext program history listed keys a next → ⊥) (λ next. StandsNext program history listed keys a (keys_in next))
-      → MatchOption r ((rest : List OpId) → Completes program history listed keys (a ∷ rest) → ⊥) (λ next. StandsNext program history listed keys a (keys_in next))
-  placed listed keys a None none = not_next listed keys a none
-  placed listed keys a (Some next) s = s
 
   -- what completes the empty list is a linearization,
   pub found_linearization : (empty order : List OpId) (keys : Keys) → empty ≡ [] → keys ≡ keys_of program.initial

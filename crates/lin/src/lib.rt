@@ -9,16 +9,8 @@ mod history;
 mod key_set;
 mod op_set;
 mod order;
-#[cfg(test)]
-mod place;
-#[cfg(test)]
-mod plain;
 mod progress;
-#[cfg(test)]
-mod pruned;
 mod searcher;
-#[cfg(test)]
-mod tests;
 mod timeline;
 
 pub use order::check_order;

@@ -27,7 +27,7 @@ pub fn check_order(program: &Program, history: &History, order: &[OpId]) -> bool
 }
 
 /// The keys after this operation, if it may stand next.
-pub fn keys_after_next(
+fn keys_after_next(
     program: &Program,
     history: &History,
     listed: &[OpId],
@@ -71,7 +71,7 @@ fn ended_before_any(history: &History, name: OpId, listed: &[OpId]) -> bool
 }
 
 /// Whether every finished operation is listed.
-pub fn lists_every_finished(history: &History, listed: &[OpId]) -> bool
+fn lists_every_finished(history: &History, listed: &[OpId]) -> bool
     ensures { IsTrue result ↔ EveryFinishedIsListed history.now (listed_in listed.now) }
 {
     for (name, _) in history.finished() {

@@ -1,0 +1,62 @@
+//! The judge beside the two plainer searchers.
+
+use crate::fixtures::{Broken, ensure};
+use crate::plain::judge_plain;
+use crate::pruned::judge_pruned;
+use lin::{check_order, judge};
+use sched_program::{History, OpId, Program};
+use std::alloc::Global;
+
+fn is_answer_of_pruned(
+    alloc: Global,
+    program: &Program,
+    history: &History,
+    answer: &Option<Vec<OpId>>,
+) -> Result<(), Broken> {
+    let pruned = judge_pruned(alloc, program, history)?;
+    ensure(pruned == *answer, Broken::Pruned)
+}
+
+fn is_answer_of_plain(
+    alloc: Global,
+    program: &Program,
+    history: &History,
+    answer: &Option<Vec<OpId>>,
+) -> Result<(), Broken> {
+    let plain = judge_plain(alloc, program, history)?;
+    ensure(plain == *answer, Broken::Plain)
+}
+
+/// An order is taken by `check_order`.
+fn is_taken(
+    program: &Program,
+    history: &History,
+    answer: &Option<Vec<OpId>>,
+) -> Result<(), Broken> {
+    match answer {
+        Some(order) => ensure(check_order(program, history, order), Broken::Order(0)),
+        None => Ok(()),
+    }
+}
+
+/// The searchers answer this. The one that tries every list is asked where at most four operations began.
+fn is_answer_of_all(
+    alloc: Global,
+    program: &Program,
+    history: &History,
+    answer: &Option<Vec<OpId>>,
+) -> Result<(), Broken> {
+    is_taken(program, history, answer)?;
+    is_answer_of_pruned(alloc, program, history, answer)?;
+    if history.begun().len() <= 4 {
+        is_answer_of_plain(alloc, program, history, answer)?;
+    }
+    Ok(())
+}
+
+/// The searchers answer alike; whether they found an order.
+pub fn agree(alloc: Global, program: &Program, history: &History) -> Result<bool, Broken> {
+    let answer = judge(alloc, program, history)?;
+    is_answer_of_all(alloc, program, history, &answer)?;
+    Ok(answer.is_some())
+}

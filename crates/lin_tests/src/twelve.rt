@@ -1,0 +1,151 @@
+//! Twelve operations of four threads at once.
+
+use crate::fixtures::{Broken, ensure, is_answer, note, program_of};
+use crate::searchers::agree;
+use lin::{judge, judge_counted};
+use sched_program::{History, Note, OpId, OutOfMemory, Program};
+use std::alloc::Global;
+use std::test::Fail;
+
+/// Three threads insert, and the last looks for a key that none inserts.
+const PROGRAM: &str = r#"{"version":1,"tree":"atomic","initial":[],"threads":[
+[{"op":"insert","key":1},{"op":"insert","key":2},{"op":"insert","key":3}],
+[{"op":"insert","key":4},{"op":"insert","key":5},{"op":"insert","key":6}],
+[{"op":"insert","key":7},{"op":"insert","key":8},{"op":"insert","key":10}],
+[{"op":"find","key":9},{"op":"find","key":9},{"op":"find","key":9}]]}"#;
+
+/// The operations in the order of their names.
+const NAMES: [OpId; 12] = [
+    OpId {
+        thread: 0,
+        index: 0,
+    },
+    OpId {
+        thread: 0,
+        index: 1,
+    },
+    OpId {
+        thread: 0,
+        index: 2,
+    },
+    OpId {
+        thread: 1,
+        index: 0,
+    },
+    OpId {
+        thread: 1,
+        index: 1,
+    },
+    OpId {
+        thread: 1,
+        index: 2,
+    },
+    OpId {
+        thread: 2,
+        index: 0,
+    },
+    OpId {
+        thread: 2,
+        index: 1,
+    },
+    OpId {
+        thread: 2,
+        index: 2,
+    },
+    OpId {
+        thread: 3,
+        index: 0,
+    },
+    OpId {
+        thread: 3,
+        index: 1,
+    },
+    OpId {
+        thread: 3,
+        index: 2,
+    },
+];
+
+/// Each operation with its note, which counts those before it in its own thread and none of another.
+fn begun(alloc: Global) -> Result<Vec<(OpId, Note)>, OutOfMemory> {
+    let mut begun = Vec::new(alloc);
+    for name in NAMES {
+        let mut counts = [0; 4];
+        if let Some(own) = counts.get_mut(usize::from(name.thread)) {
+            *own = name.index;
+        }
+        begun.push((name, note(&counts)))?;
+    }
+    Ok(begun)
+}
+
+/// Each operation with its reply: all inserts true, and all finds false but for the last, which replied this.
+fn finished(alloc: Global, last: bool) -> Result<Vec<(OpId, bool)>, OutOfMemory> {
+    let mut finished = Vec::new(alloc);
+    for name in NAMES {
+        finished.push((name, name.thread < 3 || (last && name.index == 2)))?;
+    }
+    Ok(finished)
+}
+
+/// The history in which the last find replied this.
+fn history_of(alloc: Global, program: &Program, last: bool) -> Result<History, Broken> {
+    let begun = begun(alloc)?;
+    let finished = finished(alloc, last)?;
+    History::new(program, begun, finished).ok_or(Broken::NoHistory)
+}
+
+/// The judge answers this order, or that there is none.
+fn judges(
+    alloc: Global,
+    program: &Program,
+    history: &History,
+    order: Option<&[OpId]>,
+) -> Result<(), Broken> {
+    let answer = judge(alloc, program, history)?;
+    ensure(is_answer(&answer, order), Broken::Answer(12))
+}
+
+/// So do its counting twin, and it tells this count.
+fn counts(
+    alloc: Global,
+    program: &Program,
+    history: &History,
+    order: Option<&[OpId]>,
+    expected: u64,
+) -> Result<(), Broken> {
+    let (answer, sought) = judge_counted(alloc, program, history)?;
+    ensure(is_answer(&answer, order), Broken::Answer(12))?;
+    ensure(sought == expected, Broken::Count(sought))
+}
+
+/// The last find can't have seen its key.
+fn none_if_true(alloc: Global, program: &Program) -> Result<(), Broken> {
+    let history = history_of(alloc, program, true)?;
+    judges(alloc, program, &history, None)?;
+    counts(alloc, program, &history, None, 192)
+}
+
+/// The first order is found with no way back.
+fn order_if_false(alloc: Global, program: &Program) -> Result<(), Broken> {
+    let history = history_of(alloc, program, false)?;
+    judges(alloc, program, &history, Some(&NAMES))?;
+    counts(alloc, program, &history, Some(&NAMES), 12)?;
+    agree(alloc, program, &history)?;
+    Ok(())
+}
+
+fn twelve_operations(alloc: Global) -> Result<(), Broken> {
+    let program = program_of(alloc, PROGRAM)?;
+    none_if_true(alloc, &program)?;
+    order_if_false(alloc, &program)
+}
+
+/// Runs once more where an allocation was refused: that happens once at most.
+#[test]
+fn configurations_that_failed_are_not_tried_again(rt: HostRuntime) -> Result<(), Fail> {
+    if twelve_operations(rt.alloc()).is_err() {
+        twelve_operations(rt.alloc())?;
+    }
+    Ok(())
+}
