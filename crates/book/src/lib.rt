@@ -14,8 +14,6 @@ mod replayed;
 mod replaying;
 mod slots;
 mod table;
-#[cfg(test)]
-mod tests;
 
 pub use crate::book::{Book, EnterFault, Entered, Merge, Totals};
 pub use crate::entry::{Mark, Origin};

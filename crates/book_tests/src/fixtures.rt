@@ -1,0 +1,218 @@
+//! Programs, their books, and steps that are entered into these.
+//!
+//! A book is held in a box: whoever lets it go makes one call, and not one for each of its lists, which keeps the proofs short.
+ghost use Rattle.std.specs.Prelude.{◌≡◌, ◌+◌, ◌^◌, ◌<◌, ◌≤◌, IfOk};
+ghost use Rattle.tree_machine.specs.Step.{Fits};
+
+use book::{Book, EnterFault, Entered, Expansion, Merge, Replay, ReplayFault, replay};
+use sched_program::{OutOfMemory, Program, ProgramFault};
+use std::alloc::Global;
+use std::sync::Arc;
+use tree_machine::{Machine, State};
+
+/// Two threads that each insert 1.
+pub const TWO_INSERTS: &str =
+    r#"{"version":1,"tree":"atomic","initial":[],"threads":[[{"op":"insert","key":1}],[{"op":"insert","key":1}]]}"#;
+
+/// Two threads that each look for 5 in an empty tree.
+pub const TWO_FINDS: &str =
+    r#"{"version":1,"tree":"ellen","initial":[],"threads":[[{"op":"find","key":5}],[{"op":"find","key":5}]]}"#;
+
+/// Why a case was not run to its end.
+#[derive(Clone, Copy, Debug, PartialEq, Eq)]
+pub enum Broken {
+    /// The text is no program.
+    NoProgram,
+    /// The book has no such entry, or none to take.
+    NoEntry,
+    /// The book refused an expansion: its entry was not taken.
+    NotTaken,
+    /// The book refused an expansion: it was not that of its entry.
+    Stranger,
+    /// The book refused an expansion: there was no room for its steps.
+    Full,
+    /// The thread of this step, counted from 1, was not enabled.
+    NotEnabled(usize),
+    /// A growth was refused.
+    OutOfMemory,
+}
+
+impl From<OutOfMemory> for Broken {
+    ghost from_gives = { λ _ _. Unit {0} };
+
+    fn from(_refused: OutOfMemory) -> Broken {
+        Broken::OutOfMemory
+    }
+}
+
+impl From<ProgramFault> for Broken {
+    ghost from_gives = { λ _ _. Unit {0} };
+
+    fn from(fault: ProgramFault) -> Broken {
+        match fault {
+            ProgramFault::OutOfMemory => Broken::OutOfMemory,
+            _ => Broken::NoProgram,
+        }
+    }
+}
+
+impl From<EnterFault> for Broken {
+    ghost from_gives = { λ _ _. Unit {0} };
+
+    fn from(fault: EnterFault) -> Broken {
+        match fault {
+            EnterFault::NotTaken => Broken::NotTaken,
+            EnterFault::Stranger => Broken::Stranger,
+            EnterFault::Full => Broken::Full,
+            EnterFault::OutOfMemory => Broken::OutOfMemory,
+        }
+    }
+}
+
+impl From<ReplayFault> for Broken {
+    ghost from_gives = { λ _ _. Unit {0} };
+
+    fn from(fault: ReplayFault) -> Broken {
+        match fault {
+            ReplayFault::OutOfMemory => Broken::OutOfMemory,
+            ReplayFault::NotEnabled(step) => Broken::NotEnabled(step),
+        }
+    }
+}
+
+/// Runs a case, and once more where memory was refused: that happens once at most.
+pub fn settled<F: Fn() -> Result<bool, Broken>>(case: F) -> Result<bool, Broken>
+    requires { F.IsAlwaysCallable case }
+{
+    match case() {
+        Err(Broken::OutOfMemory) => case(),
+        told => told,
+    }
+}
+
+pub fn boxed<T: Drop>(alloc: Global, value: T) -> Result<Box<T>, OutOfMemory> {
+    Ok(Box::new(alloc, value)?)
+}
+
+/// The book of the program of a text with the start alone.
+pub fn open<M: Machine>(
+    alloc: Global,
+    machine: M,
+    text: &str,
+    limit: usize,
+    merge: Merge,
+) -> Result<Box<Book<M>>, Broken>
+    requires { (1 ≤ limit) × (limit ≤ 2000000) }
+{
+    let program = Program::from_json(alloc, text.as_bytes())?;
+    let book = Book::open(alloc, machine, program, limit, merge)?;
+    Ok(boxed(alloc, book)?)
+}
+
+/// Takes the next entry.
+pub fn take_next<M: Machine>(book: &mut Book<M>) -> Result<(usize, Arc<State<M>>), Broken>
+    ensures fits { IfOk result (λ p. Fits (M.rules book.new.machine) book.new.program p.1.value) }
+    ensures room { IfOk result (λ p. p.1.value.steps + 1 < 2 ^ 64) }
+    ensures machine { book.new.machine ≡ book.old.machine }
+    ensures program { book.new.program ≡ book.old.program }
+{
+    // No book of these tests has more entries, so no state has more steps.
+    if book.limit() > 100 {
+        return Err(Broken::NoEntry);
+    }
+    book.take()?.ok_or(Broken::NoEntry)
+}
+
+/// Whether no entry is left to take.
+pub fn has_none_left<M: Machine>(book: &mut Book<M>) -> Result<bool, Broken> {
+    Ok(book.take()?.is_none())
+}
+
+/// Enters the steps of a state under the number of an entry. They are labelled for a book that merges so.
+pub fn enter_under<M: Machine>(
+    alloc: Global,
+    book: &mut Book<M>,
+    id: usize,
+    state: &State<M>,
+    labels: Merge,
+) -> Result<Entered, Broken>
+    requires fits { Fits (M.rules book.old.machine) book.old.program state.now }
+    requires room { state.now.steps + 1 < 2 ^ 64 }
+    ensures machine { book.new.machine ≡ book.old.machine }
+    ensures program { book.new.program ≡ book.old.program }
+{
+    let program = book.program().copy(alloc)?;
+    let expansion = Expansion::for_merge(alloc, book.machine(), &program, state, labels)?;
+    Ok(book.enter(id, expansion)?)
+}
+
+/// Whether a case broke for this.
+pub fn is_broken<T: Drop>(answer: Result<T, Broken>, reason: Broken) -> Result<bool, Broken> {
+    match answer {
+        Err(Broken::OutOfMemory) => Err(Broken::OutOfMemory),
+        Err(told) => Ok(told == reason),
+        Ok(_) => Ok(false),
+    }
+}
+
+/// Takes the next entry and enters its steps.
+pub fn expand_next<M: Machine>(
+    alloc: Global,
+    book: &mut Book<M>,
+    labels: Merge,
+) -> Result<Entered, Broken> {
+    let (id, state) = take_next(book)?;
+    enter_under(alloc, book, id, &state, labels)
+}
+
+/// Takes so many entries, one after the other, and enters the steps of each.
+fn expand<M: Machine>(
+    alloc: Global,
+    book: &mut Book<M>,
+    labels: Merge,
+    entries: usize,
+) -> Result<(), Broken> {
+    for _entry in 0..entries {
+        expand_next(alloc, book, labels)?;
+    }
+    Ok(())
+}
+
+/// The book of a text, with the steps of so many entries, which are labelled for a merge.
+pub fn expanded<M: Machine>(
+    alloc: Global,
+    machine: M,
+    text: &str,
+    (merge, labels): (Merge, Merge),
+    entries: usize,
+) -> Result<Box<Book<M>>, Broken> {
+    let mut book = open(alloc, machine, text, 100, merge)?;
+    expand(alloc, &mut *book, labels, entries)?;
+    Ok(book)
+}
+
+/// Whether an entry's recorded schedule is this.
+pub fn is_way<M: Machine>(
+    alloc: Global,
+    book: &Book<M>,
+    entry: usize,
+    way: &[u8],
+) -> Result<bool, Broken> {
+    if entry >= book.len() {
+        return Err(Broken::NoEntry);
+    }
+    let schedule = book.schedule_of(alloc, entry)?;
+    Ok(schedule.as_slice() == way)
+}
+
+/// What a schedule of the program of a text leads to.
+pub fn replayed<M: Machine>(
+    alloc: Global,
+    machine: M,
+    text: &str,
+    schedule: &[u8],
+) -> Result<Box<Replay<M>>, Broken> {
+    let program = Program::from_json(alloc, text.as_bytes())?;
+    let end = replay(alloc, machine, &program, schedule)?;
+    Ok(boxed(alloc, end)?)
+}

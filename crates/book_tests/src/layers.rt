@@ -1,0 +1,69 @@
+//! Books of two steps.
+
+use crate::fixtures::{Broken, TWO_INSERTS, expanded, is_way, settled};
+use book::{Book, Finding, Merge, Totals};
+use std::alloc::Global;
+use std::test::Fail;
+use tree_machine::{Atomic, Machine};
+
+/// How a book merges, and for which merge the steps that are entered are labelled.
+const MERGES_AND_LABELS: [(Merge, Merge); 4] = [
+    (Merge::Exact, Merge::Exact),
+    (Merge::Names, Merge::Names),
+    (Merge::Names, Merge::Exact),
+    (Merge::Exact, Merge::Names),
+];
+
+/// The totals of two steps of both threads: five entries, the later ones open.
+const WHOLE: Totals = Totals {
+    entries: 5,
+    fresh: 2,
+    taken: 0,
+    expanded: 3,
+    entered: 4,
+    met: 0,
+};
+
+/// Whether a finding is a linearization of so many operations.
+fn is_order_of(finding: Option<&Finding>, length: usize) -> bool {
+    match finding {
+        Some(Finding::Sound(order)) => order.len() == length,
+        _ => false,
+    }
+}
+
+/// Whether the findings are those of five entries.
+fn finds_no_fault<M: Machine>(book: &Book<M>) -> bool {
+    is_order_of(book.finding_of(4), 2)
+        && book.finding_of(5).is_none()
+        && book.first_fault().is_none()
+}
+
+/// Whether the numbers are those of two steps, the later ones open.
+fn counts_two_layers<M: Machine>(book: &Book<M>) -> bool {
+    book.totals() == WHOLE
+        && book.count_to(1) == 3
+        && book.is_left_to(2)
+        && !book.is_left_to(1)
+        && book.limit() == 100
+}
+
+/// Whether the book of two steps tells what it should.
+fn is_two_layers<M: Machine>(alloc: Global, book: &Book<M>, merge: Merge) -> Result<bool, Broken> {
+    let is_told = finds_no_fault(book) && counts_two_layers(book) && book.merge() == merge;
+    Ok(is_way(alloc, book, 4, &[1, 0])? && is_told)
+}
+
+// Steps that are labelled for another merge are labelled anew.
+#[test]
+fn a_book_of_two_layers(rt: HostRuntime) -> Result<(), Fail> {
+    let alloc = rt.alloc();
+    for (merge, labels) in MERGES_AND_LABELS {
+        let is_whole = settled(|| {
+            let book = expanded(alloc, Atomic, TWO_INSERTS, (merge, labels), 3)?;
+            is_two_layers(alloc, &*book, merge)
+        })?;
+        assert!(rt; is_whole, "{merge:?} of {labels:?}");
+    }
+    Ok(())
+}
