@@ -8,8 +8,6 @@ mod machine;
 mod memory;
 mod place;
 mod searching;
-#[cfg(test)]
-mod tests;
 
 pub use crate::machine::Ellen;
 pub use crate::memory::{DeleteRecord, EllenMem, InsertRecord, Node, Record, UpdateWord};

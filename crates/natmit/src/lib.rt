@@ -7,8 +7,6 @@ mod machine;
 mod memory;
 mod place;
 mod table;
-#[cfg(test)]
-mod tests;
 
 pub use crate::machine::NatMit;
 pub use crate::memory::{NatMitMem, Node, Word};

@@ -1,0 +1,11 @@
+//! Tests of `ellen`: the machine at its states, replayed step by step, and at memories that no run reaches.
+#![tactic(auto)]
+
+#[cfg(test)]
+mod forms;
+#[cfg(test)]
+mod memories;
+#[cfg(test)]
+mod schedules;
+#[cfg(test)]
+mod transcript;

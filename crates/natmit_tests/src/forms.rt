@@ -1,0 +1,81 @@
+//! Forms of states after schedules.
+ghost use Rattle.std.specs.Prelude.{IfOk};
+ghost use Rattle.tree_machine.specs.Step.{Fits};
+ghost use Rattle.natmit.specs.NatMitRules.{natmit_rules};
+
+use crate::follow::{Broken, WHOLE, advance, program_of};
+use natmit::{NatMit, NatMitLoc};
+use sched_program::Program;
+use std::alloc::Global;
+use std::test::Fail;
+use tree_machine::{State, StepFault};
+
+/// Over 10 and 20, T0 inserts 5 and T1 inserts 25.
+const TWO_INSERTS: &str =
+    r#"{"version":1,"tree":"nm","initial":[10,20],"threads":[[{"op":"insert","key":5}],[{"op":"insert","key":25}]]}"#;
+
+/// The same with the threads the other way round.
+const TWO_INSERTS_TURNED: &str =
+    r#"{"version":1,"tree":"nm","initial":[10,20],"threads":[[{"op":"insert","key":25}],[{"op":"insert","key":5}]]}"#;
+
+/// The state after the steps of a schedule, from the start of a program.
+fn after(
+    alloc: Global,
+    machine: NatMit,
+    program: &Program,
+    schedule: &[u8],
+) -> Result<State<NatMit>, StepFault>
+    ensures { IfOk result (Fits (natmit_rules machine) program.now) }
+{
+    let mut state = State::start(alloc, machine, program)?;
+    for thread in schedule {
+        state = advance(alloc, machine, program, state, *thread, 1)?;
+    }
+    Ok(state)
+}
+
+/// Whether the states after two schedules of two programs differ, and whether their forms do.
+fn differ(
+    alloc: Global,
+    (text, schedule): (&str, &[u8]),
+    (other_text, other_schedule): (&str, &[u8]),
+) -> Result<(bool, bool), Broken> {
+    let program = program_of(alloc, text)?;
+    let other_program = program_of(alloc, other_text)?;
+    let state = after(alloc, WHOLE, &program, schedule)?;
+    let other = after(alloc, WHOLE, &other_program, other_schedule)?;
+    let forms_differ = state.form(alloc, WHOLE)? != other.form(alloc, WHOLE)?;
+    Ok((state != other, forms_differ))
+}
+
+/// What is told of two states, or nothing where memory was refused.
+fn told(differing: Result<(bool, bool), Broken>, expected: (bool, bool)) -> bool {
+    match differing {
+        Ok(found) => found == expected,
+        Err(fault) => fault == Broken::OutOfMemory,
+    }
+}
+
+// T1 puts nodes 9 and 10 in first in the one, and T0 in the other.
+#[test]
+fn the_order_of_two_inserts_changes_numbers_alone(rt: HostRuntime) -> Result<(), Fail> {
+    let last_by_one = differ(
+        rt.alloc(),
+        (TWO_INSERTS, &[0, 0, 0, 1, 1, 1, 0, 1]),
+        (TWO_INSERTS, &[0, 0, 0, 1, 1, 1, 1, 0]),
+    );
+    assert!(rt; told(last_by_one, (true, false)));
+    Ok(())
+}
+
+// T0 stands at Put with leaf 5 in the one and with leaf 7 in the other, in equal memories.
+#[test]
+fn forms_tell_the_nodes_that_threads_hold(rt: HostRuntime) -> Result<(), Fail> {
+    let other_leaf = differ(
+        rt.alloc(),
+        (TWO_INSERTS, &[0, 0, 0]),
+        (TWO_INSERTS_TURNED, &[0, 0, 0]),
+    );
+    assert!(rt; told(other_leaf, (true, true)));
+    Ok(())
+}
