@@ -1,21 +1,16 @@
 -- The way from entry 0 to an entry.
 use Rattle.std.proofs.Common.{◌≡◌, ℕ, ◌+◌, ◌<◌, inl, inr, Bool, Some, None, List, [], ◌∷◌, ◌++◌, length, reverse, refl, sym, ap, ◌∙◌, arith, slice_get, subst}
 use Rattle.std.proofs.lemmas.Bool.{cases_lt}
-use Rattle.std.proofs.lemmas.List.{reverse-append, length_push, length-reverse}
+use Rattle.std.proofs.lemmas.List.{reverse-append, reverse-reverse}
 use Rattle.std.specs.Option.{option_and_then}
-use Rattle.std.proofs.lemmas.Option.{option_and_then_some}
+use Rattle.std.proofs.lemmas.Option.{option_and_then_some, same_Some}
 use Rattle.book.specs.declared.finding.Finding.{Finding}
 use Rattle.book.specs.declared.entry.Origin.{Origin}
 use Rattle.book.specs.Schedule.{StepMachine, IsMachine, run, after}
 use Rattle.book.specs.Entries.{Entry, At}
 use Rattle.book.specs.Law.{IsLawful}
-
--- what is left of the way back to entry 0: the threads noted lead from entry `at` to s
-pub record IsWayTo {S : Type 0} (m : StepMachine S) (es : List (Entry S)) (s : S) (at : ℕ) (noted : List ℕ) : Type 0 where
-  pub entry : Entry S
-  pub there : At es at entry
-  pub leads : run m entry.state (reverse noted) ≡ Some s
-  pub steps : m.steps entry.state + length noted ≡ m.steps s
+use Rattle.book.specs.Ways.{IsWay}
+use Rattle.book.proofs.EntryLemmas.{get_within}
 
 module _ {S : Type 0} (m : StepMachine S) (machine : IsMachine m) where
   -- how many steps the state after a schedule has
@@ -39,60 +34,94 @@ module _ {S : Type 0} (m : StepMachine S) (machine : IsMachine m) where
   pub fits_after : (c : List ℕ) (s : S) → after m c ≡ Some s → m.Fits s
   fits_after c s h = fits_along c m.start s machine.start_fits h
 
-module _ {S : Type 0} (m : StepMachine S) (same : S → S → Bool) (right : S → Finding → Type 0)
-    (machine : IsMachine m) (es : List (Entry S)) (law : IsLawful m same right es) where
-  pub way_begins : (i : ℕ) (e : Entry S) → At es i e → IsWayTo m es e.state i []
-  way_begins i e at = record { entry = e; there = at; leads = refl; steps = omega arith }
-
-  pub way_back : (s : S) (at : ℕ) (noted : List ℕ) (o : Origin) (r : Entry S) → IsWayTo m es s at noted → At es at r → r.origin ≡ Some o
-      → IsWayTo m es s o.parent (noted ++ o.thread ∷ []) × (o.parent < at)
-  way_back s at noted o r way there is =
-      let same_entry : way.entry ≡ r = (let u : slice_get es at ≡ Some way.entry = way.there in let v : slice_get es at ≡ Some r = there in cc) in
-      elim (cases_lt 0 at) [
-        | inl pos ↦ (
-            let step = law.origins at r there pos in
-            let same_origin : step.origin ≡ o = (let u : r.origin ≡ Some step.origin = step.recorded in cc) in
-            let leads : m.step step.parent.state step.origin.thread ≡ Some r.state = step.step in
-            let leads' : m.step step.parent.state o.thread ≡ Some r.state = ap (λ (q : Origin). m.step step.parent.state q.thread) (sym same_origin) ∙ leads in
-            let rest : run m r.state (reverse noted) ≡ Some s = ap (λ (q : Entry S). run m q.state (reverse noted)) (sym same_entry) ∙ way.leads in
-            let up : m.steps r.state ≡ m.steps step.parent.state + 1 = machine.one_more step.parent.state r.state o.thread leads' in
-            let sum : m.steps way.entry.state + length noted ≡ m.steps s = way.steps in
-            let sum' : m.steps way.entry.state ≡ m.steps r.state = ap (λ (q : Entry S). m.steps q.state) same_entry in
-            let more : length (noted ++ o.thread ∷ []) ≡ length noted + 1 = length_push noted o.thread in
-            let earlier : step.origin.parent < at = step.earlier in
-            let parent : step.origin.parent ≡ o.parent = ap (λ (q : Origin). q.parent) same_origin in (
-              record {
-                entry = step.parent;
-                there = ap (λ k. slice_get es k) (sym parent) ∙ step.entered;
-                leads = ap (λ d. run m step.parent.state d) (reverse-append noted (o.thread ∷ [])) ∙ ap (λ q. option_and_then (λ (u : S). run m u (reverse noted)) q) leads' ∙ rest;
-                steps = omega arith;
-              },
-              omega arith,
+module _ {S : Type 0} (m : StepMachine S) (same : S → S → Bool) (right : S → Finding → Type 0) (es : List (Entry S)) (law : IsLawful m same right es) where
+  -- an entry that has an origin is the step that its origin tells
+  pub step_of : (k : ℕ) (e : Entry S) (o : Origin) → At es k e → e.origin ≡ Some o
+      → (parent : Entry S) × At es o.parent parent × (o.parent < k) × (m.step parent.state o.thread ≡ Some e.state)
+  step_of k e o at recorded =
+      elim (cases_lt 0 k) [
+        | inl later ↦ (
+            let made = law.origins k e at later in
+            let is : made.origin ≡ o = same_Some made.origin o (sym made.recorded ∙ recorded) in (
+              made.parent,
+              subst (λ (q : Origin). At es q.parent made.parent) is made.entered,
+              subst (λ (q : Origin). q.parent < k) is made.earlier,
+              subst (λ (q : Origin). m.step made.parent.state q.thread ≡ Some e.state) is made.step,
             ))
         | inr none ↦ absurd (
-            let zero_at : at ≡ 0 = omega arith in
-            let first : slice_get es 0 ≡ Some law.start.0 = law.start.1 in
-            let r_is : slice_get es at ≡ Some r = there in
-            let q : law.start.0 ≡ r = cc in
-            let n : law.start.0.origin ≡ None = law.start.3 in
-            let z : None ≡ Some o = sym n ∙ ap (λ (x : Entry S). x.origin) q ∙ is in cc)
+            let first : k ≡ 0 = omega arith in
+            let same_entry : law.start.0 ≡ e = same_Some law.start.0 e (sym law.start.1 ∙ ap (λ n. slice_get es n) (sym first) ∙ at) in
+            let none_recorded : e.origin ≡ None = ap (λ (x : Entry S). x.origin) (sym same_entry) ∙ law.start.3 in
+            let both : None ≡ Some o = sym none_recorded ∙ recorded in cc)
       ]
 
-  pub way_ends : (s : S) (at : ℕ) (noted : List ℕ) (r : Entry S) → IsWayTo m es s at noted → At es at r → r.origin ≡ None
-      → (after m (reverse noted) ≡ Some s) × (length (reverse noted) ≡ m.steps s)
-  way_ends s at noted r way there is =
-      let same_entry : way.entry ≡ r = (let u : slice_get es at ≡ Some way.entry = way.there in let v : slice_get es at ≡ Some r = there in cc) in
-      elim (cases_lt 0 at) [
-        | inl pos ↦ absurd (let step = law.origins at r there pos in let z : None ≡ Some step.origin = sym is ∙ step.recorded in cc)
-        | inr none ↦ (
-            let zero_at : at ≡ 0 = omega arith in
-            let first : slice_get es 0 ≡ Some law.start.0 = law.start.1 in
-            let r_is : slice_get es at ≡ Some r = there in
-            let q : law.start.0 ≡ r = cc in
-            let starts : way.entry.state ≡ m.start = ap (λ (x : Entry S). x.state) (same_entry ∙ sym q) ∙ law.start.2 in
-            let z : m.steps m.start ≡ 0 = machine.from_zero in
-            let z' : m.steps way.entry.state ≡ m.steps m.start = ap m.steps starts in
-            let sum : m.steps way.entry.state + length noted ≡ m.steps s = way.steps in
-            let len : length (reverse noted) ≡ length noted = length-reverse noted in
-            (ap (λ u. run m u (reverse noted)) (sym starts) ∙ way.leads, omega arith))
+  -- one step back along the way
+  pub way_back : (at id : ℕ) (noted : List ℕ) (e : Entry S) (o : Origin) → At es at e → e.origin ≡ Some o → IsWay es at (reverse noted) id
+      → (o.parent < length es) × IsWay es o.parent (reverse (noted ++ o.thread ∷ [])) id
+  way_back at id noted e o there origin way =
+      let made = step_of at e o there origin in
+      (get_within es o.parent made.0 made.1, rw (reverse-append noted (o.thread ∷ [])) (at, e, there, origin, way))
+
+  -- an entry that has none is the start
+  no_origin : (k : ℕ) (e : Entry S) → At es k e → e.origin ≡ None → k ≡ 0
+  no_origin k e at none =
+      elim (cases_lt 0 k) [
+        | inl later ↦ absurd (let made = law.origins k e at later in let both : None ≡ Some made.origin = sym none ∙ made.recorded in cc)
+        | inr least ↦ omega arith
       ]
+
+  -- so there the way back ends
+  pub way_ends : (at id : ℕ) (c : List ℕ) (e : Entry S) → At es at e → e.origin ≡ None → IsWay es at c id → IsWay es 0 c id
+  way_ends at id c e there none way = subst (λ k. IsWay es k c id) (no_origin at e there none) way
+
+  -- the recorded way is a run of the machine
+  pub way_leads : (c : List ℕ) (i j : ℕ) (e f : Entry S) → At es i e → At es j f → IsWay es i c j → run m e.state c ≡ Some f.state
+  way_leads [] i j e f at there way = ap (λ (x : Entry S). Some x.state) (same_Some e f (sym at ∙ ap (λ n. slice_get es n) way ∙ there))
+  way_leads (t ∷ c) i j e f at there way =
+      let made = step_of way.0 way.1 (record { parent = i; thread = t }) way.2 way.3 in
+      let parent : made.0 ≡ e = same_Some made.0 e (sym made.1 ∙ at) in
+      let first : m.step e.state t ≡ Some way.1.state = subst (λ (x : Entry S). m.step x.state t ≡ Some way.1.state) parent made.3 in
+      ap (λ o. option_and_then (λ (r : S). run m r c) o) first ∙ way_leads c way.0 j way.1 f way.2 there way.4
+
+  -- from the start it leads to the entry's state, in as many steps as this has behind it
+  pub way_run : IsMachine m → (c : List ℕ) (j : ℕ) (f : Entry S) → At es j f → IsWay es 0 c j → (after m c ≡ Some f.state) × (length c ≡ m.steps f.state)
+  way_run machine c j f there way =
+      let leads : after m c ≡ Some f.state = subst (λ (s : S). run m s c ≡ Some f.state) law.start.2 (way_leads c 0 j law.start.0 f law.start.1 there way) in
+      (leads, sym (steps_after m machine c f.state leads))
+
+  -- a way as it is gone back: its last thread first
+  abbrev IsWayBack : ℕ → ℕ → List ℕ → Type 0
+  IsWayBack i j [] = i ≡ j
+  IsWayBack i j (t ∷ c) = (k : ℕ) × (e : Entry S) × At es j e × (e.origin ≡ Some (record { parent = k; thread = t })) × IsWayBack i k c
+
+  back_further : (c : List ℕ) (i j k t : ℕ) (e : Entry S) → At es k e → e.origin ≡ Some (record { parent = i; thread = t }) → IsWayBack k j c → IsWayBack i j (c ++ t ∷ [])
+  back_further [] i j k t e at origin way = (i, e, ap (λ n. slice_get es n) (sym way) ∙ at, origin, refl)
+  back_further (u ∷ c) i j k t e at origin way = (way.0, way.1, way.2, way.3, back_further c i way.0 k t e at origin way.4)
+
+  back : (c : List ℕ) (i j : ℕ) → IsWay es i c j → IsWayBack i j (reverse c)
+  back [] i j way = way
+  back (t ∷ c) i j way = rw (reverse-append (t ∷ []) c) (back_further (reverse c) i j way.0 t way.1 way.2 way.3 (back c way.0 j way.4))
+
+  -- the start has no origin
+  start_ends : (j : ℕ) (e : Entry S) (o : Origin) → 0 ≡ j → At es j e → e.origin ≡ Some o → ⊥
+  start_ends j e o first at origin = let made = step_of j e o at origin in let h : o.parent < j = made.2 in omega arith
+
+  back_once : (c d : List ℕ) (j : ℕ) → IsWayBack 0 j c → IsWayBack 0 j d → c ≡ d
+  back_once [] [] j way also = refl
+  back_once [] (u ∷ d) j way also = absurd (start_ends j also.1 (record { parent = also.0; thread = u }) way also.2 also.3)
+  back_once (t ∷ c) [] j way also = absurd (start_ends j way.1 (record { parent = way.0; thread = t }) also way.2 way.3)
+  back_once (t ∷ c) (u ∷ d) j way also =
+      let entry : way.1 ≡ also.1 = same_Some way.1 also.1 (sym way.2 ∙ also.2) in
+      let o : Origin = record { parent = way.0; thread = t } in
+      let p : Origin = record { parent = also.0; thread = u } in
+      let origin : o ≡ p = same_Some o p (sym way.3 ∙ ap (λ (x : Entry S). x.origin) entry ∙ also.3) in
+      let parent : also.0 ≡ way.0 = ap (λ (q : Origin). q.parent) (sym origin) in
+      let rest : c ≡ d = back_once c d way.0 way.4 (subst (λ n. IsWayBack 0 n d) parent also.4) in
+      let thread : t ≡ u = ap (λ (q : Origin). q.thread) origin in
+      cc
+
+  -- only one way leads from entry 0 to an entry
+  pub one_way : (c d : List ℕ) (j : ℕ) → IsWay es 0 c j → IsWay es 0 d j → d ≡ c
+  one_way c d j way also =
+      let turned : reverse d ≡ reverse c = back_once (reverse d) (reverse c) j (back d 0 j also) (back c 0 j way) in
+      sym (reverse-reverse d) ∙ ap (λ (xs : List ℕ). reverse xs) turned ∙ reverse-reverse c

@@ -1,6 +1,7 @@
 pub mod Schedule
 pub mod Findings
 pub mod Entries
+pub mod Ways
 pub mod Labels
 pub mod Leftovers
 pub mod Law

@@ -17,6 +17,7 @@ ghost use Rattle.book.specs.Leftovers.{Keeps};
 ghost use Rattle.book.specs.Counts.{IsCount};
 ghost use Rattle.book.specs.Layers.{IsExpandedTo, IsExpandedBelow, IsLeftTo};
 ghost use Rattle.book.specs.Schedule.{after, IsMachine, Merges};
+ghost use Rattle.book.specs.Ways.{IsWay};
 
 use crate::entry::{Mark, Row};
 use crate::expansion::{Expansion, Stepped, label};
@@ -315,11 +316,13 @@ impl<M: Machine> Book<M> {
         }
     }
 
-    /// The threads on the way from entry 0 to an entry.
+    /// The threads on the way from entry 0 to an entry, as its origin and those before it record it. No other way leads there.
     pub fn schedule_of(&self, alloc: Global, id: usize) -> Result<Vec<u8>, OutOfMemory>
         requires { id < length self.now.entries }
-        ensures { IfOk result (λ c. (e : Entry (State M M.Mem M.Loc M.Form)) × At self.now.entries id e
+        ensures leads { IfOk result (λ c. (e : Entry (State M M.Mem M.Loc M.Form)) × At self.now.entries id e
             × (after (machine_in M.rules self.now) c.items ≡ Some e.state) × (length c.items ≡ e.state.steps)) }
+        ensures way { IfOk result (λ c. IsWay self.now.entries 0 c.items id) }
+        ensures only { IfOk result (λ c. (d : List ℕ) → IsWay self.now.entries 0 d id → d ≡ c.items) }
     {
         let mut schedule = Vec::new(alloc);
         let mut at = id;

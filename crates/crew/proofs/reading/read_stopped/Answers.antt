@@ -9,7 +9,7 @@ use Rattle.crew.proofs.reading.read_stopped.Goals as goal
 
 pub is_full_at-requires-clause-way : goal.is_full_at-requires-clause-way
 is_full_at-requires-clause-way g c κs within =
-    let s = c.in_ok-schedule.ensures in
+    let s = c.in_ok-schedule.ensures.leads in
     (s.0, s.1, ap (after (machine_in g.M.Machine.rules c.args.book.now)) c.as_slice.ensures.value ∙ s.2)
 
 pub returns-clause-due : goal.returns-clause-due
@@ -19,7 +19,7 @@ returns-clause-due g c =
     let same = counted_as_one {Machine = g.row.M.Denot} {Form = g.row.M-Form.Denot} g.M.Loc.PartialEq.eq g.M.Mem.PartialEq.eq g.M.Form.PartialEq.eq (g.M.Machine.form_of b.machine) b.merge in
     let right = right_in g.M.Machine.rules b in
     let law = c.law.ensures in
-    let s = c.in_ok-schedule.ensures in
+    let s = c.in_ok-schedule.ensures.leads in
     let v = c.in_ok-schedule.schedule in
     let len : v.len ≡ length v.items = v.ok.0 in
     let long : c.len-holds_to.result ≡ s.0.state.steps = c.len-holds_to.ensures ∙ len ∙ s.3 in
@@ -38,7 +38,7 @@ returns-clause-headline g c =
     let same = counted_as_one {Machine = g.row.M.Denot} {Form = g.row.M-Form.Denot} g.M.Loc.PartialEq.eq g.M.Mem.PartialEq.eq g.M.Form.PartialEq.eq (g.M.Machine.form_of b.machine) b.merge in
     let right = right_in g.M.Machine.rules b in
     let law = c.law.ensures in
-    let s = c.in_ok-schedule.ensures in
+    let s = c.in_ok-schedule.ensures.leads in
     let v = c.in_ok-schedule.schedule in
     let len : v.len ≡ length v.items = v.ok.0 in
     let long : c.len-holds_to.result ≡ s.0.state.steps = c.len-holds_to.ensures ∙ len ∙ s.3 in

@@ -19,7 +19,7 @@ returns-then-length-from-clause-some g c =
     let same = counted_as_one {Machine = g.row.M.Denot} {Form = g.row.M-Form.Denot} g.M.Loc.PartialEq.eq g.M.Mem.PartialEq.eq g.M.Form.PartialEq.eq (g.M.Machine.form_of b.machine) b.merge in
     let right = right_in g.M.Machine.rules b in
     let law = c.law.ensures in
-    let s = c.in_ok-schedule.ensures in
+    let s = c.in_ok-schedule.ensures.leads in
     let v = c.in_ok-schedule.schedule in
     let len : v.len ≡ length v.items = v.ok.0 in
     let long : length v.items ≡ s.0.state.steps = s.3 in
@@ -38,7 +38,7 @@ returns-clause-due g c =
     let same = counted_as_one {Machine = g.row.M.Denot} {Form = g.row.M-Form.Denot} g.M.Loc.PartialEq.eq g.M.Mem.PartialEq.eq g.M.Form.PartialEq.eq (g.M.Machine.form_of b.machine) b.merge in
     let right = right_in g.M.Machine.rules b in
     let law = c.law.ensures in
-    let s = c.in_ok-schedule.ensures in
+    let s = c.in_ok-schedule.ensures.leads in
     let v = c.in_ok-schedule.schedule in
     let len : v.len ≡ length v.items = v.ok.0 in
     let is : c.len-length.result ≡ length v.items = c.len-length.ensures ∙ len in
@@ -58,7 +58,7 @@ returns-clause-due g c =
 pub returns-clause-first : goal.returns-clause-first
 returns-clause-first g c =
     let b = c.args.book.now in
-    let s = c.in_ok-schedule.ensures in
+    let s = c.in_ok-schedule.ensures.leads in
     let e = c.fault_at-finding.ensures in
     let same_entry : s.0 ≡ e.0 = (let p : slice_get b.entries c.args.id ≡ Some s.0 = s.1 in let q : slice_get b.entries c.args.id ≡ Some e.0 = e.1 in cc) in
     (c.args.id, s.0, c.requires, s.1, ap (λ (r : Entry (State g.row.M.Denot g.row.M-Mem.Denot g.row.M-Loc.Denot g.row.M-Form.Denot)). r.finding) same_entry ∙ e.2, s.2)
@@ -70,7 +70,7 @@ returns-clause-headline g c =
     let same = counted_as_one {Machine = g.row.M.Denot} {Form = g.row.M-Form.Denot} g.M.Loc.PartialEq.eq g.M.Mem.PartialEq.eq g.M.Form.PartialEq.eq (g.M.Machine.form_of b.machine) b.merge in
     let right = right_in g.M.Machine.rules b in
     let law = c.law.ensures in
-    let s = c.in_ok-schedule.ensures in
+    let s = c.in_ok-schedule.ensures.leads in
     let v = c.in_ok-schedule.schedule in
     let e = c.fault_at-finding.ensures in
     let same_entry : s.0 ≡ e.0 = (let p : slice_get b.entries c.args.id ≡ Some s.0 = s.1 in let q : slice_get b.entries c.args.id ≡ Some e.0 = e.1 in cc) in
