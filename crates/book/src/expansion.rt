@@ -15,28 +15,12 @@ use crate::finding::Finding;
 use crate::hashed::Hashed;
 use crate::known::Known;
 use crate::lending::{Loan, find_after};
-use sched_program::{Exact, OutOfMemory, Program, same};
+use sched_program::{OutOfMemory, Program, same};
 use std::alloc::Global;
 use std::hash::Hash;
 use std::marker::Model;
 use std::sync::Arc;
 use tree_machine::{Machine, State, StateForm, StepFault};
-
-/// Whether two lists are one and the same.
-fn same_items<T: Exact>(first: &[T], second: &[T]) -> bool
-    ensures { IsTrue result ↔ (first.now ≡ second.now) }
-{
-    *first == *second
-}
-
-/// Whether two programs are one and the same.
-pub fn same_program(first: &Program, second: &Program) -> bool
-    ensures { IsTrue result ↔ (first.now ≡ second.now) }
-{
-    same(&first.tree(), &second.tree())
-        && same_items(first.initial(), second.initial())
-        && same_items(first.threads(), second.threads())
-}
 
 /// The step of a thread: the state that it leads to, with its label, and what was found of it.
 #[derive(Drop)]
@@ -231,9 +215,7 @@ impl<'a, M: Machine> Expansion<'a, M> {
     pub(crate) fn is_of(&self, machine: &M, program: &Program, state: &State<M>) -> bool
         ensures { IsTrue result ↔ ((self.now.machine ≡ machine.now) × (self.now.program ≡ program.now) × (self.now.source ≡ state.now)) }
     {
-        same(&self.machine, machine)
-            && same_program(self.program, program)
-            && same(self.source, state)
+        same(&self.machine, machine) && self.program.is_same(program) && same(self.source, state)
     }
 
     /// Its steps, labelled for a book that merges so.

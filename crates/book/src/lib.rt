@@ -17,7 +17,7 @@ mod table;
 
 pub use crate::book::{Book, EnterFault, Entered, Merge, Totals};
 pub use crate::entry::{Mark, Origin};
-pub use crate::expansion::{Expansion, same_program};
+pub use crate::expansion::Expansion;
 pub use crate::finding::Finding;
 pub use crate::leftovers::Leftovers;
 pub use crate::replayed::{Replay, ReplayFault};

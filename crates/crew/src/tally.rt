@@ -5,7 +5,7 @@ ghost use Rattle.crew.specs.Driving.{IsLedgerOf};
 ghost use Rattle.crew.specs.Working.{IsReady};
 
 use crate::answer::Share;
-use book::{Book, EnterFault, Expansion, Leftovers, same_program};
+use book::{Book, EnterFault, Expansion, Leftovers};
 use sched_program::{OutOfMemory, Program, same};
 use std::alloc::Global;
 use std::marker::{Brand, PhantomData};
@@ -160,7 +160,7 @@ pub struct Desk<J: Run, M: Machine> {
 pub fn is_of<M: Machine>(book: &Book<M>, machine: M, program: &Program) -> bool
     ensures { IsTrue result ↔ ((book.now.machine ≡ machine) × (book.now.program ≡ program.now)) }
 {
-    same(&book.machine(), &machine) && same_program(book.program(), program)
+    same(&book.machine(), &machine) && book.program().is_same(program)
 }
 
 impl<J: Run, M: Machine> Desk<J, M> {
