@@ -54,7 +54,7 @@ module _ {S : Type 0} (m : StepMachine S) (same : S → S → Bool) (right : S �
 
   -- ---- one entry is taken
   module _ (es : List (Entry S)) (law : IsLawful m same right es) (i : ℕ) (e : Entry S) (next : IsNext m.steps es i e) where
-    stands_taken : (s : S) → StandsFor m same right es s → StandsFor m same right (with_mark es i Taken) s
+    stands_taken : (s : S) → StandsFor m same es s → StandsFor m same (with_mark es i Taken) s
     stands_taken s h =
         let w = with_mark-at es i Taken h.0 h.1 h.2 in
         (h.0, w.0, w.1, rw w.2.state h.3, rw w.2.state h.4)
@@ -176,7 +176,7 @@ module _ {S : Type 0} (m : StepMachine S) (same : S → S → Bool) (right : S �
     not_expanded : e.mark ≢ Expanded
     not_expanded = λ h. cc
 
-    stands_entered : (s : S) → StandsFor m same right es s → StandsFor m same right all s
+    stands_entered : (s : S) → StandsFor m same es s → StandsFor m same all s
     stands_entered s h = let w = kept_at h.0 h.1 h.2 in (h.0, w.0, w.1, rw w.2.state h.3, rw w.2.state h.4)
 
     among : (t : ℕ) (s : S) → m.step e.state t ≡ Some s → (k : ℕ) × (x : Successor S) × (slice_get xs k ≡ Some x) × (x.thread ≡ t)
@@ -186,7 +186,7 @@ module _ {S : Type 0} (m : StepMachine S) (same : S → S → Bool) (right : S �
         (j.0, o.0, o.1, sym o.2)
 
     -- the steps of e are stood for
-    stands_for_steps : (t : ℕ) (s : S) → m.step e.state t ≡ Some s → StandsFor m same right all s
+    stands_for_steps : (t : ℕ) (s : S) → m.step e.state t ≡ Some s → StandsFor m same all s
     unfolding fresh
     stands_for_steps t s leads =
         let x = among t s leads in
@@ -261,7 +261,7 @@ module _ {S : Type 0} (m : StepMachine S) (same : S → S → Bool) (right : S �
         let u = unknown_is m same merges (states es) xs k y at in
         subst m.Fits (sym (ap (λ (q : Entry S). q.state) opens)) (expansion.fit u.0.0 y u.0.1)
 
-    stood : (j t : ℕ) (f : Entry S) (s : S) → Where j f → f.mark ≡ Expanded → m.step f.state t ≡ Some s → StandsFor m same right all s
+    stood : (j t : ℕ) (f : Entry S) (s : S) → Where j f → f.mark ≡ Expanded → m.step f.state t ≡ Some s → StandsFor m same all s
     stood j t f s (Old d at but (inl l)) x leads =
         let q : d ≡ e = (let a : slice_get es i ≡ Some e = at_i in let b : slice_get es j ≡ Some d = at in let c : i ≡ j = l.0 in cc) in
         stands_for_steps t s (step_of_same f.state e.state s s t (sym (ap (λ (v : Entry S). v.state) q) ∙ sym but.state) refl leads)

@@ -1,8 +1,7 @@
 -- A machine that runs a program is a step machine.
-use Rattle.std.proofs.Common.{◌≡◌, ℕ, ◌+◌, ◌<◌, ◌≤◌, Bool, true, false, is_some, Option, Some, None, List, [], ◌∷◌, length, refl, sym, ap, ◌∙◌, arith, slice_get, subst, if◌then◌else◌}
+use Rattle.std.proofs.Common.{◌≡◌, ℕ, ◌+◌, ◌<◌, ◌≤◌, Bool, true, false, is_some, IsSome, Option, Some, None, List, [], ◌∷◌, length, refl, sym, ap, ◌∙◌, arith, slice_get, subst, if◌then◌else◌}
 use Rattle.std.specs.Option.{option_and_then}
 use Rattle.std.specs.Cmp.{IsEquivalence}
-use Rattle.std.proofs.lemmas.Bool.{true≢false}
 use Rattle.std.proofs.lemmas.Option.{option_and_then_some, same_Some}
 use Rattle.sched_program.specs.Exact.{IsExact}
 use Rattle.sched_program.specs.Program.{Program, IsWithinLimits, op_at}
@@ -18,14 +17,15 @@ use Rattle.tree_machine.specs.declared.form.StateForm.{StateForm}
 use Rattle.tree_machine.proofs.Alike.{alike_step, alike_history, alike_ordered}
 use Rattle.tree_machine.proofs.Forms.{forms_alike, alike_turned}
 use Rattle.tree_machine.proofs.States.{start_fits, stepped_fits}
-use Rattle.lin.specs.Linearization.{IsLinearization}
+use Rattle.lin.specs.Linearization.{IsLinearization, IsLinearizable}
 use Rattle.book.specs.declared.book.Merge.{Merge}
 use Rattle.book.specs.declared.book.Merge.TheVariants.{Exact, Names}
 use Rattle.book.specs.declared.entry.Mark.TheVariants.{Open}
 use Rattle.book.specs.declared.finding.Finding.{Finding}
 use Rattle.book.specs.declared.finding.Finding.TheVariants as found
 use Rattle.book.specs.Schedule.{StepMachine, IsMachine, Merges}
-use Rattle.book.specs.Findings.{is_sound, machine_of, IsFindingOf, IsSound}
+use Rattle.book.specs.Law.{FindsAlike}
+use Rattle.book.specs.Findings.{machine_of, IsFindingOf}
 use Rattle.book.specs.Labels.{form_by, same_as}
 use Rattle.book.specs.Books.{counted_as_one, IsBook}
 use Rattle.book.proofs.EntryLemmas.{get_within}
@@ -112,12 +112,20 @@ module _ {Machine Memory Place Form : Type 0} (place_eq : Place → Place → Bo
           (v.0, v.1, named_by v.0 u v_fits u_fits (alike_turned rules form_of forms program u v.0 u_fits v_fits v.2)));
     }
 
-    -- what is found of a state is found of one that is alike to it, if it is sound
-    found_alike : (r s : State Machine Memory Place Form) → AreStatesAlike rules r s → (finding : Finding) → IsFindingOf rules program r finding → is_sound finding ≡ true → IsFindingOf rules program s finding
-    found_alike r s alike found.Astray is sound = absurd (true≢false (sym sound))
-    found_alike r s alike found.Order is sound = absurd (true≢false (sym sound))
-    found_alike r s alike found.History is sound = absurd (true≢false (sym sound))
-    found_alike r s alike (found.Sound order) is sound = (
+    -- what is found of a state is found of one that is alike to it: the same fault, or the same linearization
+    found_alike : (r s : State Machine Memory Place Form) → Fits rules program r → Fits rules program s → AreStatesAlike rules r s
+        → (finding : Finding) → IsFindingOf rules program r finding → IsFindingOf rules program s finding
+    found_alike r s r_fits s_fits alike found.Astray is = subst (λ a. IsSome a) alike.astray is
+    found_alike r s r_fits s_fits alike found.Order is = (
+      sym alike.astray ∙ is.0,
+      λ ordered. is.1 (alike_ordered rules s r lawful (alike_turned rules form_of forms program r s r_fits s_fits alike) ordered),
+    )
+    found_alike r s r_fits s_fits alike found.History is = (
+      sym alike.astray ∙ is.0,
+      alike_ordered rules r s lawful alike is.1,
+      subst (λ h. IsLinearizable program h → ⊥) (alike_history rules r s alike) is.2,
+    )
+    found_alike r s r_fits s_fits alike (found.Sound order) is = (
       sym alike.astray ∙ is.0,
       alike_ordered rules r s lawful alike is.1,
       subst (λ h. IsLinearization program h order.items) (alike_history rules r s alike) is.2,
@@ -127,11 +135,10 @@ module _ {Machine Memory Place Form : Type 0} (place_eq : Place → Place → Bo
     merges_by Exact machine = exact_merges (machine_of {Machine = Machine} {Form = Form} rules program) (state_eq place_eq memory_eq) states states_exact
     merges_by Names machine = names_merge machine
 
-    -- states that count as one are sound alike
-    pub sound_alike : (merge : Merge) (r s : State Machine Memory Place Form) → Fits rules program r → Fits rules program s
-        → counted_as_one {Machine = Machine} place_eq memory_eq form_eq form_of merge r s ≡ true → IsSound (IsFindingOf rules program) r → IsSound (IsFindingOf rules program) s
-    sound_alike Exact r s _ _ same sound = subst (λ v. IsSound (IsFindingOf rules program) v) (states_exact r s same) sound
-    sound_alike Names r s r_fits s_fits same sound = (sound.0, found_alike r s (alike_by r s r_fits s_fits same) sound.0 sound.1 sound.2, sound.2)
+    -- states that count as one have the same findings
+    pub findings_alike : (merge : Merge) → FindsAlike (machine_of {Machine = Machine} {Form = Form} rules program) (counted_as_one {Machine = Machine} place_eq memory_eq form_eq form_of merge) (IsFindingOf rules program)
+    findings_alike Exact r s _ _ same finding is = subst (λ v. IsFindingOf rules program v finding) (states_exact r s same) is
+    findings_alike Names r s r_fits s_fits same finding is = found_alike r s r_fits s_fits (alike_by r s r_fits s_fits same) finding is
 
 -- the book with the start alone
 pub first_book : {Machine Memory Place Form : Type 0} (place_eq : Place → Place → Bool) (memory_eq : Memory → Memory → Bool) (form_eq : Form → Form → Bool)
@@ -160,5 +167,5 @@ first_book {Machine} {Memory} {Place} {Form} place_eq memory_eq form_eq form_of 
       limits = limits;
       machine = keeps;
       merges = merges;
-      alike = sound_alike place_eq memory_eq form_eq (form_of machine) (rules machine) program lawful forms states_exact states forms_exact form_tests merge;
+      findings = findings_alike place_eq memory_eq form_eq (form_of machine) (rules machine) program lawful forms states_exact states forms_exact form_tests merge;
     }

@@ -1,5 +1,5 @@
 -- A book of the states of a program on a machine.
-use Rattle.std.specs.Prelude.{◌≡◌, ◌-◌, Bool, true, List, Option, length, count_by}
+use Rattle.std.specs.Prelude.{◌-◌, Bool, List, Option, length, count_by}
 use Rattle.sched_program.specs.Program.{IsWithinLimits}
 use Rattle.tree_machine.specs.Rules.{Rules}
 use Rattle.tree_machine.specs.Alike.{state_form}
@@ -10,9 +10,9 @@ use Rattle.book.specs.declared.book.Merge.TheVariants.{Exact, Names}
 use Rattle.book.specs.declared.book.Totals.{Totals}
 use Rattle.book.specs.declared.finding.Finding.{Finding}
 use Rattle.book.specs.Schedule.{StepMachine, IsMachine, Merges}
-use Rattle.book.specs.Findings.{machine_of, IsFindingOf, IsSound}
+use Rattle.book.specs.Findings.{machine_of, IsFindingOf}
 use Rattle.book.specs.Entries.{Contents, Steps, is_open, is_taken, is_expanded}
-use Rattle.book.specs.Law.{IsLawfulBook, IsExpansion}
+use Rattle.book.specs.Law.{FindsAlike, IsLawfulBook, IsExpansion}
 
 -- Whether two states count as one, given the tests of places, memories and forms, and what the machine's form is: with exact
 -- merging, whether they test equal; by names, whether their forms do
@@ -40,16 +40,15 @@ module _ {Machine Memory Place Form : Type 0} (rules : Machine → Rules Memory 
   IsLawfulIn place_eq memory_eq form_eq form_of book =
       IsLawfulBook (machine_in book) (counted_as_one place_eq memory_eq form_eq (form_of book.machine) book.merge) (right_in book) book
 
--- A lawful book of a program that meets the limits, and what follows for its machine: it is a step machine, states of it that count
--- as one step alike, and where one of two such states is sound the other is.
+-- A lawful book of a program that meets the limits, and what follows for its machine: it is a step machine, and states of it that count
+-- as one step alike and have the same findings.
 pub record IsBook {Machine Memory Place Form : Type 0} (rules : Machine → Rules Memory Place) (place_eq : Place → Place → Bool)
     (memory_eq : Memory → Memory → Bool) (form_eq : Form → Form → Bool) (form_of : Machine → Memory → List (Option Place) → Form) (book : Contents Machine (State Machine Memory Place Form)) : Type 0 where
   pub law : IsLawfulIn rules place_eq memory_eq form_eq form_of book
   pub limits : IsWithinLimits book.program
   pub machine : IsMachine (machine_in rules book)
   pub merges : Merges (machine_in rules book) (counted_as_one place_eq memory_eq form_eq (form_of book.machine) book.merge)
-  pub alike : (r s : State Machine Memory Place Form) → (machine_in rules book).Fits r → (machine_in rules book).Fits s → counted_as_one place_eq memory_eq form_eq (form_of book.machine) book.merge r s ≡ true
-      → IsSound (right_in rules book) r → IsSound (right_in rules book) s
+  pub findings : FindsAlike (machine_in rules book) (counted_as_one place_eq memory_eq form_eq (form_of book.machine) book.merge) (right_in rules book)
 
 -- the totals of a book
 abbrev pub totals_of : {X S : Type 0} → Contents X S → Totals

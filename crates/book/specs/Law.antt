@@ -3,13 +3,25 @@ use Rattle.std.specs.Prelude.{◌≡◌, ◌≢◌, ℕ, ◌+◌, ◌<◌, ◌�
 use Rattle.book.specs.declared.finding.Finding.{Finding}
 use Rattle.book.specs.declared.entry.Mark.TheVariants.{Taken, Expanded}
 use Rattle.book.specs.declared.entry.Origin.{Origin}
-use Rattle.book.specs.Schedule.{StepMachine, enabled_threads}
+use Rattle.book.specs.Schedule.{StepMachine, enabled_threads, run}
 use Rattle.book.specs.Entries.{Entry, Successor, Contents, At, is_expanded}
+use Rattle.book.specs.Layers.{IsExpandedBelow}
 
-module _ {S : Type 0} (m : StepMachine S) (same : S → S → Bool) (right : S → Finding → Type 0) where
+module _ {S : Type 0} (m : StepMachine S) (same : S → S → Bool) where
   -- an entry counts as the same state, with at most its steps
   abbrev pub StandsFor : List (Entry S) → S → Type 0
   StandsFor entries s = (i : ℕ) × (e : Entry S) × At entries i e × (same e.state s ≡ true) × (m.steps e.state ≤ m.steps s)
+
+  -- Where each entry of fewer than n steps is expanded, and a state is stood for, so is every state of at most n steps that a
+  -- schedule leads to from it
+  abbrev pub StandsForReached : List (Entry S) → Type 0
+  StandsForReached entries = (n : ℕ) → IsExpandedBelow m.steps entries n
+      → (c : List ℕ) (r s : S) → m.Fits r → StandsFor entries r → run m r c ≡ Some s → m.steps r + length c ≤ n → StandsFor entries s
+
+module _ {S : Type 0} (m : StepMachine S) (same : S → S → Bool) (right : S → Finding → Type 0) where
+  -- each finding that is right of a state is right of all that count as the same
+  abbrev pub FindsAlike : Type 0
+  FindsAlike = (r s : S) → m.Fits r → m.Fits s → same r s ≡ true → (finding : Finding) → right r finding → right s finding
 
   -- e is the step of an earlier entry, which is expanded, by the recorded thread
   pub record IsStep (entries : List (Entry S)) (i : ℕ) (e : Entry S) : Type 0 where
@@ -30,7 +42,7 @@ module _ {S : Type 0} (m : StepMachine S) (same : S → S → Bool) (right : S �
     -- each entry's value is a state of the machine
     pub fit : (i : ℕ) (e : Entry S) → At entries i e → m.Fits e.state
     -- every enabled step of an expanded entry is stood for
-    pub stands : (i t : ℕ) (e : Entry S) (s : S) → At entries i e → e.mark ≡ Expanded → m.step e.state t ≡ Some s → StandsFor entries s
+    pub stands : (i t : ℕ) (e : Entry S) (s : S) → At entries i e → e.mark ≡ Expanded → m.step e.state t ≡ Some s → StandsFor m same entries s
     -- step counts never fall along the numbers
     pub ordered : (i j : ℕ) (e f : Entry S) → At entries i e → At entries j f → i ≤ j → m.steps e.state ≤ m.steps f.state
     -- a taken entry has the least step count of those not expanded

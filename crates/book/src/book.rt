@@ -12,7 +12,7 @@ ghost use Rattle.book.specs.Slots.{AllStates, IsOpenFrom};
 ghost use Rattle.tree_machine.specs.Alike.{state_form};
 ghost use Rattle.book.specs.Labels.{AreStepsKnownBy, bares, form_by};
 ghost use Rattle.book.specs.Books.{counted_as_one, machine_in, right_in, totals_of, IsLawfulIn};
-ghost use Rattle.book.specs.Law.{IsExpansion};
+ghost use Rattle.book.specs.Law.{FindsAlike, IsExpansion, StandsForReached};
 ghost use Rattle.book.specs.Leftovers.{Keeps};
 ghost use Rattle.book.specs.Counts.{IsCount};
 ghost use Rattle.book.specs.Layers.{IsExpandedTo, IsExpandedBelow, IsLeftTo};
@@ -150,8 +150,9 @@ impl<M: Machine> Book<M> {
         })
     }
 
-    /// A book is lawful at every moment, its machine is a step machine, states of its program that it counts as one step
-    /// alike, and where one of two such states is sound the other is.
+    /// A book is lawful at every moment, its machine is a step machine, and states of its program that it counts as one
+    /// step alike and have the same findings, so where one of two such states is sound the other is. An entry that stands
+    /// for a state stands for all that this reaches within the steps that are worked out.
     pub fn law(&self)
         ensures law { IsLawfulIn M.rules M.Loc.PartialEq.eq M.Mem.PartialEq.eq M.Form.PartialEq.eq M.form_of self.now }
         ensures machine { IsMachine (machine_in M.rules self.now) }
@@ -159,6 +160,10 @@ impl<M: Machine> Book<M> {
         ensures alike { (r s : State M M.Mem M.Loc M.Form) → Fits (M.rules self.now.machine) self.now.program r → Fits (M.rules self.now.machine) self.now.program s
             → counted_as_one M.Loc.PartialEq.eq M.Mem.PartialEq.eq M.Form.PartialEq.eq (M.form_of self.now.machine) self.now.merge r s ≡ true
             → IsSound (right_in M.rules self.now) r → IsSound (right_in M.rules self.now) s }
+        ensures findings { FindsAlike (machine_in M.rules self.now)
+            (counted_as_one M.Loc.PartialEq.eq M.Mem.PartialEq.eq M.Form.PartialEq.eq (M.form_of self.now.machine) self.now.merge) (right_in M.rules self.now) }
+        ensures reaches { StandsForReached (machine_in M.rules self.now)
+            (counted_as_one M.Loc.PartialEq.eq M.Mem.PartialEq.eq M.Form.PartialEq.eq (M.form_of self.now.machine) self.now.merge) self.now.entries }
         ensures limits { IsWithinLimits self.now.program }
     {
         let _ = &self.table;
@@ -316,7 +321,8 @@ impl<M: Machine> Book<M> {
         }
     }
 
-    /// The threads on the way from entry 0 to an entry, as its origin and those before it record it. No other way leads there.
+    /// The threads on the way from entry 0 to an entry, as its origin and those before it record it. No other way leads
+    /// there.
     pub fn schedule_of(&self, alloc: Global, id: usize) -> Result<Vec<u8>, OutOfMemory>
         requires { id < length self.now.entries }
         ensures leads { IfOk result (λ c. (e : Entry (State M M.Mem M.Loc M.Form)) × At self.now.entries id e

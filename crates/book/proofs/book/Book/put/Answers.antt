@@ -139,7 +139,7 @@ invariant_of-self-in-Ok g c =
         limits = book.limits;
         machine = book.machine;
         merges = book.merges;
-        alike = book.alike;
+        findings = book.findings;
       },
       subst (λ (k : Kept (State g.row.M.Denot g.row.M-Mem.Denot g.row.M-Loc.Denot g.row.M-Form.Denot) (StateForm g.row.M.Denot g.row.M-Mem.Denot g.row.M-Loc.Denot g.row.M-Form.Denot)). AreKnownBy label k) (sym c.mark_expanded.ensures)
           (known_mark label c.append_new.new.self c.args.id Expanded (c.in-Ok.ensures.known label c.self.invariant.1 steps_known)),

@@ -28,7 +28,7 @@ invariant_of-self g c =
         limits = book.limits;
         machine = book.machine;
         merges = book.merges;
-        alike = book.alike;
+        findings = book.findings;
       }),
       known_mark (form_by s.merge (state_form (g.M.Machine.form_of s.machine))) s.table c.in-Some.id Taken c.self.invariant.1,
     )

@@ -31,7 +31,7 @@ invariant_of-self g c =
         limits = book.limits;
         machine = book.machine;
         merges = book.merges;
-        alike = book.alike;
+        findings = book.findings;
       }),
       known_marks (form_by s.merge (state_form (g.M.Machine.form_of s.machine))) s.table (range_with_len c.in-Some.start (end.result - c.in-Some.start)) Taken c.self.invariant.1,
     )
