@@ -1,6 +1,6 @@
 -- What an answer comes to.
-use Rattle.std.proofs.Common.{◌≡◌, ◌∙◌, ◌+◌, ◌<◌, ◌≤◌, ℕ, Bool, true, Option, None, Some, List, length, take, nat_lt, false, subst, arith, refl, sym, ap, inl, inr, ◌⊎◌}
-use Rattle.std.specs.Prelude.{IsSome, MatchOption}
+use Rattle.std.proofs.Common.{◌≡◌, ◌∙◌, ◌+◌, ◌<◌, ◌≤◌, ℕ, Bool, true, Option, None, List, length, take, nat_lt, false, subst, arith, refl, sym, ap, inl, inr, ◌⊎◌}
+use Rattle.std.specs.Prelude.{IsSome}
 use Rattle.std.specs.Cmp.{IsEquivalence}
 use Rattle.std.proofs.lemmas.Bool.Decides.{nat_tests}
 use Rattle.sched_program.specs.Exact.{IsExact}
@@ -22,7 +22,8 @@ use Rattle.tree_machine.proofs.Forms.{forms_alike}
 use Rattle.book.specs.Findings.{machine_of}
 use Rattle.book.specs.declared.replayed.ReplayFault.{ReplayFault}
 use Rattle.treesched.specs.Lines.{IsRefusal, no_step_text}
-use Rattle.treesched.specs.Serving.{CountsAsOne, IsAnswerTo, IsEquality, IsReplayed, IsServedFrom, IsStuck, IsUnread}
+use Rattle.treesched.specs.Serving.{CountsAsOne, IsAnswerTo, IsEquality, IsReplayed, IsServed, IsServedFrom, IsStuck, IsUnread}
+use Rattle.treesched.specs.declared.input.Counted.{Counted}
 use Rattle.clap.specs.Walk.{Text}
 use Rattle.treesched.specs.Reading.{AskFor}
 use Rattle.treesched.specs.declared.request.Request.{Request}
@@ -76,9 +77,15 @@ module _ (Machine Form : Type 0) {Memory Place : Type 0} (rules : Rules Memory P
       })) told
 
 module _ (words : List Text) (asked : Request) (ask : AskFor words asked) where
-  -- what is served for the request of the words answers them
-  pub answers : {F E : Type 0} (remaining : F → Option (List ℕ)) (file : Option F) (r : Result Output E)
-      → IfOk r (λ output. MatchOption file (IsUnread asked output) (λ reader. IsServedFrom (remaining reader) asked output))
-      → IfOk r (IsAnswerTo words)
-  answers remaining None r served = IfOk-weaker r _ _ (λ output h. inl (asked, ask, (None, inl h))) served
-  answers remaining (Some reader) r served = IfOk-weaker r _ _ (λ output h. inl (asked, ask, (remaining reader, h))) served
+  -- what is served for the request of the words, from a reader or without one, answers them
+  pub answers : {F E : Type 0} (remaining : F → Option (List ℕ)) (before after : Counted F) (r : Result Output E)
+      → IfOk r (IsServedFrom remaining before after asked) → IfOk r (IsAnswerTo words)
+  answers remaining before after r served = IfOk-weaker r _ _ (λ output h. inl (asked, ask, from output h)) served
+    where
+      from : (output : Output) → IsServedFrom remaining before after asked output
+          → IsUnread asked output ⊎ ((text : List ℕ) × IsServed text asked output)
+      from output (inl (grew, told)) = inl told
+      from output (inr (same, (text, all, told))) = inr (text, told)
+
+  pub unread : {E : Type 0} (r : Result Output E) → IfOk r (IsUnread asked) → IfOk r (IsAnswerTo words)
+  unread r told = IfOk-weaker r _ _ (λ output h. inl (asked, ask, inl h)) told

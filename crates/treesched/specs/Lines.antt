@@ -3,6 +3,8 @@ use Rattle.std.specs.Prelude.{◌≡◌, ℕ, ◌+◌, Bool, true, false, List, 
 use Rattle.std.specs.Fmt.{decimal}
 use Rattle.std.specs.String.{string_bytes}
 use Rattle.std.specs.List.{flat_map}
+use Rattle.sched_program.specs.declared.fault.ProgramFault.{ProgramFault}
+use Rattle.sched_program.specs.declared.fault.ProgramFault.TheVariants as program_fault
 use Rattle.sched_program.specs.declared.operation.Op.{Op}
 use Rattle.sched_program.specs.declared.operation.Op.TheVariants.{Insert, Delete, Find}
 use Rattle.sched_program.specs.declared.operation.OpId.{OpId}
@@ -98,6 +100,20 @@ report_text ledger answer totals shares =
 abbrev pub no_step_text : ℕ → ℕ → List ℕ
 no_step_text step thread =
     codes "step " ++ (decimal step ++ (codes ": thread " ++ (decimal thread ++ codes " has no step")))
+
+-- the number and the name of a fault of a program
+abbrev pub fault_text : ProgramFault → List ℕ
+fault_text program_fault.NotJson = codes "P1 NotJson"
+fault_text program_fault.NotObject = codes "P2 NotObject"
+fault_text program_fault.Version = codes "P3 Version"
+fault_text program_fault.Tree = codes "P4 Tree"
+fault_text program_fault.Initial = codes "P5 Initial"
+fault_text program_fault.InitialTwice = codes "P6 InitialTwice"
+fault_text program_fault.Threads = codes "P7 Threads"
+fault_text program_fault.Ops = codes "P8 Ops"
+fault_text program_fault.Op = codes "P9 Op"
+fault_text program_fault.Key = codes "P10 Key"
+fault_text program_fault.OutOfMemory = codes "P11 OutOfMemory"
 
 -- the exit status for an answer
 abbrev pub status_of : Answer → ℕ

@@ -34,9 +34,10 @@ use Rattle.crew.specs.Ledger.{ledger}
 use Rattle.crew.specs.Settings.{Settings}
 use Rattle.crew.specs.declared.answer.Answer.{Answer}
 use Rattle.crew.specs.declared.answer.Share.{Share}
-use Rattle.treesched.specs.Lines.{IsRefusal, TellsFault, no_step_text, operations_text, report_text, status_of, verdict_text}
+use Rattle.treesched.specs.Lines.{IsRefusal, TellsFault, fault_text, no_step_text, operations_text, report_text, status_of, verdict_text}
 use Rattle.clap.specs.Walk.{Text}
 use Rattle.treesched.specs.Reading.{AreRefused, AskFor, file_of}
+use Rattle.treesched.specs.declared.input.Counted.{Counted}
 use Rattle.treesched.specs.declared.request.Request.{Request}
 use Rattle.treesched.specs.declared.request.Request.TheVariants as request
 use Rattle.treesched.specs.declared.request.WordsFault.{WordsFault}
@@ -102,23 +103,27 @@ IsAnsweredBy tree.EllenNoIflag program asked output = IsAnswered Ellen (List ℕ
 IsAnsweredBy tree.Nm program asked output = IsAnswered NatMit (List ℕ) (natmit_rules (record { tag = true })) program asked output
 IsAnsweredBy tree.NmNoTag program asked output = IsAnswered NatMit (List ℕ) (natmit_rules (record { tag = false })) program asked output
 
--- the request is answered for the program of the text, or the text's first fault is told
+-- the request is answered for the program of the text, or the number and name of the text's first fault are told
 abbrev pub IsServed : List ℕ → Request → Output → Type 0
 IsServed text asked output =
     ((program : Program) × IsJsonTextOf text program × IsAnsweredBy program.tree program asked output)
-    ⊎ ((fault : ProgramFault) × IsFirstFaultOf text fault × (fault ≢ program_fault.OutOfMemory) × ((name : List ℕ) × IsRefusal 3 name output))
+    ⊎ ((fault : ProgramFault) × IsFirstFaultOf text fault × (fault ≢ program_fault.OutOfMemory) × IsRefusal 3 (fault_text fault) output)
 
 -- the output tells that the file can't be read
 abbrev pub IsUnread : Request → Output → Type 0
 IsUnread asked output = IsRefusal 6 (codes "can't read " ++ file_of asked) output
 
--- the request is answered for a reader that has these bytes, where it says which, or a read failed
-abbrev pub IsServedFrom : Option (List ℕ) → Request → Output → Type 0
-IsServedFrom bytes asked output = IsUnread asked output
-    ⊎ ((text : List ℕ) × IfSome bytes (λ all. text ≡ all) × IsServed text asked output)
+-- The request is answered for the bytes that the reader gave up to its end, which are those that it had where it says which;
+-- or a read failed. That a file can't be read is told exactly where the count of failed reads grew.
+abbrev pub IsServedFrom : {F : Type 0} → (F → Option (List ℕ)) → Counted F → Counted F → Request → Output → Type 0
+IsServedFrom remaining before after asked output =
+    ((after.failures ≡ before.failures + 1) × IsUnread asked output)
+    ⊎ ((after.failures ≡ before.failures)
+    × ((text : List ℕ) × IfSome (remaining before.reader) (λ all. text ≡ all) × IsServed text asked output))
 
--- the output answers the request of the words for what its file gives, or tells why the words make none
+-- The output answers the request of the words, for some text or as a file that can't be read, or tells why the words make none.
+-- What a file gives, no contract can say.
 abbrev pub IsAnswerTo : List Text → Output → Type 0
 IsAnswerTo words output =
-    ((asked : Request) × AskFor words asked × ((bytes : Option (List ℕ)) × IsServedFrom bytes asked output))
+    ((asked : Request) × AskFor words asked × (IsUnread asked output ⊎ ((text : List ℕ) × IsServed text asked output)))
     ⊎ ((fault : WordsFault) × AreRefused words fault × TellsFault fault output)

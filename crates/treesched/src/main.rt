@@ -1,9 +1,10 @@
 //! The program `treesched`: reads its words, opens the files, and prints what `serve` answers.
 #![tactic(auto)]
 
-ghost use Rattle.std.specs.Prelude.{◌≡◌, ◌⊎◌, List, IfOk, codes, map};
+ghost use Rattle.std.specs.Prelude.{◌≡◌, ◌-◌, ◌<◌, ◌^◌, List, IfOk, codes, map};
 ghost use Rattle.clap.specs.Walk.{Text};
 ghost use Rattle.treesched.specs.Lines.{IsRefusal};
+ghost use Rattle.treesched.specs.Printing.{IsPrinted, WasTried};
 ghost use Rattle.treesched.specs.Serving.{IsAnswerTo};
 
 mod command;
@@ -14,34 +15,42 @@ mod request;
 mod schedule;
 mod serve;
 
-use crate::output::put_all;
+use crate::input::Counted;
+use crate::output::{CountedWriter, put_all};
 use crate::request::read_words;
 use crate::serve::{Output, refusal, refused, serve};
 use sched_program::OutOfMemory;
 use std::env::Env;
 use std::fs::{File, Files};
 use std::io;
+use std::io::Write;
 use std::process::ExitCode;
 use std::sync::Wait;
 use std::thread::Threads;
 
-/// Prints the output, and answers the status that the program ends with. A write to the standard error that fails is
-/// dropped, since there is nowhere to tell it.
-fn print(rt: &HostRuntime, output: &Output) -> u8
-    ensures { (result ≡ output.now.status) ⊎ (result ≡ 6) }
+/// Writes the text to the standard error. A write that fails is dropped, since there is nowhere to tell it.
+fn tell<E: Write>(err: &mut CountedWriter<E>, text: &str)
+    requires { err.old.failures < 2 ^ 64 - 1 }
+    ensures { WasTried E.contents err.old err.new text.now }
 {
-    let stdout = rt.stdout();
-    let stderr = rt.stderr();
-    let mut err = io::writer(&stderr);
-    let mut out = io::writer(&stdout);
-    if put_all(&mut out, output.out.as_bytes()).is_err() {
-        let _ = put_all(
-            &mut err,
-            "treesched: can't write standard output\n".as_bytes(),
-        );
+    let _ = put_all(err, text.as_bytes());
+}
+
+/// Prints the output, and answers the status that the program ends with.
+fn print<O: Write, E: Write>(
+    out: &mut CountedWriter<O>,
+    err: &mut CountedWriter<E>,
+    output: &Output,
+) -> u8
+    requires out { out.old.failures < 2 ^ 64 - 1 }
+    requires err { err.old.failures < 2 ^ 64 - 1 }
+    ensures { IsPrinted O.contents out.old out.new E.contents err.old err.new output.now result }
+{
+    if put_all(out, output.out.as_bytes()).is_err() {
+        tell(err, "treesched: can't write standard output\n");
         return 6;
     }
-    let _ = put_all(&mut err, output.err.as_bytes());
+    tell(err, output.err.as_str());
     output.status
 }
 
@@ -53,10 +62,10 @@ fn answer<R: AllocGlobal + Files + Sync + Threads + Wait>(
     ensures { IfOk result (IsAnswerTo (map (λ s. s.now) words.now)) }
 {
     match read_words(rt.alloc(), words) {
-        Ok(request) => {
-            let file = File::open(rt, request.file()).ok();
-            serve(rt, rt.alloc(), &request, file)
-        }
+        Ok(request) => match File::open(rt, request.file()) {
+            Ok(file) => serve(rt, rt.alloc(), &request, Some(&mut Counted::new(file))),
+            Err(_) => serve::<R, File>(rt, rt.alloc(), &request, None),
+        },
         Err(fault) => refused(rt.alloc(), fault),
     }
 }
@@ -81,12 +90,14 @@ fn run<R: AllocGlobal + Env + Files + Sync + Threads + Wait>(
 }
 
 fn main(rt: HostRuntime) -> ExitCode {
+    let stdout = rt.stdout();
+    let stderr = rt.stderr();
+    let mut out = CountedWriter::new(io::writer(&stdout));
+    let mut err = CountedWriter::new(io::writer(&stderr));
     let status = match run(&rt) {
-        Ok(output) => print(&rt, &output),
+        Ok(output) => print(&mut out, &mut err, &output),
         Err(_) => {
-            let stderr = rt.stderr();
-            let mut err = io::writer(&stderr);
-            let _ = put_all(&mut err, "treesched: out of memory\n".as_bytes());
+            tell(&mut err, "treesched: out of memory\n");
             5
         }
     };

@@ -1,11 +1,12 @@
 //! The answer to a request: the status and all that is to be written.
-ghost use Rattle.std.specs.Prelude.{◌≡◌, ◌++◌, ◌⊎◌, [], codes, IfOk, IfSome, if◌then◌else◌};
+ghost use Rattle.std.specs.Prelude.{◌≡◌, ◌-◌, ◌^◌, ◌<◌, ◌++◌, ◌⊎◌, [], codes, IfOk, IfSome, if◌then◌else◌};
 ghost use Rattle.std.specs.String.{string_bytes};
 ghost use Rattle.std.specs.Prelude.{MatchOption};
 ghost use Rattle.std.specs.Cmp.{IsEquivalence};
 ghost use Rattle.sched_program.specs.Exact.{IsExact};
 ghost use Rattle.book.specs.Books.{counted_as_one};
 ghost use Rattle.book.specs.Findings.{is_sound};
+ghost use Rattle.treesched.specs.Devices.{LeavesBehind};
 ghost use Rattle.treesched.specs.Lines as lines;
 ghost use Rattle.treesched.specs.Serving.{CountsAsOne, IsAnswered, IsExplored, IsReplayed, IsServed, IsServedFrom, IsStuck, IsUnread};
 
@@ -82,6 +83,25 @@ fn no_step(alloc: Global, step: usize, thread: u8) -> Result<Output, OutOfMemory
 {
     let text = format!(in alloc; "step {step}: thread {thread} has no step")?;
     refusal(alloc, 4, text.as_str())
+}
+
+/// The number and the name of a fault of a program, as `Display` shows them.
+pub fn fault_text(fault: ProgramFault) -> &'static str
+    ensures { result.now ≡ lines.fault_text fault }
+{
+    match fault {
+        ProgramFault::NotJson => "P1 NotJson",
+        ProgramFault::NotObject => "P2 NotObject",
+        ProgramFault::Version => "P3 Version",
+        ProgramFault::Tree => "P4 Tree",
+        ProgramFault::Initial => "P5 Initial",
+        ProgramFault::InitialTwice => "P6 InitialTwice",
+        ProgramFault::Threads => "P7 Threads",
+        ProgramFault::Ops => "P8 Ops",
+        ProgramFault::Op => "P9 Op",
+        ProgramFault::Key => "P10 Key",
+        ProgramFault::OutOfMemory => "P11 OutOfMemory",
+    }
 }
 
 /// The exit status for an answer.
@@ -203,10 +223,7 @@ fn served<R: Threads + Wait + Sync>(
     let program = match Program::from_json(alloc, text) {
         Ok(program) => program,
         Err(ProgramFault::OutOfMemory) => return Err(std::alloc::AllocError),
-        Err(fault) => {
-            let name = format!(in alloc; "{fault}")?;
-            return refusal(alloc, 3, name.as_str());
-        }
+        Err(fault) => return refusal(alloc, 3, fault_text(fault)),
     };
     match program.tree() {
         Tree::Atomic => answered(rt, alloc, Atomic, &program, request),
@@ -245,34 +262,41 @@ fn served<R: Threads + Wait + Sync>(
     }
 }
 
-/// All bytes of a reader.
-fn read_text<F: Read + Drop>(alloc: Global, reader: F) -> Result<Vec<u8>, ReadFault>
-    ensures { IfOk result (λ text. IfSome (F.remaining reader) (λ all. text.items ≡ all)) }
-{
-    Counted::new(reader).read_all(alloc)
-}
-
-/// Answers the request. A reader that is none stands for a file that could not be opened, which is told as a
-/// failed read. The runtime is for the workers of an exploration, which are joined before the answer. Nothing is
-/// written: the output has all text.
-///
-/// # Errors
-/// Memory ran out.
-pub fn serve<R: Threads + Wait + Sync, F: Read + Drop>(
+/// Answers the request for what the reader gives.
+fn served_from<R: Threads + Wait + Sync, F: Read>(
     rt: &R,
     alloc: Global,
     request: &Request<'_>,
-    file: Option<F>,
+    reader: &mut Counted<F>,
 ) -> Result<Output, OutOfMemory>
-    ensures { IfOk result (λ output. MatchOption file (IsUnread request.now output)
-        (λ reader. IsServedFrom (F.remaining reader) request.now output)) }
+    requires { reader.old.failures < 2 ^ 64 - 1 }
+    ensures { IfOk result (IsServedFrom F.remaining reader.old reader.new request.now) }
 {
-    let Some(reader) = file else {
-        return unreadable(alloc, request.file());
-    };
-    match read_text(alloc, reader) {
+    match reader.read_all(alloc) {
         Ok(text) => served(rt, alloc, text.as_slice(), request),
         Err(ReadFault::Device) => unreadable(alloc, request.file()),
         Err(ReadFault::OutOfMemory) => Err(std::alloc::AllocError),
+    }
+}
+
+/// Answers the request. That the file can't be read is told exactly where a read failed, as the reader counts it. A
+/// reader that is none stands for a file that could not be opened, which is told as a failed read. The runtime is for
+/// the workers of an exploration, which are joined before the answer. Nothing is written: the output has all text.
+///
+/// # Errors
+/// Memory ran out.
+pub fn serve<R: Threads + Wait + Sync, F: Read>(
+    rt: &R,
+    alloc: Global,
+    request: &Request<'_>,
+    file: Option<&mut Counted<F>>,
+) -> Result<Output, OutOfMemory>
+    requires { IfSome file (λ reader. reader.now.failures < 2 ^ 64 - 1) }
+    ensures { IfOk result (λ output. MatchOption file.entry (IsUnread request.now output)
+        (λ reader. LeavesBehind (λ after. IsServedFrom F.remaining reader.now after request.now output) file.exit)) }
+{
+    match file {
+        Some(reader) => served_from(rt, alloc, request, reader),
+        None => unreadable(alloc, request.file()),
     }
 }

@@ -10,7 +10,11 @@ moves_front all done rest n e =
 
 pub loop-preserved : goal.loop-preserved
 loop-preserved g c =
-    let (gone, split, appended, within) = c.loop.invariant in
+    let (gone, split, appended) = c.loop.invariant.out in
     let rest = c.loop.rest.now in
-    let n = c.in-Ok.count in
-    (gone ++ take n rest, moves_front _ gone rest n split, Appends-trans _ _ _ _ _ appended c.in-Ok.ensures.bytes, grind (arith, common_steps))
+    let n = c.in_ok-count.count in
+    record {
+      out = (gone ++ take n rest, moves_front _ gone rest n split, Appends-trans _ _ _ _ _ appended c.in_ok-count.ensures.bytes);
+      left = grind (arith, common_steps);
+      none_failed = grind (arith, common_steps);
+    }
