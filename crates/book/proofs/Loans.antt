@@ -18,8 +18,8 @@ use Rattle.tree_machine.specs.declared.machine.Outcome.{Outcome}
 use Rattle.tree_machine.specs.declared.machine.Outcome.TheVariants.{Goes, Replies, Astray}
 use Rattle.tree_machine.specs.declared.state.Thread.{Thread}
 use Rattle.tree_machine.specs.declared.state.State.{State}
+use Rattle.tree_machine.proofs.States.{step_parts}
 use Rattle.book.proofs.EntryLemmas.{get_within}
-use Rattle.book.proofs.Machines.{step_parts}
 
 -- ---- values beside names
 module _ {V : Type 0} where

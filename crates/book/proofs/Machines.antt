@@ -16,7 +16,7 @@ use Rattle.tree_machine.specs.declared.state.State.{State}
 use Rattle.tree_machine.specs.declared.form.StateForm.{StateForm}
 use Rattle.tree_machine.proofs.Alike.{alike_step, alike_history, alike_ordered}
 use Rattle.tree_machine.proofs.Forms.{forms_alike, alike_turned}
-use Rattle.tree_machine.proofs.States.{start_fits, stepped_fits}
+use Rattle.tree_machine.proofs.States.{step_parts, start_fits, step_fits}
 use Rattle.lin.specs.Linearization.{IsLinearization, IsLinearizable}
 use Rattle.book.specs.declared.book.Merge.{Merge}
 use Rattle.book.specs.declared.book.Merge.TheVariants.{Exact, Names}
@@ -38,34 +38,17 @@ module _ {Machine Memory Place Form : Type 0} (rules : Rules Memory Place) (prog
   access_counts state t thread (memory, Replies reply) = refl
   access_counts state t thread (memory, Astray) = refl
 
-  -- what a step is made of
-  pub step_parts : (P : Type 0) (state next : State Machine Memory Place Form) (t : ℕ) → step rules program state t ≡ Some next
-      → ((thread : Thread Place) → slice_get state.threads t ≡ Some thread → (op : _) → op_at program t (length thread.replies) ≡ Some op → next ≡ stepped rules state t op thread → P) → P
-  step_parts P state next t is made = go (is_some state.astray) is
-    where
-      go : (b : Bool) → (if b then None else option_and_then (λ thread. option_and_then (λ op. Some (stepped rules state t op thread)) (op_at program t (length thread.replies))) (slice_get state.threads t)) ≡ Some next → P
-      go true e = absurd (let q : None ≡ Some next = e in cc)
-      go false e =
-          option_and_then_some _ (slice_get state.threads t) next e (λ thread there at_op.
-          option_and_then_some _ (op_at program t (length thread.replies)) next at_op (λ op op_is same.
-          made thread there op op_is (sym (same_Some _ _ same))))
-
   -- a step is counted
   pub step_counts : (state next : State Machine Memory Place Form) (t : ℕ) → step rules program state t ≡ Some next → next.steps ≡ state.steps + 1
   step_counts state next t is =
-      step_parts (next.steps ≡ state.steps + 1) state next t is (λ thread there op op_is same.
+      step_parts rules program (next.steps ≡ state.steps + 1) state next t is (λ thread there op op_is same.
       ap (λ (s : State Machine Memory Place Form). s.steps) same ∙ access_counts state t _ _)
 
   -- only a thread takes a step
   step_of_thread : (state next : State Machine Memory Place Form) (t : ℕ) → step rules program state t ≡ Some next → t < length program.threads
   step_of_thread state next t is =
-      step_parts (t < length program.threads) state next t is (λ thread there op op_is same.
+      step_parts rules program (t < length program.threads) state next t is (λ thread there op op_is same.
       option_and_then_some _ (slice_get program.threads t) op op_is (λ ops at_t _. get_within program.threads t ops at_t))
-
-  -- and leads to a state that fits
-  step_fits : AreLawful rules → (state next : State Machine Memory Place Form) (t : ℕ) → Fits rules program state → step rules program state t ≡ Some next → Fits rules program next
-  step_fits lawful state next t fits is =
-      step_parts (Fits rules program next) state next t is (λ thread there op op_is same. stepped_fits rules program state fits next t op thread same lawful there op_is)
 
   pub is_machine : AreLawful rules → IsWithinLimits program → IsMachine (machine_of {Machine = Machine} {Form = Form} rules program)
   is_machine lawful limits = record {
@@ -74,7 +57,7 @@ module _ {Machine Memory Place Form : Type 0} (rules : Rules Memory Place) (prog
     few_threads = (let few : length program.threads ≤ 4 = limits.thread_count in omega arith);
     is_thread = (λ s r t leads. step_of_thread s r t leads);
     start_fits = start_fits rules program (start rules program) refl lawful limits.initial;
-    step_fits = (λ s r t fits leads. step_fits lawful s r t fits leads);
+    step_fits = (λ s r t fits leads. step_fits rules program s fits lawful t r leads);
   }
 
 module _ {Machine Memory Place Form : Type 0} (place_eq : Place → Place → Bool) (memory_eq : Memory → Memory → Bool) (form_eq : Form → Form → Bool)

@@ -1,5 +1,5 @@
 //! The nodes and the records that the threads share.
-ghost use Rattle.std.specs.Prelude.{◌≡◌, ◌+◌, ◌<◌, length, IfOk, OnErr, Some};
+ghost use Rattle.std.specs.Prelude.{◌≡◌, ◌+◌, ◌^◌, ◌<◌, ◌≤◌, length, IfOk, IfErr, OnErr, Some};
 ghost use Rattle.ellen.specs.declared.memory.Record.TheVariants.{Ins};
 ghost use Rattle.tree_machine.specs.SearchOrder.{side_of};
 ghost use Rattle.ellen.specs.Memory.{node_at, record_at, key_at, update_of, child_on, is_word, key_in, shape_in, shapes, set_update, set_child, with_internal, new_internal, internal_over, add_record};
@@ -159,7 +159,8 @@ fn internal_over(key: u8, other: u8, x: u32, y: u32) -> Node
 
 /// A number of a node or record as others hold it. It takes no memory: a number that does not fit is refused as memory is.
 pub fn number_of(x: usize) -> Result<u32, OutOfMemory>
-    ensures { IfOk result (λ number. number ≡ x) }
+    ensures number { IfOk result (λ number. number ≡ x) }
+    ensures refused { IfErr result (λ _. 2 ^ 32 ≤ x) }
 {
     match u32::try_from(x) {
         Ok(number) => Ok(number),

@@ -1,5 +1,5 @@
--- Accesses of paired places to paired memories keep a pairing; paired memories keep search order alike.
-use Rattle.std.specs.Prelude.{◌≡◌, ℕ, zero, suc, ◌≤◌, ◌<◌, Bool, true, false, ◌&&◌, ◌||◌, if◌then◌else◌, nat_eq, min, max, length, refl, Option, Some, None, unwrap_or}
+-- Accesses of paired places to paired memories keep a pairing; of paired memories both keep search order or neither does.
+use Rattle.std.specs.Prelude.{◌≡◌, ◌↔◌, ℕ, zero, suc, ◌≤◌, ◌<◌, Bool, true, false, ◌&&◌, ◌||◌, if◌then◌else◌, nat_eq, min, max, length, refl, Option, Some, None, unwrap_or}
 use Rattle.std.specs.Option.{option_map}
 use Rattle.std.proofs.Common.{sym, ◌∙◌, ap, subst}
 use Rattle.sched_program.specs.Program.{key_of}
@@ -10,7 +10,8 @@ use Rattle.tree_machine.specs.declared.machine.Outcome.{Outcome}
 use Rattle.tree_machine.specs.declared.machine.Outcome.TheVariants.{Goes, Replies, Astray}
 use Rattle.tree_machine.specs.declared.search_order.Side.{Side}
 use Rattle.tree_machine.specs.declared.search_order.Side.TheVariants.{Left}
-use Rattle.tree_machine.specs.SearchOrder.{IsNodeOrdered, IsOrderedWithin, KeepsSearchOrder}
+use Rattle.tree_machine.specs.SearchOrder.{KeepsSearchOrder}
+use Rattle.tree_machine.specs.SearchOrderPairs.{AreShapesPaired, search_order_paired}
 use Rattle.tree_machine.specs.Pairing.{Pairing, Extends, IsAmong, IsOneToOne, AreOutcomesPaired, AreStepsPaired, ArePairsLawful}
 use Rattle.natmit.specs.declared.memory.Word.{Word}
 use Rattle.natmit.specs.declared.memory.Node.{Node}
@@ -219,27 +220,19 @@ module _ (p : Pairing) (memory twin : NatMitMem) (h : AreMemoriesPaired (IsAmong
       let t = get_at memory.nodes x below in
       ap (option_map shape_in) t.1 ∙ ap (λ o. Some (shape_in (unwrap_or o (Leaf 0)))) (sym t.1)
 
-  node_ordered : (A B : ℕ → ℕ → ℕ → Type 0) → ((low high x y : ℕ) → P x y → A low high x → B low high y) → (low high : ℕ) (node node_twin : Node) → AreNodesPaired P node node_twin
-      → IsNodeOrdered A low high (Some (shape_in node)) → IsNodeOrdered B low high (Some (shape_in node_twin))
-  node_ordered A B below low high (Leaf k) (Leaf j) g o = subst (λ z. (low ≤ z) × (z < high)) g o
-  node_ordered A B below low high (Internal k l r) (Internal j m s) g o = (
-    subst (λ z. B low (min z high) m.node) g.0 (below low (min k high) l.node m.node g.1.2 o.0),
-    subst (λ z. B (max z low) high s.node) g.0 (below (max k low) high r.node s.node g.2.2 o.1),
-  )
-  node_ordered A B below low high _ _ g o = absurd g
+  shapes_paired : (node node_twin : Node) → AreNodesPaired P node node_twin → AreShapesPaired P (Some (shape_in node)) (Some (shape_in node_twin))
+  shapes_paired (Leaf k) (Leaf j) g = g
+  shapes_paired (Internal k l r) (Internal j m s) g = (g.0, g.1.2, g.2.2)
+  shapes_paired _ _ g = absurd g
 
-  within_paired : (levels low high x y : ℕ) → P x y → IsOrderedWithin (shapes memory) levels low high x → IsOrderedWithin (shapes twin) levels low high y
-  within_paired zero low high x y at o = absurd o
-  within_paired (suc levels) low high x y at o =
+  seen : (x y : ℕ) → P x y → AreShapesPaired P (shapes memory x) (shapes twin y)
+  seen x y at =
       let within = h.in_range x y at in
-      let A = IsOrderedWithin (shapes memory) levels in
-      let B = IsOrderedWithin (shapes twin) levels in
-      subst (IsNodeOrdered B low high) (sym (shape_at twin y within.1))
-      (node_ordered A B (within_paired levels) low high (node_at memory x) (node_at twin y) (h.nodes_paired x y at)
-      (subst (IsNodeOrdered A low high) (shape_at memory x within.0) o))
+      subst (λ shape. AreShapesPaired P shape (shapes twin y)) (sym (shape_at memory x within.0))
+      (subst (AreShapesPaired P (Some (shape_in (node_at memory x)))) (sym (shape_at twin y within.1)) (shapes_paired (node_at memory x) (node_at twin y) (h.nodes_paired x y at)))
 
-  ordered_keeps : KeepsSearchOrder (shapes memory) → KeepsSearchOrder (shapes twin)
-  ordered_keeps o = record { levels = o.levels; within = within_paired o.levels 0 103 0 0 h.root_paired o.within }
+  ordered_paired : KeepsSearchOrder (shapes memory) ↔ KeepsSearchOrder (shapes twin)
+  ordered_paired = search_order_paired P (shapes memory) (shapes twin) seen h.root_paired
 
 -- ---- what the machine owes
 
@@ -247,6 +240,6 @@ pub natmit_pairs_lawful : (machine : NatMit) → ArePairsLawful natmit_pairs (λ
 natmit_pairs_lawful machine = record {
   first_paired = λ op p memory twin h. tt;
   places_extend = λ p q place twin more g. places_extend (IsAmong p.nodes) (IsAmong q.nodes) more.nodes place twin g;
-  ordered_paired = ordered_keeps;
+  ordered_paired = ordered_paired;
   act_paired = λ op p place twin memory other h g. act_keeps p memory other h machine op place twin g;
 }

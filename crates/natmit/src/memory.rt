@@ -1,5 +1,5 @@
 //! The nodes that the threads share.
-ghost use Rattle.std.specs.Prelude.{◌≡◌, ◌+◌, ◌<◌, length, IfOk, OnErr};
+ghost use Rattle.std.specs.Prelude.{◌≡◌, ◌+◌, ◌^◌, ◌<◌, ◌≤◌, length, IfOk, IfErr, OnErr};
 ghost use Rattle.natmit.specs.Memory.{plain, is_plain, key_in, shape_in, shapes, word_on, with_word, node_at, key_at, set_word, internal_over, with_internal, new_internal, put_at};
 
 use sched_program::{OutOfMemory, Sequence};
@@ -127,7 +127,8 @@ fn internal_over(key: u8, other: u8, new: u32, leaf: u32) -> Node
 
 /// A number of a node as words hold it. It takes no memory: a number that does not fit is refused as memory is.
 pub(crate) fn number_of(x: usize) -> Result<u32, OutOfMemory>
-    ensures { IfOk result (λ number. number ≡ x) }
+    ensures number { IfOk result (λ number. number ≡ x) }
+    ensures refused { IfErr result (λ _. 2 ^ 32 ≤ x) }
 {
     match u32::try_from(x) {
         Ok(number) => Ok(number),

@@ -1,5 +1,5 @@
 -- Alike states: the same threads of theirs have steps, their steps are alike, and so are their findings.
-use Rattle.std.proofs.Common.{◌≡◌, ℕ, List, [], ◌∷◌, ◌++◌, length, map, Bool, Option, Some, None, is_some, refl, sym, ap, ◌∙◌, slice_get, ◌↔◌}
+use Rattle.std.proofs.Common.{◌≡◌, ℕ, List, [], ◌∷◌, ◌++◌, length, map, Bool, Option, Some, None, is_some, refl, sym, ap, ◌∙◌, subst, slice_get, ◌↔◌}
 use Rattle.std.specs.Prelude.{IsTrue, IsSomeAnd}
 use Rattle.std.specs.List.{AllZip}
 use Rattle.sched_program.specs.Program.{Program, op_at}
@@ -8,12 +8,12 @@ use Rattle.tree_machine.specs.Alike.{places_of, replies_of, notes_of, AreStatesA
 use Rattle.tree_machine.specs.History.{all_named, history_of}
 use Rattle.tree_machine.specs.Pairing.{Pairing, Extends, AreHeldPaired, AreStepsPaired, ArePairsLawful}
 use Rattle.tree_machine.specs.Rules.{Rules, AreLawful}
-use Rattle.tree_machine.specs.Step.{finished_counts, place_or, notes_at_step, at_step, after_access, stepped, step, current_op, IsEnabled}
+use Rattle.tree_machine.specs.Step.{finished_counts, place_or, notes_at_step, at_step, after_access, stepped, step, next_op, ready, IsEnabled}
 use Rattle.tree_machine.specs.declared.machine.Outcome.{Outcome}
 use Rattle.tree_machine.specs.declared.machine.Outcome.TheVariants.{Goes, Replies, Astray}
 use Rattle.tree_machine.specs.declared.state.Thread.{Thread}
 use Rattle.tree_machine.specs.declared.state.State.{State}
-use Rattle.tree_machine.proofs.Pairs.{held_weaker, zip_weaker, zip_set, zip_get, if_paired, held_some, held_some_and, held_same, held_are_some, then_paired, same_then_paired}
+use Rattle.tree_machine.proofs.Pairs.{held_weaker, zip_weaker, zip_set, zip_get, if_paired, held_some, held_some_and, held_same, held_are_some, then_paired, map_paired}
 
 cons_same : {A : Type 0} (x y : A) (xs ys : List A) → x ∷ xs ≡ y ∷ ys → (x ≡ y) × (xs ≡ ys)
 cons_same x y xs ys h = ((cc), (cc))
@@ -122,16 +122,28 @@ module _ {Machine Memory Place Form : Type 0} (rules : Rules Memory Place) where
     threads_paired : (alike : AreStatesAlike rules state twin) → AllZip (AreThreadsPaired (rules.pairs.places alike.paired.0)) state.threads twin.threads
     threads_paired alike = threads_zip _ state.threads twin.threads alike.paired.2 alike.replies alike.notes
 
+    -- paired threads are in the same operation, or begin the same next
+    next_same : (P : Place → Place → Type 0) (program : Program) (t : ℕ) (thread other : Thread Place) → AreThreadsPaired P thread other → next_op program t thread ≡ next_op program t other
+    next_same P program t thread other k = ap (λ replies. op_at program t (length replies)) k.replies
+
+    -- the same threads have a step, each of the same operation
+    ready_alike : (alike : AreStatesAlike rules state twin) → (program : Program) (t : ℕ)
+        → AreHeldPaired (λ (x y : Thread Place × Op). AreThreadsPaired (rules.pairs.places alike.paired.0) x.0 y.0 × (x.1 ≡ y.1)) (ready program state t) (ready program twin t)
+    ready_alike alike program t =
+        if_paired _ (is_some state.astray) (is_some twin.astray) _ _ (ap is_some alike.astray)
+        (then_paired _ (AreThreadsPaired (rules.pairs.places alike.paired.0)) _ _
+        (λ thread other k. map_paired _ (λ op same. op ≡ same) (λ op. (thread, op)) (λ op. (other, op)) (λ op same is. (k, is)) (next_op program t thread) (next_op program t other)
+        (held_same _ _ (next_same _ program t thread other k)))
+        (slice_get state.threads t) (slice_get twin.threads t) (zip_get _ state.threads twin.threads t (threads_paired alike)))
+
     -- the same threads have steps, and these are alike
     pub alike_steps : AreLawful rules → AreStatesAlike rules state twin → (program : Program) (t : ℕ)
         → AreHeldPaired (AreStatesAlike rules) (step rules program state t) (step rules program twin t)
     alike_steps lawful alike program t =
-        if_paired _ (is_some state.astray) (is_some twin.astray) _ _ (ap is_some alike.astray)
-        (then_paired (AreStatesAlike rules) (AreThreadsPaired (rules.pairs.places alike.paired.0)) _ _
-        (λ thread other k. same_then_paired (AreStatesAlike rules) (λ op. stepped rules state t op thread) (λ op. stepped rules twin t op other)
-        (λ op. stepped_alike lawful.pairs_lawful alike.paired.0 alike.paired.1 (threads_paired alike) t op thread other k)
-        _ _ (ap (λ replies. op_at program t (length replies)) k.replies))
-        (slice_get state.threads t) (slice_get twin.threads t) (zip_get _ state.threads twin.threads t (threads_paired alike)))
+        map_paired (AreStatesAlike rules) (λ (x y : Thread Place × Op). AreThreadsPaired (rules.pairs.places alike.paired.0) x.0 y.0 × (x.1 ≡ y.1)) _ _
+        (λ x y k. subst (λ op. AreStatesAlike rules (stepped rules state t x.1 x.0) (stepped rules twin t op y.0)) k.1
+        (stepped_alike lawful.pairs_lawful alike.paired.0 alike.paired.1 (threads_paired alike) t x.1 x.0 y.0 k.0))
+        (ready program state t) (ready program twin t) (ready_alike alike program t)
 
     -- a step of the one is alike to a step of the other
     pub alike_step : AreLawful rules → AreStatesAlike rules state twin → (program : Program) (t : ℕ) (next : State Machine Memory Place Form) → step rules program state t ≡ Some next
@@ -145,12 +157,8 @@ module _ {Machine Memory Place Form : Type 0} (rules : Rules Memory Place) where
     -- the same threads are enabled
     pub alike_enabled : AreStatesAlike rules state twin → (program : Program) (t : ℕ) → IsEnabled program state t ↔ IsEnabled program twin t
     alike_enabled alike program t =
-        let same : is_some (current_op program state t) ≡ is_some (current_op program twin t) =
-        held_are_some (λ op other. op ≡ other) (current_op program state t) (current_op program twin t)
-        (then_paired (λ op other. op ≡ other) (AreThreadsPaired (rules.pairs.places alike.paired.0)) _ _
-        (λ thread other k. held_same (op_at program t (length thread.replies)) (op_at program t (length other.replies)) (ap (λ replies. op_at program t (length replies)) k.replies))
-        (slice_get state.threads t) (slice_get twin.threads t) (zip_get _ state.threads twin.threads t (threads_paired alike))) in
-        ((λ enabled. (sym alike.astray ∙ enabled.0, sym same ∙ enabled.1)), (λ enabled. (alike.astray ∙ enabled.0, same ∙ enabled.1)))
+        let same = held_are_some _ (ready program state t) (ready program twin t) (ready_alike alike program t) in
+        ((λ enabled. sym same ∙ enabled), (λ enabled. same ∙ enabled))
 
     pub alike_told : AreStatesAlike rules state twin → (program : Program) (t : ℕ) (told : Bool) → (IsTrue told ↔ IsEnabled program state t) → IsTrue told ↔ IsEnabled program twin t
     alike_told alike program t told is =
@@ -164,4 +172,4 @@ module _ {Machine Memory Place Form : Type 0} (rules : Rules Memory Place) where
         λ i. record { begun = all_named 0 (notes i); finished = all_named 0 (replies i) }
 
     pub alike_ordered : AreLawful rules → AreStatesAlike rules state twin → rules.IsOrdered state.memory → rules.IsOrdered twin.memory
-    alike_ordered lawful alike = lawful.pairs_lawful.ordered_paired alike.paired.0 state.memory twin.memory alike.paired.1
+    alike_ordered lawful alike = (lawful.pairs_lawful.ordered_paired alike.paired.0 state.memory twin.memory alike.paired.1).0

@@ -1,7 +1,8 @@
 -- Options and lists whose values are paired.
-use Rattle.std.proofs.Common.{◌≡◌, ℕ, zero, suc, if◌then◌else◌, List, [], ◌∷◌, Bool, true, false, Option, Some, None, option_and_then, refl, subst, slice_get, slice_set}
+use Rattle.std.proofs.Common.{◌≡◌, ℕ, zero, suc, if◌then◌else◌, List, [], ◌∷◌, Bool, true, false, Option, Some, None, option_and_then, refl, slice_get, slice_set}
 use Rattle.std.specs.Prelude.{is_some, IsSomeAnd}
 use Rattle.std.specs.List.{AllZip}
+use Rattle.std.specs.Option.{option_map}
 use Rattle.tree_machine.specs.Pairing.{AreHeldPaired}
 
 module _ {A : Type 0} where
@@ -72,9 +73,8 @@ module _ {A B : Type 0} (Q : B → B → Type 0) where
   then_paired P f g h (Some x) None k = absurd k
   then_paired P f g h (Some x) (Some y) k = h x y k
 
-  pub same_then_paired : (f g : A → B) → ((x : A) → Q (f x) (g x)) → (held twin : Option A) → held ≡ twin
-      → AreHeldPaired Q (option_and_then (λ x. Some (f x)) held) (option_and_then (λ x. Some (g x)) twin)
-  same_then_paired f g h None None k = tt
-  same_then_paired f g h None (Some y) k = cc
-  same_then_paired f g h (Some x) None k = cc
-  same_then_paired f g h (Some x) (Some y) k = let same : x ≡ y = (cc) in subst (λ z. Q (f x) (g z)) same (h x)
+  pub map_paired : (P : A → A → Type 0) (f g : A → B) → ((x y : A) → P x y → Q (f x) (g y)) → (held twin : Option A) → AreHeldPaired P held twin → AreHeldPaired Q (option_map f held) (option_map g twin)
+  map_paired P f g h None None k = tt
+  map_paired P f g h None (Some y) k = absurd k
+  map_paired P f g h (Some x) None k = absurd k
+  map_paired P f g h (Some x) (Some y) k = h x y k

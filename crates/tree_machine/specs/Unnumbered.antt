@@ -1,7 +1,7 @@
 -- Machines whose memories and places name no node or record: a pairing pairs what is equal.
 use Rattle.std.specs.Prelude.{◌≡◌, List, [], ◌∷◌, Option, Some, None, refl, ◌↔◌}
 use Rattle.std.specs.List.{AllZip}
-use Rattle.std.proofs.Common.{subst, ap}
+use Rattle.std.proofs.Common.{subst, sym, ap}
 use Rattle.tree_machine.specs.Pairing.{Pairs, AreOutcomesPaired, AreHeldPaired, AreAlike, ArePairsLawful}
 use Rattle.tree_machine.specs.declared.machine.Outcome.{Outcome}
 use Rattle.tree_machine.specs.declared.machine.Outcome.TheVariants.{Goes, Replies, Astray}
@@ -41,7 +41,7 @@ module _ {Memory Place : Type 0} where
   equal_pairs_lawful first act IsOrdered = record {
     first_paired = λ _ _ _ _ _. refl;
     places_extend = λ _ _ _ _ _ h. h;
-    ordered_paired = λ _ memory other same h. subst IsOrdered same h;
+    ordered_paired = λ _ memory other same. (subst IsOrdered same, subst IsOrdered (sym same));
     act_paired = λ op p place twin memory other same at. record {
       then = p;
       extends = record { nodes = λ _ _ h. h; records = λ _ _ h. h };

@@ -11,7 +11,7 @@ returns-in-Err-NotEnabled-clause-not_enabled g c =
     let rules = g.M.Machine.rules c.args.machine in
     let m = machine_of {Machine = g.row.M.Denot} {Form = g.row.M-Form.Denot} rules c.args.program.now in
     let t = get_or c.args.schedule.now c.loop-i.i 0 in
-    let stuck : step rules c.args.program.now c.loop-i.state t ≡ None = c.step.ensures.not_enabled.0 (c.in-Err-NotEnabled.is ∙ ap Err c.in-Err-NotEnabled.field-0-is) in (
+    let stuck : step rules c.args.program.now c.loop-i.state t ≡ None = c.step.ensures.no_step.0 (c.in-Err-NotEnabled.is ∙ ap Err c.in-Err-NotEnabled.field-0-is) in (
       c.loop-i.i,
       refl,
       (rw c.loop-i.invariant.0 refl),

@@ -12,10 +12,10 @@ ends memory k levels end e same = subst (λ n. end ≡ end_of (shapes memory) k 
 pub put_at-requires : goal.put_at-requires
 put_at-requires c =
     let same = ends c.args.mem.now c.args.key c.len-levels.result c.search_end-end.result c.len-levels.ensures c.search_end-end.ensures in
-    end_is_present c.args.mem.now c.args.key c.in_ok-parent.parent c.search_end-end.result same c.in_ok-parent.ensures c.requires
+    end_is_present c.args.mem.now c.args.key c.in_ok-parent.parent c.search_end-end.result same c.in_ok-parent.ensures.number c.requires
 
 pub returns : goal.returns
 returns c =
     let same = ends c.args.mem.now c.args.key c.len-levels.result c.search_end-end.result c.len-levels.ensures c.search_end-end.ensures in
-    let is = put_in_is c.args.mem.now c.args.key c.in_ok-parent.parent c.in_ok-leaf.leaf c.search_end-end.result same c.in_ok-parent.ensures c.in_ok-leaf.ensures in
+    let is = put_in_is c.args.mem.now c.args.key c.in_ok-parent.parent c.in_ok-leaf.leaf c.search_end-end.result same c.in_ok-parent.ensures.number c.in_ok-leaf.ensures.number in
     subst (λ m. IfOk c.put_at.result (λ x. c.put_at.new.self ≡ m)) is c.put_at.ensures.ok

@@ -4,12 +4,7 @@ use Rattle.tree_machine.specs.Step.{IsEnabled}
 use Rattle.tree_machine.proofs.Alike.{alike_told}
 use Rattle.tree_machine.proofs.state.State.enabled.Goals as goal
 
-pub returns-then-is_none-clause-alike : goal.returns-then-is_none-clause-alike
-returns-then-is_none-clause-alike g c machine twin alike =
+pub returns-clause-alike : goal.returns-clause-alike
+returns-clause-alike g c machine twin alike =
     let told : IsTrue c.is_some.result ↔ IsEnabled c.args.program.now c.args.self.now c.args.t = search rules in
     alike_told (g.M.Machine.rules machine) c.args.self.now twin alike c.args.program.now c.args.t c.is_some.result told
-
-pub returns-else-is_none-clause-alike : goal.returns-else-is_none-clause-alike
-returns-else-is_none-clause-alike g c machine twin alike =
-    let told : IsTrue c.is_none.result ↔ IsEnabled c.args.program.now c.args.self.now c.args.t = search rules in
-    alike_told (g.M.Machine.rules machine) c.args.self.now twin alike c.args.program.now c.args.t c.is_none.result told
