@@ -1,11 +1,11 @@
-//! Tests of the program: its words, its answers, and devices that fail. Each takes want of memory as an answer beside
-//! the right one.
+//! Tests of the program: its words, its answers, and devices that fail. Each is a table of cases; a case is tried once
+//! more where memory was refused, and fails where it is refused again.
 
 mod answers;
-mod crews;
+mod cases;
 mod devices;
-mod gates;
+mod exploring;
 mod programs;
-mod shown;
-mod trees;
+mod replaying;
+mod sources;
 mod words;

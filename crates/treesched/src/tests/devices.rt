@@ -1,14 +1,19 @@
 //! Readers and writers that fail.
 use crate::input::{Counted, ReadFault};
 use crate::output::{WriteFault, put_all};
-use crate::request::read_words;
-use crate::serve::serve;
-use crate::tests::shown::TWICE;
+use crate::request::{WordsFault, read_words};
+use crate::serve::{Output, refused, serve};
+use crate::tests::answers::shows;
+use crate::tests::cases::{Runtime, check};
+use crate::tests::sources::TWICE;
+use sched_program::OutOfMemory;
+use std::alloc::Global;
 use std::io;
 use std::io::{ErrorKind, Read, Write};
 use std::test::Fail;
 
-/// A reader of bytes, one a read, of which the k-th read fails.
+/// A reader of bytes, one a read, of which the read of this number fails; the first is that of number 0. After the last
+/// byte one more read finds the end.
 #[derive(Drop)]
 struct FailingReader<'a> {
     bytes: &'a [u8],
@@ -32,7 +37,89 @@ impl<'a> Read for FailingReader<'a> {
     }
 }
 
-/// A writer that takes two bytes a write, of which the k-th write fails.
+fn failing(text: &str, fails_at: usize) -> FailingReader<'_> {
+    FailingReader {
+        bytes: text.as_bytes(),
+        reads: 0,
+        fails_at,
+    }
+}
+
+/// Whether one of the reads fails that read all of the text.
+fn has_failed_read(text: &str, fails_at: usize) -> bool {
+    fails_at <= text.len()
+}
+
+/// A text whose read of this number fails. It is read to its end if it has no such read.
+#[derive(Clone, Copy, Debug)]
+struct Reads(&'static str, usize);
+
+impl Reads {
+    fn is_met(&self, alloc: Global) -> Result<bool, OutOfMemory> {
+        let Reads(text, fails_at) = *self;
+        let fails = has_failed_read(text, fails_at);
+        match Counted::new(failing(text, fails_at)).read_all(alloc) {
+            Ok(bytes) => Ok(!fails && bytes.as_slice() == text.as_bytes()),
+            Err(ReadFault::Device) => Ok(fails),
+            Err(ReadFault::OutOfMemory) => Err(OutOfMemory),
+        }
+    }
+}
+
+#[test]
+fn ends_at_the_failed_read(rt: HostRuntime) -> Result<(), Fail> {
+    let text = "{\"version\":1}";
+    for fails_at in 0..text.len() + 3 {
+        let case = Reads(text, fails_at);
+        check(&rt, &case, |case| case.is_met(rt.alloc()))?;
+    }
+    Ok(())
+}
+
+/// A file whose read of this number fails, or one that cannot be opened. The program tells of it, but answers if the file
+/// has no such read.
+#[derive(Clone, Copy, Debug)]
+struct Serves(Option<usize>);
+
+impl Serves {
+    fn is_met<R: Runtime>(&self, rt: &R) -> Result<bool, OutOfMemory> {
+        let output = self.output(rt)?;
+        if self
+            .0
+            .is_none_or(|fails_at| has_failed_read(TWICE, fails_at))
+        {
+            let err = "treesched: can't read a file\n";
+            return Ok(shows(rt, &output, 6, "", err));
+        }
+        let out = "holds to 2 steps\nstates 5\n";
+        Ok(shows(rt, &output, 0, out, ""))
+    }
+
+    fn output<R: Runtime>(&self, rt: &R) -> Result<Output, OutOfMemory> {
+        let words = ["treesched", "explore", "a file", "--steps", "2"];
+        let file = self.0.map(|fails_at| failing(TWICE, fails_at));
+        match read_words(rt.alloc(), words.as_slice()) {
+            Ok(request) => serve(rt, rt.alloc(), &request, file),
+            Err(fault) => refused(rt.alloc(), fault),
+        }
+    }
+}
+
+#[test]
+fn tells_a_file_that_cannot_be_read(rt: HostRuntime) -> Result<(), Fail> {
+    for fails_at in 0..TWICE.len() + 3 {
+        let case = Serves(Some(fails_at));
+        check(&rt, &case, |case| case.is_met(&rt))?;
+    }
+    Ok(())
+}
+
+#[test]
+fn tells_a_file_that_cannot_be_opened(rt: HostRuntime) -> Result<(), Fail> {
+    check(&rt, &Serves(None), |case| case.is_met(&rt))
+}
+
+/// A writer that takes two bytes a write, of which the write of this number fails; the first is that of number 0.
 #[derive(Drop)]
 struct FailingWriter {
     held: Vec<u8>,
@@ -58,85 +145,52 @@ impl Write for FailingWriter {
     }
 }
 
-fn failing(text: &str, fails_at: usize) -> FailingReader<'_> {
-    FailingReader {
-        bytes: text.as_bytes(),
-        reads: 0,
-        fails_at,
-    }
-}
+/// A text, and the number of the write that fails. All of the text goes out if so many writes are not made, and
+/// otherwise two bytes for each write before that one.
+#[derive(Clone, Copy, Debug)]
+struct Writes(&'static str, usize);
 
-#[test]
-fn ends_at_the_failed_read(rt: HostRuntime) -> Result<(), Fail> {
-    let text = "{\"version\":1}";
-    for fails_at in 0..=text.len() {
-        let mut input = Counted::new(failing(text, fails_at));
-        match input.read_all(rt.alloc()) {
-            Err(ReadFault::Device) => (),
-            Err(ReadFault::OutOfMemory) => println!(rt; "out of memory")?,
-            Ok(_) => return Err(Fail::from("read to the end")),
-        }
-    }
-    Ok(())
-}
-
-#[test]
-fn tells_a_file_that_cannot_be_read(rt: HostRuntime) -> Result<(), Fail> {
-    let words = ["treesched", "explore", "a file", "--steps", "2"];
-    let Ok(request) = read_words(rt.alloc(), words.as_slice()) else {
-        return Ok(());
-    };
-    for fails_at in 0..=TWICE.len() {
-        match serve(&rt, rt.alloc(), &request, Some(failing(TWICE, fails_at))) {
-            Ok(output) => {
-                assert!(rt; output.status == 6 && output.out.is_empty(), "{output:?}");
-                assert!(rt;
-                    output.err.as_str() == "treesched: can't read a file\n",
-                    "{output:?}"
-                );
-            }
-            Err(_) => println!(rt; "out of memory")?,
-        }
-    }
-    let no_file: Option<&[u8]> = None;
-    match serve(&rt, rt.alloc(), &request, no_file) {
-        Ok(output) => {
-            assert!(rt; output.status == 6 && output.out.is_empty(), "{output:?}");
-            assert!(rt;
-                output.err.as_str() == "treesched: can't read a file\n",
-                "{output:?}"
-            );
-        }
-        Err(_) => println!(rt; "out of memory")?,
-    }
-    let past_the_end = TWICE.len() + 1;
-    match serve(
-        &rt,
-        rt.alloc(),
-        &request,
-        Some(failing(TWICE, past_the_end)),
-    ) {
-        Ok(output) => assert!(rt; output.status == 0, "{output:?}"),
-        Err(_) => println!(rt; "out of memory")?,
-    }
-    Ok(())
-}
-
-#[test]
-fn leaves_a_beginning(rt: HostRuntime) -> Result<(), Fail> {
-    let text = "holds to 2 steps\nstates 5\n";
-    for fails_at in 0..=text.len() {
+impl Writes {
+    fn is_met(&self, alloc: Global) -> Result<bool, OutOfMemory> {
+        let Writes(text, fails_at) = *self;
         let mut writer = FailingWriter {
-            held: Vec::new(rt.alloc()),
+            held: Vec::new(alloc),
             writes: 0,
             fails_at,
         };
         let answer = put_all(&mut writer, text.as_bytes());
-        assert!(rt; text.as_bytes().starts_with(writer.held.as_slice()));
+        self.is_answered(&answer, writer.held.as_slice())
+    }
+
+    /// Whether the answer and what was held are those of a writer that fails there.
+    fn is_answered(
+        &self,
+        answer: &Result<(), WriteFault>,
+        held: &[u8],
+    ) -> Result<bool, OutOfMemory> {
+        let Writes(text, fails_at) = *self;
+        let fails = fails_at < text.len().div_ceil(2);
         match answer {
-            Ok(()) => assert!(rt; writer.held.len() == text.len()),
-            Err(WriteFault::Failed(_)) => assert!(rt; writer.held.len() < text.len()),
-            Err(WriteFault::TookNone) => return Err(Fail::from("took none")),
+            Ok(()) => Ok(!fails && held == text.as_bytes()),
+            Err(WriteFault::Failed(error)) if error.kind() == ErrorKind::OutOfMemory => Err(
+                OutOfMemory,
+            ),
+            Err(WriteFault::Failed(_)) => Ok(
+                fails
+                    && held.len() == fails_at.saturating_mul(2)
+                    && text.as_bytes().starts_with(held),
+            ),
+            Err(WriteFault::TookNone) => Ok(false),
+        }
+    }
+}
+
+#[test]
+fn leaves_a_beginning(rt: HostRuntime) -> Result<(), Fail> {
+    for text in ["holds to 2 steps\nstates 5\n", "states 5\n", ""] {
+        for fails_at in 0..=text.len() {
+            let case = Writes(text, fails_at);
+            check(&rt, &case, |case| case.is_met(rt.alloc()))?;
         }
     }
     Ok(())

@@ -1,155 +1,197 @@
 //! Which texts are programs.
-use crate::tests::shown::{Runtime, TWICE, answer, shows};
+use crate::tests::answers::{answer_to, shows};
+use crate::tests::cases::{Runtime, check, check_all};
+use crate::tests::sources::{INSERT_1, TWICE, text_of};
+use sched_program::OutOfMemory;
+use std::alloc::Global;
 use std::test::Fail;
 
-/// Fails unless the bytes are refused as a program, by the fault of this number and name.
-fn is_refused<R: Runtime>(rt: &R, file: &[u8], fault: &str) -> Result<(), Fail> {
-    let words = ["treesched", "explore", "f", "--steps", "2"];
-    match answer(rt, words.as_slice(), file) {
-        Ok(output) => {
-            let line = format!(in rt.alloc(); "treesched: {fault}\n")?;
-            if output.status != 3 || !output.out.is_empty() || output.err != line {
-                println!(rt; "{output:?}, and not {fault}")?;
-                return Err(Fail::from("another answer"));
-            }
+/// The text of a file.
+#[derive(Clone, Copy, Debug)]
+enum Text {
+    /// These bytes.
+    Whole(&'static [u8]),
+    /// So many first bytes of a program, all of it if it has no more.
+    Beginning(usize),
+    /// A program between these bytes.
+    Between(&'static [u8], &'static [u8]),
+    /// So many opening brackets and as many closing ones.
+    Nested(usize),
+    /// A program with this list of initial keys and this list of threads.
+    Program(&'static str, &'static str),
+    /// A program of one thread that inserts this key, as it is written.
+    Key(&'static str),
+    /// A program of so many threads of so many inserts each.
+    Inserts(usize, usize),
+}
+
+impl Text {
+    fn bytes(&self, alloc: Global) -> Result<Vec<u8>, OutOfMemory> {
+        match self {
+            Text::Whole(bytes) => bytes.to_vec(alloc),
+            Text::Beginning(length) => beginning(*length).to_vec(alloc),
+            Text::Between(before, after) => between(alloc, before, after),
+            Text::Nested(count) => nested(alloc, *count),
+            Text::Program(initial, threads) => program(alloc, initial, threads),
+            Text::Key(key) => inserting(alloc, key),
+            Text::Inserts(threads, each) => inserts(alloc, *threads, *each),
         }
-        Err(_) => println!(rt; "out of memory")?,
+    }
+}
+
+fn beginning(length: usize) -> &'static [u8] {
+    &TWICE.as_bytes()[..length.min(TWICE.len())]
+}
+
+fn between(alloc: Global, before: &[u8], after: &[u8]) -> Result<Vec<u8>, OutOfMemory> {
+    let mut bytes = before.to_vec(alloc)?;
+    bytes.extend_from_slice(TWICE.as_bytes())?;
+    bytes.extend_from_slice(after)?;
+    Ok(bytes)
+}
+
+fn nested(alloc: Global, count: usize) -> Result<Vec<u8>, OutOfMemory> {
+    let mut bytes = vec![in alloc; b'['; count]?;
+    for _ in 0..count {
+        bytes.push(b']')?;
+    }
+    Ok(bytes)
+}
+
+fn program(alloc: Global, initial: &str, threads: &str) -> Result<Vec<u8>, OutOfMemory> {
+    let text = text_of(alloc, "atomic", initial, threads)?;
+    text.as_bytes().to_vec(alloc)
+}
+
+fn inserting(alloc: Global, key: &str) -> Result<Vec<u8>, OutOfMemory> {
+    let thread = format!(in alloc; r#"[{{"op":"insert","key":{key}}}]"#)?;
+    program(alloc, "", thread.as_str())
+}
+
+fn inserts(alloc: Global, threads: usize, each: usize) -> Result<Vec<u8>, OutOfMemory> {
+    let list = copies(alloc, r#"{"op":"insert","key":1}"#, each)?;
+    let thread = format!(in alloc; "[{list}]")?;
+    let threads = copies(alloc, thread.as_str(), threads)?;
+    program(alloc, "", threads.as_str())
+}
+
+/// So many copies of a text, joined by commas.
+fn copies(alloc: Global, text: &str, count: usize) -> Result<String, OutOfMemory> {
+    vec![in alloc; text; count]?.as_slice().join(alloc, ",")
+}
+
+/// A text that is refused by the fault of this number and name.
+#[derive(Clone, Copy, Debug)]
+struct Refused(Text, &'static str);
+
+impl Refused {
+    fn is_met<R: Runtime>(&self, rt: &R) -> Result<bool, OutOfMemory> {
+        let Refused(text, name) = self;
+        let file = text.bytes(rt.alloc())?;
+        let line = format!(in rt.alloc(); "treesched: {name}\n")?;
+        let output = answer_to(rt, "treesched explore f --steps 2", file.as_slice())?;
+        Ok(shows(rt, &output, 3, "", line.as_str()))
+    }
+}
+
+static FIRST_FAULTS: [Refused; 7] = [
+    Refused(Text::Program("7,7", INSERT_1), "P6 InitialTwice"),
+    Refused(Text::Key("100"), "P10 Key"),
+    Refused(
+        Text::Program("7,7", r#"[{"op":"insert","key":100}]"#),
+        "P6 InitialTwice",
+    ),
+    Refused(Text::Program("5.0", INSERT_1), "P5 Initial"),
+    Refused(Text::Program("", "[]"), "P8 Ops"),
+    Refused(Text::Program("", r#"[{"op":"put","key":1}]"#), "P9 Op"),
+    Refused(Text::Inserts(5, 1), "P7 Threads"),
+];
+
+#[test]
+fn tells_the_first_fault(rt: HostRuntime) -> Result<(), Fail> {
+    check_all(&rt, FIRST_FAULTS.as_slice(), |case| case.is_met(&rt))
+}
+
+static WHOLE_TEXTS: [Refused; 8] = [
+    Refused(
+        Text::Whole(
+            br#"{"version":3,"tree":"atomic","initial":[],"threads":[[{"op":"insert","key":1}]]}"#,
+        ),
+        "P3 Version",
+    ),
+    Refused(Text::Whole(b"[]"), "P2 NotObject"),
+    Refused(Text::Whole(b""), "P1 NotJson"),
+    Refused(Text::Whole(b"\xff"), "P1 NotJson"),
+    Refused(Text::Between(b"\xef\xbb\xbf", b""), "P1 NotJson"),
+    Refused(Text::Between(b"", b"x"), "P1 NotJson"),
+    Refused(Text::Nested(127), "P2 NotObject"),
+    Refused(Text::Nested(128), "P1 NotJson"),
+];
+
+#[test]
+fn tells_faults_of_the_whole_text(rt: HostRuntime) -> Result<(), Fail> {
+    check_all(&rt, WHOLE_TEXTS.as_slice(), |case| case.is_met(&rt))
+}
+
+#[test]
+fn tells_a_text_that_ends_too_early(rt: HostRuntime) -> Result<(), Fail> {
+    for length in 0..TWICE.len() {
+        let case = Refused(Text::Beginning(length), "P1 NotJson");
+        check(&rt, &case, |case| case.is_met(&rt))?;
     }
     Ok(())
 }
 
-/// A program with this list of initial keys and these threads.
-fn text<R: Runtime>(rt: &R, initial: &str, threads: &str) -> Result<String, Fail> {
-    let text = format!(in rt.alloc();
-        r#"{{"version":1,"tree":"atomic","initial":[{initial}],"threads":[{threads}]}}"#
-    )?;
-    Ok(text)
-}
-
-fn refuses<R: Runtime>(rt: &R, initial: &str, threads: &str, fault: &str) -> Result<(), Fail> {
-    let text = text(rt, initial, threads)?;
-    is_refused(rt, text.as_bytes(), fault)
-}
-
-/// A thread of one insert of this key, as it is written.
-fn insert<R: Runtime>(rt: &R, key: &str) -> Result<String, Fail> {
-    let thread = format!(in rt.alloc(); r#"[{{"op":"insert","key":{key}}}]"#)?;
-    Ok(thread)
-}
-
-const ONE: &str = r#"[{"op":"insert","key":1}]"#;
-
-/// So many copies of a text, joined by commas; the count is at least 1.
-fn copies<R: Runtime>(rt: &R, text: &str, count: usize) -> Result<String, Fail> {
-    let mut all = String::from_str(rt.alloc(), text)?;
-    for _ in 1..count {
-        all.push(',')?;
-        all.push_str(text)?;
-    }
-    Ok(all)
-}
-
-#[test]
-fn tells_the_first_fault(rt: HostRuntime) -> Result<(), Fail> {
-    let hundred = insert(&rt, "100")?;
-    refuses(&rt, "7,7", ONE, "P6 InitialTwice")?;
-    refuses(&rt, "", hundred.as_str(), "P10 Key")?;
-    refuses(&rt, "7,7", hundred.as_str(), "P6 InitialTwice")?;
-    refuses(&rt, "5.0", ONE, "P5 Initial")?;
-    refuses(&rt, "", "[]", "P8 Ops")?;
-    refuses(&rt, "", r#"[{"op":"put","key":1}]"#, "P9 Op")?;
-    let five = copies(&rt, ONE, 5)?;
-    refuses(&rt, "", five.as_str(), "P7 Threads")
-}
-
-#[test]
-fn tells_faults_of_the_whole_text(rt: HostRuntime) -> Result<(), Fail> {
-    let third =
-        r#"{"version":3,"tree":"atomic","initial":[],"threads":[[{"op":"insert","key":1}]]}"#;
-    is_refused(&rt, third.as_bytes(), "P3 Version")?;
-    is_refused(&rt, b"[]".as_slice(), "P2 NotObject")?;
-    is_refused(&rt, b"".as_slice(), "P1 NotJson")?;
-    is_refused(&rt, b"\xff".as_slice(), "P1 NotJson")?;
-    for len in 0..TWICE.len() {
-        is_refused(&rt, &TWICE.as_bytes()[..len], "P1 NotJson")?;
-    }
-    let mut marked = b"\xef\xbb\xbf".to_vec(rt.alloc())?;
-    marked.extend_from_slice(TWICE.as_bytes())?;
-    is_refused(&rt, marked.as_slice(), "P1 NotJson")
-}
-
-#[test]
-fn takes_a_line_feed_behind(rt: HostRuntime) -> Result<(), Fail> {
-    let words = ["treesched", "explore", "f", "--steps", "2"];
-    let lined = format!(in rt.alloc(); "{TWICE}\n")?;
-    shows(
-        &rt,
-        words.as_slice(),
-        lined.as_str(),
-        0,
-        "holds to 2 steps\nstates 5\n",
-        "",
-    )?;
-    let more = format!(in rt.alloc(); "{TWICE}x")?;
-    is_refused(&rt, more.as_bytes(), "P1 NotJson")
-}
-
-/// So many opening brackets and as many closing ones.
-fn nested<R: Runtime>(rt: &R, count: usize) -> Result<String, Fail> {
-    let mut text = String::new(rt.alloc());
-    for _ in 0..count {
-        text.push('[')?;
-    }
-    for _ in 0..count {
-        text.push(']')?;
-    }
-    Ok(text)
-}
-
-#[test]
-fn nests_127_deep_and_no_deeper(rt: HostRuntime) -> Result<(), Fail> {
-    let most = nested(&rt, 127)?;
-    is_refused(&rt, most.as_bytes(), "P2 NotObject")?;
-    let more = nested(&rt, 128)?;
-    is_refused(&rt, more.as_bytes(), "P1 NotJson")
-}
+static KEYS: [Refused; 8] = [
+    Refused(Text::Key("-0"), "P10 Key"),
+    Refused(Text::Key("1e1"), "P10 Key"),
+    Refused(Text::Key(r#""5""#), "P10 Key"),
+    Refused(Text::Key("18446744073709551616"), "P10 Key"),
+    Refused(Text::Key("5.0"), "P10 Key"),
+    Refused(Text::Key("100"), "P10 Key"),
+    Refused(Text::Key("null"), "P10 Key"),
+    Refused(Text::Key("007"), "P1 NotJson"),
+];
 
 #[test]
 fn takes_keys_of_digits_alone(rt: HostRuntime) -> Result<(), Fail> {
-    for key in [
-        "-0",
-        "1e1",
-        r#""5""#,
-        "18446744073709551616",
-        "5.0",
-        "100",
-        "null",
-    ] {
-        let thread = insert(&rt, key)?;
-        refuses(&rt, "", thread.as_str(), "P10 Key")?;
-    }
-    let led = insert(&rt, "007")?;
-    refuses(&rt, "", led.as_str(), "P1 NotJson")
+    check_all(&rt, KEYS.as_slice(), |case| case.is_met(&rt))
 }
+
+static COUNTS: [Refused; 3] = [
+    Refused(
+        Text::Program("1,2,3,4,5,6,7,8,9,10,11,12,13", INSERT_1),
+        "P5 Initial",
+    ),
+    Refused(Text::Inserts(1, 7), "P8 Ops"),
+    Refused(Text::Inserts(4, 4), "P8 Ops"),
+];
 
 #[test]
 fn counts_keys_and_operations(rt: HostRuntime) -> Result<(), Fail> {
-    refuses(&rt, "1,2,3,4,5,6,7,8,9,10,11,12,13", ONE, "P5 Initial")?;
-    let op = r#"{"op":"insert","key":1}"#;
-    let seven = format!(in rt.alloc(); "[{ops}]", ops = copies(&rt, op, 7)?)?;
-    refuses(&rt, "", seven.as_str(), "P8 Ops")?;
-    let four = format!(in rt.alloc(); "[{ops}]", ops = copies(&rt, op, 4)?)?;
-    let sixteen = copies(&rt, four.as_str(), 4)?;
-    refuses(&rt, "", sixteen.as_str(), "P8 Ops")?;
-    let three = format!(in rt.alloc(); "[{ops}]", ops = copies(&rt, op, 3)?)?;
-    let twelve = text(&rt, "", copies(&rt, three.as_str(), 4)?.as_str())?;
-    let words = ["treesched", "explore", "f", "--steps", "0"];
-    shows(
-        &rt,
-        words.as_slice(),
-        twelve.as_str(),
-        0,
-        "holds to 0 steps\nstates 1\n",
-        "",
-    )
+    check_all(&rt, COUNTS.as_slice(), |case| case.is_met(&rt))
+}
+
+/// A text that is a program, how many steps are explored, and all that is printed.
+#[derive(Clone, Copy, Debug)]
+struct Taken(Text, u16, &'static str);
+
+impl Taken {
+    fn is_met<R: Runtime>(&self, rt: &R) -> Result<bool, OutOfMemory> {
+        let Taken(text, steps, out) = self;
+        let file = text.bytes(rt.alloc())?;
+        let line = format!(in rt.alloc(); "treesched explore f --steps {steps}")?;
+        let output = answer_to(rt, line.as_str(), file.as_slice())?;
+        Ok(shows(rt, &output, 0, out, ""))
+    }
+}
+
+static PROGRAMS: [Taken; 2] = [
+    Taken(Text::Between(b"", b"\n"), 2, "holds to 2 steps\nstates 5\n"),
+    Taken(Text::Inserts(4, 3), 0, "holds to 0 steps\nstates 1\n"),
+];
+
+#[test]
+fn takes_a_line_feed_behind_and_twelve_operations(rt: HostRuntime) -> Result<(), Fail> {
+    check_all(&rt, PROGRAMS.as_slice(), |case| case.is_met(&rt))
 }

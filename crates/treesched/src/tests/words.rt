@@ -1,197 +1,167 @@
 //! Which words make which request.
 use crate::request::{Request, WordsFault, read_words};
-use crate::tests::shown::{Runtime, TWICE, answer, is_usage, shows, words_of};
+use crate::tests::answers::{answer_to, or_printed, words_of};
+use crate::tests::cases::{Runtime, check, check_all};
+use crate::tests::sources::TWICE;
 use book::Merge;
+use sched_program::OutOfMemory;
+use std::alloc::Global;
 use std::test::Fail;
 
-#[test]
-fn reads_an_exploration(rt: HostRuntime) -> Result<(), Fail> {
-    let lines = [
-        "treesched explore f --steps 5 --ledger",
-        "treesched explore --ledger --steps=5 f",
-        "treesched explore --states 200000 --steps +5 --ledger f",
-        "treesched explore --steps 005 --ledger -- f",
-    ];
-    for line in lines {
-        let words = words_of(&rt, line)?;
-        let answer = read_words(rt.alloc(), words.as_slice());
-        match &answer {
-            Ok(
-                Request::Explore {
-                    file,
-                    options,
-                    ledger,
-                },
-            ) => {
-                assert!(rt; *file == "f" && *ledger);
-                assert!(rt; options.steps() == 5 && options.limit() == 200_000);
-                assert!(rt; options.workers() == 1);
+/// Whether the words make a request that passes the test.
+fn asks<F: Fn(&Request<'_>) -> bool>(
+    alloc: Global,
+    words: &[&str],
+    is_that: F,
+) -> Result<bool, OutOfMemory>
+    requires { F.IsAlwaysCallable is_that }
+{
+    match read_words(alloc, words) {
+        Ok(request) => Ok(is_that(&request)),
+        Err(WordsFault::OutOfMemory) => Err(OutOfMemory),
+        Err(_) => Ok(false),
+    }
+}
+
+/// The words behind the subcommand that ask to explore the file `f` to 5 steps and at most 200000 states; how states are
+/// merged, by how many workers, and whether the ledger is asked for.
+#[derive(Clone, Copy, Debug)]
+struct Explores(&'static str, Merge, u8, bool);
+
+impl Explores {
+    fn is_met(&self, alloc: Global) -> Result<bool, OutOfMemory> {
+        let line = format!(in alloc; "treesched explore {}", self.0)?;
+        let words = words_of(alloc, line.as_str())?;
+        asks(alloc, words.as_slice(), |request| self.is_asked(request))
+    }
+
+    fn is_asked(&self, request: &Request<'_>) -> bool {
+        let Explores(_, merge, workers, has_ledger) = *self;
+        match request {
+            Request::Explore {
+                file,
+                options,
+                ledger,
+            } => {
+                *file == "f"
+                    && options.steps() == 5
+                    && options.limit() == 200_000
+                    && options.merge() == merge
+                    && options.workers() == workers
+                    && *ledger == has_ledger
             }
-            Err(WordsFault::OutOfMemory) => println!(rt; "out of memory")?,
-            _ => return Err(Fail::from("another request")),
+            Request::Replay { .. } => false,
         }
     }
-    Ok(())
 }
 
-#[test]
-fn reads_the_number_of_workers(rt: HostRuntime) -> Result<(), Fail> {
-    let lines = [
-        "treesched explore f --steps 5 --workers 8",
-        "treesched explore --workers=08 f --steps 5",
-    ];
-    for line in lines {
-        let words = words_of(&rt, line)?;
-        let answer = read_words(rt.alloc(), words.as_slice());
-        match &answer {
-            Ok(Request::Explore { options, .. }) => assert!(rt; options.workers() == 8),
-            Err(WordsFault::OutOfMemory) => println!(rt; "out of memory")?,
-            _ => return Err(Fail::from("another request")),
-        }
-    }
-    Ok(())
-}
+static EXPLORATIONS: [Explores; 9] = [
+    Explores("f --steps 5 --ledger", Merge::Exact, 1, true),
+    Explores("--ledger --steps=5 f", Merge::Exact, 1, true),
+    Explores(
+        "--states 200000 --steps +5 --ledger f",
+        Merge::Exact,
+        1,
+        true,
+    ),
+    Explores("--steps 005 --ledger -- f", Merge::Exact, 1, true),
+    Explores("f --steps 5 --workers 8", Merge::Exact, 8, false),
+    Explores("--workers=08 f --steps 5", Merge::Exact, 8, false),
+    Explores("f --steps 5", Merge::Exact, 1, false),
+    Explores("f --steps 5 --merge exact", Merge::Exact, 1, false),
+    Explores("--merge=names f --steps 5", Merge::Names, 1, false),
+];
 
 #[test]
-fn reads_the_way_to_merge(rt: HostRuntime) -> Result<(), Fail> {
-    let cases = [
-        ("treesched explore f --steps 5", Merge::Exact),
-        ("treesched explore f --steps 5 --merge exact", Merge::Exact),
-        ("treesched explore --merge=names f --steps 5", Merge::Names),
-    ];
-    for (line, merge) in cases {
-        let words = words_of(&rt, line)?;
-        let answer = read_words(rt.alloc(), words.as_slice());
-        match &answer {
-            Ok(Request::Explore { options, .. }) => assert!(rt; options.merge() == merge),
-            Err(WordsFault::OutOfMemory) => println!(rt; "out of memory")?,
-            _ => return Err(Fail::from("another request")),
+fn reads_explorations(rt: HostRuntime) -> Result<(), Fail> {
+    check_all(&rt, EXPLORATIONS.as_slice(), |case| case.is_met(rt.alloc()))
+}
+
+static REPLAY: [&str; 5] = ["treesched", "replay", "--schedule", "0,9,1", "a file"];
+
+/// Whether the request is to replay three steps of a file whose name has a space.
+fn is_replay(request: &Request<'_>) -> bool {
+    match request {
+        Request::Replay { file, schedule } => {
+            *file == "a file" && schedule.as_slice() == [0u8, 9, 1].as_slice()
         }
+        Request::Explore { .. } => false,
     }
-    Ok(())
 }
 
 #[test]
 fn reads_a_replay(rt: HostRuntime) -> Result<(), Fail> {
-    let words = ["treesched", "replay", "--schedule", "0,9,1", "a file"];
-    let answer = read_words(rt.alloc(), words.as_slice());
-    match &answer {
-        Ok(Request::Replay { file, schedule }) => {
-            assert!(rt; *file == "a file");
-            assert!(rt; schedule.as_slice() == [0u8, 9, 1].as_slice());
-        }
-        Err(WordsFault::OutOfMemory) => println!(rt; "out of memory")?,
-        _ => return Err(Fail::from("another request")),
-    }
-    Ok(())
+    check(
+        &rt,
+        &REPLAY,
+        |words| asks(rt.alloc(), words.as_slice(), is_replay),
+    )
 }
+
+/// A line that is no use of the program: nothing goes to the standard output.
+#[derive(Clone, Copy, Debug)]
+struct NoUse(&'static str);
+
+impl NoUse {
+    fn is_met<R: Runtime>(&self, rt: &R) -> Result<bool, OutOfMemory> {
+        let output = answer_to(rt, self.0, TWICE.as_bytes())?;
+        let is_met = output.status == 4 && output.out.is_empty() && !output.err.is_empty();
+        Ok(or_printed(rt, is_met, &output))
+    }
+}
+
+static NO_USES: [NoUse; 21] = [
+    NoUse("treesched explore f --steps 401"),
+    NoUse("treesched explore f --steps 5 --workers 0"),
+    NoUse("treesched explore f --steps 5 --workers 9"),
+    NoUse("treesched explore f --steps 5 --states 0"),
+    NoUse("treesched explore f --steps 5 --states 2000001"),
+    NoUse("treesched explore f --steps 5 --merge name"),
+    NoUse("treesched explore f --steps 5 --merge Exact"),
+    NoUse("treesched explore f --steps 5 --merge"),
+    NoUse("treesched explore f --steps 5 --book b"),
+    NoUse("treesched explore f --steps -5"),
+    NoUse("treesched explore f --steps "),
+    NoUse("treesched explore f --steps 5 --steps 5"),
+    NoUse("treesched explore f --step 5"),
+    NoUse("treesched explore f"),
+    NoUse("treesched explore --steps 5"),
+    NoUse("treesched explore f g --steps 5"),
+    NoUse("treesched replay f"),
+    NoUse("treesched replay f --schedule -1"),
+    NoUse("treesched check f b"),
+    NoUse("treesched"),
+    NoUse(""),
+];
 
 #[test]
 fn refuses_other_words(rt: HostRuntime) -> Result<(), Fail> {
-    let lines = [
-        "treesched explore f --steps 401",
-        "treesched explore f --steps 5 --workers 0",
-        "treesched explore f --steps 5 --workers 9",
-        "treesched explore f --steps 5 --states 0",
-        "treesched explore f --steps 5 --states 2000001",
-        "treesched explore f --steps 5 --merge name",
-        "treesched explore f --steps 5 --merge Exact",
-        "treesched explore f --steps 5 --merge",
-        "treesched explore f --steps 5 --book b",
-        "treesched explore f --steps -5",
-        "treesched explore f --steps ",
-        "treesched explore f --steps 5 --steps 5",
-        "treesched explore f --step 5",
-        "treesched explore f",
-        "treesched explore --steps 5",
-        "treesched explore f g --steps 5",
-        "treesched replay f",
-        "treesched replay f --schedule -1",
-        "treesched check f b",
-        "treesched",
-    ];
-    for line in lines {
-        let words = words_of(&rt, line)?;
-        is_usage(&rt, words.as_slice())?;
-    }
-    is_usage(&rt, &[])
+    check_all(&rt, NO_USES.as_slice(), |case| case.is_met(&rt))
 }
+
+/// A line that calls for help: nothing goes to the standard error.
+#[derive(Clone, Copy, Debug)]
+struct Help(&'static str);
+
+impl Help {
+    fn is_met<R: Runtime>(&self, rt: &R) -> Result<bool, OutOfMemory> {
+        let output = answer_to(rt, self.0, TWICE.as_bytes())?;
+        let is_met = output.status == 0
+            && output.err.is_empty()
+            && output.out.as_str().contains("Usage: treesched");
+        Ok(or_printed(rt, is_met, &output))
+    }
+}
+
+static CALLS_FOR_HELP: [Help; 5] = [
+    Help("treesched --help"),
+    Help("treesched -h"),
+    Help("treesched help"),
+    Help("treesched help explore"),
+    Help("treesched explore --help"),
+];
 
 #[test]
 fn gives_help(rt: HostRuntime) -> Result<(), Fail> {
-    let lines = [
-        "treesched --help",
-        "treesched -h",
-        "treesched help",
-        "treesched help explore",
-        "treesched explore --help",
-    ];
-    for line in lines {
-        let words = words_of(&rt, line)?;
-        match answer(&rt, words.as_slice(), TWICE.as_bytes()) {
-            Ok(output) => {
-                assert!(rt;
-                    output.status == 0 && output.err.is_empty(),
-                    "{line}: {output:?}"
-                );
-                assert!(rt;
-                    output.out.as_str().contains("Usage: treesched"),
-                    "{line}: {output:?}"
-                );
-            }
-            Err(_) => println!(rt; "out of memory")?,
-        }
-    }
-    Ok(())
-}
-
-#[test]
-fn refuses_what_is_no_schedule(rt: HostRuntime) -> Result<(), Fail> {
-    for list in [
-        "0,", ",", "00", " 0", "10", "0,,1", "0, 1", "0 1", "a", "0,a", "+0", ",0", "0,1,",
-    ] {
-        let words = ["treesched", "replay", "f", "--schedule", list];
-        shows(
-            &rt,
-            words.as_slice(),
-            TWICE,
-            4,
-            "",
-            "treesched: bad schedule\n",
-        )?;
-    }
-    Ok(())
-}
-
-/// So many zeros joined by commas; the count is at least 1.
-fn zeros<R: Runtime>(rt: &R, count: usize) -> Result<String, Fail> {
-    let mut list = String::from_str(rt.alloc(), "0")?;
-    for _ in 1..count {
-        list.push_str(",0")?;
-    }
-    Ok(list)
-}
-
-#[test]
-fn takes_400_steps_and_no_more(rt: HostRuntime) -> Result<(), Fail> {
-    let most = zeros(&rt, 400)?;
-    let words = ["treesched", "replay", "f", "--schedule", most.as_str()];
-    shows(
-        &rt,
-        words.as_slice(),
-        TWICE,
-        4,
-        "",
-        "treesched: step 2: thread 0 has no step\n",
-    )?;
-    let more = zeros(&rt, 401)?;
-    let words = ["treesched", "replay", "f", "--schedule", more.as_str()];
-    shows(
-        &rt,
-        words.as_slice(),
-        TWICE,
-        4,
-        "",
-        "treesched: bad schedule\n",
-    )
+    check_all(&rt, CALLS_FOR_HELP.as_slice(), |case| case.is_met(&rt))
 }

@@ -1,0 +1,228 @@
+//! Explorations of which the outcome is known. The numbers of states agree with two explorers that share no code with
+//! this one.
+use crate::tests::sources::{
+    DELETE_5, DELETE_10, DELETE_20, ELLEN, ELLEN_NO_IFLAG, ELLEN_NO_MARK, FIND_5, FIND_10,
+    INSERT_5, INSERT_10, INSERT_25, NM, NM_NO_TAG, Source, TWO_FINDS, TWO_INSERTS,
+};
+use book::Merge;
+use sched_program::OutOfMemory;
+use std::alloc::Global;
+use std::ops::RangeInclusive;
+
+/// The limit of an exploration that names none.
+pub const AMPLE: u32 = 200_000;
+
+/// What an exploration comes to.
+#[derive(Clone, Copy, Debug)]
+pub enum Outcome {
+    /// No fault, and so many states.
+    Holds { states: u32 },
+    /// A history without an order, and so many states. The schedule is the first shortest one in the order of lists.
+    Fault { schedule: &'static str, states: u32 },
+    /// More states than the limit. Schedules of so many steps hold.
+    Stopped { holds_to: u16 },
+}
+
+/// An exploration, and what it comes to.
+#[derive(Clone, Copy, Debug)]
+pub struct Exploration {
+    pub source: Source,
+    pub steps: u16,
+    pub merge: Merge,
+    pub limit: u32,
+    pub outcome: Outcome,
+}
+
+impl Exploration {
+    /// The words that ask for it.
+    pub fn line(&self, alloc: Global) -> Result<String, OutOfMemory> {
+        let mut line = format!(in alloc; "treesched explore f --steps {}", self.steps)?;
+        if self.merge == Merge::Names {
+            line.push_str(" --merge names")?;
+        }
+        if self.limit != AMPLE {
+            write!(line, " --states {}", self.limit)?;
+        }
+        Ok(line)
+    }
+
+    /// Whether the limit stops it.
+    pub fn is_stopped(&self) -> bool {
+        matches!(self.outcome, Outcome::Stopped { .. })
+    }
+
+    /// The status that the program ends with.
+    pub fn status(&self) -> u8 {
+        match self.outcome {
+            Outcome::Holds { .. } => 0,
+            Outcome::Fault { .. } => 1,
+            Outcome::Stopped { .. } => 2,
+        }
+    }
+
+    /// What one worker prints.
+    pub fn text(&self, alloc: Global) -> Result<String, OutOfMemory> {
+        match self.outcome {
+            Outcome::Holds { states } => {
+                let steps = self.steps;
+                format!(in alloc; "holds to {steps} steps\nstates {states}\n")
+            }
+            Outcome::Fault { schedule, states } => {
+                let steps = length_of(schedule);
+                format!(in alloc;
+                    "fault history after {steps} steps\nschedule {schedule}\nstates {states}\n"
+                )
+            }
+            Outcome::Stopped { holds_to } => {
+                let limit = self.limit;
+                format!(in alloc; "stopped at {limit} states\nholds to {holds_to} steps\n")
+            }
+        }
+    }
+}
+
+/// How many steps a schedule has, which is not the empty one.
+pub fn length_of(schedule: &str) -> usize {
+    schedule.split(',').count()
+}
+
+/// A program, how many steps are explored, the first shortest schedule to a fault in the order of lists, how many
+/// states are reached, and how many by names.
+#[derive(Clone, Copy)]
+pub struct Known(Source, u16, Option<&'static str>, u32, u32);
+
+impl Known {
+    /// How many states are reached.
+    pub fn states(&self, merge: Merge) -> u32 {
+        let Known(_, _, _, exact, names) = *self;
+        match merge {
+            Merge::Exact => exact,
+            Merge::Names => names,
+        }
+    }
+
+    /// The exploration with a limit that suffices.
+    pub fn exploration(&self, merge: Merge, limit: u32) -> Exploration {
+        let states = self.states(merge);
+        Exploration {
+            source: self.0,
+            steps: self.1,
+            merge,
+            limit,
+            outcome: match self.2 {
+                None => Outcome::Holds { states },
+                Some(schedule) => Outcome::Fault { schedule, states },
+            },
+        }
+    }
+}
+
+/// Programs of one thread.
+pub static ONE_THREAD: [Known; 14] = [
+    Known(Source("ellen", "", &[INSERT_5]), 10, None, 6, 6),
+    Known(Source("ellen", "", &[DELETE_5]), 10, None, 3, 3),
+    Known(Source("ellen", "10", &[DELETE_10]), 20, None, 11, 11),
+    Known(Source("ellen", "10", &[INSERT_10]), 20, None, 5, 5),
+    Known(Source("ellen", "10", &[FIND_10]), 20, None, 5, 5),
+    Known(Source("ellen", "10", &[INSERT_5]), 20, None, 8, 8),
+    Known(Source("ellen", "10,20", &[DELETE_20]), 20, None, 13, 13),
+    Known(Source("nm", "", &[INSERT_5]), 20, None, 3, 3),
+    Known(Source("nm", "", &[FIND_5]), 20, None, 2, 2),
+    Known(Source("nm", "10", &[DELETE_10]), 20, None, 8, 8),
+    Known(Source("nm", "10", &[INSERT_10]), 20, None, 3, 3),
+    Known(Source("nm", "10", &[FIND_10]), 20, None, 3, 3),
+    Known(Source("nm", "10", &[INSERT_5]), 20, None, 4, 4),
+    Known(Source("nm", "10,20", &[DELETE_20]), 20, None, 9, 9),
+];
+
+const INSERTS: Known = Known(TWO_INSERTS, 2, None, 5, 5);
+
+const FINDS: Known = Known(TWO_FINDS, 4, None, 13, 13);
+
+/// Programs of two threads.
+pub static TWO_THREADS: [Known; 7] = [
+    Known(TWO_INSERTS, 0, None, 1, 1),
+    Known(TWO_INSERTS, 1, None, 3, 3),
+    INSERTS,
+    FINDS,
+    Known(
+        Source("nm", "10,20", &[INSERT_5, INSERT_25]),
+        8,
+        None,
+        34,
+        33,
+    ),
+    Known(ELLEN, 20, None, 902, 553),
+    Known(NM, 20, None, 195, 184),
+];
+
+/// Programs of two threads, each schedule to its end.
+pub static WHOLE: [Known; 3] = [
+    Known(TWO_INSERTS, 400, None, 5, 5),
+    Known(ELLEN, 400, None, 2094, 831),
+    Known(NM, 400, None, 224, 198),
+];
+
+const NO_MARK: Known = Known(
+    ELLEN_NO_MARK,
+    20,
+    Some("0,0,0,0,0,0,0,1,1,0,1,1,1,1,1,1,1"),
+    456,
+    352,
+);
+
+const NO_IFLAG: Known = Known(
+    ELLEN_NO_IFLAG,
+    20,
+    Some("0,0,0,0,0,1,1,1,0,0,0,0,1,1,1,1"),
+    329,
+    322,
+);
+
+const NO_TAG: Known = Known(NM_NO_TAG, 20, Some("0,0,0,0,0,0,1,1,0,1,1,1,1"), 133, 130);
+
+/// Programs of the variants.
+pub static FAULTS: [Known; 3] = [NO_MARK, NO_IFLAG, NO_TAG];
+
+/// Programs that are also explored with no more states allowed than are reached.
+pub static TIGHT: [Known; 3] = [INSERTS, FINDS, NO_IFLAG];
+
+/// A program, how many steps are explored and how states are merged; the first and the last of some limits; and how
+/// many steps schedules have that hold where it is stopped at one of these.
+#[derive(Clone, Copy)]
+pub struct Stops(Source, u16, Merge, u32, u32, u16);
+
+impl Stops {
+    /// The limits.
+    pub fn limits(&self) -> RangeInclusive<u32> {
+        self.3..=self.4
+    }
+
+    /// The exploration that is stopped at this limit.
+    pub fn exploration(&self, limit: u32) -> Exploration {
+        Exploration {
+            source: self.0,
+            steps: self.1,
+            merge: self.2,
+            limit,
+            outcome: Outcome::Stopped { holds_to: self.5 },
+        }
+    }
+}
+
+/// All limits below the number of states for two programs, and for one the last limit, at which the layer that has its
+/// fault is full.
+pub static STOPS: [Stops; 12] = [
+    Stops(TWO_INSERTS, 2, Merge::Exact, 1, 2, 0),
+    Stops(TWO_INSERTS, 2, Merge::Exact, 3, 4, 1),
+    Stops(TWO_FINDS, 4, Merge::Exact, 1, 2, 0),
+    Stops(TWO_FINDS, 4, Merge::Exact, 3, 5, 1),
+    Stops(TWO_FINDS, 4, Merge::Exact, 6, 9, 2),
+    Stops(TWO_FINDS, 4, Merge::Exact, 10, 12, 3),
+    Stops(TWO_FINDS, 4, Merge::Names, 1, 2, 0),
+    Stops(TWO_FINDS, 4, Merge::Names, 3, 5, 1),
+    Stops(TWO_FINDS, 4, Merge::Names, 6, 9, 2),
+    Stops(TWO_FINDS, 4, Merge::Names, 10, 12, 3),
+    Stops(ELLEN_NO_IFLAG, 20, Merge::Exact, 328, 328, 15),
+    Stops(ELLEN_NO_IFLAG, 20, Merge::Names, 321, 321, 15),
+];
