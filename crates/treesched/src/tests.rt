@@ -5,6 +5,7 @@ mod answers;
 mod cases;
 mod devices;
 mod exploring;
+mod faults;
 mod programs;
 mod replaying;
 mod sources;

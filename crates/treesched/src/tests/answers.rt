@@ -1,4 +1,5 @@
 //! What the program answers to its words.
+use crate::input::Counted;
 use crate::request::read_words;
 use crate::serve::{Output, refused, serve};
 use crate::tests::cases::Runtime;
@@ -20,7 +21,7 @@ pub fn words_of<'a>(alloc: Global, line: &'a str) -> Result<Vec<&'a str>, OutOfM
 /// The output for these words, the first of which is the program's name, where FILE has these bytes.
 pub fn answer<R: Runtime>(rt: &R, words: &[&str], file: &[u8]) -> Result<Output, OutOfMemory> {
     match read_words(rt.alloc(), words) {
-        Ok(request) => serve(rt, rt.alloc(), &request, Some(file)),
+        Ok(request) => serve(rt, rt.alloc(), &request, Some(&mut Counted::new(file))),
         Err(fault) => refused(rt.alloc(), fault),
     }
 }

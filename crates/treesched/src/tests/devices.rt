@@ -1,6 +1,6 @@
 //! Readers and writers that fail.
 use crate::input::{Counted, ReadFault};
-use crate::output::{WriteFault, put_all};
+use crate::output::{CountedWriter, WriteFault, put_all};
 use crate::request::{WordsFault, read_words};
 use crate::serve::{Output, refused, serve};
 use crate::tests::answers::shows;
@@ -97,10 +97,16 @@ impl Serves {
 
     fn output<R: Runtime>(&self, rt: &R) -> Result<Output, OutOfMemory> {
         let words = ["treesched", "explore", "a file", "--steps", "2"];
-        let file = self.0.map(|fails_at| failing(TWICE, fails_at));
-        match read_words(rt.alloc(), words.as_slice()) {
-            Ok(request) => serve(rt, rt.alloc(), &request, file),
-            Err(fault) => refused(rt.alloc(), fault),
+        let request = match read_words(rt.alloc(), words.as_slice()) {
+            Ok(request) => request,
+            Err(fault) => return refused(rt.alloc(), fault),
+        };
+        match self.0 {
+            Some(fails_at) => {
+                let mut file = Counted::new(failing(TWICE, fails_at));
+                serve(rt, rt.alloc(), &request, Some(&mut file))
+            }
+            None => serve::<R, &[u8]>(rt, rt.alloc(), &request, None),
         }
     }
 }
@@ -158,7 +164,7 @@ impl Writes {
             writes: 0,
             fails_at,
         };
-        let answer = put_all(&mut writer, text.as_bytes());
+        let answer = put_all(&mut CountedWriter::new(&mut writer), text.as_bytes());
         self.is_answered(&answer, writer.held.as_slice())
     }
 
