@@ -5,7 +5,7 @@
 #        scripts/refuse_allocations.sh tests CRATE N  the tests of a crate, with request 1, 2, .. N refused, one a run (15 s each)
 #
 # The program has to end with status 5, one line on standard error and nothing on standard output, or just as it does
-# with ample memory. Tests take OutOfMemory as an answer beside the right one.
+# with ample memory. A test that is refused memory runs its case once more, so that all pass.
 set -u
 top=$(cd "$(dirname "$0")/.." && pwd)
 work=$(mktemp -d)
