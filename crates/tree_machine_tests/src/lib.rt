@@ -1,0 +1,13 @@
+//! Tests of `tree_machine`, by its public calls alone.
+#![tactic(auto)]
+
+#[cfg(test)]
+mod atomic;
+#[cfg(test)]
+mod cells;
+#[cfg(test)]
+mod once_more;
+#[cfg(test)]
+mod parts;
+#[cfg(test)]
+mod states;

@@ -1,0 +1,298 @@
+//! Forms of a few nodes and records.
+ghost use Rattle.std.specs.Prelude.{◌≡◌, ◌<◌, IsTrue, IfSome, OnOk};
+ghost use Rattle.std.specs.List.{All};
+ghost use Rattle.tree_machine.specs.Parts.{no_part, IsPartBelow, ArePartsInRange};
+
+use crate::once_more::holds;
+use sched_program::{OutOfMemory, Sequence};
+use std::alloc::Global;
+use std::marker::Model;
+use tree_machine::{Part, Parts, form_parts};
+
+/// A part that is there already.
+#[derive(Drop)]
+struct Row {
+    facts: &'static [u64],
+    nodes: &'static [Option<usize>],
+    records: &'static [Option<usize>],
+}
+
+impl Model for Row {
+    ghost use Rattle.tree_machine.specs.Parts.{Part as Contents};
+
+    ghost Value = { Contents };
+
+    ghost view = { λ r. record { facts = r.facts.now; nodes = r.nodes.now; records = r.records.now } };
+}
+
+impl Row {
+    /// Puts it into an empty part.
+    fn put(&self, part: &mut Part) -> Result<(), OutOfMemory>
+        requires { part.old ≡ no_part }
+        ensures { OnOk result (part.new ≡ self.now) }
+    {
+        part.put(self.facts, self.nodes, self.records)
+    }
+
+    /// Whether it names nodes and records below these bounds.
+    fn is_below(&self, nodes: usize, records: usize) -> bool
+        ensures { IsTrue result → IsPartBelow nodes records self.now }
+    {
+        are_below(self.nodes, nodes) && are_below(self.records, records)
+    }
+}
+
+/// Whether each number is none or below a bound.
+fn are_below(numbers: &[Option<usize>], bound: usize) -> bool
+    ensures { IsTrue result → All (λ r. IfSome r (λ x. x < bound)) numbers.now }
+{
+    numbers.iter().all(|number| match number {
+        Some(x) => *x < bound,
+        None => true,
+    })
+}
+
+/// Rows for nodes, records and threads.
+#[derive(Clone, Copy)]
+struct Tables<'a> {
+    nodes: &'a [Row],
+    records: &'a [Row],
+    held: &'a [Row],
+}
+
+impl Parts for Tables<'_> {
+    ghost parts = { λ t. record { nodes = t.nodes.now; records = t.records.now; held = t.held.now } };
+
+    fn node_count(&self) -> usize {
+        self.nodes.len()
+    }
+
+    fn record_count(&self) -> usize {
+        self.records.len()
+    }
+
+    fn held_count(&self) -> usize {
+        self.held.len()
+    }
+
+    fn put_node(&self, index: usize, part: &mut Part) -> Result<(), OutOfMemory> {
+        self.nodes[index].put(part)
+    }
+
+    fn put_record(&self, index: usize, part: &mut Part) -> Result<(), OutOfMemory> {
+        match self.records.get(index) {
+            Some(row) => row.put(part),
+            None => Ok(()),
+        }
+    }
+
+    fn put_held(&self, index: usize, part: &mut Part) -> Result<(), OutOfMemory> {
+        self.held[index].put(part)
+    }
+}
+
+/// Whether each row names nodes and records below these bounds.
+fn rows_below(rows: &[Row], nodes: usize, records: usize) -> bool
+    ensures { IsTrue result → All (IsPartBelow nodes records) rows.now }
+{
+    rows.iter().all(|row| row.is_below(nodes, records))
+}
+
+/// Whether the first nodes are there, and each row names nodes and records that are there.
+fn are_in_range(fixed: usize, tables: &Tables) -> bool
+    ensures { IsTrue result → ArePartsInRange fixed (record { nodes = tables.now.nodes.now; records = tables.now.records.now; held = tables.now.held.now }) }
+{
+    let nodes = tables.nodes.len();
+    let records = tables.records.len();
+    if fixed > nodes || !rows_below(tables.nodes, nodes, records) {
+        return false;
+    }
+    if !rows_below(tables.records, nodes, records) {
+        return false;
+    }
+    rows_below(tables.held, nodes, records)
+}
+
+/// The form of tables whose node 0 is fixed; nothing where a number is out of range.
+fn form_of(alloc: Global, tables: &Tables) -> Result<Sequence<u8>, OutOfMemory> {
+    if are_in_range(1, tables) {
+        form_parts(alloc, 1, tables)
+    } else {
+        Ok(Sequence::new(alloc))
+    }
+}
+
+/// The form of a root of this fact above a ring of a node and a record, which a thread holds, and of a node and a record
+/// that nothing names. They stand in the order in which they are met. The record of the ring names this record, and the
+/// thread this node.
+fn ring(
+    alloc: Global,
+    fact: &'static [u64],
+    record: &'static [Option<usize>],
+    node: &'static [Option<usize>],
+) -> Result<Sequence<u8>, OutOfMemory> {
+    let nodes = [
+        Row {
+            facts: fact,
+            nodes: &[Some(1), None],
+            records: &[],
+        },
+        Row {
+            facts: &[300],
+            nodes: &[Some(0)],
+            records: &[Some(0)],
+        },
+        Row {
+            facts: fact,
+            nodes: &[Some(2)],
+            records: &[Some(1)],
+        },
+    ];
+    let records = [
+        Row {
+            facts: &[],
+            nodes: &[Some(1)],
+            records: record,
+        },
+        Row {
+            facts: &[4, 5],
+            nodes: &[],
+            records: &[Some(0)],
+        },
+    ];
+    let held = [
+        Row {
+            facts: &[2],
+            nodes: node,
+            records: &[Some(0)],
+        },
+        Row {
+            facts: &[],
+            nodes: &[],
+            records: &[],
+        },
+    ];
+    form_of(
+        alloc,
+        &Tables {
+            nodes: &nodes,
+            records: &records,
+            held: &held,
+        },
+    )
+}
+
+/// The form of the ring of fact 511, whose record names none and whose thread names its node, where nodes and records
+/// stand the other way round.
+fn turned_ring(alloc: Global) -> Result<Sequence<u8>, OutOfMemory> {
+    let nodes = [
+        Row {
+            facts: &[511],
+            nodes: &[Some(2), None],
+            records: &[],
+        },
+        Row {
+            facts: &[511],
+            nodes: &[Some(1)],
+            records: &[Some(0)],
+        },
+        Row {
+            facts: &[300],
+            nodes: &[Some(0)],
+            records: &[Some(1)],
+        },
+    ];
+    let records = [
+        Row {
+            facts: &[4, 5],
+            nodes: &[],
+            records: &[Some(1)],
+        },
+        Row {
+            facts: &[],
+            nodes: &[Some(2)],
+            records: &[None],
+        },
+    ];
+    let held = [
+        Row {
+            facts: &[2],
+            nodes: &[Some(2)],
+            records: &[Some(1)],
+        },
+        Row {
+            facts: &[],
+            nodes: &[],
+            records: &[],
+        },
+    ];
+    form_of(
+        alloc,
+        &Tables {
+            nodes: &nodes,
+            records: &records,
+            held: &held,
+        },
+    )
+}
+
+/// The form of both.
+///
+/// Each cell: how many facts, then its kind, how many nodes it names, and its own facts; how many references, and each
+/// as its place and one, or 0 for none. Places: 0 the root, 1 and 2 the threads, 3 the node, 4 the record.
+const FORM: [u8; 34] = [
+    3, 0, 2, 255, 255, 1, 2, 4, 0, // the root, of fact 511
+    3, 2, 1, 2, 2, 4, 5, // what the first thread holds
+    2, 2, 0, 0, // what the second holds
+    3, 0, 1, 255, 45, 2, 1, 5, // the node, of fact 300
+    2, 1, 1, 2, 4, 0, // the record
+];
+
+/// Whether a ring has the form that is written here, whatever its numbers are.
+fn is_ring_one(alloc: Global) -> Result<bool, OutOfMemory> {
+    let here = ring(alloc, &[511], &[None], &[Some(1)])?;
+    let there = turned_ring(alloc)?;
+    Ok(here.as_slice() == FORM.as_slice() && here == there)
+}
+
+/// Whether the form tells this ring from the one of fact 511 whose record names none and whose thread names its node.
+fn is_told_apart(
+    alloc: Global,
+    fact: &'static [u64],
+    record: &'static [Option<usize>],
+    node: &'static [Option<usize>],
+) -> Result<bool, OutOfMemory> {
+    let here = ring(alloc, &[511], &[None], &[Some(1)])?;
+    let there = ring(alloc, fact, record, node)?;
+    Ok(here.len() > 0 && there.len() > 0 && here != there)
+}
+
+#[test]
+fn names_up_to_numbers_are_equal(rt: HostRuntime) {
+    assert!(rt; holds!(is_ring_one(rt.alloc())));
+}
+
+/// Facts in one byte and in two.
+const FACTS: &[&[u64]] = &[&[0], &[1], &[255], &[256], &[510], &[512]];
+
+#[test]
+fn a_fact_above_a_byte_tells_apart(rt: HostRuntime) {
+    for fact in FACTS {
+        let is_told = holds!(is_told_apart(rt.alloc(), fact, &[None], &[Some(1)]));
+        assert!(&rt; is_told, "at {fact:?}");
+    }
+}
+
+/// The record that the record names, and the node that the thread names, where one of them differs.
+const OTHERS: &[(&[Option<usize>], &[Option<usize>])] = &[
+    (&[Some(0)], &[Some(1)]),
+    (&[None], &[None]),
+];
+
+#[test]
+fn a_reference_that_one_side_has_tells_apart(rt: HostRuntime) {
+    for (record, node) in OTHERS {
+        let is_told = holds!(is_told_apart(rt.alloc(), &[511], record, node));
+        assert!(&rt; is_told, "with {record:?} and {node:?}");
+    }
+}
