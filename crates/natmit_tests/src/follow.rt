@@ -147,15 +147,20 @@ pub fn program_of(alloc: Global, text: &str) -> Result<Program, Broken> {
 }
 
 /// Follows a table from the start of the program of a text.
-pub fn follow(alloc: Global, machine: NatMit, text: &str, rows: &[Row]) -> Result<(), Broken> {
+fn follow(alloc: Global, machine: NatMit, text: &str, rows: &[Row]) -> Result<(), Broken> {
     let program = program_of(alloc, text)?;
     follow_rows(alloc, machine, &program, rows)
 }
 
-/// Whether a table was followed to its end, or memory was refused.
+/// How following a table ends, at the second try where memory was refused at the first: that happens once at most.
+pub fn ends(alloc: Global, machine: NatMit, text: &str, rows: &[Row]) -> Result<(), Broken> {
+    match follow(alloc, machine, text, rows) {
+        Err(Broken::OutOfMemory) => follow(alloc, machine, text, rows),
+        end => end,
+    }
+}
+
+/// Whether a table is followed to its end.
 pub fn is_followed(alloc: Global, machine: NatMit, text: &str, rows: &[Row]) -> bool {
-    matches!(
-        follow(alloc, machine, text, rows),
-        Ok(()) | Err(Broken::OutOfMemory)
-    )
+    ends(alloc, machine, text, rows) == Ok(())
 }

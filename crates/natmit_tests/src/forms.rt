@@ -35,7 +35,7 @@ fn after(
 }
 
 /// Whether the states after two schedules of two programs differ, and whether their forms do.
-fn differ(
+fn differ_once(
     alloc: Global,
     (text, schedule): (&str, &[u8]),
     (other_text, other_schedule): (&str, &[u8]),
@@ -48,11 +48,11 @@ fn differ(
     Ok((state != other, forms_differ))
 }
 
-/// What is told of two states, or nothing where memory was refused.
-fn told(differing: Result<(bool, bool), Broken>, expected: (bool, bool)) -> bool {
-    match differing {
-        Ok(found) => found == expected,
-        Err(fault) => fault == Broken::OutOfMemory,
+/// The same, at the second try where memory was refused at the first: that happens once at most.
+fn differ(alloc: Global, run: (&str, &[u8]), other: (&str, &[u8])) -> Result<(bool, bool), Broken> {
+    match differ_once(alloc, run, other) {
+        Err(Broken::OutOfMemory) => differ_once(alloc, run, other),
+        found => found,
     }
 }
 
@@ -64,7 +64,7 @@ fn the_order_of_two_inserts_changes_numbers_alone(rt: HostRuntime) -> Result<(),
         (TWO_INSERTS, &[0, 0, 0, 1, 1, 1, 0, 1]),
         (TWO_INSERTS, &[0, 0, 0, 1, 1, 1, 1, 0]),
     );
-    assert!(rt; told(last_by_one, (true, false)));
+    assert!(rt; last_by_one == Ok((true, false)));
     Ok(())
 }
 
@@ -76,6 +76,6 @@ fn forms_tell_the_nodes_that_threads_hold(rt: HostRuntime) -> Result<(), Fail> {
         (TWO_INSERTS, &[0, 0, 0]),
         (TWO_INSERTS_TURNED, &[0, 0, 0]),
     );
-    assert!(rt; told(other_leaf, (true, true)));
+    assert!(rt; other_leaf == Ok((true, true)));
     Ok(())
 }

@@ -1,6 +1,6 @@
 //! Runs of one operation alone.
 
-use crate::follow::{Broken, Row, Seen, WHOLE, follow};
+use crate::follow::{Broken, Row, Seen, WHOLE, ends, is_followed};
 use std::test::Fail;
 
 /// Programs of one operation, with its number of steps and its reply.
@@ -54,15 +54,10 @@ fn an_operation_alone_ends(rt: HostRuntime) -> Result<(), Fail> {
             (0, steps - 1, Seen::Ordered(true)),
             (0, 1, Seen::Replied(0, reply)),
         ];
-        let followed = follow(rt.alloc(), WHOLE, text, &rows);
-        assert!(rt;
-            followed == Ok(()) || followed == Err(Broken::OutOfMemory),
-            "{text}"
-        );
+        assert!(rt; is_followed(rt.alloc(), WHOLE, text, &rows), "{text}");
         let more: [Row; 1] = [(0, steps + 1, Seen::Ordered(true))];
-        let followed = follow(rt.alloc(), WHOLE, text, &more);
         assert!(rt;
-            followed == Err(Broken::NotEnabled) || followed == Err(Broken::OutOfMemory),
+            ends(rt.alloc(), WHOLE, text, &more) == Err(Broken::NotEnabled),
             "{text}"
         );
     }
