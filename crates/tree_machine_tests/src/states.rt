@@ -75,6 +75,8 @@ fn form_of(
 ) -> Result<StateForm<Atomic>, StepFault>
     requires { Fits atomic_rules program.now state.now }
 {
+    // Whoever reads a program knows that it meets the limits.
+    let _ = program.initial();
     Ok(state.form(alloc, Atomic)?)
 }
 
