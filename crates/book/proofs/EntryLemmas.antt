@@ -1,5 +1,5 @@
 -- An entry by its number, in lists of entries that are made of others.
-use Rattle.std.proofs.Common.{◌≡◌, ◌≢◌, ℕ, zero, suc, ◌+◌, ◌<◌, ◌≤◌, ◌⊎◌, inl, inr, Some, None, List, [], ◌∷◌, ◌++◌, length, refl, sym, ap, arith, slice_get, count_by, cond}
+use Rattle.std.proofs.Common.{◌≡◌, ◌≢◌, ℕ, zero, suc, ◌+◌, ◌<◌, ◌≤◌, ◌⊎◌, inl, inr, Some, None, List, [], ◌∷◌, ◌++◌, length, refl, sym, ap, ◌∙◌, append_assoc, append-nil, arith, slice_get, count_by, cond}
 use Rattle.std.proofs.lemmas.List.Sums.{sum_by-cons}
 use Rattle.book.specs.declared.entry.Mark.{Mark}
 use Rattle.book.specs.declared.entry.Mark.TheVariants.{Open, Taken, Expanded}
@@ -14,6 +14,19 @@ module _ {X : Type 0} where
   pub get-append_right : (xs ys : List X) (k : ℕ) (x : X) → slice_get ys k ≡ Some x → slice_get (xs ++ ys) (length xs + k) ≡ Some x
   get-append_right [] ys k x h = let e : 0 + k ≡ k = omega arith in rw e h
   get-append_right (y ∷ xs) ys k x h = let e : suc (length xs) + k ≡ suc (length xs + k) = omega arith in rw e (get-append_right xs ys k x h)
+
+  -- the first of those that are left of a list, once some have been taken
+  pub get-next : (taken left all : List X) (x : X) (more : List X) → taken ++ left ≡ all → left ≡ x ∷ more → slice_get all (length taken + 0) ≡ Some x
+  get-next taken left all x more rest next = ap (λ xs. slice_get xs (length taken + 0)) (sym rest) ∙ get-append_right taken left 0 x (ap (λ xs. slice_get xs 0) next)
+
+  -- and those that are left after it
+  pub taken_next : (taken left all : List X) (x : X) (more : List X) → taken ++ left ≡ all → left ≡ x ∷ more → (taken ++ x ∷ []) ++ more ≡ all
+  taken_next taken left all x more rest next = append_assoc taken (x ∷ []) more ∙ ap (λ xs. taken ++ xs) (sym next) ∙ rest
+
+  -- and all of them, once none is left
+  pub all_taken : (taken left all : List X) → taken ++ left ≡ all → length left ≡ 0 → taken ≡ all
+  all_taken taken [] all rest none = sym (append-nil taken) ∙ rest
+  all_taken taken (x ∷ left) all rest none = absurd (let q : suc (length left) ≡ 0 = none in cc)
 
   -- an element of two lists in a row is one of the first, or one of the second
   pub get-append_cases : (xs ys : List X) (i : ℕ) (x : X) → slice_get (xs ++ ys) i ≡ Some x → (slice_get xs i ≡ Some x) ⊎ ((k : ℕ) × (i ≡ length xs + k) × (slice_get ys k ≡ Some x))

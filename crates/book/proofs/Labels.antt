@@ -169,6 +169,10 @@ steps_known_more {S} {F} form_of xs x known is =
 pub bares_more : {S F : Type 0} (xs : List (Successor (Labelled S F))) (x : Successor (Labelled S F)) → bares (xs ++ x ∷ []) ≡ bares xs ++ bare x ∷ []
 bares_more xs x = map-append bare xs (x ∷ [])
 
--- the label does not matter where there is none
-pub relabelled : {S F : Type 0} (x y : Successor (Labelled S F)) → x.thread ≡ y.thread → x.state.state ≡ y.state.state → x.finding ≡ y.finding → bare x ≡ bare y
-relabelled x y thread state finding i = record { thread = thread i; state = state i; finding = finding i }
+-- a step that is labelled anew, put behind those that were
+pub labelled_more : {S F : Type 0} (form_of : S → Option F) (made old : List (Successor (Labelled S F))) (one was : Successor (Labelled S F)) → bares made ≡ bares old → bare one ≡ bare was
+    → AreStepsKnownBy form_of made → one.state.form ≡ form_of one.state.state → (bares (made ++ one ∷ []) ≡ bares (old ++ was ∷ [])) × AreStepsKnownBy form_of (made ++ one ∷ [])
+labelled_more form_of made old one was same is known form = (
+  bares_more made one ∙ ap (λ xs. xs ++ bare one ∷ []) same ∙ ap (λ x. bares old ++ x ∷ []) is ∙ sym (bares_more old was),
+  steps_known_more form_of made one known form,
+)

@@ -3,7 +3,7 @@ ghost use Rattle.std.specs.Prelude.{◌≡◌, ℕ, ◌+◌, ◌^◌, ◌<◌, �
 ghost use Rattle.tree_machine.specs.Step.{Fits, step};
 ghost use Rattle.book.specs.Books.{HoldsSteps};
 ghost use Rattle.book.specs.Entries.{Successor};
-ghost use Rattle.book.specs.Labels.{AreStepsKnownBy, Labelled, bares, form_by};
+ghost use Rattle.book.specs.Labels.{AreStepsKnownBy, Labelled, bare, bares, form_by};
 ghost use Rattle.tree_machine.specs.Alike.{state_form};
 ghost use Rattle.tree_machine.specs.declared.form.StateForm.{StateForm};
 ghost use Rattle.tree_machine.specs.declared.state.State.{State};
@@ -75,6 +75,28 @@ pub(crate) fn label<M: Machine>(
     Ok(Hashed::new(Known::new(state, form)))
 }
 
+/// The same step, labelled for a book that merges so.
+fn relabelled<M: Machine>(
+    alloc: Global,
+    machine: M,
+    program: &Program,
+    step: Stepped<State<M>, StateForm<M>>,
+    merge: Merge,
+) -> Result<Stepped<State<M>, StateForm<M>>, OutOfMemory>
+    requires { Fits (M.rules machine) program.now step.state.state }
+    ensures same { IfOk result (λ made. bare made ≡ bare step) }
+    ensures form { IfOk result (λ made. made.state.form ≡ form_by merge (state_form (M.form_of machine)) made.state.state) }
+{
+    let (thread, known, finding) = step.into_parts();
+    let state = known.into_value().into_state();
+    let known = label(alloc, machine, program, state, merge)?;
+    Ok(Stepped {
+        thread,
+        known,
+        finding,
+    })
+}
+
 /// The same steps, labelled for a book that merges so.
 fn labelled<M: Machine>(
     alloc: Global,
@@ -89,14 +111,8 @@ fn labelled<M: Machine>(
 {
     let mut made = Vec::with_capacity(alloc, steps.len())?;
     for step in steps {
-        let (thread, known, finding) = step.into_parts();
-        let state = known.into_value().into_state();
-        let known = label(alloc, machine, program, state, merge)?;
-        made.push(Stepped {
-            thread,
-            known,
-            finding,
-        })?;
+        let one = relabelled(alloc, machine, program, step, merge)?;
+        made.push(one)?;
     }
     Ok(made)
 }
