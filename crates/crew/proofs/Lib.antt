@@ -7,6 +7,7 @@ pub mod Answers
 pub mod Expansions
 pub mod Ends
 pub mod Drives
+pub mod NextEntry
 pub mod Counted
 pub mod Layer
 pub mod Reports

@@ -10,3 +10,4 @@ pub mod ClaimRule
 pub mod ClaimSeats
 pub mod Working
 pub mod Reporting
+pub mod Starting

@@ -1,16 +1,15 @@
 //! The work of all workers, layer by layer.
 ghost use Rattle.std.specs.Prelude.{◌≡◌, ◌^◌, ◌<◌, All, IfOk, IfSome, length, vec_len};
 ghost use Rattle.crew.specs.ClaimSeats.{IsSeatOf};
-ghost use Rattle.crew.specs.Working.{IsReady};
 
 use crate::claims::{Claims, Seat};
 use crate::gate::Gate;
+use crate::starting::call_at_once;
 use crate::tally::{Parts, Run, Tally};
 use crate::working::{Exploration, Layer, Leads, Stop, Worker, run_of};
 use sched_program::OutOfMemory;
 use std::alloc::Global;
 use std::sync::{Mutex, Wait};
-use std::thread;
 use std::thread::Threads;
 use tree_machine::Machine;
 
@@ -54,39 +53,15 @@ impl<'a, J: Run + Send + Sync, M: Machine, G: Gate, R: Threads + Wait + Sync> Ex
     G,
     R,
 > {
-    /// Lets each worker work in a thread of its own, until all have come to their ends. This thread starts all others: a
-    /// thread that a new one starts often shares its processor while another is idle.
-    #[cycle(starts)]
-    fn work_at_once<'l>(&'l self, layer: &'l Layer<M>, workers: &mut [Worker<J>])
-        requires seats { All (λ w. IfSome w.seat (IsSeatOf layer.now.claims)) workers.old }
-        requires ready { All (λ lead. IsReady (M.rules self.now.machine) self.now.program.now lead.1.value) layer.now.leads.items }
+    /// Lets each worker work in a thread of its own, until all have come to their ends.
+    fn work_at_once(&self, layer: &Layer<'a, M>, workers: &mut [Worker<J>])
+        requires { All (λ w. IfSome w.seat (IsSeatOf layer.now)) workers.old }
         ensures { length workers.new ≡ length workers.old }
     {
-        if let Some((last, others)) = workers.split_last_mut() {
-            if others.is_empty() {
-                self.work(layer, last);
-            } else {
-                self.work_beside(layer, last, others);
-            }
-        }
-    }
-
-    /// Lets one worker work in a new thread, and the others beside it.
-    #[cycle(starts)]
-    fn work_beside<'l>(&'l self, layer: &'l Layer<M>, one: &mut Worker<J>, others: &mut [Worker<J>])
-        requires seat { IfSome one.old.seat (IsSeatOf layer.now.claims) }
-        requires seats { All (λ w. IfSome w.seat (IsSeatOf layer.now.claims)) others.old }
-        requires ready { All (λ lead. IsReady (M.rules self.now.machine) self.now.program.now lead.1.value) layer.now.leads.items }
-        ensures { length others.new ≡ length others.old }
-    {
-        let mut alone = ||
-            requires { IfSome one.now.seat (IsSeatOf layer.now.claims) × All (λ lead. IsReady (M.rules self.now.machine) self.now.program.now lead.1.value) layer.now.leads.items }
-        { self.work(layer, one) };
-        let mut rest = ||
-            requires { All (λ w. IfSome w.seat (IsSeatOf layer.now.claims)) others.now × All (λ lead. IsReady (M.rules self.now.machine) self.now.program.now lead.1.value) layer.now.leads.items }
-            ensures { length others.exit.now ≡ length others.entry.now }
-        { self.work_at_once(layer, others) };
-        thread::join_mut(self.rt, &mut alone, &mut rest);
+        let work = |worker: &mut Worker<J>|
+            requires { IfSome worker.old.seat (IsSeatOf layer.now) }
+        { self.work(layer, worker) };
+        call_at_once(self.rt, &work, workers);
     }
 
     /// Expands the next layer, and lays its entries in the place of those of the layer before. Whether there was one to
@@ -110,23 +85,21 @@ impl<'a, J: Run + Send + Sync, M: Machine, G: Gate, R: Threads + Wait + Sync> Ex
             return Ok(false);
         }
         let (claims, seats) = Claims::new(self.alloc, leads.len(), workers.len())?;
+        seat_all(&claims, workers, seats);
         let run = run_of(leads.len(), workers.len());
         let layer = Layer {
+            alloc: self.alloc,
+            machine: self.machine,
+            program: self.program,
+            merge: self.merge,
             number,
             leads,
             claims,
             run,
             spent: Mutex::new(spent.take()),
         };
-        seat_all(&layer.claims, workers, seats);
         self.work_at_once(&layer, workers);
-        let Layer {
-            number: _,
-            leads,
-            claims: _,
-            run: _,
-            spent: _,
-        } = layer;
+        let Layer { leads, .. } = layer;
         *spent = Some(leads);
         Ok(true)
     }

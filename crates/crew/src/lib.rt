@@ -11,6 +11,7 @@ mod options;
 mod reading;
 mod reporting;
 mod settling;
+mod starting;
 mod tally;
 mod working;
 

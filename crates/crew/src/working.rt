@@ -9,6 +9,7 @@ use crate::tally::{Desk, Run, Tally};
 use book::{EnterFault, Expansion, Leftovers, Merge};
 use sched_program::{OutOfMemory, Program};
 use std::alloc::Global;
+use std::marker::Model;
 use std::sync::{Arc, Mutex, MutexGuard, Wait};
 use tree_machine::{Machine, State, StateForm};
 
@@ -69,9 +70,13 @@ fn room_for<M: Machine>(
 /// The numbers and states of entries.
 pub type Leads<M: Machine> = Vec<(usize, Arc<State<M>>)>;
 
-/// The entries of a layer, which are taken, and the counter of their places.
+/// The entries of a layer, which are taken and can be expanded, and the counter of their places. Contracts see the counter.
 #[derive(Drop)]
-pub struct Layer<M: Machine> {
+pub struct Layer<'a, M: Machine> {
+    pub alloc: Global,
+    pub machine: M,
+    pub program: &'a Program,
+    pub merge: Merge,
     /// How many steps its states have.
     pub number: u16,
     /// The entries' numbers and states, by their places.
@@ -81,7 +86,57 @@ pub struct Layer<M: Machine> {
     pub run: usize,
     /// The entries of the layer before. The first worker to come gives them back while the others work.
     pub spent: Mutex<Option<Leads<M>>>,
-    pub ghost as_long: { claims.size.len ≡ length leads.items },
+}
+
+impl<'a, M: Machine> Model for Layer<'a, M> {
+    ghost use Rattle.std.specs.Prelude.{◌≡◌, All, length};
+    ghost use Rattle.crew.specs.ClaimValues.{Counter};
+    ghost use Rattle.crew.specs.Working.{IsReady};
+
+    ghost Value = { Counter };
+
+    ghost view = { λ layer. layer.claims };
+
+    ghost invariant = { λ layer. (layer.claims.size.len ≡ length layer.leads.items) × All (λ lead. IsReady (M.rules layer.machine) layer.program.now lead.1.value) layer.leads.items };
+}
+
+impl<'a, M: Machine> Layer<'a, M> {
+    /// Makes the expansion of the entry at a place.
+    fn expand(&self, place: usize) -> Result<(usize, Expansion<'_, M>), OutOfMemory>
+        requires { place < self.now.size.len }
+    {
+        let (id, state) = &self.leads[place];
+        let expansion = Expansion::for_merge(
+            self.alloc,
+            self.machine,
+            self.program,
+            &**state,
+            self.merge,
+        )?;
+        Ok((*id, expansion))
+    }
+
+    /// Draws so many places as the run is, fewer at the end of the layer, and makes the expansions there.
+    fn draw<'l>(
+        &'l self,
+        gate: &impl Gate,
+        number: u8,
+        seat: &mut Seat,
+        made: &mut Vec<(usize, Expansion<'l, M>)>,
+    ) -> Result<(), OutOfMemory>
+        requires seat { IsSeatOf self.now seat.old }
+        ensures seat { IsSeatOf self.now seat.new }
+    {
+        for _place in 0..self.run {
+            let Some(place) = self.claims.claim(seat) else {
+                return Ok(());
+            };
+            let one = self.expand(place)?;
+            gate.arrive(number, self.number, place);
+            made.push(one)?;
+        }
+        Ok(())
+    }
 }
 
 /// What all workers of an exploration share.
@@ -97,54 +152,6 @@ pub struct Exploration<'a, J: Run, M: Machine, G: Gate, R: Wait> {
 }
 
 impl<'a, J: Run, M: Machine, G: Gate, R: Wait> Exploration<'a, J, M, G, R> {
-    /// Makes the expansion of the entry at a place.
-    fn expand<'l>(
-        &'l self,
-        layer: &'l Layer<M>,
-        number: u8,
-        place: usize,
-    ) -> Result<(usize, Expansion<'l, M>), Stop>
-        requires within { place < length layer.now.leads.items }
-        requires ready { All (λ lead. IsReady (M.rules self.now.machine) self.now.program.now lead.1.value) layer.now.leads.items }
-    {
-        let (id, state) = &layer.leads[place];
-        let Ok(expansion) = Expansion::for_merge(
-            self.alloc,
-            self.machine,
-            self.program,
-            &**state,
-            self.merge,
-        ) else {
-            return Err(Stop::OutOfMemory);
-        };
-        self.gate.arrive(number, layer.number, place);
-        Ok((*id, expansion))
-    }
-
-    /// Draws so many places as a layer's run is, fewer at the end of the layer, and makes the expansions there.
-    fn draw<'l>(
-        &'l self,
-        layer: &'l Layer<M>,
-        number: u8,
-        seat: &mut Seat,
-        made: &mut Vec<(usize, Expansion<'l, M>)>,
-    ) -> Result<(), Stop>
-        requires seat { IsSeatOf layer.now.claims seat.old }
-        requires ready { All (λ lead. IsReady (M.rules self.now.machine) self.now.program.now lead.1.value) layer.now.leads.items }
-        ensures seat { IsSeatOf layer.now.claims seat.new }
-    {
-        for _place in 0..layer.run {
-            let Some(place) = layer.claims.claim(seat) else {
-                return Ok(());
-            };
-            let one = self.expand(layer, number, place)?;
-            if made.push(one).is_err() {
-                return Err(Stop::OutOfMemory);
-            }
-        }
-        Ok(())
-    }
-
     /// Enters expansions, all in one holding of the lock. What the book knew is left for after it.
     fn enter_all(
         &self,
@@ -179,18 +186,19 @@ impl<'a, J: Run, M: Machine, G: Gate, R: Wait> Exploration<'a, J, M, G, R> {
     /// Expands the entries at the next places that the worker draws. Whether there were any.
     fn turn<'l>(
         &'l self,
-        layer: &'l Layer<M>,
+        layer: &'l Layer<'a, M>,
         number: u8,
         seat: &mut Seat,
         tally: &mut Tally<J>,
     ) -> Result<bool, Stop>
-        requires seat { IsSeatOf layer.now.claims seat.old }
-        requires ready { All (λ lead. IsReady (M.rules self.now.machine) self.now.program.now lead.1.value) layer.now.leads.items }
-        ensures seat { IsSeatOf layer.now.claims seat.new }
+        requires seat { IsSeatOf layer.now seat.old }
+        ensures seat { IsSeatOf layer.now seat.new }
     {
         let mut made = Vec::new(self.alloc);
         for round in 0..=LAST_ROUND {
-            self.draw(layer, number, seat, &mut made)?;
+            if layer.draw(self.gate, number, seat, &mut made).is_err() {
+                return Err(Stop::OutOfMemory);
+            }
             if made.is_empty() {
                 return Ok(false);
             }
@@ -206,9 +214,8 @@ impl<'a, J: Run, M: Machine, G: Gate, R: Wait> Exploration<'a, J, M, G, R> {
     }
 
     /// Expands the entries at the places that the worker draws, until none is left or it has to stop.
-    pub fn work<'l>(&'l self, layer: &'l Layer<M>, worker: &mut Worker<J>)
-        requires seat { IfSome worker.old.seat (IsSeatOf layer.now.claims) }
-        requires ready { All (λ lead. IsReady (M.rules self.now.machine) self.now.program.now lead.1.value) layer.now.leads.items }
+    pub fn work<'l>(&'l self, layer: &'l Layer<'a, M>, worker: &mut Worker<J>)
+        requires seat { IfSome worker.old.seat (IsSeatOf layer.now) }
     {
         let Worker {
             number,
