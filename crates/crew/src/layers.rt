@@ -58,8 +58,10 @@ impl<'a, J: Run + Send + Sync, M: Machine, G: Gate, R: Threads + Wait + Sync> Ex
         requires { All (λ w. IfSome w.seat (IsSeatOf layer.now)) workers.old }
         ensures { length workers.new ≡ length workers.old }
     {
+        // What it did stands in its tally, and its clause says nothing of that.
         let work = |worker: &mut Worker<J>|
             requires { IfSome worker.old.seat (IsSeatOf layer.now) }
+            ensures { Unit {0} }
         { self.work(layer, worker) };
         call_at_once(self.rt, &work, workers);
     }

@@ -1,7 +1,6 @@
 //! What one worker does in one layer.
-ghost use Rattle.std.specs.Prelude.{◌≡◌, ◌+◌, ◌<◌, ◌≤◌, ◌^◌, All, length, IfOk, IfSome, sum_by};
+ghost use Rattle.std.specs.Prelude.{◌≡◌, ◌+◌, ◌<◌, ◌≤◌, ◌^◌, length, IfOk, IfSome, sum_by};
 ghost use Rattle.crew.specs.ClaimSeats.{IsSeatOf};
-ghost use Rattle.crew.specs.Working.{IsReady};
 
 use crate::claims::{Claims, Seat};
 use crate::gate::Gate;
