@@ -1,5 +1,6 @@
 mod Distinct
 pub mod Histories
+mod Loads
 mod Members
 mod ShortLists
 mod Texts

@@ -1,9 +1,11 @@
 //! Programs of a few threads that call a search tree, and the histories of their runs.
 #![tactic(auto)]
 
+mod counted;
 mod exact;
 mod fault;
 mod history;
+mod loading;
 mod operation;
 mod program;
 mod reader;
@@ -11,9 +13,11 @@ mod sequence;
 mod short_list;
 mod text;
 
+pub use crate::counted::Counted;
 pub use crate::exact::{Exact, same};
 pub use crate::fault::ProgramFault;
 pub use crate::history::{History, Note};
+pub use crate::loading::LoadFault;
 pub use crate::operation::{Op, OpId, Tree};
 pub use crate::program::Program;
 pub use crate::sequence::Sequence;

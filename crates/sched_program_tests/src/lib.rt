@@ -4,4 +4,6 @@
 #[cfg(test)]
 mod from_json;
 #[cfg(test)]
+mod readers;
+#[cfg(test)]
 mod refused_texts;

@@ -23,7 +23,7 @@ use Rattle.book.specs.Findings.{machine_of}
 use Rattle.book.specs.declared.replayed.ReplayFault.{ReplayFault}
 use Rattle.treesched.specs.Lines.{IsRefusal, no_step_text}
 use Rattle.treesched.specs.Serving.{CountsAsOne, IsAnswerTo, IsEquality, IsReplayed, IsServed, IsServedFrom, IsStuck, IsUnread}
-use Rattle.treesched.specs.declared.input.Counted.{Counted}
+use Rattle.sched_program.specs.declared.counted.Counted.{Counted}
 use Rattle.clap.specs.Walk.{Text}
 use Rattle.treesched.specs.Reading.{AskFor}
 use Rattle.treesched.specs.declared.request.Request.{Request}

@@ -1,15 +1,8 @@
--- What readers and writers that may fail did.
+-- What writers that may fail did, and what a call left behind a reference that it may not have been given.
 use Rattle.std.specs.Prelude.{◌≡◌, ◌⊎◌, ℕ, List, Option, Result, Ok, Err, ◌++◌}
 use Rattle.std.specs.Borrow.{MutBor}
 use Rattle.std.proofs.Common.{inl, inr}
 use Rattle.std.specs.Io.KnownBytes.{Appends}
-use Rattle.treesched.specs.declared.input.ReadFault.{ReadFault}
-use Rattle.treesched.specs.declared.input.ReadFault.TheVariants as fault
-
--- how many reads of the call failed
-abbrev pub failed_reads : {T : Type 0} → Result T ReadFault → ℕ
-failed_reads (Err fault.Device) = 1
-failed_reads _ = 0
 
 -- how many writes of the call failed or took no byte: the call told the last one
 abbrev pub failed_writes : {T E : Type 0} → Result T E → ℕ

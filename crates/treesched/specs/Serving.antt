@@ -37,7 +37,7 @@ use Rattle.crew.specs.declared.answer.Share.{Share}
 use Rattle.treesched.specs.Lines.{IsRefusal, TellsFault, fault_text, no_step_text, operations_text, report_text, status_of, verdict_text}
 use Rattle.clap.specs.Walk.{Text}
 use Rattle.treesched.specs.Reading.{AreRefused, AskFor, file_of}
-use Rattle.treesched.specs.declared.input.Counted.{Counted}
+use Rattle.sched_program.specs.declared.counted.Counted.{Counted}
 use Rattle.treesched.specs.declared.request.Request.{Request}
 use Rattle.treesched.specs.declared.request.Request.TheVariants as request
 use Rattle.treesched.specs.declared.request.WordsFault.{WordsFault}

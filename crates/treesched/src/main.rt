@@ -8,18 +8,16 @@ ghost use Rattle.treesched.specs.Printing.{IsPrinted, WasTried};
 ghost use Rattle.treesched.specs.Serving.{IsAnswerTo};
 
 mod command;
-mod input;
 mod lines;
 mod output;
 mod request;
 mod schedule;
 mod serve;
 
-use crate::input::Counted;
 use crate::output::{CountedWriter, put_all};
 use crate::request::read_words;
 use crate::serve::{Output, refusal, refused, serve};
-use sched_program::OutOfMemory;
+use sched_program::{Counted, OutOfMemory};
 use std::env::Env;
 use std::fs::{File, Files};
 use std::io;

@@ -8,16 +8,15 @@ ghost use Rattle.book.specs.Books.{counted_as_one};
 ghost use Rattle.book.specs.Findings.{is_sound};
 ghost use Rattle.treesched.specs.Devices.{LeavesBehind};
 ghost use Rattle.treesched.specs.Lines as lines;
-ghost use Rattle.treesched.specs.Serving.{CountsAsOne, IsAnswered, IsExplored, IsReplayed, IsServed, IsServedFrom, IsStuck, IsUnread};
+ghost use Rattle.treesched.specs.Serving.{CountsAsOne, IsAnswered, IsAnsweredBy, IsExplored, IsReplayed, IsServedFrom, IsStuck, IsUnread};
 
-use crate::input::{Counted, ReadFault};
 use crate::lines::{put_operations, put_report, put_verdict};
 use crate::request::{Request, WordsFault};
 use book::{Finding, Merge, ReplayFault, replay};
 use crew::{Answer, Open, Options, explore};
 use ellen::Ellen;
 use natmit::NatMit;
-use sched_program::{Exact, OutOfMemory, Program, ProgramFault, Tree};
+use sched_program::{Counted, Exact, LoadFault, OutOfMemory, Program, ProgramFault, Tree};
 use std::alloc::Global;
 use std::io::Read;
 use std::mem::forget;
@@ -211,22 +210,17 @@ fn answered<M: Machine, R: Threads + Wait + Sync>(
     }
 }
 
-/// Answers the request for the program of this text.
+/// Answers the request for a program, on the machine that it names.
 fn served<R: Threads + Wait + Sync>(
     rt: &R,
     alloc: Global,
-    text: &[u8],
+    program: &Program,
     request: &Request<'_>,
 ) -> Result<Output, OutOfMemory>
-    ensures { IfOk result (IsServed text.now request.now) }
+    ensures { IfOk result (IsAnsweredBy program.now.tree program.now request.now) }
 {
-    let program = match Program::from_json(alloc, text) {
-        Ok(program) => program,
-        Err(ProgramFault::OutOfMemory) => return Err(std::alloc::AllocError),
-        Err(fault) => return refusal(alloc, 3, fault_text(fault)),
-    };
     match program.tree() {
-        Tree::Atomic => answered(rt, alloc, Atomic, &program, request),
+        Tree::Atomic => answered(rt, alloc, Atomic, program, request),
         Tree::Ellen => answered(
             rt,
             alloc,
@@ -234,7 +228,7 @@ fn served<R: Threads + Wait + Sync>(
                 mark: true,
                 iflag: true,
             },
-            &program,
+            program,
             request,
         ),
         Tree::EllenNoMark => answered(
@@ -244,7 +238,7 @@ fn served<R: Threads + Wait + Sync>(
                 mark: false,
                 iflag: true,
             },
-            &program,
+            program,
             request,
         ),
         Tree::EllenNoIflag => answered(
@@ -254,11 +248,11 @@ fn served<R: Threads + Wait + Sync>(
                 mark: true,
                 iflag: false,
             },
-            &program,
+            program,
             request,
         ),
-        Tree::Nm => answered(rt, alloc, NatMit { tag: true }, &program, request),
-        Tree::NmNoTag => answered(rt, alloc, NatMit { tag: false }, &program, request),
+        Tree::Nm => answered(rt, alloc, NatMit { tag: true }, program, request),
+        Tree::NmNoTag => answered(rt, alloc, NatMit { tag: false }, program, request),
     }
 }
 
@@ -272,10 +266,11 @@ fn served_from<R: Threads + Wait + Sync, F: Read>(
     requires { reader.old.failures < 2 ^ 64 - 1 }
     ensures { IfOk result (IsServedFrom F.remaining reader.old reader.new request.now) }
 {
-    match reader.read_all(alloc) {
-        Ok(text) => served(rt, alloc, text.as_slice(), request),
-        Err(ReadFault::Device) => unreadable(alloc, request.file()),
-        Err(ReadFault::OutOfMemory) => Err(std::alloc::AllocError),
+    match Program::from_reader(alloc, reader) {
+        Ok(program) => served(rt, alloc, &program, request),
+        Err(LoadFault::Device) => unreadable(alloc, request.file()),
+        Err(LoadFault::Program(ProgramFault::OutOfMemory)) => Err(OutOfMemory),
+        Err(LoadFault::Program(fault)) => refusal(alloc, 3, fault_text(fault)),
     }
 }
 

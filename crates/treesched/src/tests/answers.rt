@@ -1,9 +1,8 @@
 //! What the program answers to its words.
-use crate::input::Counted;
 use crate::request::read_words;
 use crate::serve::{Output, refused, serve};
 use crate::tests::cases::Runtime;
-use sched_program::OutOfMemory;
+use sched_program::{Counted, OutOfMemory};
 use std::alloc::Global;
 
 /// The words of a line, which single spaces part. An empty line has none.

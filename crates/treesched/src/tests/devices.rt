@@ -1,12 +1,11 @@
 //! Readers and writers that fail.
-use crate::input::{Counted, ReadFault};
 use crate::output::{CountedWriter, WriteFault, put_all};
 use crate::request::{WordsFault, read_words};
 use crate::serve::{Output, refused, serve};
 use crate::tests::answers::shows;
 use crate::tests::cases::{Runtime, check};
 use crate::tests::sources::TWICE;
-use sched_program::OutOfMemory;
+use sched_program::{Counted, OutOfMemory};
 use std::alloc::Global;
 use std::io;
 use std::io::{ErrorKind, Read, Write};
@@ -48,32 +47,6 @@ fn failing(text: &str, fails_at: usize) -> FailingReader<'_> {
 /// Whether one of the reads fails that read all of the text.
 fn has_failed_read(text: &str, fails_at: usize) -> bool {
     fails_at <= text.len()
-}
-
-/// A text whose read of this number fails. It is read to its end if it has no such read.
-#[derive(Clone, Copy, Debug)]
-struct Reads(&'static str, usize);
-
-impl Reads {
-    fn is_met(&self, alloc: Global) -> Result<bool, OutOfMemory> {
-        let Reads(text, fails_at) = *self;
-        let fails = has_failed_read(text, fails_at);
-        match Counted::new(failing(text, fails_at)).read_all(alloc) {
-            Ok(bytes) => Ok(!fails && bytes.as_slice() == text.as_bytes()),
-            Err(ReadFault::Device) => Ok(fails),
-            Err(ReadFault::OutOfMemory) => Err(OutOfMemory),
-        }
-    }
-}
-
-#[test]
-fn ends_at_the_failed_read(rt: HostRuntime) -> Result<(), Fail> {
-    let text = "{\"version\":1}";
-    for fails_at in 0..text.len() + 3 {
-        let case = Reads(text, fails_at);
-        check(&rt, &case, |case| case.is_met(rt.alloc()))?;
-    }
-    Ok(())
 }
 
 /// A file whose read of this number fails, or one that cannot be opened. The program tells of it, but answers if the file

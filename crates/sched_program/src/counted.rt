@@ -2,8 +2,8 @@
 ghost use Rattle.std.specs.Prelude.{◌≡◌, ◌+◌, ◌-◌, ◌<◌, ◌^◌, IfOk, OnOk};
 ghost use Rattle.std.specs.Io.{ReadsAtMost};
 ghost use Rattle.std.specs.Io.KnownBytes.{Consumes, IsAtEnd, ReadConsumes};
-ghost use Rattle.treesched.specs.Devices.{failed_reads};
-ghost use Rattle.treesched.specs.declared.input.ReadFault.TheVariants.{OutOfMemory};
+ghost use Rattle.sched_program.specs.Loading.{failed_reads};
+ghost use Rattle.sched_program.specs.declared.counted.ReadFault.TheVariants.{OutOfMemory};
 
 use std::alloc::{AllocError, Global};
 use std::io::Read;
@@ -13,7 +13,7 @@ const CHUNK: usize = 4096;
 
 /// Why not all bytes were read.
 #[derive(Clone, Copy, Debug, PartialEq, Eq)]
-pub enum ReadFault {
+pub(crate) enum ReadFault {
     /// A read failed.
     Device,
     /// Memory ran out.
@@ -28,7 +28,7 @@ impl From<AllocError> for ReadFault {
     }
 }
 
-/// A reader that counts its failed reads.
+/// A reader that counts its failed reads, so that whoever lends it sees whether one failed.
 #[derive(Drop)]
 pub struct Counted<R> {
     reader: R,
@@ -44,6 +44,13 @@ impl<R: Read> Counted<R> {
             reader,
             failures: 0,
         }
+    }
+
+    /// How many of its reads failed.
+    pub fn failures(&self) -> u64
+        ensures { result ≡ self.now.failures }
+    {
+        self.failures
     }
 
     // One read, which is counted where it fails.
@@ -63,8 +70,8 @@ impl<R: Read> Counted<R> {
         }
     }
 
-    /// All bytes up to the end. A failed read ends the call, whatever its cause.
-    pub fn read_all(&mut self, alloc: Global) -> Result<Vec<u8>, ReadFault>
+    /// All bytes up to the end. A failed read ends the call, whatever its cause: one that was interrupted is not tried again.
+    pub(crate) fn read_all(&mut self, alloc: Global) -> Result<Vec<u8>, ReadFault>
         requires { self.old.failures < 2 ^ 64 - 1 }
         ensures bytes { IfOk result (λ bytes. Consumes (R.remaining self.old.reader)
             (R.remaining self.new.reader) bytes.items) }

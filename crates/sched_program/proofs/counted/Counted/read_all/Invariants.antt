@@ -1,6 +1,6 @@
 use Rattle.std.proofs.Common.{◌≡◌}
 use Rattle.std.specs.Io.KnownBytes.{Consumes}
-use Rattle.treesched.proofs.input.Counted.read_all.Given as goal
+use Rattle.sched_program.proofs.counted.Counted.read_all.Given as goal
 
 abbrev pub invariant-loop : goal.invariant-loop
 invariant-loop g l = (l.self.failures ≡ l.initial.self.failures)

@@ -1,0 +1,25 @@
+-- The answer for what a reader gave.
+use Rattle.std.proofs.Common.{◌≡◌, ◌≢◌, ℕ, List, Option, Err, inl, inr, refl}
+use Rattle.std.specs.Io.KnownBytes.{Consumes, IsAtEnd}
+use Rattle.sched_program.specs.Faults.{IsFirstFaultOf}
+use Rattle.sched_program.specs.Loading.{AnswersAllRead}
+use Rattle.sched_program.specs.Program.{Program}
+use Rattle.sched_program.specs.Text.{IsJsonTextOf}
+use Rattle.sched_program.specs.declared.fault.ProgramFault.{ProgramFault}
+use Rattle.sched_program.specs.declared.fault.ProgramFault.TheVariants as fault
+use Rattle.sched_program.specs.declared.loading.LoadFault.TheVariants as load
+
+-- a fault of the bytes that were read to the end
+pub told : (old new : Option (List ℕ)) (text : List ℕ) (f : ProgramFault) → Consumes old new text → IsAtEnd new → IsFirstFaultOf text f
+    → (f ≢ fault.OutOfMemory → (program : Program) → ¬ IsJsonTextOf text program) → AnswersAllRead old new (Err (load.Program f))
+told old new text fault.NotJson all end first none = inr (text, all, end, (first, none (λ e. cc)))
+told old new text fault.NotObject all end first none = inr (text, all, end, (first, none (λ e. cc)))
+told old new text fault.Version all end first none = inr (text, all, end, (first, none (λ e. cc)))
+told old new text fault.Tree all end first none = inr (text, all, end, (first, none (λ e. cc)))
+told old new text fault.Initial all end first none = inr (text, all, end, (first, none (λ e. cc)))
+told old new text fault.InitialTwice all end first none = inr (text, all, end, (first, none (λ e. cc)))
+told old new text fault.Threads all end first none = inr (text, all, end, (first, none (λ e. cc)))
+told old new text fault.Ops all end first none = inr (text, all, end, (first, none (λ e. cc)))
+told old new text fault.Op all end first none = inr (text, all, end, (first, none (λ e. cc)))
+told old new text fault.Key all end first none = inr (text, all, end, (first, none (λ e. cc)))
+told old new text fault.OutOfMemory all end first none = inl refl
