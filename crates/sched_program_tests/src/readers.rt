@@ -45,44 +45,61 @@ fn failing(text: &str, fails_at: usize) -> FailingReader<'_> {
     }
 }
 
-/// The answer for a text whose read of this number fails, and how many reads the reader counts as failed.
-fn load_once(alloc: Global, text: &str, fails_at: usize) -> (Result<Program, LoadFault>, u64) {
+/// What is told of a text whose read of this number fails, and how many reads the reader counts as failed.
+fn load_once(alloc: Global, text: &str, fails_at: usize) -> (Option<LoadFault>, u64) {
     let mut reader = Counted::new(failing(text, fails_at));
-    let answer = Program::from_reader(alloc, &mut reader);
-    (answer, reader.failures())
+    let fault = Program::from_reader(alloc, &mut reader).err();
+    (fault, reader.failures())
 }
 
 /// The same, at the second try where a growth was refused.
-fn load(alloc: Global, text: &str, fails_at: usize) -> (Result<Program, LoadFault>, u64) {
-    match load_once(alloc, text, fails_at) {
-        (Err(LoadFault::Program(ProgramFault::OutOfMemory)), _) => load_once(alloc, text, fails_at),
-        answered => answered,
+fn load(alloc: Global, text: &str, fails_at: usize) -> (Option<LoadFault>, u64) {
+    let told = load_once(alloc, text, fails_at);
+    if told.0 == Some(LoadFault::Program(ProgramFault::OutOfMemory)) {
+        return load_once(alloc, text, fails_at);
     }
+    told
 }
 
-/// A text whose read of this number fails is told as that alone, and the failure is counted.
+/// That a read failed is told alone, and counted once.
 fn expect_device(rt: &(impl AllocGlobal + Abort), text: &str, fails_at: usize) {
-    let (answer, failures) = load(rt.alloc(), text, fails_at);
-    assert_eq!(rt; answer.err(), Some(LoadFault::Device), "read {fails_at}");
-    assert_eq!(rt; failures, 1, "read {fails_at}");
+    let told = load(rt.alloc(), text, fails_at);
+    assert_eq!(rt; told, (Some(LoadFault::Device), 1), "read {fails_at}");
 }
 
-/// A text that is read to its end has this fault.
-fn expect_fault(rt: &(impl AllocGlobal + Abort), text: &str, fault: ProgramFault) {
-    let (answer, failures) = load(rt.alloc(), text, NEVER);
-    assert_eq!(rt; answer.err(), Some(LoadFault::Program(fault)), "{text}");
-    assert_eq!(rt; failures, 0, "{text}");
-}
-
-/// Whether two texts are read as the same program, the one out of a reader.
-fn is_same(alloc: Global, text: &str, fails_at: usize) -> bool {
-    match (
-        load(alloc, text, fails_at),
-        Program::from_json(alloc, text.as_bytes()),
-    ) {
-        ((Ok(program), 0), Ok(other)) => program.is_same(&other),
-        _ => false,
+/// Texts that are read to their ends all have this fault, each with what it shows.
+fn expect_fault_of_each(
+    rt: &(impl AllocGlobal + Abort),
+    texts: &[(&str, &str)],
+    fault: ProgramFault,
+) {
+    for (case, text) in texts {
+        let told = load(rt.alloc(), text, NEVER);
+        assert_eq!(rt; told, (Some(LoadFault::Program(fault)), 0), "{case}");
     }
+}
+
+/// Whether a text describes a program.
+fn is_of(alloc: Global, text: &str, program: &Program) -> bool {
+    match Program::from_json(alloc, text.as_bytes()) {
+        Ok(other) => program.is_same(&other),
+        Err(_) => false,
+    }
+}
+
+/// Whether a text whose read of this number fails is read as the program that it describes.
+fn is_read(alloc: Global, text: &str, fails_at: usize) -> bool {
+    let mut reader = Counted::new(failing(text, fails_at));
+    match Program::from_reader(alloc, &mut reader) {
+        Ok(program) => is_of(alloc, text, &program),
+        Err(_) => false,
+    }
+}
+
+/// It is, at the second try where the first was refused a growth.
+fn expect_read(rt: &(impl AllocGlobal + Abort), text: &str, fails_at: usize) {
+    let is_met = is_read(rt.alloc(), text, fails_at) || is_read(rt.alloc(), text, fails_at);
+    assert!(rt; is_met, "read {fails_at}");
 }
 
 #[test]
@@ -95,12 +112,8 @@ fn each_failed_read_is_told(rt: HostRuntime) {
 // One read more than there are bytes finds the end; no call makes a further one.
 #[test]
 fn all_bytes_are_read(rt: HostRuntime) {
-    let after_the_end = TWO_INSERTS.len() + 1;
-    for fails_at in [after_the_end, NEVER] {
-        let found = is_same(rt.alloc(), TWO_INSERTS, fails_at)
-            || is_same(rt.alloc(), TWO_INSERTS, fails_at);
-        assert!(rt; found, "read {fails_at}");
-    }
+    expect_read(&rt, TWO_INSERTS, TWO_INSERTS.len() + 1);
+    expect_read(&rt, TWO_INSERTS, NEVER);
 }
 
 #[test]
@@ -112,27 +125,23 @@ fn a_failed_read_is_told_before_a_fault_of_the_text(rt: HostRuntime) {
 
 #[test]
 fn the_fault_of_all_bytes_is_told(rt: HostRuntime) {
-    for (texts, fault) in [
-        (NOT_JSON, ProgramFault::NotJson),
-        (OF_VERSION, ProgramFault::Version),
-        (OF_TREE, ProgramFault::Tree),
-        (OF_KEY, ProgramFault::Key),
-    ] {
-        for (_, text) in texts {
-            expect_fault(&rt, text, fault);
-        }
+    expect_fault_of_each(&rt, NOT_JSON, ProgramFault::NotJson);
+    expect_fault_of_each(&rt, OF_VERSION, ProgramFault::Version);
+    expect_fault_of_each(&rt, OF_TREE, ProgramFault::Tree);
+    expect_fault_of_each(&rt, OF_KEY, ProgramFault::Key);
+}
+
+/// How many failed reads a reader counts after two calls that each meet one.
+fn failures_of_two_calls(alloc: Global) -> u64 {
+    let mut reader = Counted::new(failing(TWO_INSERTS, 0));
+    if let Err(LoadFault::Device) = Program::from_reader(alloc, &mut reader) {
+        let _ = Program::from_reader(alloc, &mut reader);
     }
+    reader.failures()
 }
 
 // The count goes on from call to call.
 #[test]
 fn failed_reads_are_counted_one_by_one(rt: HostRuntime) {
-    let mut reader = Counted::new(failing(TWO_INSERTS, 0));
-    let first = Program::from_reader(rt.alloc(), &mut reader);
-    assert!(rt; matches!(first, Err(LoadFault::Device)));
-    if let Err(LoadFault::Device) = first {
-        let second = Program::from_reader(rt.alloc(), &mut reader);
-        assert!(rt; matches!(second, Err(LoadFault::Device)));
-    }
-    assert_eq!(rt; reader.failures(), 2);
+    assert_eq!(rt; failures_of_two_calls(rt.alloc()), 2);
 }
