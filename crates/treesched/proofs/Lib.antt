@@ -1,6 +1,7 @@
 mod Accepted
 mod Entered
 mod Ledgers
+mod Loaded
 mod Parsed
 mod Requests
 mod Schedules

@@ -1,5 +1,5 @@
 //! The answer to a request: the status and all that is to be written.
-ghost use Rattle.std.specs.Prelude.{◌≡◌, ◌-◌, ◌^◌, ◌<◌, ◌++◌, ◌⊎◌, [], codes, IfOk, IfSome, if◌then◌else◌};
+ghost use Rattle.std.specs.Prelude.{◌≡◌, ◌≢◌, ◌-◌, ◌^◌, ◌<◌, ◌++◌, ◌⊎◌, [], codes, IfOk, IfSome, if◌then◌else◌};
 ghost use Rattle.std.specs.String.{string_bytes};
 ghost use Rattle.std.specs.Prelude.{MatchOption};
 ghost use Rattle.std.specs.Cmp.{IsEquivalence};
@@ -100,6 +100,16 @@ pub fn fault_text(fault: ProgramFault) -> &'static str
         ProgramFault::Op => "P9 Op",
         ProgramFault::Key => "P10 Key",
         ProgramFault::OutOfMemory => "P11 OutOfMemory",
+    }
+}
+
+/// The refusal of a text that is no program.
+fn no_program(alloc: Global, fault: ProgramFault) -> Result<Output, OutOfMemory>
+    ensures { IfOk result (λ output. (fault ≢ ProgramFault.OutOfMemory) × lines.IsRefusal 3 (lines.fault_text fault) output) }
+{
+    match fault {
+        ProgramFault::OutOfMemory => Err(OutOfMemory),
+        fault => refusal(alloc, 3, fault_text(fault)),
     }
 }
 
@@ -269,8 +279,7 @@ fn served_from<R: Threads + Wait + Sync, F: Read>(
     match Program::from_reader(alloc, reader) {
         Ok(program) => served(rt, alloc, &program, request),
         Err(LoadFault::Device) => unreadable(alloc, request.file()),
-        Err(LoadFault::Program(ProgramFault::OutOfMemory)) => Err(OutOfMemory),
-        Err(LoadFault::Program(fault)) => refusal(alloc, 3, fault_text(fault)),
+        Err(LoadFault::Program(fault)) => no_program(alloc, fault),
     }
 }
 
