@@ -1,45 +1,64 @@
-// Refuses the Nth request for memory of a process: LD_PRELOAD this, with REFUSE=N in the environment.
-// With REFUSE=0 it refuses none and writes how many requests there were to standard error.
+// Refuses one request of a process: LD_PRELOAD this with, in the environment,
+//   REFUSE=N         the Nth request for memory is refused; with 0 none
+//   REFUSE_THREAD=N  the Nth start of a thread is refused; with 0 none
+// With REFUSE=0 the numbers of both are written to standard error in the end, as 'requests R threads T'.
 #define _GNU_SOURCE
 #include <dlfcn.h>
 #include <errno.h>
+#include <pthread.h>
 #include <stdio.h>
 #include <stdlib.h>
+#include <string.h>
 #include <sys/syscall.h>
 #include <unistd.h>
 
-// Threads count too: the first request is made before any thread is started.
-static _Atomic unsigned long requests;
-static unsigned long refused;
-static int refuses(void) {
-  if (requests == 0) {
-    const char* text = getenv("REFUSE");
-    refused = text ? strtoul(text, 0, 10) : 0;
-  }
-  return ++requests == refused;
+static _Atomic unsigned long requests, threads;
+
+static int refuses(_Atomic unsigned long* made, const char* name) {
+  const char* text = getenv(name);
+  return ++*made == (text ? strtoul(text, 0, 10) : 0);
 }
+
+static void* next(const char* name) { return dlsym(RTLD_NEXT, name); }
+
+static void tell(void) {
+  const char* text = getenv("REFUSE");
+  if (text && !strcmp(text, "0")) dprintf(2, "requests %lu threads %lu\n", requests, threads);
+}
+
 void* malloc(size_t size) {
-  static void* (*next)(size_t);
-  if (!next) next = (void* (*)(size_t))dlsym(RTLD_NEXT, "malloc");
-  if (refuses()) { errno = ENOMEM; return 0; }
-  return next(size);
+  static void* (*real)(size_t);
+  if (!real) real = (void* (*)(size_t))next("malloc");
+  if (refuses(&requests, "REFUSE")) { errno = ENOMEM; return 0; }
+  return real(size);
 }
+
 void* realloc(void* old, size_t size) {
-  static void* (*next)(void*, size_t);
-  if (!next) next = (void* (*)(void*, size_t))dlsym(RTLD_NEXT, "realloc");
-  if (refuses()) { errno = ENOMEM; return 0; }
-  return next(old, size);
+  static void* (*real)(void*, size_t);
+  if (!real) real = (void* (*)(void*, size_t))next("realloc");
+  if (refuses(&requests, "REFUSE")) { errno = ENOMEM; return 0; }
+  return real(old, size);
 }
+
 void* aligned_alloc(size_t align, size_t size) {
-  static void* (*next)(size_t, size_t);
-  if (!next) next = (void* (*)(size_t, size_t))dlsym(RTLD_NEXT, "aligned_alloc");
-  if (refuses()) { errno = ENOMEM; return 0; }
-  return next(align, size);
+  static void* (*real)(size_t, size_t);
+  if (!real) real = (void* (*)(size_t, size_t))next("aligned_alloc");
+  if (refuses(&requests, "REFUSE")) { errno = ENOMEM; return 0; }
+  return real(align, size);
 }
+
+int pthread_create(pthread_t* thread, const pthread_attr_t* how, void* (*start)(void*), void* argument) {
+  static int (*real)(pthread_t*, const pthread_attr_t*, void* (*)(void*), void*);
+  if (!real) real = (int (*)(pthread_t*, const pthread_attr_t*, void* (*)(void*), void*))next("pthread_create");
+  if (refuses(&threads, "REFUSE_THREAD")) return EAGAIN;
+  return real(thread, how, start, argument);
+}
+
 // A program with threads ends by _exit, which runs no destructor.
+__attribute__((destructor)) static void at_exit(void) { tell(); }
+
 void _exit(int status) {
-  unsigned long made = requests;
-  if (refused == 0) dprintf(2, "requests %lu\n", made);
+  tell();
   syscall(SYS_exit_group, status);
   __builtin_unreachable();
 }

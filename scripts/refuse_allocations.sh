@@ -1,18 +1,21 @@
 #!/usr/bin/env bash
-# Runs what takes memory with each of its requests for memory refused in turn. It is no part of the gate.
+# Runs what takes memory or starts threads with each of these requests refused in turn, one a run. It is no part of the
+# gate, in which no request is refused.
 #
-# usage: scripts/refuse_allocations.sh program        the built program, on programs of examples/ and on faulty words
-#        scripts/refuse_allocations.sh tests CRATE N  the tests of a crate, with request 1, 2, .. N refused, one a run (15 s each)
+# usage: scripts/refuse_allocations.sh program      the built program, on programs of examples/ and on faulty words
+#        scripts/refuse_allocations.sh tests CRATE  the built tests of a crate, each for itself
 #
-# The program has to end with status 5, one line on standard error and nothing on standard output, or just as it does
-# with ample memory. A test that is refused memory runs its case once more, so that all pass.
+# `rt ci` builds both. Refused are each of the first 2,000 requests for memory, each multiple of 997 after them, and each
+# start of a thread. The program has to end with status 5, one line on standard error and nothing on standard output, or
+# as it does when nothing is refused; of several workers, the schedule and the ledger may be others. A test has to
+# pass: what it is refused once it asks for once more.
 set -u
 top=$(cd "$(dirname "$0")/.." && pwd)
 work=$(mktemp -d)
 trap 'rm -rf "$work"' EXIT
+runs=0
+failed=0
 
-# The words of each line are run with requests 1, 2, .. refused, up to the last that a run with ample memory makes, but
-# for at most 2,000 runs.
 lines='explore two_inserts.json --steps 2 --ledger
 explore two_inserts.json --steps 2 --states 4
 explore two_inserts.json --steps 2 --states 4 --workers 2
@@ -23,64 +26,84 @@ explore two_finds.json --steps 4 --workers 8
 explore two_finds.json --steps 4 --merge names
 explore two_finds.json --steps 4 --merge names --workers 8
 explore three_threads.json --steps 3
+explore ellen_no_iflag.json --steps 20
+explore ellen_no_iflag.json --steps 20 --workers 2
+explore ellen_no_iflag.json --steps 20 --workers 8
+explore ellen_no_mark.json --steps 20
+explore nm_no_tag.json --steps 20
 replay two_inserts.json --schedule 1,0
 replay two_inserts.json --schedule 0,0
 replay two_inserts.json --schedule 0,,1
-explore nm_no_tag.json --steps 20
-explore ellen_no_mark.json --steps 20
 explore no-such-file.json --steps 2
 explore two_inserts.json --steps 401'
 
-# run NAME WORD..: runs the program, and leaves its output in files of this name.
-run() {
-  local name=$1
+# refuse WHAT N WORD..: runs a command with its Nth request refused, and leaves its output in files. With 0 none is.
+refuse() {
+  local what=$1 number=$2
+  shift 2
+  timeout 60 env "$what=$number" LD_PRELOAD="$work/refuse.so" "$@" >"$work/refused.out" 2>"$work/refused.err"
+}
+
+# refuse_each JUDGE WORD..: runs a command with each of its requests refused in turn. JUDGE is called with its status.
+refuse_each() {
+  local judge=$1 requests threads what number
   shift
-  (cd "$top/examples" && "$top/crates/treesched/out/treesched" "$@" >"$work/$name.out" 2>"$work/$name.err")
+  local shown="$*"
+  refuse REFUSE 0 "$@"
+  read -r requests threads < <(sed -n 's/^requests \([0-9]*\) threads \([0-9]*\)$/\1 \2/p' "$work/refused.err")
+  [ -n "$requests" ] || { echo "${shown##*/}: its requests are not counted" && failed=$((failed + 1)); }
+  while read -r what number; do
+    refuse "$what" "$number" "$@"
+    "$judge" $? || { echo "${shown##*/}: wrong with $what=$number" && failed=$((failed + 1)); }
+    runs=$((runs + 1))
+  done < <(
+    seq -f 'REFUSE %.0f' 1 $((requests < 2000 ? requests : 2000))
+    seq -f 'REFUSE %.0f' 2991 997 "$requests"
+    seq -f 'REFUSE_THREAD %.0f' 1 "$threads"
+  )
+  echo "${shown##*/}: $requests requests for memory, $threads starts of threads"
+}
+
+# What is the same for every number of workers.
+common() {
+  if [[ $words == *--workers* ]]; then sed '/^schedule /d; /^worker /d' "$1"; else cat "$1"; fi
+}
+
+is_answered() {
+  if [ "$1" -eq 5 ] && [ ! -s "$work/refused.out" ] && [ "$(cat "$work/refused.err")" = 'treesched: out of memory' ]; then
+    return 0
+  fi
+  [ "$1" -eq "$status" ] && cmp -s "$work/refused.err" "$work/ample.err" &&
+    [ "$(common "$work/refused.out")" = "$(common "$work/ample.out")" ]
 }
 
 refuse_program() {
-  cc -shared -fPIC -O1 -o "$work/refuse.so" "$top/scripts/refuse.c" -ldl || return 2
-  local failed=0 words status got requests n
+  local program=$top/crates/treesched/out/treesched words status
+  cd "$top/examples" || exit 2
   while IFS= read -r words; do
     # shellcheck disable=SC2086
-    run ample $words
+    "$program" $words >"$work/ample.out" 2>"$work/ample.err"
     status=$?
     # shellcheck disable=SC2086
-    REFUSE=0 LD_PRELOAD=$work/refuse.so run counted $words
-    requests=$(sed -n 's/^requests //p' "$work/counted.err")
-    [ "$requests" -le 2000 ] || requests=2000
-    for ((n = 1; n <= requests; n++)); do
-      # shellcheck disable=SC2086
-      REFUSE=$n LD_PRELOAD=$work/refuse.so run refused $words
-      got=$?
-      if [ $got -eq 5 ] && [ ! -s "$work/refused.out" ] && [ "$(cat "$work/refused.err")" = "treesched: out of memory" ]; then
-        continue
-      fi
-      if [ $got -ne $status ] || ! cmp -s "$work/refused.out" "$work/ample.out" || ! cmp -s "$work/refused.err" "$work/ample.err"; then
-        echo "$words: request $n refused: status $got, with other output than $status has" && failed=$((failed + 1))
-      fi
-    done
-    echo "$words: $requests requests refused in turn"
+    refuse_each is_answered "$program" $words
   done <<<"$lines"
-  echo "$failed failed"
-  [ $failed -eq 0 ]
 }
+
+is_passed() { [ "$1" -eq 0 ]; }
 
 refuse_tests() {
-  cd "$top/crates/$1" || return 2
-  local n failed=0
-  for ((n = 1; n <= $2; n++)); do
-    rt try --test --fail-alloc "$n" >"$work/tests" 2>&1
-    if ! grep -q '^test result: ok' "$work/tests"; then
-      echo "$1: request $n refused:" && grep -E '^test .*FAILED|^tests? ' "$work/tests" && failed=$((failed + 1))
-    fi
-  done
-  echo "$1: $2 runs, $failed failed"
-  [ $failed -eq 0 ]
+  local program=$top/crates/$1/out/$1_tests name
+  cd "$work" || exit 2
+  while IFS= read -r name; do
+    refuse_each is_passed "$program" "$name"
+  done < <("$program" --list | sed -n 's/: test$//p')
 }
 
+cc -shared -fPIC -O1 -o "$work/refuse.so" "$top/scripts/refuse.c" -ldl || exit 2
 case "${1:-}" in
   program) refuse_program ;;
-  tests) refuse_tests "${2:?a crate}" "${3:?a number of requests}" ;;
-  *) sed -n '2,8p' "$0" ;;
+  tests) refuse_tests "${2:?a crate}" ;;
+  *) sed -n '2,11p' "$0" && exit 2 ;;
 esac
+echo "$runs runs, $failed failed"
+[ "$failed" -eq 0 ] && [ "$runs" -gt 0 ]

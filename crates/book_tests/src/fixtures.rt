@@ -191,6 +191,14 @@ pub fn expanded<M: Machine>(
     Ok(book)
 }
 
+/// An entry's recorded schedule.
+pub fn way_of<M: Machine>(alloc: Global, book: &Book<M>, entry: usize) -> Result<Vec<u8>, Broken> {
+    if entry >= book.len() {
+        return Err(Broken::NoEntry);
+    }
+    Ok(book.schedule_of(alloc, entry)?)
+}
+
 /// Whether an entry's recorded schedule is this.
 pub fn is_way<M: Machine>(
     alloc: Global,
@@ -198,11 +206,7 @@ pub fn is_way<M: Machine>(
     entry: usize,
     way: &[u8],
 ) -> Result<bool, Broken> {
-    if entry >= book.len() {
-        return Err(Broken::NoEntry);
-    }
-    let schedule = book.schedule_of(alloc, entry)?;
-    Ok(schedule.as_slice() == way)
+    Ok(way_of(alloc, book, entry)?.as_slice() == way)
 }
 
 /// What a schedule of the program of a text leads to.

@@ -8,6 +8,8 @@ mod fixtures;
 #[cfg(test)]
 mod layers;
 #[cfg(test)]
+mod refused;
+#[cfg(test)]
 mod replays;
 #[cfg(test)]
 mod taking;

@@ -1,11 +1,14 @@
 //! The schedules that a book records, where several lead to one state.
+ghost use Rattle.std.specs.Prelude.{◌+◌, ◌^◌, ◌<◌};
+ghost use Rattle.tree_machine.specs.Step.{Fits};
 
-use crate::fixtures::{Broken, TWO_FINDS, expand_next, expanded, is_way, replayed, settled};
-use book::{Book, Merge};
+use crate::fixtures::{Broken, TWO_FINDS, boxed, expanded, is_way, replayed, settled, take_next};
+use book::{Book, Entered, Expansion, Leftovers, Merge, Totals};
 use ellen::Ellen;
+use sched_program::OutOfMemory;
 use std::alloc::Global;
 use std::test::Fail;
-use tree_machine::Machine;
+use tree_machine::{Machine, State, StateForm};
 
 const WHOLE: Ellen = Ellen {
     mark: true,
@@ -49,15 +52,66 @@ fn the_recorded_way_is_the_one_entered(rt: HostRuntime) -> Result<(), Fail> {
     Ok(())
 }
 
-/// A step of entry 2 leads to entry 4 again, and only the other one to a new entry.
-fn keeps_the_way<M: Machine>(
+const BOTH_NEW: Entered = Entered { entered: 2, met: 0 };
+
+const ONE_NEW: Entered = Entered { entered: 1, met: 1 };
+
+/// The totals once the entries 0, 1 and 2 are expanded.
+const THREE_EXPANDED: Totals = Totals {
+    entries: 6,
+    fresh: 3,
+    taken: 0,
+    expanded: 3,
+    entered: 5,
+    met: 1,
+};
+
+/// Room for as many known states as four threads' steps lead to.
+fn room_for_four<M: Machine>(
+    alloc: Global,
+) -> Result<Box<Leftovers<State<M>, StateForm<M>>>, OutOfMemory> {
+    boxed(alloc, Leftovers::with_room(alloc, 4)?)
+}
+
+/// Enters the steps of a state under the number of an entry. Known states are left.
+fn enter_leaving<M: Machine>(
     alloc: Global,
     book: &mut Book<M>,
-    merge: Merge,
+    id: usize,
+    state: &State<M>,
+    leftovers: &mut Leftovers<State<M>, StateForm<M>>,
+) -> Result<Entered, Broken>
+    requires fits { Fits (M.rules book.old.machine) book.old.program state.now }
+    requires room { state.now.steps + 1 < 2 ^ 64 }
+{
+    let program = book.program().copy(alloc)?;
+    let expansion = Expansion::of(alloc, book.machine(), &program, state)?;
+    Ok(book.enter_leaving(id, expansion, leftovers)?)
+}
+
+/// Takes the next entry and enters its steps. Whether it is the entry of this number, they come to these counts, and all
+/// states that the book knew are left.
+fn enters<M: Machine>(
+    alloc: Global,
+    book: &mut Book<M>,
+    number: usize,
+    counts: Entered,
 ) -> Result<bool, Broken> {
-    let told = expand_next(alloc, book, merge)?;
-    let is_one_met = told.entered == 1 && told.met == 1 && book.len() == 6;
-    Ok(is_way(alloc, book, 4, &[0, 1])? && is_way(alloc, book, 5, &[1, 1])? && is_one_met)
+    let (id, state) = take_next(book)?;
+    let mut leftovers = room_for_four(alloc)?;
+    let told = enter_leaving(alloc, book, id, &state, &mut *leftovers)?;
+    Ok(id == number && told == counts && leftovers.len() == counts.met)
+}
+
+/// A step of entry 2 leads to entry 4 again, and only the other one to a new entry.
+fn keeps_the_way<M: Machine>(alloc: Global, book: &mut Book<M>) -> Result<bool, Broken> {
+    for (number, counts) in [(0, BOTH_NEW), (1, BOTH_NEW), (2, ONE_NEW)] {
+        if !enters(alloc, book, number, counts)? {
+            return Ok(false);
+        }
+    }
+    let is_kept = is_way(alloc, book, 4, &[0, 1])? && is_way(alloc, book, 5, &[1, 1])?;
+    Ok(is_kept && book.totals() == THREE_EXPANDED)
 }
 
 #[test]
@@ -65,8 +119,8 @@ fn an_entry_met_again_keeps_its_way(rt: HostRuntime) -> Result<(), Fail> {
     let alloc = rt.alloc();
     for merge in MERGES {
         let is_kept = settled(|| {
-            let mut book = expanded(alloc, WHOLE, TWO_FINDS, (merge, merge), 2)?;
-            keeps_the_way(alloc, &mut *book, merge)
+            let mut book = expanded(alloc, WHOLE, TWO_FINDS, (merge, merge), 0)?;
+            keeps_the_way(alloc, &mut *book)
         })?;
         assert!(rt; is_kept, "{merge:?}");
     }

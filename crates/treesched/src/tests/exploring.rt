@@ -3,7 +3,6 @@ mod alone;
 mod held;
 mod known;
 mod ledger;
-mod meeting;
 mod together;
 
 use crate::tests::cases::{Runtime, check};
@@ -137,6 +136,11 @@ fn held_workers_explore_two_threads(rt: HostRuntime) -> Result<(), Fail> {
 #[test]
 fn held_workers_find_the_faults_of_the_variants(rt: HostRuntime) -> Result<(), Fail> {
     explores_all(&rt, By::Held, FAULTS.as_slice())
+}
+
+#[test]
+fn held_workers_need_no_higher_limit(rt: HostRuntime) -> Result<(), Fail> {
+    fits_all(&rt, By::Held, TIGHT.as_slice())
 }
 
 #[test]

@@ -7,7 +7,6 @@ use crew::{Gate, Options, Report, explore};
 use ellen::Ellen;
 use natmit::NatMit;
 use sched_program::{OutOfMemory, Program, ProgramFault, Tree};
-use std::alloc::Global;
 use std::sync::atomic::{AtomicU64, Ordering};
 use tree_machine::{Atomic, Machine};
 
@@ -66,7 +65,7 @@ fn explore_on<M: Machine, R: Runtime>(
     let Some(options) = Options::new(steps, exploration.limit, exploration.merge, workers) else {
         return Ok(false);
     };
-    let gate = Slow::new(rt.alloc())?;
+    let gate = Slow::new();
     let report = explore(rt, rt.alloc(), machine, program, options, &gate)?;
     let is_met = gate.agrees(&report) || exploration.is_stopped();
     Ok(is_met && tells(rt, &report, exploration, workers)?)
@@ -91,16 +90,26 @@ fn tells<M: Machine, R: Runtime>(
 /// Counts how often each worker arrives, and holds those at odd places.
 #[derive(Drop)]
 struct Slow {
-    counts: Vec<AtomicU64>,
+    counts: [AtomicU64; 8],
+}
+
+fn zero() -> AtomicU64 {
+    AtomicU64::new(0)
 }
 
 impl Slow {
-    fn new(alloc: Global) -> Result<Slow, OutOfMemory> {
-        let mut counts = Vec::new(alloc);
-        for _worker in 0..8 {
-            counts.push(AtomicU64::new(0))?;
-        }
-        Ok(Slow { counts })
+    fn new() -> Slow {
+        let counts = [
+            zero(),
+            zero(),
+            zero(),
+            zero(),
+            zero(),
+            zero(),
+            zero(),
+            zero(),
+        ];
+        Slow { counts }
     }
 
     /// Whether each worker expanded as many entries as it arrived at.

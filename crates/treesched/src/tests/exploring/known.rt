@@ -212,9 +212,11 @@ impl Stops {
 
 /// All limits below the number of states for two programs, and for one the last limit, at which the layer that has its
 /// fault is full.
-pub static STOPS: [Stops; 12] = [
+pub static STOPS: [Stops; 14] = [
     Stops(TWO_INSERTS, 2, Merge::Exact, 1, 2, 0),
     Stops(TWO_INSERTS, 2, Merge::Exact, 3, 4, 1),
+    Stops(TWO_INSERTS, 2, Merge::Names, 1, 2, 0),
+    Stops(TWO_INSERTS, 2, Merge::Names, 3, 4, 1),
     Stops(TWO_FINDS, 4, Merge::Exact, 1, 2, 0),
     Stops(TWO_FINDS, 4, Merge::Exact, 3, 5, 1),
     Stops(TWO_FINDS, 4, Merge::Exact, 6, 9, 2),

@@ -1,0 +1,137 @@
+//! A call that is refused memory leaves the book as it was, and the next such call answers as if nothing had happened.
+//! With ample memory each case makes its call once; `scripts/refuse_allocations.sh` refuses each request in turn.
+
+use crate::fixtures::{Broken, TWO_INSERTS, enter_under, expanded, settled, take_next, way_of};
+use book::{Book, Merge, Totals};
+use sched_program::OutOfMemory;
+use std::alloc::Global;
+use std::test::Fail;
+use tree_machine::{Atomic, Machine, State};
+
+/// A call that changes the book of the two inserts, which has the start alone.
+#[derive(Clone, Copy, Debug, PartialEq, Eq)]
+enum Call {
+    /// Takes the start.
+    Take,
+    /// Takes the start as a layer.
+    TakeLayer,
+    /// Enters the steps of the start, which was taken.
+    Enter,
+}
+
+/// The totals after each call.
+const CALLS: [(Call, Totals); 3] = [
+    (Call::Take, START_TAKEN),
+    (Call::TakeLayer, START_TAKEN),
+    (Call::Enter, START_EXPANDED),
+];
+
+const START_TAKEN: Totals = Totals {
+    entries: 1,
+    fresh: 0,
+    taken: 1,
+    expanded: 0,
+    entered: 0,
+    met: 0,
+};
+
+const START_EXPANDED: Totals = Totals {
+    entries: 3,
+    fresh: 2,
+    taken: 0,
+    expanded: 1,
+    entered: 2,
+    met: 0,
+};
+
+impl Call {
+    /// Makes the call. Whether its answer is the right one.
+    fn is_answered<M: Machine>(self, alloc: Global, book: &mut Book<M>) -> Result<bool, Broken> {
+        match self {
+            Call::Take => takes_the_start(book),
+            Call::TakeLayer => takes_the_first_layer(book),
+            Call::Enter => enters_both_steps(alloc, book),
+        }
+    }
+}
+
+fn takes_the_start<M: Machine>(book: &mut Book<M>) -> Result<bool, Broken> {
+    let (id, state) = take_next(book)?;
+    Ok(id == 0 && state.steps() == 0)
+}
+
+fn takes_the_first_layer<M: Machine>(book: &mut Book<M>) -> Result<bool, Broken> {
+    let layer = book.take_layer()?;
+    Ok(layer.len() == 1 && layer[0].0 == 0 && layer[0].1.steps() == 0)
+}
+
+fn enters_both_steps<M: Machine>(alloc: Global, book: &mut Book<M>) -> Result<bool, Broken> {
+    let start = State::start(alloc, book.machine(), book.program())?;
+    let told = enter_under(alloc, book, 0, &start, Merge::Exact)?;
+    Ok(told.entered == 2 && told.met == 0)
+}
+
+/// What is seen of a book: its totals, and the recorded schedule of each entry, each ended by `u8::MAX`.
+#[derive(PartialEq, Eq, Drop)]
+struct Seen {
+    totals: Totals,
+    ways: Vec<u8>,
+}
+
+fn add_way(ways: &mut Vec<u8>, way: &[u8]) -> Result<(), OutOfMemory> {
+    ways.extend_from_slice(way)?;
+    ways.push(u8::MAX)?;
+    Ok(())
+}
+
+fn seen_of<M: Machine>(alloc: Global, book: &Book<M>) -> Result<Seen, Broken> {
+    let mut ways = Vec::new(alloc);
+    for entry in 0..book.len() {
+        add_way(&mut ways, way_of(alloc, book, entry)?.as_slice())?;
+    }
+    Ok(Seen {
+        totals: book.totals(),
+        ways,
+    })
+}
+
+/// Makes the call; where memory is refused, looks whether the book is as it was, and makes the call once more.
+fn is_answered_in_the_end<M: Machine>(
+    alloc: Global,
+    book: &mut Book<M>,
+    call: Call,
+) -> Result<bool, Broken> {
+    let before = seen_of(alloc, book)?;
+    match call.is_answered(alloc, book) {
+        Err(Broken::OutOfMemory) => {
+            let is_unchanged = seen_of(alloc, book)? == before;
+            Ok(is_unchanged && call.is_answered(alloc, book)?)
+        }
+        answer => answer,
+    }
+}
+
+/// Whether the call is answered as it should be, and the book has these totals then.
+fn is_made<M: Machine>(
+    alloc: Global,
+    book: &mut Book<M>,
+    (call, totals): (Call, Totals),
+) -> Result<bool, Broken> {
+    if call == Call::Enter {
+        take_next(book)?;
+    }
+    Ok(is_answered_in_the_end(alloc, book, call)? && book.totals() == totals)
+}
+
+#[test]
+fn a_refused_call_is_made_again(rt: HostRuntime) -> Result<(), Fail> {
+    let alloc = rt.alloc();
+    for case in CALLS {
+        let is_answered = settled(|| {
+            let mut book = expanded(alloc, Atomic, TWO_INSERTS, (Merge::Exact, Merge::Exact), 0)?;
+            is_made(alloc, &mut *book, case)
+        })?;
+        assert!(rt; is_answered, "{case:?}");
+    }
+    Ok(())
+}
