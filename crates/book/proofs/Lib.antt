@@ -9,6 +9,7 @@ pub mod Exact
 pub mod Entering
 pub mod Growth
 pub mod Counts
+pub mod Closed
 pub mod Ways
 mod Expanding
 mod SlotLemmas

@@ -53,7 +53,7 @@ open_from Expanded h = absurd (true≢false (sym h))
 is_open-Open : (k : Mark) → k ≡ Open → is_open k ≡ true
 is_open-Open k h = rw h refl
 
-expanded_from : (k : Mark) → not (is_expanded k) ≡ false → k ≡ Expanded
+pub expanded_from : (k : Mark) → not (is_expanded k) ≡ false → k ≡ Expanded
 expanded_from Open h = absurd (true≢false h)
 expanded_from Taken h = absurd (true≢false h)
 expanded_from Expanded h = refl

@@ -7,6 +7,7 @@ pub mod Leftovers
 pub mod Law
 pub mod Layers
 pub mod Counts
+pub mod Closed
 pub mod Books
 pub mod Replay
 pub mod Slots

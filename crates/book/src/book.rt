@@ -1,5 +1,5 @@
 //! The book of states.
-ghost use Rattle.std.specs.Prelude.{◌≡◌, ◌≢◌, ℕ, ◌+◌, ◌-◌, ◌^◌, ◌<◌, ◌≤◌, ◌↔◌, List, [], ◌∷◌, ◌++◌, ◌⊎◌, length, IfOk, IfSome, IfNone, OnOk, OnErr, IfErr, Some, None, not, position, true, false, count_by, nat_le, slice_get};
+ghost use Rattle.std.specs.Prelude.{◌≡◌, ◌≢◌, ℕ, ◌+◌, ◌-◌, ◌^◌, ◌<◌, ◌≤◌, ◌↔◌, List, [], ◌∷◌, ◌++◌, ◌⊎◌, length, IsTrue, IfOk, IfSome, IfNone, OnOk, OnErr, IfErr, Some, None, not, position, true, false, count_by, nat_le, slice_get};
 ghost use Rattle.std.specs.Option.{option_copied, option_map};
 ghost use Rattle.sched_program.specs.Program.{IsWithinLimits};
 ghost use Rattle.tree_machine.specs.Step.{Fits};
@@ -16,6 +16,7 @@ ghost use Rattle.book.specs.Law.{FindsAlike, IsExpansion, StandsForReached};
 ghost use Rattle.book.specs.Leftovers.{Keeps};
 ghost use Rattle.book.specs.Counts.{IsCount};
 ghost use Rattle.book.specs.Layers.{IsExpandedTo, IsExpandedBelow, IsLeftTo};
+ghost use Rattle.book.specs.Closed.{AreSound, HoldsForEvery, IsClosed};
 ghost use Rattle.book.specs.Schedule.{after, IsMachine, Merges};
 ghost use Rattle.book.specs.Ways.{IsWay};
 
@@ -395,6 +396,19 @@ impl<M: Machine> Book<M> {
         match self.table.first_left() {
             None => false,
             Some(first) => steps_at(&self.table, first) <= steps,
+        }
+    }
+
+    /// Whether the book merges by names and has no entry open or taken. Then, if all its entries are sound, every schedule
+    /// of any length leads to a sound state. It takes no memory.
+    pub fn closed(&self) -> bool
+        ensures closed { IsTrue result ↔ IsClosed self.now }
+        ensures every { result ≡ true → AreSound self.now.entries → HoldsForEvery (machine_in M.rules self.now) (right_in M.rules self.now) }
+    {
+        self.law();
+        match self.table.first_left() {
+            Some(_) => false,
+            None => self.merge == Merge::Names,
         }
     }
 

@@ -1,5 +1,5 @@
 -- One more entry of a layer is taken, and its steps are entered.
-use Rattle.std.proofs.Common.{◌≡◌, ℕ, ◌+◌, ◌^◌, ◌<◌, ◌≤◌, inl, inr, Bool, List, length, map, sym, ap, ◌∙◌, arith, subst, count_by, length-append}
+use Rattle.std.proofs.Common.{◌≡◌, ℕ, ◌+◌, ◌^◌, ◌<◌, ◌≤◌, inl, inr, Bool, List, length, map, sym, ap, ◌∙◌, arith, subst, slice_get, count_by, length-append}
 use Rattle.std.proofs.Math.ListN.{length-map}
 use Rattle.std.proofs.lemmas.Bool.{cases_lt}
 use Rattle.book.specs.declared.finding.Finding.{Finding}
@@ -8,13 +8,13 @@ use Rattle.book.specs.Schedule.{StepMachine, IsMachine, Merges}
 use Rattle.book.specs.Entries.{Entry, Successor, Contents, Takes, is_expanded, with_mark, with_successors, unknown, opened, states}
 use Rattle.book.specs.Law.{IsLawfulBook, IsExpansion}
 use Rattle.book.specs.Layers.{GrowsFrom, IsLeftTo, IsShallow}
-use Rattle.book.proofs.EntryLemmas.{length-with_mark}
+use Rattle.book.proofs.EntryLemmas.{length-with_mark, at-with_mark}
 use Rattle.book.proofs.LawfulBooks.{met_fits}
 use Rattle.book.proofs.Growth.{IsAdvance, advances, taken_grows, taken_is, taken_count, through_grows}
 use Rattle.crew.specs.declared.answer.Share.{Share}
 use Rattle.crew.specs.Driving.{IsInLayer, IsLedgerOf}
-use Rattle.crew.specs.Reading.{IsCutAt}
-use Rattle.crew.proofs.Growing.{shallow_entered}
+use Rattle.crew.specs.Reading.{IsCutAt, IsFresh}
+use Rattle.crew.proofs.Growing.{not_expanded, fresh_entered, shallow_entered}
 
 module _ {X S : Type 0} (m : StepMachine S) (same : S → S → Bool) (right : S → Finding → Type 0)
     (machine : IsMachine m) (merges : Merges m same)
@@ -53,6 +53,14 @@ module _ {X S : Type 0} (m : StepMachine S) (same : S → S → Bool) (right : S
         let t = taken_is m.steps b.entries mid.entries i s takes in
         advances m same right machine merges b.entries mid.entries new i s t.0 xs takes law.law t.1 t.2 expansion is layer.none_taken
 
+    fresh_taken : IsFresh m.steps mid.entries (d + 1)
+    fresh_taken j f there deep =
+        let o = at-with_mark b.entries i Taken j f (sym (ap (λ es. slice_get es j) takes.after) ∙ there) in
+        elim o.3 [
+          | inl here ↦ not_expanded f.mark here.1
+          | inr other ↦ λ marked. layer.fresh j o.0 o.1 (sym (ap m.steps o.2.state) ∙ deep) (ap (λ (x : Entry S). x.mark) (sym other.1) ∙ marked)
+        ]
+
     pub still_in_layer : (new : List (Entry S)) → new ≡ with_successors same mid.entries i xs → IsInLayer m.steps new d
     still_in_layer new is =
         let t = taken_is m.steps b.entries mid.entries i s takes in
@@ -60,6 +68,7 @@ module _ {X S : Type 0} (m : StepMachine S) (same : S → S → Bool) (right : S
         record {
           none_taken = one.none_taken;
           through = through_grows m d b.entries new layer.through one.grows;
+          fresh = subst (λ (q : List (Entry S)). IsFresh m.steps q (d + 1)) (sym is) (fresh_entered m same right machine merges mid.entries law.law i t.0 t.1 t.2 xs expansion d few fresh_taken);
           shallow = subst (λ (q : List (Entry S)). IsShallow m.steps q (d + 1)) (sym is) (shallow_entered m same right machine merges mid.entries law.law i t.0 t.1 t.2 xs expansion d few);
         }
 

@@ -1,11 +1,11 @@
 -- What the steps of one more entry show of the entries and of the number of states.
-use Rattle.std.proofs.Common.{◌≡◌, ◌≢◌, ℕ, ◌+◌, ◌<◌, ◌≤◌, inl, inr, Bool, true, Some, List, [], ◌∷◌, ◌++◌, length, map, sym, ap, ◌∙◌, arith, slice_get, length-append, count_by, leb}
+use Rattle.std.proofs.Common.{◌≡◌, ◌≢◌, ℕ, ◌+◌, ◌<◌, ◌≤◌, inl, inr, Bool, true, Some, List, [], ◌∷◌, ◌++◌, length, map, sym, ap, ◌∙◌, arith, subst, slice_get, length-append, count_by, leb}
 use Rattle.std.proofs.Math.ListN.{length-map}
 use Rattle.std.proofs.lemmas.List.{length_push}
 use Rattle.std.proofs.lemmas.List.Sums.{count_by-le-length}
 use Rattle.book.specs.declared.finding.Finding.{Finding}
 use Rattle.book.specs.declared.entry.Mark.{Mark}
-use Rattle.book.specs.declared.entry.Mark.TheVariants.{Taken, Expanded}
+use Rattle.book.specs.declared.entry.Mark.TheVariants.{Open, Taken, Expanded}
 use Rattle.book.specs.Schedule.{StepMachine, IsMachine, Merges, IsReachableWithin}
 use Rattle.book.specs.Entries.{Entry, Successor, At, with_mark, with_successors, unknown, opened, states}
 use Rattle.book.specs.Law.{IsLawful, IsExpansion}
@@ -15,10 +15,11 @@ use Rattle.book.proofs.EntryLemmas.{get-append_cases, at-with_mark, get_within}
 use Rattle.book.proofs.Unknown.{at-states, unknown_is}
 use Rattle.book.proofs.Counts.{recorded, run_push, count_is, count_to_is}
 use Rattle.book.proofs.Ways.{steps_after}
+use Rattle.crew.specs.Reading.{IsFresh}
 use Rattle.crew.proofs.Crowding.{count_above}
 use Rattle.crew.proofs.Reaching.{at-map, joined_apart}
 
-not_expanded : (k : Mark) → k ≡ Taken → k ≢ Expanded
+pub not_expanded : (k : Mark) → k ≡ Taken → k ≢ Expanded
 not_expanded k h e = let q : Taken ≡ Expanded = sym h ∙ e in cc
 
 module _ {S : Type 0} (m : StepMachine S) (same : S → S → Bool) (right : S → Finding → Type 0) (machine : IsMachine m) (merges : Merges m same)
@@ -29,6 +30,24 @@ module _ {S : Type 0} (m : StepMachine S) (same : S → S → Bool) (right : S �
 
   new_steps : (k : ℕ) (y : Successor S) → slice_get (unknown same (states es) xs) k ≡ Some y → m.step d.state y.thread ≡ Some y.state
   new_steps k y there = let w = unknown_is m same merges (states es) xs k y there in expansion.steps w.0.0 y w.0.1
+
+  -- no entry of the next layer is expanded, if none was
+  pub fresh_entered : IsFresh m.steps es (n + 1) → IsFresh m.steps (with_successors same es i xs) (n + 1)
+  fresh_entered fresh j f there deep marked =
+      elim (get-append_cases (with_mark es i Expanded) (map (opened i) (unknown same (states es) xs)) j f there) [
+        | inl l ↦ (
+            let o = at-with_mark es i Expanded j f l in
+            elim o.3 [
+              | inl here ↦ (
+                  let p : slice_get es j ≡ Some d = subst (λ k. slice_get es k ≡ Some d) here.0 at in
+                  let e : d ≡ o.0 = (let q : slice_get es j ≡ Some o.0 = o.1 in cc) in
+                  let same_steps : m.steps f.state ≡ m.steps d.state = ap m.steps o.2.state ∙ ap (λ (x : Entry S). m.steps x.state) (sym e) in absurd (omega arith))
+              | inr other ↦ fresh j o.0 o.1 (sym (ap m.steps o.2.state) ∙ deep) (ap (λ (x : Entry S). x.mark) (sym other.1) ∙ marked)
+            ])
+        | inr r ↦ (
+            let y = at-map (opened i) (unknown same (states es) xs) r.0 f r.2 in
+            let q : Open ≡ Expanded = ap (λ (x : Entry S). x.mark) y.2 ∙ marked in cc)
+      ]
 
   -- no entry is deeper once the steps are entered
   pub shallow_entered : IsShallow m.steps (with_successors same es i xs) (n + 1)

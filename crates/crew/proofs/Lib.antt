@@ -15,5 +15,6 @@ pub mod Room
 pub mod WorkedOff
 pub mod Reaching
 pub mod Verdicts
+pub mod Rest
 pub mod ClaimSteps
 pub mod ClaimTurns

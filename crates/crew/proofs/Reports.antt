@@ -15,7 +15,7 @@ use Rattle.crew.specs.Driving.{IsLedgerOf}
 use Rattle.crew.specs.Due.{IsDue}
 use Rattle.crew.specs.Headline.{IsTrueOf}
 use Rattle.crew.specs.Ledger.{ledger}
-use Rattle.crew.specs.Reading.{TellsFirst}
+use Rattle.crew.specs.Reading.{TellsFirst, TellsClosed}
 use Rattle.crew.specs.Reporting.{IsBookOf, IsReport}
 use Rattle.crew.proofs.Ends.{given_own, given_merge}
 use Rattle.crew.proofs.Verdicts.{one_verdict}
@@ -36,12 +36,13 @@ module _ {X Memory Place Form : Type 0} (rules : X → Rules Memory Place) (plac
   pub reported : (book read : Contents X (State X Memory Place Form)) (answer : Answer) (told : Totals) (each : List Share)
       → IsBookOf machine program settings book
       → Merges (machine_in rules book) (counted_as_one place_eq memory_eq form_eq (form_of book.machine) book.merge)
-      → IsDue (machine_in rules book) (counted_as_one place_eq memory_eq form_eq (form_of book.machine) book.merge) (right_in rules book) settings.steps book.limit (length book.entries) answer
+      → IsDue (machine_in rules book) (counted_as_one place_eq memory_eq form_eq (form_of book.machine) book.merge) (right_in rules book) book.merge settings.steps book.limit (length book.entries) answer
       → IsTrueOf X Form (rules book.machine) book.program answer
       → TellsFirst (machine_in rules book) book.entries answer
+      → TellsClosed book answer
       → read ≡ book → told ≡ totals_of read → length each ≡ settings.workers → IsLedgerOf book (ledger each)
       → IsReport rules place_eq memory_eq form_eq form_of machine program settings answer told each read
-  reported book read answer told each asked merges due headline first same totals workers counts =
+  reported book read answer told each asked merges due headline first closed same totals workers counts =
       let eq = λ (x : X). counted_as_one {Machine = X} place_eq memory_eq form_eq (form_of x) in
       let m = machine_of {Machine = X} {Form = Form} (rules machine) program in
       let right = IsFindingOf {Machine = X} {Form = Form} (rules machine) program in
@@ -49,18 +50,19 @@ module _ {X Memory Place Form : Type 0} (rules : X → Rules Memory Place) (plac
       let entries : told.entries ≡ length book.entries = ap (λ (t : Totals). t.entries) all in
       let merges_here : Merges m (eq machine settings.merge) =
       given_merge (λ x p k. Merges (machine_of {Machine = X} {Form = Form} (rules x) p) (eq x k)) book.machine machine book.program program book.merge settings.merge asked.machine asked.program asked.merge merges in
-      let due_of_book : IsDue m (eq machine settings.merge) right settings.steps book.limit (length book.entries) answer =
-      given_merge (λ x p k. IsDue (machine_of {Machine = X} {Form = Form} (rules x) p) (eq x k) (IsFindingOf {Machine = X} {Form = Form} (rules x) p) settings.steps book.limit (length book.entries) answer)
+      let due_of_book : IsDue m (eq machine settings.merge) right settings.merge settings.steps book.limit (length book.entries) answer =
+      given_merge (λ x p k. IsDue (machine_of {Machine = X} {Form = Form} (rules x) p) (eq x k) (IsFindingOf {Machine = X} {Form = Form} (rules x) p) k settings.steps book.limit (length book.entries) answer)
       book.machine machine book.program program book.merge settings.merge asked.machine asked.program asked.merge due in
-      let due_here : IsDue m (eq machine settings.merge) right settings.steps settings.limit told.entries answer =
-      subst (λ k. IsDue m (eq machine settings.merge) right settings.steps settings.limit k answer) (sym entries)
-      (subst (λ l. IsDue m (eq machine settings.merge) right settings.steps l (length book.entries) answer) asked.limit due_of_book) in
+      let due_here : IsDue m (eq machine settings.merge) right settings.merge settings.steps settings.limit told.entries answer =
+      subst (λ k. IsDue m (eq machine settings.merge) right settings.merge settings.steps settings.limit k answer) (sym entries)
+      (subst (λ l. IsDue m (eq machine settings.merge) right settings.merge settings.steps l (length book.entries) answer) asked.limit due_of_book) in
       record {
         due = due_here;
-        only = (λ count other also. one_verdict m (eq machine settings.merge) merges_here right settings.steps settings.limit told.entries count answer other due_here also);
+        only = (λ count other also. one_verdict m (eq machine settings.merge) merges_here right settings.merge settings.steps settings.limit told.entries count answer other due_here also);
         headline = given_own (λ x p. IsTrueOf X Form (rules x) p answer) book.machine machine book.program program asked.machine asked.program headline;
         first = subst (λ (b : Contents X (State X Memory Place Form)). TellsFirst m b.entries answer) (sym same)
             (given_own (λ x p. TellsFirst (machine_of {Machine = X} {Form = Form} (rules x) p) book.entries answer) book.machine machine book.program program asked.machine asked.program first);
+        closed = subst (λ (b : Contents X (State X Memory Place Form)). TellsClosed b answer) (sym same) closed;
         asked = subst (λ (b : Contents X (State X Memory Place Form)). IsBookOf machine program settings b) (sym same) asked;
         totals = totals;
         shares = workers;

@@ -1,9 +1,12 @@
 -- Where the layers are worked off, the last one is at hand.
-use Rattle.std.proofs.Common.{◌≡◌, ℕ, ◌≤◌, inl, inr, false, None, List, sym, ◌∙◌, arith, subst}
+use Rattle.std.proofs.Common.{◌≡◌, ℕ, zero, suc, ◌≤◌, inl, inr, false, None, List, sym, ◌∙◌, arith, subst}
 use Rattle.std.proofs.lemmas.Bool.{true≢false, cases_lt}
 use Rattle.book.specs.Findings.{is_sound}
 use Rattle.book.specs.Entries.{Entry, At}
-use Rattle.crew.specs.Reading.{first_fault, IsLastLayer, IsWorkedOff}
+use Rattle.book.specs.declared.book.Merge.{Merge}
+use Rattle.book.specs.declared.book.Merge.TheVariants.{Names}
+use Rattle.book.specs.Closed.{IsWorkedOut}
+use Rattle.crew.specs.Reading.{first_fault, IsAtRest, IsLastLayer, IsWorkedOff}
 
 module _ {S : Type 0} (steps : S → ℕ) (es : List (Entry S)) (n : ℕ) (worked : IsWorkedOff steps es n) where
   pub last_of_all : first_fault es ≡ None → IsLastLayer steps es n
@@ -22,3 +25,22 @@ module _ {S : Type 0} (steps : S → ℕ) (es : List (Entry S)) (n : ℕ) (worke
       ] in
       let is : worked.layer ≡ steps e.state = omega arith in
       (omega arith, subst (λ d. IsLastLayer steps es d) is (worked.stands.done, worked.stands.shallow))
+
+-- where every entry is worked out too, none has n steps
+pub at_rest : {S : Type 0} (steps : S → ℕ) (es : List (Entry S)) (merge : Merge) (n : ℕ) → IsWorkedOff steps es n → merge ≡ Names → IsWorkedOut es
+    → (start : Entry S) → At es 0 start → steps start.state ≡ 0 → IsAtRest steps es merge n
+at_rest steps es merge zero worked names out start at none =
+    let le : worked.layer ≤ 0 = worked.within in
+    absurd (worked.stands.fresh 0 start at (omega arith) (out 0 start at))
+at_rest steps es merge (suc before) worked names out start at none = (
+  names,
+  before,
+  (omega arith),
+  (λ i e there.
+      let few : steps e.state ≤ worked.layer = worked.stands.shallow i e there in
+      let le : worked.layer ≤ suc before = worked.within in
+      elim (cases_lt before (steps e.state)) [
+        | inl over ↦ absurd (worked.stands.fresh i e there (omega arith) (out i e there))
+        | inr within ↦ within
+      ]),
+)

@@ -1,6 +1,8 @@
 -- The answer that is due.
 use Rattle.std.specs.Prelude.{◌≡◌, ℕ, ◌+◌, ◌<◌, ◌≤◌, Bool, length}
 use Rattle.book.specs.declared.finding.Finding.{Finding}
+use Rattle.book.specs.declared.book.Merge.{Merge}
+use Rattle.book.specs.declared.book.Merge.TheVariants.{Names}
 use Rattle.book.specs.Schedule.{StepMachine}
 use Rattle.book.specs.Counts.{IsCount}
 use Rattle.crew.specs.declared.answer.Answer.{Answer}
@@ -21,7 +23,7 @@ module _ {S : Type 0} (m : StepMachine S) (same : S → S → Bool) where
 -- The answer that is due for schedules of at most n steps and a limit of states, with the number of states that it tells of.
 -- Let F be the least length of a schedule that leads to a fault, and J the least number of steps, up to n, by which more
 -- states are reached than the limit; either may not exist. The first case that fits decides.
-module _ {S : Type 0} (m : StepMachine S) (same : S → S → Bool) (right : S → Finding → Type 0) (n limit : ℕ) where
+module _ {S : Type 0} (m : StepMachine S) (same : S → S → Bool) (right : S → Finding → Type 0) (merge : Merge) (n limit : ℕ) where
   abbrev pub IsDue : ℕ → Answer → Type 0
   -- J exists, and F does not or J is at most F: stopped, one step before J
   IsDue count (answer.Stopped at holds_to) =
@@ -30,9 +32,14 @@ module _ {S : Type 0} (m : StepMachine S) (same : S → S → Bool) (right : S �
   IsDue count (answer.Fault finding schedule) =
       LeadsToFault m right schedule.items finding × IsLeastFault m right (length schedule.items) × (length schedule.items ≤ n)
       × ((J : ℕ) → IsFirstAbove m same n limit J → length schedule.items < J) × IsCount m same (length schedule.items) count
+  -- else, states being merged by names, n steps reach no more states than one step fewer: every schedule holds
+  IsDue count answer.Every =
+      ((F : ℕ) → IsLeastFault m right F → n < F) × ((J : ℕ) → IsFirstAbove m same n limit J → ⊥) × IsCount m same n count
+      × (merge ≡ Names) × ((before : ℕ) × (n ≡ before + 1) × IsCount m same before count)
   -- otherwise: holds, with the number of states that n steps reach
   IsDue count (answer.Holds steps) =
       (steps ≡ n) × ((F : ℕ) → IsLeastFault m right F → n < F) × ((J : ℕ) → IsFirstAbove m same n limit J → ⊥) × IsCount m same n count
+      × (merge ≡ Names → (before : ℕ) → n ≡ before + 1 → IsCount m same before count → ⊥)
 
 -- The same answer but for the schedule of a fault: the verdict, its numbers, and how many states it tells of.
 abbrev pub IsSameVerdict : ℕ → Answer → ℕ → Answer → Type 0
@@ -41,9 +48,16 @@ IsSameVerdict count (answer.Stopped limit holds_to) other (answer.Stopped other_
 IsSameVerdict count (answer.Fault finding schedule) other (answer.Fault other_finding other_schedule) =
     (length schedule.items ≡ length other_schedule.items) × (count ≡ other)
 IsSameVerdict count (answer.Holds steps) other (answer.Holds other_steps) = (steps ≡ other_steps) × (count ≡ other)
+IsSameVerdict count answer.Every other answer.Every = count ≡ other
 IsSameVerdict count (answer.Stopped limit holds_to) other (answer.Fault finding schedule) = ⊥
 IsSameVerdict count (answer.Stopped limit holds_to) other (answer.Holds steps) = ⊥
 IsSameVerdict count (answer.Fault finding schedule) other (answer.Stopped limit holds_to) = ⊥
 IsSameVerdict count (answer.Fault finding schedule) other (answer.Holds steps) = ⊥
 IsSameVerdict count (answer.Holds steps) other (answer.Stopped limit holds_to) = ⊥
 IsSameVerdict count (answer.Holds steps) other (answer.Fault finding schedule) = ⊥
+IsSameVerdict count answer.Every other (answer.Stopped limit holds_to) = ⊥
+IsSameVerdict count answer.Every other (answer.Fault finding schedule) = ⊥
+IsSameVerdict count answer.Every other (answer.Holds steps) = ⊥
+IsSameVerdict count (answer.Stopped limit holds_to) other answer.Every = ⊥
+IsSameVerdict count (answer.Fault finding schedule) other answer.Every = ⊥
+IsSameVerdict count (answer.Holds steps) other answer.Every = ⊥

@@ -23,6 +23,10 @@ module _ (Machine Form : Type 0) {Memory Place : Type 0} (rules : Rules Memory P
   HoldsTo n = (schedule : List ℕ) (state : State Machine Memory Place Form) → length schedule ≤ n
       → after (machine_of rules program) schedule ≡ Some state → IsCorrect rules program state
 
+  -- every schedule of any length does
+  abbrev pub HoldsAlways : Type 0
+  HoldsAlways = (schedule : List ℕ) (state : State Machine Memory Place Form) → after (machine_of rules program) schedule ≡ Some state → IsCorrect rules program state
+
   -- the schedule leads to the fault, and every shorter one keeps search order and leaves a linearizable history
   pub record IsShortestFault (schedule : List ℕ) (finding : Finding) : Type 0 where
     pub fault : LeadsToFault {S = State Machine Memory Place Form} (machine_of rules program) (IsFindingOf rules program) schedule finding
@@ -30,6 +34,7 @@ module _ (Machine Form : Type 0) {Memory Place : Type 0} (rules : Rules Memory P
         → after (machine_of rules program) shorter ≡ Some state → IsCorrect rules program state
 
   abbrev pub IsTrueOf : Answer → Type 0
+  IsTrueOf answer.Every = HoldsAlways
   IsTrueOf (answer.Holds steps) = HoldsTo steps
   IsTrueOf (answer.Fault finding schedule) = IsShortestFault schedule.items finding
   IsTrueOf (answer.Stopped limit holds_to) = HoldsTo holds_to

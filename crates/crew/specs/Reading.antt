@@ -1,11 +1,14 @@
 -- When an answer can be read off a book.
-use Rattle.std.specs.Prelude.{◌≡◌, ℕ, ◌+◌, ◌<◌, ◌≤◌, Bool, true, Option, None, Some, List, length, not, position}
+use Rattle.std.specs.Prelude.{◌≡◌, ◌≢◌, ℕ, ◌+◌, ◌<◌, ◌≤◌, Bool, true, Option, None, Some, List, length, not, position}
 use Rattle.book.specs.declared.finding.Finding.{Finding}
-use Rattle.book.specs.declared.entry.Mark.TheVariants.{Taken}
+use Rattle.book.specs.declared.entry.Mark.TheVariants.{Taken, Expanded}
 use Rattle.book.specs.Schedule.{StepMachine, after}
 use Rattle.book.specs.Findings.{is_sound}
 use Rattle.book.specs.Entries.{Entry, Successor, Contents, At, states, unknown}
 use Rattle.book.specs.Law.{IsExpansion}
+use Rattle.book.specs.Closed.{IsClosed}
+use Rattle.book.specs.declared.book.Merge.{Merge}
+use Rattle.book.specs.declared.book.Merge.TheVariants.{Names}
 use Rattle.book.specs.Layers.{IsExpandedBelow, IsShallow, IsThrough, NoneTaken}
 use Rattle.crew.specs.declared.answer.Answer.{Answer}
 use Rattle.crew.specs.declared.answer.Answer.TheVariants as answer
@@ -18,10 +21,19 @@ first_fault entries = position (λ e. not (is_sound e.finding)) entries
 abbrev pub IsLastLayer : {S : Type 0} → (S → ℕ) → List (Entry S) → ℕ → Type 0
 IsLastLayer steps entries n = IsExpandedBelow steps entries n × IsShallow steps entries n
 
--- the layers below d are expanded, their entries are sound, and no layer after d is begun
+-- states are merged by names, and no entry has n steps or more
+abbrev pub IsAtRest : {S : Type 0} → (S → ℕ) → List (Entry S) → Merge → ℕ → Type 0
+IsAtRest steps entries merge n = (merge ≡ Names) × (before : ℕ) × (n ≡ before + 1) × IsShallow steps entries before
+
+-- no entry of n steps is expanded
+abbrev pub IsFresh : {S : Type 0} → (S → ℕ) → List (Entry S) → ℕ → Type 0
+IsFresh {S} steps entries n = (i : ℕ) (e : Entry S) → At entries i e → steps e.state ≡ n → e.mark ≢ Expanded
+
+-- the layers below d are expanded and their entries are sound, none of layer d is expanded, and no layer after it is begun
 pub record StandsAt {S : Type 0} (steps : S → ℕ) (entries : List (Entry S)) (d : ℕ) : Type 0 where
   pub none_taken : NoneTaken entries
   pub done : IsExpandedBelow steps entries d
+  pub fresh : IsFresh steps entries d
   pub shallow : IsShallow steps entries d
   pub sound : (i : ℕ) (e : Entry S) → At entries i e → steps e.state < d → is_sound e.finding ≡ true
 
@@ -50,7 +62,15 @@ module _ {X S : Type 0} (m : StepMachine S) (same : S → S → Bool) (right : S
 
 -- the fault that is told is that of the lowest-numbered entry that is not sound
 abbrev pub TellsFirst : {S : Type 0} → StepMachine S → List (Entry S) → Answer → Type 0
+TellsFirst m entries answer.Every = first_fault entries ≡ None
 TellsFirst m entries (answer.Holds steps) = first_fault entries ≡ None
 TellsFirst {S} m entries (answer.Fault finding schedule) =
     (i : ℕ) × (e : Entry S) × (first_fault entries ≡ Some i) × At entries i e × (e.finding ≡ finding) × (after m schedule.items ≡ Some e.state)
 TellsFirst m entries (answer.Stopped limit holds_to) = Unit {0}
+
+-- where neither a fault nor the limit is told, every schedule holds exactly if the book is closed
+abbrev pub TellsClosed : {X S : Type 0} → Contents X S → Answer → Type 0
+TellsClosed book answer.Every = IsClosed book
+TellsClosed book (answer.Holds steps) = ¬ IsClosed book
+TellsClosed book (answer.Fault finding schedule) = Unit {0}
+TellsClosed book (answer.Stopped limit holds_to) = Unit {0}

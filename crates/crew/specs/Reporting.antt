@@ -12,7 +12,7 @@ use Rattle.crew.specs.declared.answer.Share.{Share}
 use Rattle.crew.specs.Due.{IsDue, IsSameVerdict}
 use Rattle.crew.specs.Headline.{IsTrueOf}
 use Rattle.crew.specs.Ledger.{ledger}
-use Rattle.crew.specs.Reading.{TellsFirst}
+use Rattle.crew.specs.Reading.{TellsFirst, TellsClosed}
 use Rattle.crew.specs.Settings.{Settings}
 
 -- the book is of the machine, the program, the limit and the merge that are asked for
@@ -28,11 +28,12 @@ pub record IsReport {X Memory Place Form : Type 0} (rules : X → Rules Memory P
     (form_eq : Form → Form → Bool) (form_of : X → Memory → List (Option Place) → Form)
     (machine : X) (program : Program) (settings : Settings) (answer : Answer) (told : Totals) (each : List Share)
     (book : Contents X (State X Memory Place Form)) : Type 0 where
-  pub due : IsDue (machine_of {Machine = X} {Form = Form} (rules machine) program) (counted_as_one place_eq memory_eq form_eq (form_of machine) settings.merge) (IsFindingOf (rules machine) program) settings.steps settings.limit told.entries answer
-  pub only : (count : ℕ) (other : Answer) → IsDue (machine_of {Machine = X} {Form = Form} (rules machine) program) (counted_as_one place_eq memory_eq form_eq (form_of machine) settings.merge) (IsFindingOf (rules machine) program) settings.steps settings.limit count other
+  pub due : IsDue (machine_of {Machine = X} {Form = Form} (rules machine) program) (counted_as_one place_eq memory_eq form_eq (form_of machine) settings.merge) (IsFindingOf (rules machine) program) settings.merge settings.steps settings.limit told.entries answer
+  pub only : (count : ℕ) (other : Answer) → IsDue (machine_of {Machine = X} {Form = Form} (rules machine) program) (counted_as_one place_eq memory_eq form_eq (form_of machine) settings.merge) (IsFindingOf (rules machine) program) settings.merge settings.steps settings.limit count other
       → IsSameVerdict told.entries answer count other
   pub headline : IsTrueOf X Form (rules machine) program answer
   pub first : TellsFirst (machine_of {Machine = X} {Form = Form} (rules machine) program) book.entries answer
+  pub closed : TellsClosed book answer
   pub asked : IsBookOf machine program settings book
   pub totals : told ≡ totals_of book
   pub shares : length each ≡ settings.workers

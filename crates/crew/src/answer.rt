@@ -12,6 +12,9 @@ pub enum Answer {
         /// The number of steps that was asked for.
         steps: u16,
     },
+    /// Every schedule of any length does: states are merged by names, and the steps that were asked for reach no more of
+    /// them than one step fewer.
+    Every,
     /// A schedule leads to a fault, and no shorter one does.
     Fault {
         /// The fault.

@@ -7,7 +7,7 @@ ghost use Rattle.crew.specs.Due.{IsDue, IsSameVerdict};
 ghost use Rattle.crew.specs.Headline.{IsTrueOf};
 ghost use Rattle.crew.specs.Ledger.{ledger};
 ghost use Rattle.crew.specs.Driving.{IsLedgerOf};
-ghost use Rattle.crew.specs.Reading.{StandsAt, TellsFirst};
+ghost use Rattle.crew.specs.Reading.{StandsAt, TellsClosed, TellsFirst};
 ghost use Rattle.crew.specs.Reporting.{IsBookOf, IsReport};
 
 use crate::answer::{Report, Share};
@@ -124,8 +124,8 @@ fn explore_alone<M: Machine>(
 /// book's totals. Each worker has a thread of its own and calls the gate at each entry that it expands.
 ///
 /// A refused growth is answered by `OutOfMemory`, once all workers are joined. Where the book that the workers leave is
-/// not the one that was opened, or a layer of it was left undone for no reason, which no worker here brings about, one
-/// thread explores anew: all the work is in the first worker's share, and no gate is called.
+/// not the one that was opened, a layer of it was left undone for no reason, or one too many was expanded, which no worker
+/// here brings about, one thread explores anew: all the work is in the first worker's share, and no gate is called.
 pub fn explore<M: Machine, G: Gate, R: Threads + Wait + Sync>(
     rt: &R,
     alloc: Global,
@@ -134,10 +134,11 @@ pub fn explore<M: Machine, G: Gate, R: Threads + Wait + Sync>(
     options: Options,
     gate: &G,
 ) -> Result<Report<M>, OutOfMemory>
-    ensures due { IfOk result (λ r. IsDue (machine_of {Machine = M} {Form = M.Form} (M.rules machine) program.now) (counted_as_one M.Loc.PartialEq.eq M.Mem.PartialEq.eq M.Form.PartialEq.eq (M.form_of machine) options.merge) (IsFindingOf (M.rules machine) program.now) options.steps options.limit r.totals.entries r.answer) }
-    ensures only { IfOk result (λ r. (count : ℕ) (other : Answer) → IsDue (machine_of {Machine = M} {Form = M.Form} (M.rules machine) program.now) (counted_as_one M.Loc.PartialEq.eq M.Mem.PartialEq.eq M.Form.PartialEq.eq (M.form_of machine) options.merge) (IsFindingOf (M.rules machine) program.now) options.steps options.limit count other → IsSameVerdict r.totals.entries r.answer count other) }
+    ensures due { IfOk result (λ r. IsDue (machine_of {Machine = M} {Form = M.Form} (M.rules machine) program.now) (counted_as_one M.Loc.PartialEq.eq M.Mem.PartialEq.eq M.Form.PartialEq.eq (M.form_of machine) options.merge) (IsFindingOf (M.rules machine) program.now) options.merge options.steps options.limit r.totals.entries r.answer) }
+    ensures only { IfOk result (λ r. (count : ℕ) (other : Answer) → IsDue (machine_of {Machine = M} {Form = M.Form} (M.rules machine) program.now) (counted_as_one M.Loc.PartialEq.eq M.Mem.PartialEq.eq M.Form.PartialEq.eq (M.form_of machine) options.merge) (IsFindingOf (M.rules machine) program.now) options.merge options.steps options.limit count other → IsSameVerdict r.totals.entries r.answer count other) }
     ensures headline { IfOk result (λ r. IsTrueOf M M.Form (M.rules machine) program.now r.answer) }
     ensures first { IfOk result (λ r. TellsFirst (machine_of (M.rules machine) program.now) r.book.entries r.answer) }
+    ensures closed { IfOk result (λ r. TellsClosed r.book r.answer) }
     ensures machine { IfOk result (λ r. r.book.machine ≡ machine) }
     ensures program { IfOk result (λ r. r.book.program ≡ program.now) }
     ensures limit { IfOk result (λ r. r.book.limit ≡ options.limit) }

@@ -8,11 +8,11 @@ ghost use Rattle.book.specs.Findings.{is_sound};
 ghost use Rattle.book.specs.Layers.{IsExpandedBelow};
 ghost use Rattle.crew.specs.Due.{IsDue};
 ghost use Rattle.crew.specs.Headline.{IsTrueOf};
-ghost use Rattle.crew.specs.Reading.{first_fault, IsCutAt, IsFullAt, IsLastLayer, IsWorkedOff, TellsFirst};
+ghost use Rattle.crew.specs.Reading.{first_fault, IsAtRest, IsCutAt, IsFullAt, IsLastLayer, IsWorkedOff, TellsClosed, TellsFirst};
 
 use crate::answer::Answer;
 use crate::options::Options;
-use book::{Book, EnterFault, Expansion, Finding, ReplayFault, replay};
+use book::{Book, EnterFault, Expansion, Finding, Merge, ReplayFault, replay};
 use sched_program::{OutOfMemory, Program};
 use std::alloc::Global;
 use tree_machine::Machine;
@@ -49,6 +49,19 @@ fn is_last_layer<M: Machine>(book: &Book<M>, steps: u64) -> bool
     !is_left_below(book, steps) && book.count_to(steps) == book.len()
 }
 
+/// Whether states are merged by names, and no entry has so many steps or more.
+fn is_at_rest<M: Machine>(book: &Book<M>, steps: u64) -> bool
+    ensures { IsTrue result ↔ IsAtRest (machine_in M.rules book.now).steps book.now.entries book.now.merge steps }
+{
+    match steps.checked_sub(1) {
+        None => false,
+        Some(before) => match book.merge() {
+            Merge::Exact => false,
+            Merge::Names => book.count_to(before) == book.len(),
+        },
+    }
+}
+
 /// Whether every entry of at most so many steps is sound.
 fn is_sound_to<M: Machine>(alloc: Global, book: &Book<M>, steps: usize) -> Result<bool, OutOfMemory>
     ensures { IfOk result (λ yes. IsTrue yes ↔ ((i : ℕ) (e : Entry (State M M.Mem M.Loc M.Form)) → At book.now.entries i e → e.state.steps ≤ steps → is_sound e.finding ≡ true)) }
@@ -69,9 +82,10 @@ fn tell_fault<M: Machine>(
     id: usize,
 ) -> Result<Option<Answer>, OutOfMemory>
     requires { first_fault book.now.entries ≡ Some id }
-    ensures due { IfOk result (λ o. IfSome o (IsDue (machine_in M.rules book.now) (counted_as_one M.Loc.PartialEq.eq M.Mem.PartialEq.eq M.Form.PartialEq.eq (M.form_of book.now.machine) book.now.merge) (right_in M.rules book.now) steps book.now.limit (length book.now.entries))) }
+    ensures due { IfOk result (λ o. IfSome o (IsDue (machine_in M.rules book.now) (counted_as_one M.Loc.PartialEq.eq M.Mem.PartialEq.eq M.Form.PartialEq.eq (M.form_of book.now.machine) book.now.merge) (right_in M.rules book.now) book.now.merge steps book.now.limit (length book.now.entries))) }
     ensures headline { IfOk result (λ o. IfSome o (IsTrueOf M M.Form (M.rules book.now.machine) book.now.program)) }
     ensures first { IfOk result (λ o. IfSome o (TellsFirst (machine_in M.rules book.now) book.now.entries)) }
+    ensures closed { IfOk result (λ o. IfSome o (TellsClosed book.now)) }
     ensures some { IsWorkedOff (machine_in M.rules book.now).steps book.now.entries steps → IfOk result (λ o. IsSome o) }
 {
     book.law();
@@ -84,26 +98,35 @@ fn tell_fault<M: Machine>(
     Ok(Some(Answer::Fault { finding, schedule }))
 }
 
-/// The answer where the layers are expanded, up to the first with a fault. None where they are not.
+/// The answer where the layers are expanded, up to the first with a fault. None where they are not, or where the last one
+/// is expanded too.
 fn read_finished<M: Machine>(
     alloc: Global,
     book: &Book<M>,
     steps: u16,
 ) -> Result<Option<Answer>, OutOfMemory>
-    ensures due { IfOk result (λ o. IfSome o (IsDue (machine_in M.rules book.now) (counted_as_one M.Loc.PartialEq.eq M.Mem.PartialEq.eq M.Form.PartialEq.eq (M.form_of book.now.machine) book.now.merge) (right_in M.rules book.now) steps book.now.limit (length book.now.entries))) }
+    ensures due { IfOk result (λ o. IfSome o (IsDue (machine_in M.rules book.now) (counted_as_one M.Loc.PartialEq.eq M.Mem.PartialEq.eq M.Form.PartialEq.eq (M.form_of book.now.machine) book.now.merge) (right_in M.rules book.now) book.now.merge steps book.now.limit (length book.now.entries))) }
     ensures headline { IfOk result (λ o. IfSome o (IsTrueOf M M.Form (M.rules book.now.machine) book.now.program)) }
     ensures first { IfOk result (λ o. IfSome o (TellsFirst (machine_in M.rules book.now) book.now.entries)) }
+    ensures closed { IfOk result (λ o. IfSome o (TellsClosed book.now)) }
     ensures some { IsWorkedOff (machine_in M.rules book.now).steps book.now.entries steps → IfOk result (λ o. IsSome o) }
 {
     match book.first_fault() {
         Some(id) => tell_fault(alloc, book, steps, id),
         None => {
             book.law();
-            if is_last_layer(book, u64::from(steps)) {
-                Ok(Some(Answer::Holds { steps }))
-            } else {
-                Ok(None)
+            let last = u64::from(steps);
+            if !is_last_layer(book, last) {
+                return Ok(None);
             }
+            if is_at_rest(book, last) {
+                return Ok(Some(Answer::Every));
+            }
+            // The entries of the last layer are expanded too, which no worker here brings about.
+            if book.closed() {
+                return Ok(None);
+            }
+            Ok(Some(Answer::Holds { steps }))
         }
     }
 }
@@ -151,9 +174,10 @@ fn read_stopped<M: Machine>(
 ) -> Result<Option<Answer>, OutOfMemory>
     requires program { program.now ≡ book.old.program }
     requires limit { book.old.limit ≡ options.limit }
-    ensures due { IfOk result (λ o. IfSome o (IsDue (machine_in M.rules book.old) (counted_as_one M.Loc.PartialEq.eq M.Mem.PartialEq.eq M.Form.PartialEq.eq (M.form_of book.old.machine) book.old.merge) (right_in M.rules book.old) options.steps book.old.limit (length book.old.entries))) }
+    ensures due { IfOk result (λ o. IfSome o (IsDue (machine_in M.rules book.old) (counted_as_one M.Loc.PartialEq.eq M.Mem.PartialEq.eq M.Form.PartialEq.eq (M.form_of book.old.machine) book.old.merge) (right_in M.rules book.old) book.old.merge options.steps book.old.limit (length book.old.entries))) }
     ensures headline { IfOk result (λ o. IfSome o (IsTrueOf M M.Form (M.rules book.old.machine) book.old.program)) }
     ensures first { IfOk result (λ o. IfSome o (TellsFirst (machine_in M.rules book.old) book.old.entries)) }
+    ensures closed { IfOk result (λ o. IfSome o (TellsClosed book.old)) }
     ensures same { IfOk result (λ o. IfSome o (λ _. book.new ≡ book.old)) }
     ensures some { (d : ℕ) → d < options.steps → IsCutAt (machine_in M.rules book.old) (counted_as_one M.Loc.PartialEq.eq M.Mem.PartialEq.eq M.Form.PartialEq.eq (M.form_of book.old.machine) book.old.merge) (right_in M.rules book.old) book.old d id → IfOk result (λ o. IsSome o) }
 {
@@ -186,9 +210,10 @@ pub(crate) fn read_answer<M: Machine>(
 ) -> Result<Option<Answer>, OutOfMemory>
     requires program { program.now ≡ book.old.program }
     requires limit { book.old.limit ≡ options.limit }
-    ensures due { IfOk result (λ o. IfSome o (IsDue (machine_in M.rules book.old) (counted_as_one M.Loc.PartialEq.eq M.Mem.PartialEq.eq M.Form.PartialEq.eq (M.form_of book.old.machine) book.old.merge) (right_in M.rules book.old) options.steps book.old.limit (length book.old.entries))) }
+    ensures due { IfOk result (λ o. IfSome o (IsDue (machine_in M.rules book.old) (counted_as_one M.Loc.PartialEq.eq M.Mem.PartialEq.eq M.Form.PartialEq.eq (M.form_of book.old.machine) book.old.merge) (right_in M.rules book.old) book.old.merge options.steps book.old.limit (length book.old.entries))) }
     ensures headline { IfOk result (λ o. IfSome o (IsTrueOf M M.Form (M.rules book.old.machine) book.old.program)) }
     ensures first { IfOk result (λ o. IfSome o (TellsFirst (machine_in M.rules book.old) book.old.entries)) }
+    ensures closed { IfOk result (λ o. IfSome o (TellsClosed book.old)) }
     ensures same { IfOk result (λ o. IfSome o (λ _. book.new ≡ book.old)) }
     ensures finished { cut ≡ None → IsWorkedOff (machine_in M.rules book.old).steps book.old.entries options.steps → IfOk result (λ o. IsSome o) }
     ensures stopped { IfSome cut (λ id. (d : ℕ) → d < options.steps → IsCutAt (machine_in M.rules book.old) (counted_as_one M.Loc.PartialEq.eq M.Mem.PartialEq.eq M.Form.PartialEq.eq (M.form_of book.old.machine) book.old.merge) (right_in M.rules book.old) book.old d id → IfOk result (λ o. IsSome o)) }

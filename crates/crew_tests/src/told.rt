@@ -8,9 +8,11 @@ use std::sync::Wait;
 use std::thread::Threads;
 use tree_machine::Machine;
 
-/// An answer with its numbers: the steps that hold, the length of a fault, the limit and the steps.
+/// An answer with its numbers: none where every schedule holds, the steps that hold, the length of a fault, the limit and the
+/// steps.
 #[derive(Clone, Copy, Debug, PartialEq, Eq)]
 pub enum Line {
+    Every,
     Holds(u16),
     Astray(usize),
     Order(usize),
@@ -40,6 +42,7 @@ pub struct Told {
 /// An answer with its numbers, and the schedule of a fault, which is empty for another answer.
 fn line_of(alloc: Global, answer: Answer) -> (Line, Vec<u8>) {
     match answer {
+        Answer::Every => (Line::Every, Vec::new(alloc)),
         Answer::Holds { steps } => (Line::Holds(steps), Vec::new(alloc)),
         Answer::Stopped { limit, holds_to } => (Line::Stopped(limit, holds_to), Vec::new(alloc)),
         Answer::Fault { finding, schedule } => {

@@ -67,11 +67,15 @@ verdict_text fault = codes "fault " ++ finding_name fault ++ line_end
 abbrev pub holds_text : ℕ → List ℕ
 holds_text steps = codes "holds to " ++ decimal steps ++ codes " steps" ++ line_end
 
+abbrev pub holds_for_every_text : List ℕ
+holds_for_every_text = codes "holds for every schedule" ++ line_end
+
 abbrev pub states_text : ℕ → List ℕ
 states_text states = codes "states " ++ decimal states ++ line_end
 
 -- the answer of an exploration that met so many states
 abbrev pub answer_text : ℕ → Answer → List ℕ
+answer_text states answer.Every = holds_for_every_text ++ states_text states
 answer_text states (answer.Holds steps) = holds_text steps ++ states_text states
 answer_text states (answer.Fault fault schedule) = codes "fault " ++ finding_name fault ++ codes " after "
     ++ decimal (length schedule.items) ++ codes " steps" ++ line_end
@@ -117,6 +121,7 @@ fault_text program_fault.OutOfMemory = codes "P11 OutOfMemory"
 
 -- the exit status for an answer
 abbrev pub status_of : Answer → ℕ
+status_of answer.Every = 0
 status_of (answer.Holds steps) = 0
 status_of (answer.Fault fault schedule) = 1
 status_of (answer.Stopped limit holds_to) = 2

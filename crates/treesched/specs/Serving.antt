@@ -64,7 +64,7 @@ module _ (Machine Form : Type 0) {Memory Place : Type 0} (rules : Rules Memory P
     pub answer : Answer
     pub totals : Totals
     pub shares : List Share
-    pub due : IsDue (machine_of rules program) same (IsFindingOf rules program) settings.steps settings.limit totals.entries answer
+    pub due : IsDue (machine_of rules program) same (IsFindingOf rules program) settings.merge settings.steps settings.limit totals.entries answer
     pub headline : IsTrueOf Machine Form rules program answer
     pub workers : length shares ≡ settings.workers
     pub sums : ledger shares ≡ record { expanded = totals.expanded; entered = totals.entered; met = totals.met }

@@ -136,6 +136,12 @@ pub fn put_verdict(page: &mut String, finding: &Finding) -> Result<(), OutOfMemo
     }
 }
 
+fn put_holds_for_every(page: &mut String) -> Result<(), OutOfMemory>
+    ensures { IfOk result (λ _. string_bytes page.new ≡ string_bytes page.old ++ lines.holds_for_every_text) }
+{
+    writeln!(page, "holds for every schedule")
+}
+
 fn put_holds(page: &mut String, steps: u16) -> Result<(), OutOfMemory>
     ensures { IfOk result (λ _. string_bytes page.new ≡ string_bytes page.old ++ lines.holds_text steps) }
 {
@@ -153,6 +159,10 @@ fn put_answer(page: &mut String, states: usize, answer: &Answer) -> Result<(), O
     ensures { IfOk result (λ _. string_bytes page.new ≡ string_bytes page.old ++ lines.answer_text states answer.now) }
 {
     match answer {
+        Answer::Every => {
+            put_holds_for_every(page)?;
+            put_states(page, states)
+        }
         Answer::Holds { steps } => {
             put_holds(page, *steps)?;
             put_states(page, states)

@@ -118,7 +118,7 @@ fn status_of(answer: &Answer) -> u8
     ensures { result ≡ lines.status_of answer.now }
 {
     match answer {
-        Answer::Holds { .. } => 0,
+        Answer::Every | Answer::Holds { .. } => 0,
         Answer::Fault { .. } => 1,
         Answer::Stopped { .. } => 2,
     }

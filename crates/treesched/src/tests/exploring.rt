@@ -9,7 +9,8 @@ use crate::tests::cases::{Runtime, check};
 use crate::tests::exploring::alone::explores_alone;
 use crate::tests::exploring::held::explores_held;
 use crate::tests::exploring::known::{
-    AMPLE, Exploration, FAULTS, Known, ONE_THREAD, STOPS, Stops, TIGHT, TWO_THREADS, WHOLE,
+    AMPLE, CLOSING, Exploration, FAULTS, Known, Lone, ONE_THREAD, STOPS, Stops, TIGHT, TWO_THREADS,
+    WHOLE,
 };
 use crate::tests::exploring::together::explores_together;
 use book::Merge;
@@ -48,6 +49,14 @@ fn explores_all<R: Runtime>(rt: &R, by: By, table: &[Known]) -> Result<(), Fail>
     Ok(())
 }
 
+/// The same for programs of one thread.
+fn explores_lone<R: Runtime>(rt: &R, by: By, table: &[Lone]) -> Result<(), Fail> {
+    for lone in table {
+        explores_all(rt, by, [lone.known()].as_slice())?;
+    }
+    Ok(())
+}
+
 /// The same where no more states are allowed than are reached.
 fn fits_all<R: Runtime>(rt: &R, by: By, table: &[Known]) -> Result<(), Fail> {
     for known in table {
@@ -70,7 +79,7 @@ fn stops_all<R: Runtime>(rt: &R, by: By, table: &[Stops]) -> Result<(), Fail> {
 
 #[test]
 fn one_worker_explores_one_thread(rt: HostRuntime) -> Result<(), Fail> {
-    explores_all(&rt, By::Alone, ONE_THREAD.as_slice())
+    explores_lone(&rt, By::Alone, ONE_THREAD.as_slice())
 }
 
 #[test]
@@ -100,7 +109,7 @@ fn one_worker_stops_at_the_limit(rt: HostRuntime) -> Result<(), Fail> {
 
 #[test]
 fn workers_explore_one_thread(rt: HostRuntime) -> Result<(), Fail> {
-    explores_all(&rt, SOME, ONE_THREAD.as_slice())
+    explores_lone(&rt, SOME, ONE_THREAD.as_slice())
 }
 
 #[test]
@@ -124,8 +133,18 @@ fn workers_stop_at_the_limit(rt: HostRuntime) -> Result<(), Fail> {
 }
 
 #[test]
+fn every_schedule_holds_from_the_step_that_closes(rt: HostRuntime) -> Result<(), Fail> {
+    for closing in &CLOSING {
+        for exploration in closing.explorations() {
+            explores(&rt, SOME, exploration)?;
+        }
+    }
+    Ok(())
+}
+
+#[test]
 fn held_workers_explore_one_thread(rt: HostRuntime) -> Result<(), Fail> {
-    explores_all(&rt, By::Held, ONE_THREAD.as_slice())
+    explores_lone(&rt, By::Held, ONE_THREAD.as_slice())
 }
 
 #[test]

@@ -15,6 +15,7 @@ layer-init g c =
           done = stands.done;
           sound = (λ i e at _. none_unsound b.entries c.requires.sound i e at);
         };
+        fresh = (λ i e at deep. let few : e.state.steps ≤ c.args.depth = stands.shallow i e at in absurd (omega arith));
         shallow = (λ i e at. let few : e.state.steps ≤ c.args.depth = stands.shallow i e at in omega arith);
       };
     }

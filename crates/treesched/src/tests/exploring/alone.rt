@@ -32,7 +32,7 @@ impl Prints {
     }
 }
 
-static PRINTED: [Prints; 9] = [
+static PRINTED: [Prints; 10] = [
     Prints(TWO_INSERTS, "--steps 0", 0, "holds to 0 steps\nstates 1\n"),
     Prints(
         TWO_INSERTS,
@@ -71,16 +71,22 @@ static PRINTED: [Prints; 9] = [
         "holds to 4 steps\nstates 13\nworker 1 expanded 10 entered 12 met 2\ntotal expanded 10 entered 12 met 2\n",
     ),
     Prints(
+        TWO_FINDS,
+        "--steps 5 --merge names --ledger",
+        0,
+        "holds for every schedule\nstates 13\nworker 1 expanded 13 entered 12 met 2\ntotal expanded 13 entered 12 met 2\n",
+    ),
+    Prints(
         ELLEN_INSERT,
         "--steps 400 --merge names",
         0,
-        "holds to 400 steps\nstates 276\n",
+        "holds for every schedule\nstates 276\n",
     ),
     Prints(
         NM_INSERT,
         "--steps 400 --merge names",
         0,
-        "holds to 400 steps\nstates 89\n",
+        "holds for every schedule\nstates 89\n",
     ),
 ];
 

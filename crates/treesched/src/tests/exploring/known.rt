@@ -1,8 +1,9 @@
 //! Explorations of which the outcome is known. The numbers of states agree with two explorers that share no code with
 //! this one.
 use crate::tests::sources::{
-    DELETE_5, DELETE_10, DELETE_20, ELLEN, ELLEN_NO_IFLAG, ELLEN_NO_MARK, FIND_5, FIND_10,
-    INSERT_5, INSERT_10, INSERT_25, NM, NM_NO_TAG, Source, TWO_FINDS, TWO_INSERTS,
+    DELETE_5, DELETE_10, DELETE_20, ELLEN, ELLEN_INSERT, ELLEN_NO_IFLAG, ELLEN_NO_MARK, FIND_5,
+    FIND_10, INSERT_5, INSERT_10, INSERT_25, NM, NM_INSERT, NM_NO_TAG, Source, TWO_FINDS,
+    TWO_INSERTS,
 };
 use book::Merge;
 use sched_program::OutOfMemory;
@@ -15,6 +16,8 @@ pub const AMPLE: u32 = 200_000;
 /// What an exploration comes to.
 #[derive(Clone, Copy, Debug)]
 pub enum Outcome {
+    /// No fault after any number of steps, and so many states.
+    Every { states: u32 },
     /// No fault, and so many states.
     Holds { states: u32 },
     /// A history without an order, and so many states. The schedule is the first shortest one in the order of lists.
@@ -54,7 +57,7 @@ impl Exploration {
     /// The status that the program ends with.
     pub fn status(&self) -> u8 {
         match self.outcome {
-            Outcome::Holds { .. } => 0,
+            Outcome::Every { .. } | Outcome::Holds { .. } => 0,
             Outcome::Fault { .. } => 1,
             Outcome::Stopped { .. } => 2,
         }
@@ -63,6 +66,9 @@ impl Exploration {
     /// What one worker prints.
     pub fn text(&self, alloc: Global) -> Result<String, OutOfMemory> {
         match self.outcome {
+            Outcome::Every { states } => {
+                format!(in alloc; "holds for every schedule\nstates {states}\n")
+            }
             Outcome::Holds { states } => {
                 let steps = self.steps;
                 format!(in alloc; "holds to {steps} steps\nstates {states}\n")
@@ -86,10 +92,19 @@ pub fn length_of(schedule: &str) -> usize {
     schedule.split(',').count()
 }
 
-/// A program, how many steps are explored, the first shortest schedule to a fault in the order of lists, how many
-/// states are reached, and how many by names.
+/// What is known of a program's schedules.
 #[derive(Clone, Copy)]
-pub struct Known(Source, u16, Option<&'static str>, u32, u32);
+enum Schedules {
+    /// None leads to a fault, and by names those of so many steps and more reach no further state.
+    Close(u16),
+    /// The first shortest one to a fault in the order of lists.
+    Fault(&'static str),
+}
+
+/// A program, how many steps are explored, what is known of its schedules, how many states are reached, and how many by
+/// names.
+#[derive(Clone, Copy)]
+pub struct Known(Source, u16, Schedules, u32, u32);
 
 impl Known {
     /// How many states are reached.
@@ -110,63 +125,112 @@ impl Known {
             merge,
             limit,
             outcome: match self.2 {
-                None => Outcome::Holds { states },
-                Some(schedule) => Outcome::Fault { schedule, states },
+                Schedules::Close(from) if merge == Merge::Names && from <= self.1 => {
+                    Outcome::Every { states }
+                }
+                Schedules::Close(_) => Outcome::Holds { states },
+                Schedules::Fault(schedule) => Outcome::Fault { schedule, states },
             },
         }
     }
 }
 
+/// A program of one thread, how many steps are explored, and how many states are reached: one more than it takes steps.
+#[derive(Clone, Copy)]
+pub struct Lone(Source, u16, u16);
+
+impl Lone {
+    /// What is known of it.
+    pub fn known(&self) -> Known {
+        let Lone(source, steps, states) = *self;
+        let count = u32::from(states);
+        Known(source, steps, Schedules::Close(states), count, count)
+    }
+}
+
 /// Programs of one thread.
-pub static ONE_THREAD: [Known; 14] = [
-    Known(Source("ellen", "", &[INSERT_5]), 10, None, 6, 6),
-    Known(Source("ellen", "", &[DELETE_5]), 10, None, 3, 3),
-    Known(Source("ellen", "10", &[DELETE_10]), 20, None, 11, 11),
-    Known(Source("ellen", "10", &[INSERT_10]), 20, None, 5, 5),
-    Known(Source("ellen", "10", &[FIND_10]), 20, None, 5, 5),
-    Known(Source("ellen", "10", &[INSERT_5]), 20, None, 8, 8),
-    Known(Source("ellen", "10,20", &[DELETE_20]), 20, None, 13, 13),
-    Known(Source("nm", "", &[INSERT_5]), 20, None, 3, 3),
-    Known(Source("nm", "", &[FIND_5]), 20, None, 2, 2),
-    Known(Source("nm", "10", &[DELETE_10]), 20, None, 8, 8),
-    Known(Source("nm", "10", &[INSERT_10]), 20, None, 3, 3),
-    Known(Source("nm", "10", &[FIND_10]), 20, None, 3, 3),
-    Known(Source("nm", "10", &[INSERT_5]), 20, None, 4, 4),
-    Known(Source("nm", "10,20", &[DELETE_20]), 20, None, 9, 9),
+pub static ONE_THREAD: [Lone; 14] = [
+    Lone(Source("ellen", "", &[INSERT_5]), 10, 6),
+    Lone(Source("ellen", "", &[DELETE_5]), 10, 3),
+    Lone(Source("ellen", "10", &[DELETE_10]), 20, 11),
+    Lone(Source("ellen", "10", &[INSERT_10]), 20, 5),
+    Lone(Source("ellen", "10", &[FIND_10]), 20, 5),
+    Lone(Source("ellen", "10", &[INSERT_5]), 20, 8),
+    Lone(Source("ellen", "10,20", &[DELETE_20]), 20, 13),
+    Lone(Source("nm", "", &[INSERT_5]), 20, 3),
+    Lone(Source("nm", "", &[FIND_5]), 20, 2),
+    Lone(Source("nm", "10", &[DELETE_10]), 20, 8),
+    Lone(Source("nm", "10", &[INSERT_10]), 20, 3),
+    Lone(Source("nm", "10", &[FIND_10]), 20, 3),
+    Lone(Source("nm", "10", &[INSERT_5]), 20, 4),
+    Lone(Source("nm", "10,20", &[DELETE_20]), 20, 9),
 ];
 
-const INSERTS: Known = Known(TWO_INSERTS, 2, None, 5, 5);
+const INSERTS: Known = Known(TWO_INSERTS, 2, Schedules::Close(3), 5, 5);
 
-const FINDS: Known = Known(TWO_FINDS, 4, None, 13, 13);
+const FINDS: Known = Known(TWO_FINDS, 4, Schedules::Close(5), 13, 13);
+
+/// Two threads that each insert a key beside another leaf.
+const APART: Source = Source("nm", "10,20", &[INSERT_5, INSERT_25]);
 
 /// Programs of two threads.
 pub static TWO_THREADS: [Known; 7] = [
-    Known(TWO_INSERTS, 0, None, 1, 1),
-    Known(TWO_INSERTS, 1, None, 3, 3),
+    Known(TWO_INSERTS, 0, Schedules::Close(3), 1, 1),
+    Known(TWO_INSERTS, 1, Schedules::Close(3), 3, 3),
     INSERTS,
     FINDS,
-    Known(
-        Source("nm", "10,20", &[INSERT_5, INSERT_25]),
-        8,
-        None,
-        34,
-        33,
-    ),
-    Known(ELLEN, 20, None, 902, 553),
-    Known(NM, 20, None, 195, 184),
+    Known(APART, 8, Schedules::Close(9), 34, 33),
+    Known(ELLEN, 20, Schedules::Close(32), 902, 553),
+    Known(NM, 20, Schedules::Close(26), 195, 184),
 ];
 
 /// Programs of two threads, each schedule to its end.
 pub static WHOLE: [Known; 3] = [
-    Known(TWO_INSERTS, 400, None, 5, 5),
-    Known(ELLEN, 400, None, 2094, 831),
-    Known(NM, 400, None, 224, 198),
+    Known(TWO_INSERTS, 400, Schedules::Close(3), 5, 5),
+    Known(ELLEN, 400, Schedules::Close(32), 2094, 831),
+    Known(NM, 400, Schedules::Close(26), 224, 198),
+];
+
+/// A program, the least number of steps from which by names every schedule is covered, and how many states that reaches.
+#[derive(Clone, Copy)]
+pub struct Closing(Source, u16, u32);
+
+impl Closing {
+    /// The explorations of one step fewer, and of so many.
+    pub fn explorations(&self) -> [Exploration; 2] {
+        let Closing(source, from, states) = *self;
+        let before = Exploration {
+            source,
+            steps: from.saturating_sub(1),
+            merge: Merge::Names,
+            limit: AMPLE,
+            outcome: Outcome::Holds { states },
+        };
+        let after = Exploration {
+            steps: from,
+            outcome: Outcome::Every { states },
+            ..before
+        };
+        [before, after]
+    }
+}
+
+/// Programs about the first number of steps that closes them.
+pub static CLOSING: [Closing; 8] = [
+    Closing(TWO_INSERTS, 3, 5),
+    Closing(Source("ellen", "", &[INSERT_5]), 6, 6),
+    Closing(TWO_FINDS, 5, 13),
+    Closing(APART, 9, 33),
+    Closing(ELLEN, 32, 831),
+    Closing(NM, 26, 198),
+    Closing(ELLEN_INSERT, 28, 276),
+    Closing(NM_INSERT, 19, 89),
 ];
 
 const NO_MARK: Known = Known(
     ELLEN_NO_MARK,
     20,
-    Some("0,0,0,0,0,0,0,1,1,0,1,1,1,1,1,1,1"),
+    Schedules::Fault("0,0,0,0,0,0,0,1,1,0,1,1,1,1,1,1,1"),
     456,
     352,
 );
@@ -174,12 +238,18 @@ const NO_MARK: Known = Known(
 const NO_IFLAG: Known = Known(
     ELLEN_NO_IFLAG,
     20,
-    Some("0,0,0,0,0,1,1,1,0,0,0,0,1,1,1,1"),
+    Schedules::Fault("0,0,0,0,0,1,1,1,0,0,0,0,1,1,1,1"),
     329,
     322,
 );
 
-const NO_TAG: Known = Known(NM_NO_TAG, 20, Some("0,0,0,0,0,0,1,1,0,1,1,1,1"), 133, 130);
+const NO_TAG: Known = Known(
+    NM_NO_TAG,
+    20,
+    Schedules::Fault("0,0,0,0,0,0,1,1,0,1,1,1,1"),
+    133,
+    130,
+);
 
 /// Programs of the variants.
 pub static FAULTS: [Known; 3] = [NO_MARK, NO_IFLAG, NO_TAG];
