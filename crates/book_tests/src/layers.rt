@@ -67,3 +67,23 @@ fn a_book_of_two_layers(rt: HostRuntime) -> Result<(), Fail> {
     }
     Ok(())
 }
+
+/// How a book merges, how many entries are expanded of its five, and whether it is closed then.
+const CLOSED: [(Merge, usize, bool); 3] = [
+    (Merge::Names, 4, false),
+    (Merge::Names, 5, true),
+    (Merge::Exact, 5, false),
+];
+
+#[test]
+fn a_book_by_names_closes_with_its_last_entry(rt: HostRuntime) -> Result<(), Fail> {
+    let alloc = rt.alloc();
+    for (merge, entries, is_closed) in CLOSED {
+        let is_told = settled(|| {
+            let book = expanded(alloc, Atomic, TWO_INSERTS, (merge, merge), entries)?;
+            Ok(book.closed() == is_closed)
+        })?;
+        assert!(rt; is_told, "{merge:?} with {entries} expanded");
+    }
+    Ok(())
+}

@@ -174,10 +174,11 @@ const FINDS: Known = Known(TWO_FINDS, 4, Schedules::Close(5), 13, 13);
 const APART: Source = Source("nm", "10,20", &[INSERT_5, INSERT_25]);
 
 /// Programs of two threads.
-pub static TWO_THREADS: [Known; 7] = [
+pub static TWO_THREADS: [Known; 8] = [
     Known(TWO_INSERTS, 0, Schedules::Close(3), 1, 1),
     Known(TWO_INSERTS, 1, Schedules::Close(3), 3, 3),
     INSERTS,
+    Known(TWO_INSERTS, 400, Schedules::Close(3), 5, 5),
     FINDS,
     Known(APART, 8, Schedules::Close(9), 34, 33),
     Known(ELLEN, 20, Schedules::Close(32), 902, 553),
