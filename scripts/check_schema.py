@@ -1,0 +1,240 @@
+#!/usr/bin/env python3
+"""Compares docs/program.schema.json with the program: what the schema refuses the program refuses, and what the program
+accepts the schema accepts.
+
+usage: scripts/check_schema.py [--program PROGRAM]
+
+Without PROGRAM the script `treesched` at the top is meant. Needed is the Python package jsonschema (python3-jsonschema in
+Debian).
+
+Both judge: the files of examples/, which both accept; texts at the limits, which both accept; texts with one fault each,
+which both refuse, the program by the name told here; texts whose fault only the program sees; and each text that comes of
+a program by leaving out one part of it or putting a value of another kind in its place, of which both say the same.
+
+Each text of which the two say something else than is told here is shown, and at the end comes 'N texts, M wrong'. The status
+is 0 if none is wrong, 1 if one is, and 2 where jsonschema is missing or PROGRAM doesn't run.
+"""
+import argparse
+import json
+import subprocess
+import sys
+import tempfile
+from collections.abc import Callable, Iterator
+from pathlib import Path
+from typing import Any
+
+try:
+    from jsonschema import Draft202012Validator
+except ImportError:
+    print("check_schema: the Python package jsonschema is missing (in Debian, python3-jsonschema)", file=sys.stderr)
+    sys.exit(2)
+
+TOP = Path(__file__).resolve().parent.parent
+SCHEMA = TOP / "docs" / "program.schema.json"
+TREES = ["atomic", "ellen", "ellen-no-mark", "ellen-no-iflag", "nm", "nm-no-tag"]
+ACCEPTED = ""
+
+# Beginnings and ends of programs, which the tables put together.
+START = '{"version": 1, "tree": "atomic", "initial": [7], '
+THREADS = '"threads": [[{"op": "find", "key": 7}]]}'
+
+
+def with_version(text: str) -> str:
+    """A program whose version is this text."""
+    return f'{{"version": {text}, "tree": "atomic", "initial": [7], {THREADS}'
+
+
+def with_tree(text: str) -> str:
+    """A program whose tree is this text."""
+    return f'{{"version": 1, "tree": {text}, "initial": [7], {THREADS}'
+
+
+def with_initial(text: str) -> str:
+    """A program whose initial keys are this text."""
+    return f'{{"version": 1, "tree": "atomic", "initial": {text}, {THREADS}'
+
+
+def with_threads(text: str) -> str:
+    """A program whose threads are this text."""
+    return f'{START}"threads": {text}}}'
+
+
+def with_operation(text: str) -> str:
+    """A program whose last operation is this text."""
+    return with_threads(f'[[{{"op": "insert", "key": 1}}], [{{"op": "find", "key": 2}}, {text}]]')
+
+
+def with_key(text: str) -> str:
+    """A program whose last key is this text."""
+    return with_operation(f'{{"op": "delete", "key": {text}}}')
+
+
+def with_member(text: str) -> str:
+    """A program with a member of this text, which is ignored."""
+    return f'{START}"size": {text}, {THREADS}'
+
+
+def of_lengths(*lengths: int) -> str:
+    """A program whose threads have so many operations."""
+    return with_threads(json.dumps([[{"op": "find", "key": 3}] * length for length in lengths]))
+
+
+# Texts at the limits, and members that are ignored.
+LAWFUL = [
+    *(with_tree(f'"{name}"') for name in TREES),
+    with_initial("[]"),
+    with_initial("[0, 99, 1, 2, 3, 4, 5, 6, 7, 8, 9, 10]"),
+    of_lengths(1),
+    of_lengths(6, 6),
+    of_lengths(3, 3, 3, 3),
+    *map(with_key, ("0", "99")),
+    with_member("[" * 126 + "]" * 126),
+    with_operation('{"key": 5, "thread": 9, "op": "find"}'),
+    f'{{"title": "a program", "tree-2": 1, {START[1:]}"notes": [null, true, {{}}], {THREADS}',
+    f'{{"\\u0076ersion": 1, "tree": "\\u006em", "initial": [], {THREADS}',
+]
+
+# Texts with one fault, by the name that the program tells.
+SEEN: dict[str, list[str]] = {
+    "P2 NotObject": ["[]", "null", "true", "1", '"version"', f"[{START}{THREADS}]"],
+    "P3 Version": [
+        f'{{"tree": "atomic", "initial": [7], {THREADS}',
+        *map(with_version, ("2", "0", "-1", '"1"', "true", "null", "[1]")),
+    ],
+    "P4 Tree": [
+        f'{{"version": 1, "initial": [7], {THREADS}',
+        *map(with_tree, ('"Ellen"', '"nm-no-mark"', '""', "null", '["nm"]')),
+    ],
+    "P5 Initial": [
+        f'{{"version": 1, "tree": "atomic", {THREADS}',
+        *map(with_initial, ("null", "7", "{}", '"7"', str([*range(13)]), "[100]", "[-1]")),
+        *map(with_initial, ("[5.5]", '["5"]', "[null]", "[true]", "[[5]]")),
+    ],
+    "P6 InitialTwice": [with_initial(text) for text in ("[7, 7]", "[0, 1, 2, 3, 4, 5, 6, 7, 8, 9, 10, 0]")],
+    "P7 Threads": [
+        '{"version": 1, "tree": "atomic", "initial": [7]}',
+        *map(with_threads, ("null", "{}", "1", "[]")),
+        of_lengths(1, 1, 1, 1, 1),
+    ],
+    "P8 Ops": [
+        *map(with_threads, ("[null]", "[{}]", '[{"op": "find", "key": 7}]', "[[]]")),
+        of_lengths(1, 0),
+        of_lengths(7),
+    ],
+    "P9 Op": [
+        *map(with_operation, ("null", "1", "[]", '"find"', "{}", '{"key": 5}', '{"op": "Find", "key": 5}')),
+        *map(with_operation, ('{"op": "", "key": 5}', '{"op": null, "key": 5}', '{"op": ["find"], "key": 5}')),
+    ],
+    "P10 Key": [
+        with_operation('{"op": "find"}'),
+        *map(with_key, ("100", "-1", "5.5", '"5"', "null", "true", "[5]")),
+    ],
+}
+
+# Texts whose fault JSON Schema can't see, by the name that the program tells.
+UNSEEN: dict[str, list[str]] = {
+    "P1 NotJson": [with_member(text) for text in ("1e999", '"\\ud800"', "[" * 127 + "]" * 127)],
+    "P3 Version": [with_version(text) for text in ("1.0", "1e0")],
+    "P5 Initial": [with_initial(text) for text in ("[5.0]", "[1e1]", "[-0]")],
+    "P8 Ops": [of_lengths(6, 6, 1), of_lengths(6, 6, 6, 6), of_lengths(4, 3, 3, 3)],
+    "P10 Key": [with_key(text) for text in ("5.0", "1e1", "-0")],
+}
+
+# What is put in the place of each part of a program. None of it has a fault that JSON Schema can't see.
+OTHERS: list[Any] = [None, True, False, 0, 1, 99, 100, -1, 0.5, "", "find", "nm", [], [1], [[]], {}, {"op": "find", "key": 1}]
+
+
+def variants(value: Any) -> Iterator[Any]:
+    """The values that come of this one by putting another in the place of one part of it, or by leaving one out."""
+    yield from OTHERS
+    if isinstance(value, dict):
+        for name, part in value.items():
+            yield {other: kept for other, kept in value.items() if other != name}
+            yield from ({**value, name: changed} for changed in variants(part))
+    if isinstance(value, list):
+        for place, part in enumerate(value):
+            yield value[:place] + value[place + 1 :]
+            yield from ([*value[:place], changed, *value[place + 1 :]] for changed in variants(part))
+
+
+class Judges:
+    """The schema and the program, and a count of the texts that they judged."""
+
+    def __init__(self, program: Path, file: Path) -> None:
+        self.program = program
+        self.file = file
+        schema = json.loads(SCHEMA.read_text(encoding="utf-8"))
+        Draft202012Validator.check_schema(schema)
+        self.validator = Draft202012Validator(schema)
+        self.texts = 0
+        self.wrong = 0
+
+    def does_schema_accept(self, text: str) -> bool:
+        """Whether the value of the text meets the schema."""
+        return bool(self.validator.is_valid(json.loads(text)))
+
+    def fault_of(self, text: str) -> str:
+        """The number and the name of the fault that the program tells of the text, or that it accepts it."""
+        self.file.write_text(text, encoding="utf-8")
+        words = [self.program, "explore", self.file, "--steps", "0"]
+        ended = subprocess.run(words, capture_output=True, text=True, check=False)
+        if ended.returncode == 0 and not ended.stderr:
+            return ACCEPTED
+        if ended.returncode == 3:
+            return ended.stderr.removeprefix("treesched: ").removesuffix("\n")
+        return f"status {ended.returncode}: {ended.stderr}"
+
+    def judge(self, text: str, is_right: Callable[[bool, str], bool]) -> None:
+        """Has a text judged by both, and shows it where what they say is not right."""
+        accepts = self.does_schema_accept(text)
+        fault = self.fault_of(text)
+        self.texts += 1
+        if not is_right(accepts, fault):
+            self.wrong += 1
+            print(f"{text}\n    the schema {'accepts' if accepts else 'refuses'} it, the program: {fault or 'accepted'}")
+
+
+def judge_all(judges: Judges) -> None:
+    """Has all texts judged."""
+    examples = [path.read_text(encoding="utf-8") for path in sorted((TOP / "examples").glob("*.json"))]
+    for text in [*examples, *LAWFUL]:
+        judges.judge(text, lambda accepts, fault: accepts and fault == ACCEPTED)
+    for name, texts in SEEN.items():
+        for text in texts:
+            judges.judge(text, lambda accepts, fault, name=name: not accepts and fault == name)
+    for name, texts in UNSEEN.items():
+        for text in texts:
+            judges.judge(text, lambda accepts, fault, name=name: accepts and fault == name)
+    program = json.loads(with_operation('{"op": "delete", "key": 7}'))
+    names = {*SEEN, ACCEPTED}
+    for text in sorted({json.dumps(value) for value in variants(program)}):
+        judges.judge(text, lambda accepts, fault: fault in names and accepts == (fault == ACCEPTED))
+
+
+def does_run(program: Path) -> bool:
+    """Whether the program runs. The script at the top builds the program here, so that no text waits for that."""
+    try:
+        return subprocess.run([program, "--help"], stdout=subprocess.DEVNULL, check=False).returncode == 0
+    except OSError:
+        return False
+
+
+def main() -> int:
+    """Compares the two, and answers the status."""
+    parser = argparse.ArgumentParser(
+        description=__doc__, formatter_class=argparse.RawDescriptionHelpFormatter, usage=argparse.SUPPRESS
+    )
+    parser.add_argument("--program", type=Path, default=TOP / "treesched", help="the program that is compared")
+    program = parser.parse_args().program.resolve()
+    if not does_run(program):
+        print(f"check_schema: {program} does not run", file=sys.stderr)
+        return 2
+    with tempfile.TemporaryDirectory() as folder:
+        judges = Judges(program, Path(folder) / "program.json")
+        judge_all(judges)
+    print(f"{judges.texts} texts, {judges.wrong} wrong")
+    return 1 if judges.wrong else 0
+
+
+if __name__ == "__main__":
+    sys.exit(main())
