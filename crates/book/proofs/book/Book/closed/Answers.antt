@@ -1,10 +1,8 @@
-use Rattle.std.proofs.Common.{rules, ◌≡◌, ◌∙◌, sym, ap}
+use Rattle.std.proofs.Common.{rules, ◌≡◌, ◌∙◌, sym}
 use Rattle.std.specs.Prelude.{◌↔◌, IsTrue}
 use Rattle.std.proofs.lemmas.Bool.{true≢false}
-use Rattle.tree_machine.specs.declared.state.State.{State}
 use Rattle.book.specs.declared.book.Merge.TheVariants.{Names}
 use Rattle.book.specs.Books.{machine_in, right_in, counted_as_one}
-use Rattle.book.specs.Entries.{Contents}
 use Rattle.book.proofs.Closed.{worked_out, left_out, closed_holds}
 use Rattle.book.proofs.book.Book.closed.Goals as goal
 
@@ -28,5 +26,4 @@ returns-in-None-clause-every g c =
     let same = counted_as_one {Machine = g.row.M.Denot} {Form = g.row.M-Form.Denot} g.M.Loc.PartialEq.eq g.M.Mem.PartialEq.eq g.M.Form.PartialEq.eq (g.M.Machine.form_of b.machine) b.merge in
     let law = c.law.ensures in
     let out = worked_out s.table.entries (sym c.first_left.ensures ∙ c.in-None.is) in
-    let entries = ap (λ (x : Contents g.row.M.Denot (State g.row.M.Denot g.row.M-Mem.Denot g.row.M-Loc.Denot g.row.M-Form.Denot)). x.entries) c.self.view_is in
     λ _ sound. closed_holds m same right law.machine law.merges law.alike b.entries law.law.law (rw (← c.self.view_is) out) sound
