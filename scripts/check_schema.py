@@ -9,7 +9,7 @@ Debian).
 
 Both judge: the files of examples/, which both accept; texts at the limits, which both accept; texts with one fault each,
 which both refuse, the program by the name told here; texts whose fault only the program sees; and each text that comes of
-a program by leaving out one part of it or putting a value of another kind in its place, of which both say the same.
+one program of each version by leaving out one part of it or putting another value in its place, of which both say the same.
 
 Each text of which the two say something else than is told here is shown, and at the end comes 'N texts, M wrong'. The status
 is 0 if none is wrong, 1 if one is, and 2 where jsonschema is missing or PROGRAM doesn't run.
@@ -79,6 +79,24 @@ def of_lengths(*lengths: int) -> str:
     return with_threads(json.dumps([[{"op": "find", "key": 3}] * length for length in lengths]))
 
 
+def of_version_2(text: str) -> str:
+    """A text of version 1 as one of version 2."""
+    return text.replace('"version": 1', '"version": 2', 1)
+
+
+def ignoring(thread: int, text: str, key: str = "7") -> str:
+    """A program of version 1, four threads of two operations each, where the last of this thread has this key and an `after`
+    of this text, which is ignored."""
+    both = '{"op": "insert", "key": 1}, {"op": "delete", "key": 1}'
+    waits = f'{{"op": "find", "key": 2}}, {{"op": "find", "key": {key}, "after": {text}}}'
+    return with_threads("[" + ", ".join(f"[{waits if other == thread else both}]" for other in range(4)) + "]")
+
+
+def waiting(thread: int, text: str, key: str = "7") -> str:
+    """The same of version 2, where that operation waits."""
+    return of_version_2(ignoring(thread, text, key))
+
+
 # Texts at the limits, and members that are ignored.
 LAWFUL = [
     *(with_tree(f'"{name}"') for name in TREES),
@@ -94,12 +112,23 @@ LAWFUL = [
     f'{{"\\u0076ersion": 1, "tree": "\\u006em", "initial": [], {THREADS}',
 ]
 
+# Texts of version 2 that wait, up to the limits, and texts of version 1, in which `after` is ignored.
+LAWFUL += [
+    *(of_version_2(text) for text in LAWFUL if '"version": 1' in text),
+    *(waiting(1, text) for text in ("[0, 1]", "[0, 2]", "[ 0,1 ]")),
+    *(waiting(2, text) for text in ("[0, 1]", "[1, 2]")),
+    *(waiting(3, text) for text in ("[0, 2]", "[1, 1]", "[2, 2]")),
+    of_version_2(with_threads(json.dumps([[{"op": "find", "key": 3}] * 6, [{"after": [0, 6], "op": "find", "key": 3}]]))),
+    *(ignoring(1, text) for text in ("null", "[1, 1]", "[0, 9]", '"thread 0"', "[0, 1]", "[0, 1.0]")),
+    ignoring(0, "[3, 1]"),
+]
+
 # Texts with one fault, by the name that the program tells.
 SEEN: dict[str, list[str]] = {
     "P2 NotObject": ["[]", "null", "true", "1", '"version"', f"[{START}{THREADS}]"],
     "P3 Version": [
         f'{{"tree": "atomic", "initial": [7], {THREADS}',
-        *map(with_version, ("2", "0", "-1", '"1"', "true", "null", "[1]")),
+        *map(with_version, ("3", "0", "-1", "12", '"1"', '"2"', "true", "null", "[1]", "[2]")),
     ],
     "P4 Tree": [
         f'{{"version": 1, "initial": [7], {THREADS}',
@@ -128,20 +157,45 @@ SEEN: dict[str, list[str]] = {
     "P10 Key": [
         with_operation('{"op": "find"}'),
         *map(with_key, ("100", "-1", "5.5", '"5"', "null", "true", "[5]")),
+        waiting(1, "[1, 1]", key="100"),
+        waiting(0, "[0, 1]", key='"5"'),
+    ],
+    "P12 After": [
+        *(waiting(1, text) for text in ("null", "true", "0", '"[0, 1]"', "{}", '{"0": 1}')),
+        *(waiting(1, text) for text in ("[]", "[0]", "[0, 1, 1]", "[[0, 1]]", "[null, 1]", '["0", 1]', '[0, "1"]', "[0, null]")),
+        *(waiting(1, text) for text in ("[0, 0]", "[0, -1]", "[-1, 1]", "[0.5, 1]", "[0, 1.5]", "[true, 1]", "[0, true]", "[0, 7]")),
+        *(waiting(thread, f"[{other}, 1]") for thread in range(4) for other in range(thread, 5)),
+        waiting(0, "null"),
     ],
 }
+
+# Of the texts with one fault, those of an earlier fault have it in version 2 too.
+for name in ("P4 Tree", "P5 Initial", "P6 InitialTwice", "P7 Threads", "P8 Ops", "P9 Op", "P10 Key"):
+    SEEN[name] += [of_version_2(text) for text in SEEN[name] if '"version": 1' in text]
 
 # Texts whose fault JSON Schema can't see, by the name that the program tells.
 UNSEEN: dict[str, list[str]] = {
     "P1 NotJson": [with_member(text) for text in ("1e999", '"\\ud800"', "[" * 127 + "]" * 127)],
-    "P3 Version": [with_version(text) for text in ("1.0", "1e0")],
+    "P3 Version": [with_version(text) for text in ("1.0", "1e0", "2.0", "2e0")],
     "P5 Initial": [with_initial(text) for text in ("[5.0]", "[1e1]", "[-0]")],
     "P8 Ops": [of_lengths(6, 6, 1), of_lengths(6, 6, 6, 6), of_lengths(4, 3, 3, 3)],
-    "P10 Key": [with_key(text) for text in ("5.0", "1e1", "-0")],
+    "P10 Key": [*(with_key(text) for text in ("5.0", "1e1", "-0")), waiting(1, "[0, 3]", key="7.0")],
+    "P12 After": [waiting(1, text) for text in ("[0, 3]", "[0, 6]", "[0, 1.0]", "[0, 1e0]", "[0.0, 1]", "[-0, 1]")],
 }
 
 # What is put in the place of each part of a program. None of it has a fault that JSON Schema can't see.
-OTHERS: list[Any] = [None, True, False, 0, 1, 99, 100, -1, 0.5, "", "find", "nm", [], [1], [[]], {}, {"op": "find", "key": 1}]
+OTHERS: list[Any] = [
+    *(None, True, False, 0, 1, 2, 99, 100, -1, 0.5, "", "find", "nm", [], [1], [0, 1], [[]], {}),
+    {"op": "find", "key": 1},
+    {"op": "find", "key": 1, "after": [0, 1]},
+]
+
+# Threads of version 2 that wait. Those waited for have two operations: with 2 for the 1 of an `after`, there is no fault.
+WAITING: list[Any] = [
+    [{"op": "insert", "key": 1}, {"op": "delete", "key": 7}],
+    [{"op": "find", "key": 1, "after": [0, 1]}, {"op": "find", "key": 2}],
+    [{"op": "find", "key": 7, "after": [1, 1]}],
+]
 
 
 def variants(value: Any) -> Iterator[Any]:
@@ -205,9 +259,9 @@ def judge_all(judges: Judges) -> None:
     for name, texts in UNSEEN.items():
         for text in texts:
             judges.judge(text, lambda accepts, fault, name=name: accepts and fault == name)
-    program = json.loads(with_operation('{"op": "delete", "key": 7}'))
+    programs = [with_operation('{"op": "delete", "key": 7}'), of_version_2(with_threads(json.dumps(WAITING)))]
     names = {*SEEN, ACCEPTED}
-    for text in sorted({json.dumps(value) for value in variants(program)}):
+    for text in sorted({json.dumps(value) for program in programs for value in variants(json.loads(program))}):
         judges.judge(text, lambda accepts, fault: fault in names and accepts == (fault == ACCEPTED))
 
 

@@ -4,4 +4,5 @@ mod Loads
 mod Members
 mod ShortLists
 mod Texts
+mod Waiting
 mod Values

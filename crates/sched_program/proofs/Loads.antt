@@ -1,5 +1,5 @@
 -- The answer for what a reader gave.
-use Rattle.std.proofs.Common.{◌≡◌, ◌≢◌, ℕ, List, Option, Err, inl, inr, refl}
+use Rattle.std.proofs.Common.{◌≢◌, List, ℕ, Option, Err, inl, inr, refl}
 use Rattle.std.specs.Io.KnownBytes.{Consumes, IsAtEnd}
 use Rattle.sched_program.specs.Faults.{IsFirstFaultOf}
 use Rattle.sched_program.specs.Loading.{AnswersAllRead}
@@ -22,4 +22,5 @@ told old new text fault.Threads all end first none = inr (text, all, end, (first
 told old new text fault.Ops all end first none = inr (text, all, end, (first, none (λ e. cc)))
 told old new text fault.Op all end first none = inr (text, all, end, (first, none (λ e. cc)))
 told old new text fault.Key all end first none = inr (text, all, end, (first, none (λ e. cc)))
+told old new text fault.After all end first none = inr (text, all, end, (first, none (λ e. cc)))
 told old new text fault.OutOfMemory all end first none = inl refl

@@ -1,5 +1,5 @@
 -- What the members of a program's text are, and are not.
-use Rattle.std.proofs.Common.{◌≡◌, ◌≢◌, ℕ, ◌≤◌, List, [], ◌∷◌, ◌++◌, length, map, arith, subst, refl, sym, ap, ◌∙◌, All, AllPairs, Bool, true, false, MatchBool, codes}
+use Rattle.std.proofs.Common.{◌≡◌, ◌≢◌, ℕ, ◌≤◌, List, [], ◌∷◌, ◌++◌, length, map, arith, subst, refl, sym, ap, ◌∙◌, All, AllPairs, Bool, Option, true, false, MatchBool, codes}
 use Rattle.std.proofs.lemmas.List.Sums.{sum-map}
 use Rattle.std.specs.List.{AllByRecursion}
 use Rattle.serde_json.specs.Data.{Data, unsigned, number}
@@ -7,9 +7,12 @@ use Rattle.sched_program.specs.declared.reader.OpWord.{OpWord}
 use Rattle.sched_program.specs.declared.reader.OpWord.TheVariants.{Insert, Delete, Find}
 use Rattle.sched_program.specs.declared.operation.Op.{Op}
 use Rattle.sched_program.specs.declared.operation.Tree.{Tree}
-use Rattle.sched_program.specs.Program.{IsUserKey, key_of, IsWithinLimits}
-use Rattle.sched_program.specs.Text.{IsListOf, HasMember, IsKey, HasKey, HasWord, IsOp, op_of, word_of}
-use Rattle.sched_program.specs.Faults.{item_count, IsListOfCount, IsListWithin, IsListOfFewKeys, IsListOfDistinctKeys, HasOpCounts, HasWords, HasKeys, AreOpCounts}
+use Rattle.sched_program.specs.declared.operation.Turn.{Turn}
+use Rattle.sched_program.specs.declared.version.Version.{Version}
+use Rattle.sched_program.specs.declared.fault.ProgramFault.TheVariants as fault
+use Rattle.sched_program.specs.Program.{IsUserKey, key_of, AreTurnsWithin, IsWithinLimits}
+use Rattle.sched_program.specs.Text.{IsListOf, HasMember, IsKey, HasKey, HasWord, IsOp, HasThreads, HasTurn, HasTurns, op_of, word_of}
+use Rattle.sched_program.specs.Faults.{item_count, IsListOfCount, IsListWithin, IsListOfFewKeys, IsListOfDistinctKeys, HasOpCounts, HasWords, HasKeys, AreOpCounts, Passes}
 use Rattle.sched_program.proofs.Values.{Each-All, of_map_All, same_items, of_member, list_counted, same_count, same_list, list_map, list_both}
 
 -- a list of keys is one of few keys only if its length is
@@ -79,16 +82,41 @@ counts_fit value counts false list are = no_op_counts value counts list are
 pub not_distinct : (value : Data) (keys : List ℕ) → HasMember (codes "initial") (λ member. IsListOf IsKey member keys) value → ¬ AllPairs (λ a b. a ≢ b) keys → ¬ HasMember (codes "initial") IsListOfDistinctKeys value
 not_distinct value keys has not other = twice has.0 keys has.2 not (of_member IsListOfDistinctKeys (codes "initial") value has.0 (sym has.1) other)
 
+-- threads of permitted numbers of operations pass each test of theirs
+pub threads_pass : (value : Data) (threads : List (List Op)) → HasThreads value threads → 1 ≤ length threads → length threads ≤ 4 → AreOpCounts (map length threads)
+    → Passes value fault.Threads × Passes value fault.Ops × Passes value fault.Op × Passes value fault.Key
+threads_pass value threads has some few counts =
+    let count = list_counted (IsListOf IsOp) has.0 threads has.2 in
+    let lengths = list_map (IsListOf IsOp) IsListOfCount length (list_counted IsOp) has.0 threads has.2 in
+    let words = list_map (IsListOf IsOp) (IsListOf HasWord) (map word_of) (list_map IsOp HasWord word_of (λ v op is. is.word)) has.0 threads has.2 in
+    let keys = list_map (IsListOf IsOp) (IsListOf HasKey) (map key_of) (list_map IsOp HasKey key_of (λ v op is. is.key)) has.0 threads has.2 in (
+      (has.0, has.1, (length threads, count, some, few)),
+      (has.0, has.1, (map length threads, lengths, counts)),
+      (has.0, has.1, (map (map word_of) threads, words)),
+      (has.0, has.1, (map (map key_of) threads, keys)),
+    )
+
+-- the turns of a value stand beside its operations
+same_counts : (value : Data) (version : Version) (threads : List (List Op)) (turns : List (List (Option Turn))) → HasThreads value threads → HasTurns version value turns → map length turns ≡ map length threads
+same_counts value version threads turns has also =
+    let there = of_member (λ member. IsListOf (IsListOf (HasTurn version)) member turns) (codes "threads") value has.0 (sym has.1) also in
+    same_list IsListOfCount same_counted has.0 (map length turns) (map length threads)
+    (list_map (IsListOf (HasTurn version)) IsListOfCount length (list_counted (HasTurn version)) has.0 turns there)
+    (list_map (IsListOf IsOp) IsListOfCount length (list_counted IsOp) has.0 threads has.2)
+
 -- what a value gives meets the limits of a program
-pub limits_met : (value : Data) (tree : Tree) (initial : List ℕ) (threads : List (List Op)) → HasMember (codes "initial") (λ member. IsListOf IsKey member initial) value → length initial ≤ 12 → AllPairs (λ a b. a ≢ b) initial
-    → HasMember (codes "threads") (λ member. IsListOf (IsListOf IsOp) member threads) value → 1 ≤ length threads → length threads ≤ 4 → AreOpCounts (map length threads) → IsWithinLimits (record { tree = tree; initial = initial; threads = threads })
-limits_met value tree initial threads keys count distinct ops some few counts = record {
+pub limits_met : (value : Data) (version : Version) (tree : Tree) (initial : List ℕ) (threads : List (List Op)) (turns : List (List (Option Turn))) → HasMember (codes "initial") (λ member. IsListOf IsKey member initial) value → length initial ≤ 12 → AllPairs (λ a b. a ≢ b) initial
+    → HasThreads value threads → 1 ≤ length threads → length threads ≤ 4 → AreOpCounts (map length threads) → HasTurns version value turns → AreTurnsWithin threads turns
+    → IsWithinLimits (record { tree = tree; initial = initial; threads = threads; turns = turns })
+limits_met value version tree initial threads turns keys count distinct ops some few counts has within = record {
   initial = record { count = count; user_keys = Each-All IsKey IsUserKey (λ v key is. is.1) keys.2.0 initial keys.2.2; distinct = distinct };
   some_thread = some;
   thread_count = few;
   op_counts = of_map_All (λ count. (1 ≤ count) × (count ≤ 6)) length threads counts.each;
   total = rw (← sum-map length threads) counts.total;
   op_keys = Each-All (IsListOf IsOp) (All (λ op. IsUserKey (key_of op))) (λ v ops list. Each-All IsOp (λ op. IsUserKey (key_of op)) (λ w op is. is.key.2.1) list.0 ops list.2) ops.2.0 threads ops.2.2;
+  turn_counts = same_counts value version threads turns ops has;
+  turns = within;
 }
 
 -- the keys of a list of few

@@ -1,24 +1,28 @@
 -- A value is the text of one program at most, and a text has no fault.
-use Rattle.std.proofs.Common.{◌≡◌, ◌≢◌, ℕ, ◌≤◌, List, length, get_or, map, arith, subst, refl, sym, ap, ◌∙◌, Some, Result, Ok, Err, IfOk, IfErr, codes, sum}
+use Rattle.std.proofs.Common.{◌≡◌, ◌≢◌, ℕ, ◌≤◌, List, length, get_or, map, arith, subst, refl, sym, ap, ◌∙◌, Option, Some, None, Result, Ok, Err, IfOk, IfErr, codes, sum}
 use Rattle.std.proofs.lemmas.Option.{same_Some}
 use Rattle.std.proofs.lemmas.List.Sums.{sum-map}
 use Rattle.std.proofs.lemmas.List.Elements.{All-map}
 use Rattle.serde_json.specs.Find.{get}
 use Rattle.serde_json.specs.Read.{read}
-use Rattle.serde_json.specs.Data.{Data, null, boolean, number, string, array, object, Members}
+use Rattle.serde_json.specs.Data.{Data, unsigned, item, no_items, null, boolean, number, string, array, object, Members}
 use Rattle.sched_program.specs.declared.operation.Op.{Op}
 use Rattle.sched_program.specs.declared.operation.Op.TheVariants as op
 use Rattle.sched_program.specs.declared.operation.Tree.{Tree}
 use Rattle.sched_program.specs.declared.operation.Tree.TheVariants.{Atomic, Ellen, EllenNoMark, EllenNoIflag, Nm, NmNoTag}
+use Rattle.sched_program.specs.declared.operation.Turn.{Turn}
+use Rattle.sched_program.specs.declared.version.Version.{Version}
+use Rattle.sched_program.specs.declared.version.Version.TheVariants.{First, Second}
 use Rattle.sched_program.specs.declared.reader.OpWord.{OpWord}
 use Rattle.sched_program.specs.declared.reader.OpWord.TheVariants.{Insert, Delete, Find}
 use Rattle.sched_program.specs.declared.fault.ProgramFault.{ProgramFault}
 use Rattle.sched_program.specs.declared.fault.ProgramFault.TheVariants as fault
+use Rattle.sched_program.specs.Operations.{same_turn}
 use Rattle.sched_program.specs.Program.{Program, key_of}
-use Rattle.sched_program.specs.Text.{IsListOf, IsKey, HasKey, HasWord, IsOp, op_of, word_of, word_text, tree_name, IsTextOf, IsJsonOf, IsJsonTextOf}
-use Rattle.sched_program.specs.Faults.{IsListOfCount, Passes, Stands, IsFirstFault}
-use Rattle.sched_program.proofs.Values.{list_counted, same_list, same_member, list_map}
-use Rattle.sched_program.proofs.Members.{same_key}
+use Rattle.sched_program.specs.Text.{IsListOf, IsKey, IsOp, IsTurn, HasThreads, HasTurn, HasTurns, HasVersion, version_number, op_of, word_of, word_text, tree_name, IsTextOf, IsJsonOf, IsJsonTextOf}
+use Rattle.sched_program.specs.Faults.{AreOpCounts, Passes, Stands, IsFirstFault}
+use Rattle.sched_program.proofs.Values.{same_list, same_member}
+use Rattle.sched_program.proofs.Members.{same_key, threads_pass}
 
 -- one text stands at a name
 same_text : (name : List ℕ) (value : Data) (a b : List ℕ) → get name value ≡ Some (string a) → get name value ≡ Some (string b) → a ≡ b
@@ -53,17 +57,51 @@ same_op value a b is also =
     let other = op_parts b in
     cc
 
-same_parts : (a b : Tree) (ks ls : List ℕ) (xs ys : List (List Op)) → a ≡ b → ks ≡ ls → xs ≡ ys
-    → (let p : Program = record { tree = a; initial = ks; threads = xs } in p) ≡ record { tree = b; initial = ls; threads = ys }
-same_parts a b ks ls xs ys e f g = rw (e, f, g)
+pub same_threads : (value : Data) (a b : List (List Op)) → HasThreads value a → HasThreads value b → a ≡ b
+same_threads = same_member (IsListOf (IsListOf IsOp)) (codes "threads") (same_list (IsListOf IsOp) (same_list IsOp same_op))
+
+same_number : (a b : Version) → version_number a ≡ version_number b → a ≡ b
+same_number First First e = refl
+same_number Second Second e = refl
+same_number a b e = absurd (omega (arith, e))
+
+pub same_version : (value : Data) (a b : Version) → HasVersion value a → HasVersion value b → a ≡ b
+same_version value a b is also =
+    let e : number (unsigned (version_number a)) ≡ number (unsigned (version_number b)) = same_Some _ _ (sym is ∙ also) in
+    let number : version_number a ≡ version_number b = cc in
+    same_number a b number
+
+-- a value is one turn at most
+same_as_turn : (value : Data) (a b : Turn) → IsTurn value a → IsTurn value b → a ≡ b
+same_as_turn value a b is also =
+    let e : array (item (number (unsigned a.thread)) (item (number (unsigned a.count)) no_items)) ≡ array (item (number (unsigned b.thread)) (item (number (unsigned b.count)) no_items)) = sym is ∙ also in
+    let thread : a.thread ≡ b.thread = cc in
+    let count : a.count ≡ b.count = cc in
+    same_turn a.thread b.thread a.count b.count thread count
+
+same_wait : (version : Version) (value : Data) (a b : Option Turn) → HasTurn version value a → HasTurn version value b → a ≡ b
+same_wait First value a b is also = is ∙ sym also
+same_wait Second value None None is also = refl
+same_wait Second value None (Some b) is also = absurd (let e : None ≡ Some also.0 = sym is ∙ also.1 in cc)
+same_wait Second value (Some a) None is also = absurd (let e : None ≡ Some is.0 = sym also ∙ is.1 in cc)
+same_wait Second value (Some a) (Some b) is also = ap Some (same_member IsTurn (codes "after") same_as_turn value a b is also)
+
+pub same_turns : (version : Version) (value : Data) (a b : List (List (Option Turn))) → HasTurns version value a → HasTurns version value b → a ≡ b
+same_turns version = same_member (IsListOf (IsListOf (HasTurn version))) (codes "threads") (same_list (IsListOf (HasTurn version)) (same_list (HasTurn version) (same_wait version)))
+
+same_parts : (a b : Tree) (ks ls : List ℕ) (xs ys : List (List Op)) (us vs : List (List (Option Turn))) → a ≡ b → ks ≡ ls → xs ≡ ys → us ≡ vs
+    → (let p : Program = record { tree = a; initial = ks; threads = xs; turns = us } in p) ≡ record { tree = b; initial = ls; threads = ys; turns = vs }
+same_parts a b ks ls xs ys us vs e f g h = rw (e, f, g, h)
 
 -- a value is the text of one program at most
 pub same_program : (value : Data) (p q : Program) → IsTextOf value p → IsTextOf value q → p ≡ q
 same_program value p q is also =
     let tree : p.tree ≡ q.tree = same_tree_name p.tree q.tree (same_text (codes "tree") value (tree_name p.tree) (tree_name q.tree) is.tree also.tree) in
     let initial : p.initial ≡ q.initial = same_member (IsListOf IsKey) (codes "initial") (same_list IsKey same_key) value p.initial q.initial is.initial also.initial in
-    let threads : p.threads ≡ q.threads = same_member (IsListOf (IsListOf IsOp)) (codes "threads") (same_list (IsListOf IsOp) (same_list IsOp same_op)) value p.threads q.threads is.threads also.threads in
-    same_parts p.tree q.tree p.initial q.initial p.threads q.threads tree initial threads
+    let threads : p.threads ≡ q.threads = same_threads value p.threads q.threads is.threads also.threads in
+    let version : also.version ≡ is.version = same_version value also.version is.version also.has_version is.has_version in
+    let turns : p.turns ≡ q.turns = same_turns is.version value p.turns q.turns is.turns (subst (λ v. HasTurns v value q.turns) version also.turns) in
+    same_parts p.tree q.tree p.initial q.initial p.threads q.threads p.turns q.turns tree initial threads turns
 
 -- what has a member is an object
 has_members : (name : List ℕ) (value member : Data) → get name value ≡ Some member → (members : Members) × (value ≡ object members)
@@ -74,28 +112,26 @@ has_members name (string s) member is = cc
 has_members name (array ds) member is = cc
 has_members name (object ms) member is = (ms, refl)
 
+-- a text's threads pass each test of theirs
+all_threads_pass : (value : Data) (program : Program) → IsTextOf value program → Passes value fault.Threads × Passes value fault.Ops × Passes value fault.Op × Passes value fault.Key
+all_threads_pass value program is =
+    let each = All-map (λ count. (1 ≤ count) × (count ≤ 6)) length program.threads is.limits.op_counts in
+    let total : sum (map length program.threads) ≤ 12 = rw (sum-map length program.threads) is.limits.total in
+    threads_pass value program.threads is.threads is.limits.some_thread is.limits.thread_count (let counts : AreOpCounts (map length program.threads) = record { each = each; total = total } in counts)
+
 -- a text passes each test
 passes_all : (value : Data) (program : Program) → IsTextOf value program → (fault : ProgramFault) → Passes value fault
 passes_all value program is fault.NotJson = tt
-passes_all value program is fault.NotObject = has_members (codes "version") value _ is.version
-passes_all value program is fault.Version = is.version
+passes_all value program is fault.NotObject = has_members (codes "version") value _ is.has_version
+passes_all value program is fault.Version = (is.version, is.has_version)
 passes_all value program is fault.Tree = (program.tree, is.tree)
 passes_all value program is fault.Initial = (is.initial.0, is.initial.1, (program.initial, is.initial.2, is.limits.initial.count))
 passes_all value program is fault.InitialTwice = (is.initial.0, is.initial.1, (program.initial, is.initial.2, is.limits.initial.distinct))
-passes_all value program is fault.Threads =
-    let count = list_counted (IsListOf IsOp) is.threads.0 program.threads is.threads.2 in
-    (is.threads.0, is.threads.1, (length program.threads, count, is.limits.some_thread, is.limits.thread_count))
-passes_all value program is fault.Ops =
-    let counts = list_map (IsListOf IsOp) IsListOfCount length (list_counted IsOp) is.threads.0 program.threads is.threads.2 in
-    let each = All-map (λ count. (1 ≤ count) × (count ≤ 6)) length program.threads is.limits.op_counts in
-    let total : sum (map length program.threads) ≤ 12 = rw (sum-map length program.threads) is.limits.total in
-    (is.threads.0, is.threads.1, (map length program.threads, counts, record { each = each; total = total }))
-passes_all value program is fault.Op =
-    let words = list_map (IsListOf IsOp) (IsListOf HasWord) (map word_of) (list_map IsOp HasWord word_of (λ v op has. has.word)) is.threads.0 program.threads is.threads.2 in
-    (is.threads.0, is.threads.1, (map (map word_of) program.threads, words))
-passes_all value program is fault.Key =
-    let keys = list_map (IsListOf IsOp) (IsListOf HasKey) (map key_of) (list_map IsOp HasKey key_of (λ v op has. has.key)) is.threads.0 program.threads is.threads.2 in
-    (is.threads.0, is.threads.1, (map (map key_of) program.threads, keys))
+passes_all value program is fault.Threads = (all_threads_pass value program is).0
+passes_all value program is fault.Ops = (all_threads_pass value program is).1
+passes_all value program is fault.Op = (all_threads_pass value program is).2
+passes_all value program is fault.Key = (all_threads_pass value program is).3
+passes_all value program is fault.After = (is.version, program.threads, program.turns, is.has_version, is.threads, is.turns, is.limits.turns)
 passes_all value program is fault.OutOfMemory = tt
 
 -- what passes a test has not its fault
@@ -111,6 +147,7 @@ not_both value fault.Threads passes stands = absurd (stands passes)
 not_both value fault.Ops passes stands = absurd (stands passes)
 not_both value fault.Op passes stands = absurd (stands passes)
 not_both value fault.Key passes stands = absurd (stands passes)
+not_both value fault.After passes stands = absurd (stands passes)
 
 -- a text has no first fault but a refusal of memory
 pub no_fault : (value : Data) (program : Program) (told : ProgramFault) → IsTextOf value program → IsFirstFault value told → told ≡ fault.OutOfMemory

@@ -1,10 +1,14 @@
 -- The faults of a text, in the order in which they are told.
-use Rattle.std.specs.Prelude.{◌≡◌, ◌≢◌, ℕ, suc, ◌≤◌, List, [], ◌∷◌, codes, length, All, AllPairs, sum}
+use Rattle.std.specs.Prelude.{◌≡◌, ◌≢◌, ℕ, suc, ◌≤◌, List, [], ◌∷◌, codes, length, Option, All, AllPairs, sum}
 use Rattle.std.specs.List.{AllByRecursion}
 use Rattle.serde_json.specs.Data.{Data, array, object, Items, no_items, item, Members}
+use Rattle.sched_program.specs.declared.operation.Op.{Op}
 use Rattle.sched_program.specs.declared.operation.Tree.{Tree}
+use Rattle.sched_program.specs.declared.operation.Turn.{Turn}
+use Rattle.sched_program.specs.declared.version.Version.{Version}
 use Rattle.sched_program.specs.declared.reader.OpWord.{OpWord}
-use Rattle.sched_program.specs.Text.{HasMember, IsListOf, IsKey, HasKey, HasWord, HasVersion, HasTree, IsJsonOf}
+use Rattle.sched_program.specs.Program.{AreTurnsWithin}
+use Rattle.sched_program.specs.Text.{HasMember, IsListOf, IsKey, HasKey, HasWord, HasVersion, HasTree, HasThreads, HasTurns, IsJsonOf}
 use Rattle.sched_program.specs.declared.fault.ProgramFault.{ProgramFault}
 use Rattle.sched_program.specs.declared.fault.ProgramFault.TheVariants as fault
 
@@ -43,11 +47,16 @@ HasWords threads = (words : List (List OpWord)) × IsListOf (IsListOf HasWord) t
 abbrev pub HasKeys : Data → Type 0
 HasKeys threads = (keys : List (List ℕ)) × IsListOf (IsListOf HasKey) threads keys
 
+-- what the operations wait for is written as in the value's version, and is within the limits
+abbrev pub HasTurnsWithin : Data → Type 0
+HasTurnsWithin value = (version : Version) × (threads : List (List Op)) × (turns : List (List (Option Turn)))
+    × HasVersion value version × HasThreads value threads × HasTurns version value turns × AreTurnsWithin threads turns
+
 -- the value passes the test that this fault is told for. A test of a member asks also that the member is there
 abbrev pub Passes : Data → ProgramFault → Type 0
 Passes value fault.NotJson = Unit {0}
 Passes value fault.NotObject = (members : Members) × (value ≡ object members)
-Passes value fault.Version = HasVersion value 1
+Passes value fault.Version = (version : Version) × HasVersion value version
 Passes value fault.Tree = (tree : Tree) × HasTree value tree
 Passes value fault.Initial = HasMember (codes "initial") IsListOfFewKeys value
 Passes value fault.InitialTwice = HasMember (codes "initial") IsListOfDistinctKeys value
@@ -55,6 +64,7 @@ Passes value fault.Threads = HasMember (codes "threads") (IsListWithin 1 4) valu
 Passes value fault.Ops = HasMember (codes "threads") HasOpCounts value
 Passes value fault.Op = HasMember (codes "threads") HasWords value
 Passes value fault.Key = HasMember (codes "threads") HasKeys value
+Passes value fault.After = HasTurnsWithin value
 Passes value fault.OutOfMemory = Unit {0}
 
 -- the fault stands in the value. A refusal of memory may come of any value
@@ -74,6 +84,7 @@ earlier fault.Threads = fault.NotObject ∷ fault.Version ∷ fault.Tree ∷ fau
 earlier fault.Ops = fault.NotObject ∷ fault.Version ∷ fault.Tree ∷ fault.Initial ∷ fault.InitialTwice ∷ fault.Threads ∷ []
 earlier fault.Op = fault.NotObject ∷ fault.Version ∷ fault.Tree ∷ fault.Initial ∷ fault.InitialTwice ∷ fault.Threads ∷ fault.Ops ∷ []
 earlier fault.Key = fault.NotObject ∷ fault.Version ∷ fault.Tree ∷ fault.Initial ∷ fault.InitialTwice ∷ fault.Threads ∷ fault.Ops ∷ fault.Op ∷ []
+earlier fault.After = fault.NotObject ∷ fault.Version ∷ fault.Tree ∷ fault.Initial ∷ fault.InitialTwice ∷ fault.Threads ∷ fault.Ops ∷ fault.Op ∷ fault.Key ∷ []
 earlier fault.OutOfMemory = []
 
 -- the fault stands in the value, and none that is told before it does

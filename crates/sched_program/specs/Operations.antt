@@ -1,9 +1,11 @@
--- Operations and trees are one and the same where they compare as equal.
-use Rattle.std.specs.Prelude.{refl}
+-- Operations, what they wait for, and trees are one and the same where they compare as equal.
+use Rattle.std.specs.Prelude.{◌≡◌, ℕ, nat_eq, refl}
 use Rattle.std.proofs.Common.{ap}
-use Rattle.sched_program.specs.Exact.{IsExact, nat_exact}
+use Rattle.sched_program.specs.Exact.{IsExact, nat_exact, both}
+use Rattle.sched_program.specs.declared.operation.Turn.{Turn}
 use Rattle.sched_program.specs.declared.operation.Op.TheVariants.{Insert, Delete, Find}
 use Rattle.sched_program.specs.contracts.operation.OpPartialEq.TheImpl.{eq-value as op_eq}
+use Rattle.sched_program.specs.contracts.operation.TurnPartialEq.TheImpl.{eq-value as turn_eq}
 use Rattle.sched_program.specs.contracts.operation.TreePartialEq.TheImpl.{eq-value as tree_eq}
 use Rattle.sched_program.specs.declared.operation.Tree.TheVariants.{Atomic, Ellen, EllenNoMark, EllenNoIflag, Nm, NmNoTag}
 
@@ -17,6 +19,14 @@ op_exact (Delete a) (Find b) h = cc
 op_exact (Find a) (Insert b) h = cc
 op_exact (Find a) (Delete b) h = cc
 op_exact (Find a) (Find b) h = ap Find (nat_exact a b h)
+
+pub same_turn : (s t c d : ℕ) → s ≡ t → c ≡ d → (let turn : Turn = record { thread = s; count = c } in turn) ≡ record { thread = t; count = d }
+same_turn s t c d e f = rw (e, f)
+
+pub turn_exact : IsExact turn_eq.it
+turn_exact a b h =
+    let parts = both (nat_eq a.thread b.thread) (nat_eq a.count b.count) h in
+    same_turn a.thread b.thread a.count b.count (nat_exact a.thread b.thread parts.0) (nat_exact a.count b.count parts.1)
 
 pub tree_exact : IsExact tree_eq.it
 tree_exact Atomic Atomic h = refl

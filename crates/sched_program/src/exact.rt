@@ -1,9 +1,9 @@
 //! Values that are one and the same where they compare as equal.
 ghost use Rattle.std.specs.Prelude.{◌≡◌, ◌↔◌, IsTrue};
-ghost use Rattle.sched_program.specs.Operations.{op_exact, tree_exact};
+ghost use Rattle.sched_program.specs.Operations.{op_exact, tree_exact, turn_exact};
 ghost use Rattle.sched_program.specs.Exact.{IsExact, nat_exact, bool_exact, option_exact, list_exact};
 
-use crate::operation::{Op, Tree};
+use crate::operation::{Op, Tree, Turn};
 use crate::sequence::Sequence;
 use crate::short_list::{Blank, ShortList};
 
@@ -47,6 +47,10 @@ impl Exact for Op {
 
 impl Exact for Tree {
     ghost exact = { tree_exact };
+}
+
+impl Exact for Turn {
+    ghost exact = { turn_exact };
 }
 
 /// Whether two values are one and the same.

@@ -14,7 +14,7 @@ pub enum ProgramFault {
     /// The value is no object.
     #[error("P2 NotObject")]
     NotObject,
-    /// `version` is absent or not 1.
+    /// `version` is absent or not 1 or 2.
     #[error("P3 Version")]
     Version,
     /// `tree` is absent or not one of the names.
@@ -41,6 +41,10 @@ pub enum ProgramFault {
     /// A growth was refused. It may come at any point.
     #[error("P11 OutOfMemory")]
     OutOfMemory,
+    /// In version 2, an operation's `after` is no list of two numbers, or names no thread before its own, or not 1 up to
+    /// all of that thread's operations.
+    #[error("P12 After")]
+    After,
 }
 
 impl From<OutOfMemory> for ProgramFault {

@@ -12,13 +12,15 @@ mod reader;
 mod sequence;
 mod short_list;
 mod text;
+mod turns;
+mod version;
 
 pub use crate::counted::Counted;
 pub use crate::exact::{Exact, same};
 pub use crate::fault::ProgramFault;
 pub use crate::history::{History, Note};
 pub use crate::loading::LoadFault;
-pub use crate::operation::{Op, OpId, Tree};
+pub use crate::operation::{Op, OpId, Tree, Turn};
 pub use crate::program::Program;
 pub use crate::sequence::Sequence;
 pub use crate::short_list::{Blank, ShortList};

@@ -3,7 +3,7 @@ ghost use Rattle.std.specs.Prelude.{◌≡◌, ◌≢◌, ℕ, ◌<◌, ◌≤�
 ghost use Rattle.std.specs.List.{AllByRecursion};
 ghost use Rattle.serde_json.specs.Find.{get};
 ghost use Rattle.serde_json.specs.View.{view};
-ghost use Rattle.sched_program.specs.Text.{HasMember, IsListOf, IsKey, IsOp, tree_name, HasVersion, HasTree, IsTextOf, IsJsonTextOf};
+ghost use Rattle.sched_program.specs.Text.{HasMember, IsListOf, IsKey, tree_name, HasTree, HasThreads, IsTextOf, IsJsonTextOf};
 ghost use Rattle.sched_program.specs.Faults.{IsListWithin, AreOpCounts, HasOpCounts, HasWords, Passes, earlier, IsFirstFault, IsFirstFaultOf};
 ghost use Rattle.sched_program.specs.declared.operation.Tree.{Tree};
 
@@ -13,18 +13,10 @@ use crate::operation::{Op, Tree};
 use crate::program::Program;
 use crate::reader::{CountReader, KeyReader, ListOf, OpReader, Reader, WordReader, list_len};
 use crate::sequence::Sequence;
+use crate::turns::turns_within;
+use crate::version::version_of;
 use serde_json::Value;
 use std::alloc::Global;
-
-/// Whether a value says that it is of version 1.
-fn is_version_1(value: &Value) -> bool
-    ensures { IsTrue result ↔ HasVersion (view value.now) 1 }
-{
-    match value.get("version") {
-        Some(version) => version.as_u64() == Some(1),
-        None => false,
-    }
-}
 
 /// The tree with this name.
 fn tree_named(name: &str) -> Option<Tree>
@@ -150,7 +142,7 @@ fn has_words(alloc: Global, threads: &Value) -> Result<bool, OutOfMemory>
 fn threads_of(alloc: Global, value: &Value) -> Result<Sequence<Sequence<Op>>, ProgramFault>
     requires { AllByRecursion (Passes (view value.now)) (earlier ProgramFault.Threads) }
     ensures ok { IfOk result (λ threads.
-        HasMember (codes "threads") (λ member. IsListOf (IsListOf IsOp) member threads) (view value.now)
+        HasThreads (view value.now) threads
         × (1 ≤ length threads) × (length threads ≤ 4) × AreOpCounts (map length threads)) }
     ensures err { IfErr result (IsFirstFault (view value.now)) }
 {
@@ -177,9 +169,9 @@ fn program_of(alloc: Global, value: &Value) -> Result<Program, ProgramFault>
     if !value.is_object() {
         return Err(ProgramFault::NotObject);
     }
-    if !is_version_1(value) {
+    let Some(version) = version_of(value) else {
         return Err(ProgramFault::Version);
-    }
+    };
     let Some(tree) = tree_of(value) else {
         return Err(ProgramFault::Tree);
     };
@@ -188,16 +180,20 @@ fn program_of(alloc: Global, value: &Value) -> Result<Program, ProgramFault>
         return Err(ProgramFault::InitialTwice);
     }
     let threads = threads_of(alloc, value)?;
-    Ok(Program::new(tree, initial, threads))
+    let Some(turns) = turns_within(alloc, value, version, threads.as_slice())? else {
+        return Err(ProgramFault::After);
+    };
+    Ok(Program::new(tree, initial, threads, turns))
 }
 
 impl Program {
     ghost use Rattle.sched_program.specs.Program.{Program};
 
-    /// The program that a JSON text of version 1 describes.
+    /// The program that a JSON text of version 1 or 2 describes.
     ///
     /// The text is one object with the members `version`, `tree`, `initial` and `threads`, and other members are ignored.
-    /// Keys are written as digits alone, from 0 to 99, and `version` as the digit 1.
+    /// Keys are written as digits alone, from 0 to 99, and `version` as the digit 1 or 2. In version 2 an operation may
+    /// have a member `after`, which tells what it waits for.
     ///
     /// # Errors
     ///

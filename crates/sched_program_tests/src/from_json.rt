@@ -96,7 +96,7 @@ fn expect_fault(rt: &(impl AllocGlobal + Abort), case: &str, text: &[u8], fault:
 }
 
 /// Reads texts that all have this fault, each with what it shows.
-fn expect_fault_of_each(
+pub fn expect_fault_of_each(
     rt: &(impl AllocGlobal + Abort),
     texts: &[(&str, &str)],
     fault: ProgramFault,
@@ -107,7 +107,7 @@ fn expect_fault_of_each(
 }
 
 /// The program of a text that has no fault.
-fn expect_program(rt: &(impl AllocGlobal + Abort), case: &str, text: &str) -> Program {
+pub fn expect_program(rt: &(impl AllocGlobal + Abort), case: &str, text: &str) -> Program {
     match answer(rt.alloc(), text.as_bytes()) {
         Ok(program) => program,
         Err(told) => panic!(rt; "{case}: {told}"),
@@ -242,6 +242,7 @@ const SHOWN: &[(ProgramFault, &str)] = &[
     (ProgramFault::Op, "P9 Op"),
     (ProgramFault::Key, "P10 Key"),
     (ProgramFault::OutOfMemory, "P11 OutOfMemory"),
+    (ProgramFault::After, "P12 After"),
 ];
 
 /// Whether a fault is shown as this.

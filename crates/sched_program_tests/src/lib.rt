@@ -7,3 +7,5 @@ mod from_json;
 mod readers;
 #[cfg(test)]
 mod refused_texts;
+#[cfg(test)]
+mod turns;

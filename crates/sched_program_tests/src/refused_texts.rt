@@ -32,8 +32,8 @@ pub const OF_VERSION: &[(&str, &str)] = &[
         r#"{"tree":"atomic","initial":[],"threads":[[{"op":"insert","key":1}],[{"op":"insert","key":1}]]}"#,
     ),
     (
-        "version 2",
-        r#"{"version":2,"tree":"atomic","initial":[],"threads":[[{"op":"insert","key":1}],[{"op":"insert","key":1}]]}"#,
+        "version 2 with a point",
+        r#"{"version":2.0,"tree":"atomic","initial":[],"threads":[[{"op":"insert","key":1}],[{"op":"insert","key":1}]]}"#,
     ),
     (
         "version 3",

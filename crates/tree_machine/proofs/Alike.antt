@@ -1,14 +1,14 @@
 -- Alike states: the same threads of theirs have steps, their steps are alike, and so are their findings.
-use Rattle.std.proofs.Common.{◌≡◌, ℕ, List, [], ◌∷◌, ◌++◌, length, map, Bool, Option, Some, None, is_some, refl, sym, ap, ◌∙◌, subst, slice_get, ◌↔◌}
+use Rattle.std.proofs.Common.{◌≡◌, ℕ, List, [], ◌∷◌, ◌++◌, length, map, Bool, Option, Some, None, is_some, refl, sym, ap, ◌∙◌, subst, slice_get, ◌↔◌, if◌then◌else◌, true}
 use Rattle.std.specs.Prelude.{IsTrue, IsSomeAnd}
 use Rattle.std.specs.List.{AllZip}
-use Rattle.sched_program.specs.Program.{Program, op_at}
+use Rattle.sched_program.specs.Program.{Program, op_at, after_at}
 use Rattle.sched_program.specs.declared.operation.Op.{Op}
 use Rattle.tree_machine.specs.Alike.{places_of, replies_of, notes_of, AreStatesAlike}
 use Rattle.tree_machine.specs.History.{all_named, history_of}
 use Rattle.tree_machine.specs.Pairing.{Pairing, Extends, AreHeldPaired, AreStepsPaired, ArePairsLawful}
 use Rattle.tree_machine.specs.Rules.{Rules, AreLawful}
-use Rattle.tree_machine.specs.Step.{finished_counts, place_or, notes_at_step, at_step, after_access, stepped, step, next_op, ready, IsEnabled}
+use Rattle.tree_machine.specs.Step.{finished_counts, place_or, notes_at_step, at_step, after_access, stepped, step, is_met, next_op, ready, IsEnabled}
 use Rattle.tree_machine.specs.declared.machine.Outcome.{Outcome}
 use Rattle.tree_machine.specs.declared.machine.Outcome.TheVariants.{Goes, Replies, Astray}
 use Rattle.tree_machine.specs.declared.state.Thread.{Thread}
@@ -122,9 +122,16 @@ module _ {Machine Memory Place Form : Type 0} (rules : Rules Memory Place) where
     threads_paired : (alike : AreStatesAlike rules state twin) → AllZip (AreThreadsPaired (rules.pairs.places alike.paired.0)) state.threads twin.threads
     threads_paired alike = threads_zip _ state.threads twin.threads alike.paired.2 alike.replies alike.notes
 
-    -- paired threads are in the same operation, or begin the same next
-    next_same : (P : Place → Place → Type 0) (program : Program) (t : ℕ) (thread other : Thread Place) → AreThreadsPaired P thread other → next_op program t thread ≡ next_op program t other
-    next_same P program t thread other k = ap (λ replies. op_at program t (length replies)) k.replies
+    counts_alike : AreStatesAlike rules state twin → finished_counts state.threads ≡ finished_counts twin.threads
+    counts_alike alike = zip_read (λ x. length x.replies) _ (λ x y paired. ap length paired.replies) state.threads twin.threads (threads_paired alike)
+
+    -- paired threads are in the same operation, or may begin the same next
+    next_same : (P : Place → Place → Type 0) (program : Program) (t : ℕ) (counts others : List ℕ) (thread other : Thread Place) → counts ≡ others → AreThreadsPaired P thread other
+        → next_op program counts t thread ≡ next_op program others t other
+    next_same P program t counts others thread other c k =
+        let held = held_are_some P thread.place other.place k.place in
+        let replies = k.replies in
+        λ i. if (if held i then true else is_met (c i) (after_at program t (length (replies i)))) then op_at program t (length (replies i)) else None
 
     -- the same threads have a step, each of the same operation
     ready_alike : (alike : AreStatesAlike rules state twin) → (program : Program) (t : ℕ)
@@ -132,8 +139,8 @@ module _ {Machine Memory Place Form : Type 0} (rules : Rules Memory Place) where
     ready_alike alike program t =
         if_paired _ (is_some state.astray) (is_some twin.astray) _ _ (ap is_some alike.astray)
         (then_paired _ (AreThreadsPaired (rules.pairs.places alike.paired.0)) _ _
-        (λ thread other k. map_paired _ (λ op same. op ≡ same) (λ op. (thread, op)) (λ op. (other, op)) (λ op same is. (k, is)) (next_op program t thread) (next_op program t other)
-        (held_same _ _ (next_same _ program t thread other k)))
+        (λ thread other k. map_paired _ (λ op same. op ≡ same) (λ op. (thread, op)) (λ op. (other, op)) (λ op same is. (k, is)) (next_op program (finished_counts state.threads) t thread) (next_op program (finished_counts twin.threads) t other)
+        (held_same _ _ (next_same _ program t (finished_counts state.threads) (finished_counts twin.threads) thread other (counts_alike alike) k)))
         (slice_get state.threads t) (slice_get twin.threads t) (zip_get _ state.threads twin.threads t (threads_paired alike)))
 
     -- the same threads have steps, and these are alike

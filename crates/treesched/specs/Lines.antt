@@ -118,6 +118,7 @@ fault_text program_fault.Ops = codes "P8 Ops"
 fault_text program_fault.Op = codes "P9 Op"
 fault_text program_fault.Key = codes "P10 Key"
 fault_text program_fault.OutOfMemory = codes "P11 OutOfMemory"
+fault_text program_fault.After = codes "P12 After"
 
 -- the exit status for an answer
 abbrev pub status_of : Answer → ℕ

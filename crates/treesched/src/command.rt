@@ -7,6 +7,9 @@ ghost use Rattle.treesched.specs.Command as line;
 use clap::{Arg, ArgAction, Command, value_parser};
 use std::alloc::{AllocError, Global};
 
+/// What stands below the help for the whole command.
+const EXAMPLE: &str = "Example: treesched explore examples/ellen.json --steps 400 --merge names";
+
 /// The words for the ways to merge states.
 static MERGES: [&str; 2] = ["exact", "names"];
 
@@ -14,7 +17,10 @@ fn file<'a>(alloc: Global) -> Arg<'a>
     ensures rule { rule_of result ≡ line.file }
     ensures local { result.global ≡ false }
 {
-    Arg::new(alloc, "file").value_name("FILE").required(true)
+    Arg::new(alloc, "file")
+        .value_name("FILE")
+        .required(true)
+        .help("The program: a JSON text (docs/FORMATS.md)")
 }
 
 fn steps<'a>(alloc: Global) -> Arg<'a>
@@ -26,6 +32,7 @@ fn steps<'a>(alloc: Global) -> Arg<'a>
         .value_name("N")
         .required(true)
         .value_parser(value_parser!(u64).range(..=400))
+        .help("The longest schedules that are explored: 0 to 400 steps")
 }
 
 fn workers<'a>(alloc: Global) -> Arg<'a>
@@ -37,6 +44,7 @@ fn workers<'a>(alloc: Global) -> Arg<'a>
         .value_name("W")
         .default_value("1")
         .value_parser(value_parser!(u64).range(1..=8))
+        .help("The threads that explore: 1 to 8")
 }
 
 fn states<'a>(alloc: Global) -> Arg<'a>
@@ -48,6 +56,7 @@ fn states<'a>(alloc: Global) -> Arg<'a>
         .value_name("M")
         .default_value("200000")
         .value_parser(value_parser!(u64).range(1..=2_000_000))
+        .help("The most states that are kept: 1 to 2000000")
 }
 
 fn merge<'a>(alloc: Global) -> Arg<'a>
@@ -59,6 +68,9 @@ fn merge<'a>(alloc: Global) -> Arg<'a>
         .value_name("STATES")
         .default_value("exact")
         .value_parser(MERGES.as_slice())
+        .help(
+            "Which states count as one: equal ones, or those that differ in the numbers of nodes and records",
+        )
 }
 
 fn ledger<'a>(alloc: Global) -> Arg<'a>
@@ -68,6 +80,7 @@ fn ledger<'a>(alloc: Global) -> Arg<'a>
     Arg::new(alloc, "ledger")
         .long("ledger")
         .action(ArgAction::SetTrue)
+        .help("Also prints what each thread that explored has done")
 }
 
 fn schedule<'a>(alloc: Global) -> Arg<'a>
@@ -78,6 +91,7 @@ fn schedule<'a>(alloc: Global) -> Arg<'a>
         .long("schedule")
         .value_name("LIST")
         .required(true)
+        .help("The thread of each step, single digits with commas between them, at most 400")
 }
 
 fn explore<'a>(alloc: Global) -> Result<Command<'a>, AllocError>
@@ -113,6 +127,7 @@ pub fn treesched_command<'a>(alloc: Global) -> Result<Command<'a>, AllocError>
 {
     Command::new(alloc, "treesched")
         .about("Explores the schedules of concurrent tree programs")
+        .after_help(EXAMPLE)
         .subcommand_required(true)
         .subcommand(explore(alloc)?)?
         .subcommand(replay(alloc)?)

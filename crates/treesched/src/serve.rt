@@ -100,6 +100,7 @@ pub fn fault_text(fault: ProgramFault) -> &'static str
         ProgramFault::Op => "P9 Op",
         ProgramFault::Key => "P10 Key",
         ProgramFault::OutOfMemory => "P11 OutOfMemory",
+        ProgramFault::After => "P12 After",
     }
 }
 

@@ -9,8 +9,8 @@ use crate::tests::cases::{Runtime, check};
 use crate::tests::exploring::alone::explores_alone;
 use crate::tests::exploring::held::explores_held;
 use crate::tests::exploring::known::{
-    AMPLE, CLOSING, Exploration, FAULTS, Known, Lone, ONE_THREAD, STOPS, Stops, TIGHT, TWO_THREADS,
-    WHOLE,
+    AMPLE, CLOSING, Exploration, FAULTS, IN_TURN, Known, Lone, ONE_THREAD, STOPS, Stops, TIGHT,
+    TWO_THREADS, WHOLE,
 };
 use crate::tests::exploring::together::explores_together;
 use book::Merge;
@@ -85,6 +85,12 @@ fn one_worker_explores_one_thread(rt: HostRuntime) -> Result<(), Fail> {
 #[test]
 fn one_worker_explores_two_threads(rt: HostRuntime) -> Result<(), Fail> {
     explores_all(&rt, By::Alone, TWO_THREADS.as_slice())
+}
+
+#[test]
+fn operations_wait_their_turn(rt: HostRuntime) -> Result<(), Fail> {
+    explores_all(&rt, By::Alone, IN_TURN.as_slice())?;
+    explores_all(&rt, SOME, IN_TURN.as_slice())
 }
 
 #[test]

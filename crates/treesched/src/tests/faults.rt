@@ -5,7 +5,7 @@ use sched_program::{OutOfMemory, ProgramFault};
 use std::alloc::Global;
 use std::test::Fail;
 
-const FAULTS: [ProgramFault; 11] = [
+const FAULTS: [ProgramFault; 12] = [
     ProgramFault::NotJson,
     ProgramFault::NotObject,
     ProgramFault::Version,
@@ -17,6 +17,7 @@ const FAULTS: [ProgramFault; 11] = [
     ProgramFault::Op,
     ProgramFault::Key,
     ProgramFault::OutOfMemory,
+    ProgramFault::After,
 ];
 
 /// Whether the text that is told of a fault is what `Display` shows of it.

@@ -19,6 +19,8 @@ enum Text {
     Nested(usize),
     /// A program with this list of initial keys and this list of threads.
     Program(&'static str, &'static str),
+    /// A program of version 2 of two threads of one insert each, with these further members.
+    InTurn(&'static str, &'static str),
     /// A program of one thread that inserts this key, as it is written.
     Key(&'static str),
     /// A program of so many threads of so many inserts each.
@@ -33,6 +35,7 @@ impl Text {
             Text::Between(before, after) => between(alloc, before, after),
             Text::Nested(count) => nested(alloc, *count),
             Text::Program(initial, threads) => program(alloc, initial, threads),
+            Text::InTurn(first, second) => in_turn(alloc, first, second),
             Text::Key(key) => inserting(alloc, key),
             Text::Inserts(threads, each) => inserts(alloc, *threads, *each),
         }
@@ -59,7 +62,15 @@ fn nested(alloc: Global, count: usize) -> Result<Vec<u8>, OutOfMemory> {
 }
 
 fn program(alloc: Global, initial: &str, threads: &str) -> Result<Vec<u8>, OutOfMemory> {
-    let text = text_of(alloc, "atomic", initial, threads)?;
+    let text = text_of(alloc, 1, "atomic", initial, threads)?;
+    text.as_bytes().to_vec(alloc)
+}
+
+fn in_turn(alloc: Global, first: &str, second: &str) -> Result<Vec<u8>, OutOfMemory> {
+    let threads = format!(in alloc;
+        r#"[{{"op":"insert","key":1{first}}}],[{{"op":"insert","key":1{second}}}]"#
+    )?;
+    let text = text_of(alloc, 2, "atomic", "", threads.as_str())?;
     text.as_bytes().to_vec(alloc)
 }
 
@@ -156,6 +167,26 @@ static KEYS: [Refused; 8] = [
 #[test]
 fn takes_keys_of_digits_alone(rt: HostRuntime) -> Result<(), Fail> {
     check_all(&rt, KEYS.as_slice(), |case| case.is_met(&rt))
+}
+
+static TURNS: [Refused; 8] = [
+    Refused(Text::InTurn("", r#","after":[1,1]"#), "P12 After"),
+    Refused(Text::InTurn("", r#","after":[0,0]"#), "P12 After"),
+    Refused(Text::InTurn("", r#","after":[0,2]"#), "P12 After"),
+    Refused(Text::InTurn("", r#","after":[0]"#), "P12 After"),
+    Refused(Text::InTurn("", r#","after":null"#), "P12 After"),
+    Refused(Text::InTurn("", r#","after":[0,1.0]"#), "P12 After"),
+    Refused(Text::InTurn(r#","after":[0,1]"#, ""), "P12 After"),
+    // The last member of a name counts.
+    Refused(
+        Text::InTurn(r#","after":[0,1]"#, r#","key":100"#),
+        "P10 Key",
+    ),
+];
+
+#[test]
+fn waits_for_operations_of_earlier_threads(rt: HostRuntime) -> Result<(), Fail> {
+    check_all(&rt, TURNS.as_slice(), |case| case.is_met(&rt))
 }
 
 static COUNTS: [Refused; 3] = [

@@ -3,7 +3,7 @@ use crate::tests::answers::{answer, shows};
 use crate::tests::cases::{Runtime, check, check_all};
 use crate::tests::sources::{
     ELLEN_INSERT, ELLEN_NO_MARK, FIND_5, INSERT_5, NM_INSERT, NM_NO_TAG, Source, THREE_INSERTS,
-    TWO_INSERTS,
+    TWO_IN_TURN, TWO_INSERTS,
 };
 use sched_program::OutOfMemory;
 use std::test::Fail;
@@ -55,7 +55,7 @@ static REPLAYED: [Replays; 9] = [
         "0.0 insert 1 false\n1.0 insert 1 false\n2.0 insert 1 true\norder 2.0 0.0 1.0\nno fault\n",
     ),
     Replays(
-        Source("ellen", "", &[INSERT_5, FIND_5]),
+        Source(1, "ellen", "", &[INSERT_5, FIND_5]),
         "0,0,0,0,1,1,1,1",
         0,
         "0.0 insert 5 pending\n1.0 find 5 true\norder 0.0 1.0\nno fault\n",
@@ -102,7 +102,7 @@ impl Refuses {
     }
 }
 
-static STUCK: [Refuses; 2] = [
+static STUCK: [Refuses; 3] = [
     Refuses(
         TWO_INSERTS,
         "0,0",
@@ -112,6 +112,11 @@ static STUCK: [Refuses; 2] = [
         THREE_INSERTS,
         "7",
         "treesched: step 1: thread 7 has no step\n",
+    ),
+    Refuses(
+        TWO_IN_TURN,
+        "1",
+        "treesched: step 1: thread 1 has no step\n",
     ),
 ];
 

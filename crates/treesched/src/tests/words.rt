@@ -139,26 +139,37 @@ fn refuses_other_words(rt: HostRuntime) -> Result<(), Fail> {
     check_all(&rt, NO_USES.as_slice(), |case| case.is_met(&rt))
 }
 
-/// A line that calls for help: nothing goes to the standard error.
+/// A line that calls for help, and a text that is in it: nothing goes to the standard error.
 #[derive(Clone, Copy, Debug)]
-struct Help(&'static str);
+struct Help(&'static str, &'static str);
 
 impl Help {
     fn is_met<R: Runtime>(&self, rt: &R) -> Result<bool, OutOfMemory> {
         let output = answer_to(rt, self.0, TWICE.as_bytes())?;
         let is_met = output.status == 0
             && output.err.is_empty()
-            && output.out.as_str().contains("Usage: treesched");
+            && output.out.as_str().contains("Usage: treesched")
+            && output.out.as_str().contains(self.1);
         Ok(or_printed(rt, is_met, &output))
     }
 }
 
-static CALLS_FOR_HELP: [Help; 5] = [
-    Help("treesched --help"),
-    Help("treesched -h"),
-    Help("treesched help"),
-    Help("treesched help explore"),
-    Help("treesched explore --help"),
+static CALLS_FOR_HELP: [Help; 12] = [
+    Help("treesched --help", "Example: treesched explore"),
+    Help("treesched -h", "explore"),
+    Help("treesched help", "replay"),
+    Help("treesched help explore", "a JSON text"),
+    Help("treesched explore --help", "0 to 400 steps"),
+    Help("treesched explore --help", "1 to 8"),
+    Help("treesched explore --help", "[default: 1]"),
+    Help("treesched explore --help", "1 to 2000000"),
+    Help("treesched explore --help", "[default: 200000]"),
+    Help(
+        "treesched explore --help",
+        "[possible values: exact, names]",
+    ),
+    Help("treesched explore --help", "each thread that explored"),
+    Help("treesched replay --help", "single digits"),
 ];
 
 #[test]

@@ -1,6 +1,6 @@
-use Rattle.std.proofs.Common.{rules}
+use Rattle.std.proofs.Common.{rules, ◌≢◌, AllPairs}
 use Rattle.serde_json.specs.View.{view}
-use Rattle.sched_program.proofs.Members.{not_distinct, few_keys, limits_met}
+use Rattle.sched_program.proofs.Members.{not_distinct, few_keys, limits_met, threads_pass}
 use Rattle.sched_program.proofs.text.program_of.Goals as goal
 
 pub returns-then-not-is_distinct-clause-err : goal.returns-then-not-is_distinct-clause-err
@@ -9,11 +9,34 @@ returns-then-not-is_distinct-clause-err c =
     let initial = c.in_ok-initial.ensures.ok in
     record {
       stands = not_distinct value c.in_ok-initial.initial initial.0 (search rules);
-      first = (search rules, (search rules, ((c.in-Some.tree, search rules), (few_keys value c.in_ok-initial.initial initial.0 initial.1, tt))));
+      first = (search rules, ((c.in-Some.version, search rules), ((c.in-Some-tree_of.tree, search rules), (few_keys value c.in_ok-initial.initial initial.0 initial.1, tt))));
+    }
+
+pub returns-in_default-2-clause-err : goal.returns-in_default-2-clause-err
+returns-in_default-2-clause-err c =
+    let value = view c.args.value.now in
+    let keys = c.in_ok-initial.initial in
+    let initial = c.in_ok-initial.ensures.ok in
+    let distinct : AllPairs (λ a b. a ≢ b) keys = search rules in
+    let threads = c.in_ok-threads.ensures.ok in
+    let pass = threads_pass value c.in_ok-threads.threads threads.0 threads.1 threads.2 threads.3 in
+    record {
+      stands = rw c.in_default-2.is at c.in_ok-turns.ensures.none;
+      first = (
+        search rules,
+        (
+          (c.in-Some.version, search rules),
+          (
+            (c.in-Some-tree_of.tree, search rules),
+            (few_keys value keys initial.0 initial.1, ((initial.0.0, initial.0.1, (keys, initial.0.2, distinct)), (pass.0, (pass.1, (pass.2, (pass.3, tt)))))),
+          ),
+        ),
+      );
     }
 
 pub new-requires : goal.new-requires
 new-requires c =
     let initial = c.in_ok-initial.ensures.ok in
     let threads = c.in_ok-threads.ensures.ok in
-    limits_met (view c.args.value.now) c.in-Some.tree c.in_ok-initial.initial c.in_ok-threads.threads initial.0 initial.1 (search rules) threads.0 threads.1 threads.2 threads.3
+    let turns = rw c.in-Some-2.is at c.in_ok-turns.ensures.found in
+    limits_met (view c.args.value.now) c.in-Some.version c.in-Some-tree_of.tree c.in_ok-initial.initial c.in_ok-threads.threads c.in-Some-2.turns initial.0 initial.1 (search rules) threads.0 threads.1 threads.2 threads.3 turns.0 (rw c.as_slice-2.ensures at turns.1)

@@ -7,7 +7,7 @@ use Rattle.treesched.proofs.command.treesched_command.Goals as goal
 
 pub returns : goal.returns
 returns c =
-    let named : app_of c.about.result ≡ new_app (codes "treesched") = ap app_of_fields c.about.ensures ∙ c.new.ensures.app in
+    let named : app_of c.after_help.result ≡ new_app (codes "treesched") = ap app_of_fields c.after_help.ensures ∙ ap app_of_fields c.about.ensures ∙ c.new.ensures.app in
     let top : app_of c.subcommand_required.result ≡ line.wanting_subcommand (new_app (codes "treesched")) = ap app_of_fields c.subcommand_required.ensures ∙ ap line.wanting_subcommand named in
     let line = c.in_ok-explore.ensures.app in
     let explore : app_of c.in_ok-subcommand.field-0 ≡ _ = c.in_ok-subcommand.ensures.shape c.in_ok-explore.ensures.local

@@ -3,8 +3,8 @@ use crate::tests::answers::{answer_to, or_printed, shows};
 use crate::tests::cases::{Runtime, check, check_all};
 use crate::tests::exploring::known::Exploration;
 use crate::tests::sources::{
-    DELETE_10, DELETE_40_INSERT_45, ELLEN_INSERT, NM_INSERT, Source, THREE_INSERTS, TWO_FINDS,
-    TWO_INSERTS,
+    DELETE_10, DELETE_40_INSERT_45, ELLEN_INSERT, FINDS_IN_TURN, NM_INSERT, Source, THREE_INSERTS,
+    TWO_FINDS, TWO_INSERTS,
 };
 use sched_program::OutOfMemory;
 use std::test::Fail;
@@ -32,7 +32,7 @@ impl Prints {
     }
 }
 
-static PRINTED: [Prints; 10] = [
+static PRINTED: [Prints; 11] = [
     Prints(TWO_INSERTS, "--steps 0", 0, "holds to 0 steps\nstates 1\n"),
     Prints(
         TWO_INSERTS,
@@ -63,6 +63,12 @@ static PRINTED: [Prints; 10] = [
         "--steps 4 --ledger",
         0,
         "holds to 4 steps\nstates 13\nworker 1 expanded 10 entered 12 met 2\ntotal expanded 10 entered 12 met 2\n",
+    ),
+    Prints(
+        FINDS_IN_TURN,
+        "--steps 4 --ledger",
+        0,
+        "holds to 4 steps\nstates 5\nworker 1 expanded 4 entered 4 met 0\ntotal expanded 4 entered 4 met 0\n",
     ),
     Prints(
         TWO_FINDS,
@@ -107,6 +113,6 @@ fn breaks_order<R: Runtime>(rt: &R, source: &Source) -> Result<bool, OutOfMemory
 #[test]
 fn finds_broken_search_order(rt: HostRuntime) -> Result<(), Fail> {
     let threads = &[DELETE_40_INSERT_45, DELETE_10];
-    let source = Source("nm-no-tag", "20,10,40,30", threads);
+    let source = Source(1, "nm-no-tag", "20,10,40,30", threads);
     check(&rt, &source, |source| breaks_order(&rt, source))
 }

@@ -1,9 +1,10 @@
 //! Explorations of which the outcome is known. The numbers of states agree with two explorers that share no code with
 //! this one.
 use crate::tests::sources::{
-    DELETE_5, DELETE_10, DELETE_20, ELLEN, ELLEN_INSERT, ELLEN_NO_IFLAG, ELLEN_NO_MARK, FIND_5,
-    FIND_10, INSERT_5, INSERT_10, INSERT_25, NM, NM_INSERT, NM_NO_TAG, Source, TWO_FINDS,
-    TWO_INSERTS,
+    DELETE_5, DELETE_10, DELETE_20, ELLEN, ELLEN_IN_TURN, ELLEN_INSERT, ELLEN_NO_IFLAG,
+    ELLEN_NO_IFLAG_IN_TURN, ELLEN_NO_MARK, ELLEN_NO_MARK_IN_TURN, FIND_5, FIND_10, FINDS_IN_TURN,
+    INSERT_5, INSERT_10, INSERT_25, INSERT_25_IN_TURN, LAST_IN_TURN, NM, NM_IN_TURN, NM_INSERT,
+    NM_NO_TAG, NM_NO_TAG_IN_TURN, Source, TWO_AT_ONCE, TWO_FINDS, TWO_IN_TURN, TWO_INSERTS,
 };
 use book::Merge;
 use sched_program::OutOfMemory;
@@ -150,20 +151,20 @@ impl Lone {
 
 /// Programs of one thread.
 pub static ONE_THREAD: [Lone; 14] = [
-    Lone(Source("ellen", "", &[INSERT_5]), 10, 6),
-    Lone(Source("ellen", "", &[DELETE_5]), 10, 3),
-    Lone(Source("ellen", "10", &[DELETE_10]), 20, 11),
-    Lone(Source("ellen", "10", &[INSERT_10]), 20, 5),
-    Lone(Source("ellen", "10", &[FIND_10]), 20, 5),
-    Lone(Source("ellen", "10", &[INSERT_5]), 20, 8),
-    Lone(Source("ellen", "10,20", &[DELETE_20]), 20, 13),
-    Lone(Source("nm", "", &[INSERT_5]), 20, 3),
-    Lone(Source("nm", "", &[FIND_5]), 20, 2),
-    Lone(Source("nm", "10", &[DELETE_10]), 20, 8),
-    Lone(Source("nm", "10", &[INSERT_10]), 20, 3),
-    Lone(Source("nm", "10", &[FIND_10]), 20, 3),
-    Lone(Source("nm", "10", &[INSERT_5]), 20, 4),
-    Lone(Source("nm", "10,20", &[DELETE_20]), 20, 9),
+    Lone(Source(1, "ellen", "", &[INSERT_5]), 10, 6),
+    Lone(Source(1, "ellen", "", &[DELETE_5]), 10, 3),
+    Lone(Source(1, "ellen", "10", &[DELETE_10]), 20, 11),
+    Lone(Source(1, "ellen", "10", &[INSERT_10]), 20, 5),
+    Lone(Source(1, "ellen", "10", &[FIND_10]), 20, 5),
+    Lone(Source(1, "ellen", "10", &[INSERT_5]), 20, 8),
+    Lone(Source(1, "ellen", "10,20", &[DELETE_20]), 20, 13),
+    Lone(Source(1, "nm", "", &[INSERT_5]), 20, 3),
+    Lone(Source(1, "nm", "", &[FIND_5]), 20, 2),
+    Lone(Source(1, "nm", "10", &[DELETE_10]), 20, 8),
+    Lone(Source(1, "nm", "10", &[INSERT_10]), 20, 3),
+    Lone(Source(1, "nm", "10", &[FIND_10]), 20, 3),
+    Lone(Source(1, "nm", "10", &[INSERT_5]), 20, 4),
+    Lone(Source(1, "nm", "10,20", &[DELETE_20]), 20, 9),
 ];
 
 const INSERTS: Known = Known(TWO_INSERTS, 2, Schedules::Close(3), 5, 5);
@@ -171,7 +172,10 @@ const INSERTS: Known = Known(TWO_INSERTS, 2, Schedules::Close(3), 5, 5);
 const FINDS: Known = Known(TWO_FINDS, 4, Schedules::Close(5), 13, 13);
 
 /// Two threads that each insert a key beside another leaf.
-const APART: Source = Source("nm", "10,20", &[INSERT_5, INSERT_25]);
+const APART: Source = Source(1, "nm", "10,20", &[INSERT_5, INSERT_25]);
+
+/// The same, where the second insert waits for the first.
+const APART_IN_TURN: Source = Source(2, "nm", "10,20", &[INSERT_5, INSERT_25_IN_TURN]);
 
 /// Programs of two threads.
 pub static TWO_THREADS: [Known; 8] = [
@@ -183,6 +187,20 @@ pub static TWO_THREADS: [Known; 8] = [
     Known(APART, 8, Schedules::Close(9), 34, 33),
     Known(ELLEN, 20, Schedules::Close(32), 902, 553),
     Known(NM, 20, Schedules::Close(26), 195, 184),
+];
+
+/// Programs in which an operation waits for another, and one of version 1, in which that is ignored.
+pub static IN_TURN: [Known; 10] = [
+    Known(TWO_IN_TURN, 2, Schedules::Close(3), 3, 3),
+    Known(TWO_AT_ONCE, 2, Schedules::Close(3), 5, 5),
+    Known(LAST_IN_TURN, 3, Schedules::Close(4), 9, 9),
+    Known(FINDS_IN_TURN, 4, Schedules::Close(5), 5, 5),
+    Known(APART_IN_TURN, 8, Schedules::Close(9), 9, 9),
+    Known(ELLEN_IN_TURN, 20, Schedules::Close(20), 20, 20),
+    Known(ELLEN_NO_MARK_IN_TURN, 20, Schedules::Close(19), 19, 19),
+    Known(ELLEN_NO_IFLAG_IN_TURN, 20, Schedules::Close(18), 18, 18),
+    Known(NM_IN_TURN, 20, Schedules::Close(15), 15, 15),
+    Known(NM_NO_TAG_IN_TURN, 20, Schedules::Close(14), 14, 14),
 ];
 
 /// Programs of two threads, each schedule to its end.
@@ -217,9 +235,10 @@ impl Closing {
 }
 
 /// Programs about the first number of steps that closes them.
-pub static CLOSING: [Closing; 8] = [
+pub static CLOSING: [Closing; 9] = [
     Closing(TWO_INSERTS, 3, 5),
-    Closing(Source("ellen", "", &[INSERT_5]), 6, 6),
+    Closing(TWO_IN_TURN, 3, 3),
+    Closing(Source(1, "ellen", "", &[INSERT_5]), 6, 6),
     Closing(TWO_FINDS, 5, 13),
     Closing(APART, 9, 33),
     Closing(ELLEN, 32, 831),
