@@ -18,3 +18,5 @@ mod Cursors
 pub mod Machines
 mod Loans
 pub mod Runs
+pub mod Text
+pub mod BookFile

@@ -8,6 +8,9 @@ pub mod Law
 pub mod Layers
 pub mod Counts
 pub mod Closed
+pub mod Correct
 pub mod Books
 pub mod Replay
 pub mod Slots
+pub mod Text
+pub mod BookFile

@@ -16,16 +16,20 @@ ghost use Rattle.book.specs.Law.{FindsAlike, IsExpansion, StandsForReached};
 ghost use Rattle.book.specs.Leftovers.{Keeps};
 ghost use Rattle.book.specs.Counts.{IsCount};
 ghost use Rattle.book.specs.Layers.{IsExpandedTo, IsExpandedBelow, IsLeftTo};
+ghost use Rattle.book.specs.BookFile.Checks.{PassAs};
+ghost use Rattle.book.specs.BookFile.Written.{IsFileOf};
 ghost use Rattle.book.specs.Closed.{AreSound, HoldsForEvery, IsClosed};
 ghost use Rattle.book.specs.Schedule.{after, IsMachine, Merges};
 ghost use Rattle.book.specs.Ways.{IsWay};
 
 use crate::entry::{Mark, Row};
+use crate::exactly::tests_exactly;
 use crate::expansion::{Expansion, Stepped, label};
+use crate::file::write_entries;
 use crate::finding::{Finding, find};
 use crate::leftovers::Leftovers;
 use crate::table::{Table, TableFault};
-use sched_program::{Exact, OutOfMemory, Program, same};
+use sched_program::{OutOfMemory, Program, same};
 use std::alloc::Global;
 use std::marker::Model;
 use std::sync::Arc;
@@ -111,12 +115,6 @@ fn steps_at<M: Machine>(table: &Table<State<M>, StateForm<M>>, index: usize) -> 
 {
     table.state(index).steps()
 }
-
-/// Values of such a type test equal exactly if they are equal.
-fn tests_exactly<T: Exact>()
-    ensures exact { IsExact T.PartialEq.eq }
-    ensures laws { IsEquivalence T.PartialEq.eq }
-{}
 
 impl<M: Machine> Book<M> {
     /// A book with the start alone, which is open. The limit is 1 to 2,000,000 entries.
@@ -410,6 +408,30 @@ impl<M: Machine> Book<M> {
             Some(_) => false,
             None => self.merge == Merge::Names,
         }
+    }
+
+    /// The text of the book's file: the line of each entry has its parent, its thread and the linearization that was found
+    /// of its state. None where the book is not closed, or some entry is not sound. The lines pass with the book's machine
+    /// and program.
+    ///
+    /// # Errors
+    ///
+    /// A growth was refused.
+    pub fn to_text(&self, alloc: Global) -> Result<Option<Vec<u8>>, OutOfMemory>
+        ensures text { IfOk result (λ o. IfSome o (λ text. IsFileOf self.now.entries text.items)) }
+        ensures some { IfOk result (λ o. IfSome o (λ _. IsClosed self.now × AreSound self.now.entries)) }
+        ensures none { IfOk result (λ o. IfNone o (IsClosed self.now → AreSound self.now.entries → ⊥)) }
+        ensures passes { IfOk result (λ o. IfSome o (λ text. PassAs M M.Form (M.rules self.now.machine) self.now.program text.items (length self.now.entries))) }
+    {
+        if !self.closed() {
+            return Ok(None);
+        }
+        if self.first_fault().is_some() {
+            return Ok(None);
+        }
+        self.law();
+        tests_exactly::<StateForm<M>>();
+        Ok(Some(write_entries(alloc, &self.table)?))
     }
 
     /// The number of entries.

@@ -1,10 +1,12 @@
-//! The book of the states of a bounded exploration, each with the step that led to it and what was found of it,
-//! and the replay of a schedule.
+//! The book of the states of a bounded exploration, each with the step that led to it and what was found of it, the
+//! text of a closed book and the check of any such text, and the replay of a schedule.
 #![tactic(auto)]
 
 mod book;
 mod entry;
+mod exactly;
 mod expansion;
+mod file;
 mod finding;
 mod hashed;
 mod known;
@@ -18,6 +20,7 @@ mod table;
 pub use crate::book::{Book, EnterFault, Entered, Merge, Totals};
 pub use crate::entry::{Mark, Origin};
 pub use crate::expansion::Expansion;
+pub use crate::file::{CheckFault, check_book};
 pub use crate::finding::Finding;
 pub use crate::leftovers::Leftovers;
 pub use crate::replayed::{Replay, ReplayFault};

@@ -4,7 +4,11 @@
 #[cfg(test)]
 mod entering;
 #[cfg(test)]
+mod files;
+#[cfg(test)]
 mod fixtures;
+#[cfg(test)]
+mod forms;
 #[cfg(test)]
 mod layers;
 #[cfg(test)]
@@ -12,6 +16,10 @@ mod refused;
 #[cfg(test)]
 mod replays;
 #[cfg(test)]
+mod straying;
+#[cfg(test)]
 mod taking;
+#[cfg(test)]
+mod texts;
 #[cfg(test)]
 mod ways;

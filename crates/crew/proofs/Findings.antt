@@ -7,7 +7,7 @@ use Rattle.tree_machine.specs.declared.state.State.{State}
 use Rattle.book.specs.declared.finding.Finding.{Finding}
 use Rattle.book.specs.declared.finding.Finding.TheVariants.{Astray, Order, History, Sound}
 use Rattle.book.specs.Findings.{is_sound, IsSound, IsFindingOf}
-use Rattle.crew.specs.Headline.{IsCorrect}
+use Rattle.book.specs.Correct.{IsCorrect}
 
 module _ {Machine Memory Place Form : Type 0} (rules : Rules Memory Place) (program : Program) where
   -- a state that some right finding shows sound is correct

@@ -1,31 +1,21 @@
 -- What an answer says of all schedules of a program.
-use Rattle.std.specs.Prelude.{◌≡◌, ℕ, ◌<◌, ◌≤◌, Some, None, List, length}
+use Rattle.std.specs.Prelude.{◌≡◌, ℕ, ◌<◌, ◌≤◌, Some, List, length}
 use Rattle.sched_program.specs.Program.{Program}
 use Rattle.tree_machine.specs.Rules.{Rules}
-use Rattle.tree_machine.specs.History.{history_of}
 use Rattle.tree_machine.specs.declared.state.State.{State}
-use Rattle.lin.specs.Linearization.{IsLinearizable}
 use Rattle.book.specs.declared.finding.Finding.{Finding}
 use Rattle.book.specs.Schedule.{after}
+use Rattle.book.specs.Correct.{IsCorrect, HoldsAlways}
 use Rattle.book.specs.Findings.{machine_of, IsFindingOf}
 use Rattle.crew.specs.declared.answer.Answer.{Answer}
 use Rattle.crew.specs.declared.answer.Answer.TheVariants as answer
 use Rattle.crew.specs.Faults.{LeadsToFault}
-
-module _ {Memory Place : Type 0} (rules : Rules Memory Place) (program : Program) where
-  -- no thread went astray, the memory keeps search order, and the history has a linearization
-  abbrev pub IsCorrect : {Machine Form : Type 0} → State Machine Memory Place Form → Type 0
-  IsCorrect state = (state.astray ≡ None) × rules.IsOrdered state.memory × IsLinearizable program (history_of state)
 
 module _ (Machine Form : Type 0) {Memory Place : Type 0} (rules : Rules Memory Place) (program : Program) where
   -- every schedule of at most n steps keeps search order and leaves a linearizable history
   abbrev pub HoldsTo : ℕ → Type 0
   HoldsTo n = (schedule : List ℕ) (state : State Machine Memory Place Form) → length schedule ≤ n
       → after (machine_of rules program) schedule ≡ Some state → IsCorrect rules program state
-
-  -- every schedule of any length does
-  abbrev pub HoldsAlways : Type 0
-  HoldsAlways = (schedule : List ℕ) (state : State Machine Memory Place Form) → after (machine_of rules program) schedule ≡ Some state → IsCorrect rules program state
 
   -- the schedule leads to the fault, and every shorter one keeps search order and leaves a linearizable history
   pub record IsShortestFault (schedule : List ℕ) (finding : Finding) : Type 0 where
@@ -34,7 +24,7 @@ module _ (Machine Form : Type 0) {Memory Place : Type 0} (rules : Rules Memory P
         → after (machine_of rules program) shorter ≡ Some state → IsCorrect rules program state
 
   abbrev pub IsTrueOf : Answer → Type 0
-  IsTrueOf answer.Every = HoldsAlways
+  IsTrueOf answer.Every = HoldsAlways Machine Form rules program
   IsTrueOf (answer.Holds steps) = HoldsTo steps
   IsTrueOf (answer.Fault finding schedule) = IsShortestFault schedule.items finding
   IsTrueOf (answer.Stopped limit holds_to) = HoldsTo holds_to

@@ -1,4 +1,4 @@
-use Rattle.book.proofs.book.tests_exactly.Goals as goal
+use Rattle.book.proofs.exactly.tests_exactly.Goals as goal
 
 pub returns-clause-exact : goal.returns-clause-exact
 returns-clause-exact g c = g.met.T.Exact.exact

@@ -1,0 +1,11 @@
+//! Types whose values test equal exactly if they are equal.
+ghost use Rattle.std.specs.Cmp.{IsEquivalence};
+ghost use Rattle.sched_program.specs.Exact.{IsExact};
+
+use sched_program::Exact;
+
+/// Values of such a type test equal exactly if they are equal.
+pub fn tests_exactly<T: Exact>()
+    ensures exact { IsExact T.PartialEq.eq }
+    ensures laws { IsEquivalence T.PartialEq.eq }
+{}

@@ -1,0 +1,115 @@
+//! Whether a step leads out of a list of states.
+ghost use Rattle.std.specs.Prelude.{◌≡◌, ℕ, ◌+◌, ◌^◌, ◌<◌, ◌≤◌, ◌⊎◌, length, true, false, IfOk, IfErr, IfSome, IfNone, Some, slice_get};
+ghost use Rattle.std.specs.HashSet.{contains};
+ghost use Rattle.tree_machine.specs.Alike.{AreStatesAlike, state_form};
+ghost use Rattle.tree_machine.specs.Step.{Fits, start, step};
+ghost use Rattle.tree_machine.specs.StateExact.{state_form_eq};
+ghost use Rattle.tree_machine.specs.declared.state.State.{State};
+ghost use Rattle.book.specs.Closed.{AreClosed, IsAlikeToOneOf};
+ghost use Rattle.book.specs.Findings.{machine_of};
+ghost use Rattle.book.specs.BookFile.Closing.{IsFirstOpen};
+ghost use Rattle.book.specs.BookFile.Forms.{AreFormsOf, AreStepsKnown, IsStepUnknown};
+
+use crate::exactly::tests_exactly;
+use crate::file::fault::CheckFault;
+use sched_program::{OutOfMemory, Program, Sequence};
+use std::alloc::Global;
+use std::collections::HashSet;
+use tree_machine::{Machine, State, StateForm, StepFault};
+
+/// The forms of the states.
+fn forms_of<M: Machine>(
+    alloc: Global,
+    machine: M,
+    program: &Program,
+    states: &Sequence<State<M>>,
+) -> Result<HashSet<StateForm<M>>, OutOfMemory>
+    requires { (i : ℕ) (s : State M M.Mem M.Loc M.Form) → slice_get states.now i ≡ Some s → Fits (M.rules machine) program.now s }
+    ensures { IfOk result (λ forms. AreFormsOf (state_form_eq M.Form.PartialEq.eq) (state_form (M.form_of machine)) states.now (contains (state_form_eq M.Form.PartialEq.eq) forms)) }
+{
+    // Whoever reads a program knows that it meets the limits.
+    let _ = program.initial();
+    tests_exactly::<StateForm<M>>();
+    let mut forms = HashSet::new(alloc);
+    for state in states.as_slice() {
+        let form = state.form(alloc, machine)?;
+        forms.insert(form)?;
+    }
+    Ok(forms)
+}
+
+/// Whether the step of a thread, if it is enabled, has one of the forms.
+fn knows_step<M: Machine>(
+    alloc: Global,
+    machine: M,
+    program: &Program,
+    forms: &HashSet<StateForm<M>>,
+    state: &State<M>,
+    thread: u8,
+) -> Result<bool, OutOfMemory>
+    requires fits { Fits (M.rules machine) program.now state.now }
+    requires room { state.now.steps + 1 < 2 ^ 64 }
+    ensures known { IfOk result (λ yes. yes ≡ true → (next : State M M.Mem M.Loc M.Form) → step (M.rules machine) program.now state.now thread ≡ Some next
+        → contains (state_form_eq M.Form.PartialEq.eq) forms.now (state_form (M.form_of machine) next) ≡ true) }
+    ensures new { IfOk result (λ yes. yes ≡ false → (next : State M M.Mem M.Loc M.Form) × (step (M.rules machine) program.now state.now thread ≡ Some next)
+        × (contains (state_form_eq M.Form.PartialEq.eq) forms.now (state_form (M.form_of machine) next) ≡ false)) }
+{
+    // Whoever reads a program knows that it meets the limits.
+    let _ = program.initial();
+    match state.step(alloc, machine, program, thread) {
+        Ok(next) => {
+            let form = next.form(alloc, machine)?;
+            Ok(forms.contains(&form))
+        }
+        Err(StepFault::NotEnabled) => Ok(true),
+        Err(StepFault::OutOfMemory) => Err(OutOfMemory),
+    }
+}
+
+/// Whether some step of the state has none of the forms.
+fn leads_out<M: Machine>(
+    alloc: Global,
+    machine: M,
+    program: &Program,
+    forms: &HashSet<StateForm<M>>,
+    state: &State<M>,
+) -> Result<bool, OutOfMemory>
+    requires fits { Fits (M.rules machine) program.now state.now }
+    requires room { state.now.steps + 1 < 2 ^ 64 }
+    ensures out { IfOk result (λ yes. yes ≡ true → IsStepUnknown (M.rules machine) program.now (state_form (M.form_of machine)) (contains (state_form_eq M.Form.PartialEq.eq) forms.now) state.now) }
+    ensures none { IfOk result (λ yes. yes ≡ false → AreStepsKnown (M.rules machine) program.now (state_form (M.form_of machine)) (contains (state_form_eq M.Form.PartialEq.eq) forms.now) state.now) }
+{
+    for thread in 0..program.threads().len() as u8 {
+        if !knows_step(alloc, machine, program, forms, state, thread)? {
+            return Ok(true);
+        }
+    }
+    Ok(false)
+}
+
+/// Whether each step of each state leads to a state that one of them is alike to. A refusal tells the line of the first
+/// state with another step; the start stands on line 2.
+pub fn test_closed<M: Machine>(
+    alloc: Global,
+    machine: M,
+    program: &Program,
+    states: &Sequence<State<M>>,
+) -> Result<(), CheckFault>
+    requires fit { (i : ℕ) (s : State M M.Mem M.Loc M.Form) → slice_get states.now i ≡ Some s → Fits (M.rules machine) program.now s }
+    requires few { (i : ℕ) (s : State M M.Mem M.Loc M.Form) → slice_get states.now i ≡ Some s → s.steps ≤ i }
+    requires many { length states.now ≤ 2000000 }
+    requires begins { IsAlikeToOneOf (AreStatesAlike (M.rules machine)) states.now (start (M.rules machine) program.now) }
+    ensures closed { IfOk result (λ _. AreClosed (machine_of (M.rules machine) program.now) (AreStatesAlike (M.rules machine)) states.now) }
+    ensures leads_out { IfErr result (λ fault. (fault ≡ CheckFault.OutOfMemory) ⊎ IsFirstOpen (M.rules machine) program.now states.now fault) }
+{
+    // Whoever reads a program knows that it meets the limits.
+    let _ = program.initial();
+    tests_exactly::<StateForm<M>>();
+    let forms = forms_of(alloc, machine, program, states)?;
+    for (i, state) in states.as_slice().iter().enumerate() {
+        if leads_out(alloc, machine, program, &forms, state)? {
+            return Err(CheckFault::Open(i + 2));
+        }
+    }
+    Ok(())
+}

@@ -1,0 +1,42 @@
+//! The text of a book's file.
+
+use crate::fixtures::{Broken, TWO_INSERTS, expanded, settled};
+use book::Merge;
+use std::alloc::Global;
+use std::test::Fail;
+use tree_machine::Atomic;
+
+const TEXT: &str =
+    "treesched book 1 entries 5\n- - -\n0 0 0.0\n0 1 1.0\n1 1 0.0,1.0\n2 0 1.0,0.0\n";
+
+/// Books of the two inserts, which are merged so and have the steps of so many entries, each with its text.
+static BOOKS: [(Merge, usize, Option<&str>); 3] = [
+    (Merge::Names, 5, Some(TEXT)),
+    (Merge::Names, 4, None),
+    (Merge::Exact, 5, None),
+];
+
+/// Whether the text of a book is this.
+fn is_text(
+    alloc: Global,
+    merge: Merge,
+    entries: usize,
+    text: Option<&str>,
+) -> Result<bool, Broken> {
+    let book = expanded(alloc, Atomic, TWO_INSERTS, (merge, merge), entries)?;
+    match (book.to_text(alloc)?, text) {
+        (Some(bytes), Some(text)) => Ok(bytes.as_slice() == text.as_bytes()),
+        (None, None) => Ok(true),
+        _ => Ok(false),
+    }
+}
+
+#[test]
+fn closed_books_are_written(rt: HostRuntime) -> Result<(), Fail> {
+    let alloc = rt.alloc();
+    for (merge, entries, text) in BOOKS.as_slice() {
+        let is_so = settled(|| is_text(alloc, *merge, *entries, *text))?;
+        assert!(rt; is_so, "{merge:?}, {entries}");
+    }
+    Ok(())
+}
