@@ -17,6 +17,7 @@ mod Labels
 mod Cursors
 pub mod Machines
 mod Loans
+mod Answered
 pub mod Runs
 pub mod Text
 pub mod BookFile

@@ -23,7 +23,7 @@ use Rattle.book.proofs.EntryLemmas.{get_within}
 
 -- ---- values beside names
 module _ {V : Type 0} where
-  value_at-left : (xs ys : List (OpId × V)) (a : OpId) (v : V) → value_at xs a ≡ Some v → value_at (xs ++ ys) a ≡ Some v
+  pub value_at-left : (xs ys : List (OpId × V)) (a : OpId) (v : V) → value_at xs a ≡ Some v → value_at (xs ++ ys) a ≡ Some v
   value_at-left [] ys a v h = absurd (let q : None ≡ Some v = h in cc)
   value_at-left (x ∷ xs) ys a v h = by (same_name x.0 a) h (value_at-left xs ys a v)
     where
@@ -31,7 +31,7 @@ module _ {V : Type 0} where
       by true e again = e
       by false e again = again e
 
-  value_at-right : (xs ys : List (OpId × V)) (a : OpId) → value_at xs a ≡ None → value_at (xs ++ ys) a ≡ value_at ys a
+  pub value_at-right : (xs ys : List (OpId × V)) (a : OpId) → value_at xs a ≡ None → value_at (xs ++ ys) a ≡ value_at ys a
   value_at-right [] ys a h = refl
   value_at-right (x ∷ xs) ys a h = by (same_name x.0 a) h (value_at-right xs ys a)
     where
@@ -48,7 +48,7 @@ module _ {V : Type 0} where
       by (Some w) e = inl (e ∙ sym (value_at-left xs ys a w e) ∙ h)
 
   -- the names of a thread's operations are the thread's
-  named_thread : (t i : ℕ) (xs : List V) (a : OpId) (v : V) → value_at (named t i xs) a ≡ Some v → a.thread ≡ t
+  pub named_thread : (t i : ℕ) (xs : List V) (a : OpId) (v : V) → value_at (named t i xs) a ≡ Some v → a.thread ≡ t
   named_thread t i [] a v h = absurd (let q : None ≡ Some v = h in cc)
   named_thread t i (x ∷ xs) a v h = by (same_name (record { thread = t; index = i }) a) refl h (named_thread t (i + 1) xs a v)
     where
@@ -58,7 +58,7 @@ module _ {V : Type 0} where
       by false e h again = again h
 
   -- the names of the operations of the threads from one on are theirs
-  all_named_from : (t : ℕ) (all : List (List V)) (a : OpId) (v : V) → value_at (all_named t all) a ≡ Some v → t ≤ a.thread
+  pub all_named_from : (t : ℕ) (all : List (List V)) (a : OpId) (v : V) → value_at (all_named t all) a ≡ Some v → t ≤ a.thread
   all_named_from t [] a v h = absurd (let q : None ≡ Some v = h in cc)
   all_named_from t (xs ∷ all) a v h =
       elim (value_at-cases (named t 0 xs) (all_named (t + 1) all) a v h) [
@@ -73,7 +73,7 @@ module _ {V : Type 0} where
       ap (λ zs. (record { thread = t; index = i }, x) ∷ zs) (named_append t (i + 1) xs ys ∙ ap (λ k. named t (i + 1) xs ++ named t k ys) e)
 
   -- what has a value still has it once one thread's list is longer
-  grown_value : (t : ℕ) (all : List (List V)) (u : ℕ) (xs more : List V) (a : OpId) (v : V) → slice_get all u ≡ Some xs
+  pub grown_value : (t : ℕ) (all : List (List V)) (u : ℕ) (xs more : List V) (a : OpId) (v : V) → slice_get all u ≡ Some xs
       → value_at (all_named t all) a ≡ Some v → value_at (all_named t (slice_set all u (xs ++ more))) a ≡ Some v
   grown_value t [] u xs more a v at h = absurd (let q : None ≡ Some xs = at in cc)
   grown_value t (ys ∷ all) zero xs more a v at h =
@@ -93,7 +93,7 @@ module _ {V : Type 0} where
         | inr r ↦ value_at-right (named t 0 ys) (all_named (t + 1) (slice_set all u (xs ++ more))) a r.0 ∙ grown_value (t + 1) all u xs more a v at r.1
       ]
 
-map-set : {X Y : Type 0} (f : X → Y) (xs : List X) (i : ℕ) (x : X) → map f (slice_set xs i x) ≡ slice_set (map f xs) i (f x)
+pub map-set : {X Y : Type 0} (f : X → Y) (xs : List X) (i : ℕ) (x : X) → map f (slice_set xs i x) ≡ slice_set (map f xs) i (f x)
 map-set f [] i x = refl
 map-set f (y ∷ xs) zero x = refl
 map-set f (y ∷ xs) (suc i) x = ap (λ zs. f y ∷ zs) (map-set f xs i x)
@@ -103,15 +103,19 @@ set_same [] i x h = refl
 set_same (y ∷ xs) zero x h = let e : y ≡ x = cc in ap (λ z. z ∷ xs) (sym e)
 set_same (y ∷ xs) (suc i) x h = ap (λ zs. y ∷ zs) (set_same xs i x h)
 
-get_set : {X : Type 0} (xs : List X) (i : ℕ) (x y : X) → slice_get xs i ≡ Some y → slice_get (slice_set xs i x) i ≡ Some x
+pub get_set : {X : Type 0} (xs : List X) (i : ℕ) (x y : X) → slice_get xs i ≡ Some y → slice_get (slice_set xs i x) i ≡ Some x
 get_set [] i x y h = absurd (let q : None ≡ Some y = h in cc)
 get_set (z ∷ xs) zero x y h = refl
 get_set (z ∷ xs) (suc i) x y h = get_set xs i x y h
 
-get_map : {X Y : Type 0} (f : X → Y) (xs : List X) (i : ℕ) (x : X) → slice_get xs i ≡ Some x → slice_get (map f xs) i ≡ Some (f x)
+pub get_map : {X Y : Type 0} (f : X → Y) (xs : List X) (i : ℕ) (x : X) → slice_get xs i ≡ Some x → slice_get (map f xs) i ≡ Some (f x)
 get_map f [] i x h = absurd (let q : None ≡ Some x = h in cc)
 get_map f (y ∷ xs) zero x h = let e : y ≡ x = cc in ap (λ z. Some (f z)) e
 get_map f (y ∷ xs) (suc i) x h = get_map f xs i x h
+
+pub pushed_there : {X : Type 0} (xs : List X) (x : X) → slice_get (xs ++ x ∷ []) (length xs) ≡ Some x
+pushed_there [] x = refl
+pushed_there (y ∷ xs) x = pushed_there xs x
 
 -- ---- a linearization of one history is one of another, with the same replies, that knows what the first knows of what began
 module _ (program : Program) (old new : History) (finished : new.finished ≡ old.finished)
@@ -169,7 +173,18 @@ module _ {Machine Memory Place Form : Type 0} (state : State Machine Memory Plac
       omega arith)
   has_gone (memory, Astray) b at same = record { now = begun; threads = refl; replies = replies; more = more; notes = notes }
 
-more_notes : {Place : Type 0} (place : Option Place) (notes : List (List ℕ)) (counts : List ℕ) → (more : List (List ℕ)) × (notes_at_step place notes counts ≡ notes ++ more)
+-- the thread after its access, which has as many replies as before where there is none at the place of the next one
+after_there : {Machine Memory Place Form : Type 0} (state : State Machine Memory Place Form) (t : ℕ) (thread begun : Thread Place) → slice_get state.threads t ≡ Some thread → begun.replies ≡ thread.replies
+    → (acted : Memory × Outcome Place) → (b : Thread Place) × (slice_get (after_access state t begun acted).threads t ≡ Some b) × (slice_get b.replies (length thread.replies) ≡ None → length b.replies ≡ length thread.replies)
+after_there {Place = Place} state t thread begun there replies (memory, Goes place) =
+    let now : Thread Place = record begun { place = Some place } in
+    (now, get_set state.threads t now thread there, λ _. ap length replies)
+after_there {Place = Place} state t thread begun there replies (memory, Replies reply) =
+    let now : Thread Place = record begun { replies = begun.replies ++ reply ∷ []; place = None } in
+    (now, get_set state.threads t now thread there, λ none. absurd (let q : Some reply ≡ None = sym (pushed_there begun.replies reply) ∙ ap (λ n. slice_get (begun.replies ++ reply ∷ []) n) (ap length replies) ∙ none in cc))
+after_there state t thread begun there replies (memory, Astray) = (begun, get_set state.threads t begun thread there, λ _. ap length replies)
+
+pub more_notes : {Place : Type 0} (place : Option Place) (notes : List (List ℕ)) (counts : List ℕ) → (more : List (List ℕ)) × (notes_at_step place notes counts ≡ notes ++ more)
 more_notes (Some place) notes counts = ([], sym (append-nil notes))
 more_notes None notes counts = (counts ∷ [], refl)
 
@@ -206,3 +221,14 @@ module _ {Machine Memory Place Form : Type 0} (rules : Rules Memory Place) (prog
       (subst (λ (s : State Machine Memory Place Form). HasGone state.threads t thread s.threads) (sym made)
       (has_gone state t thread (at_step rules state op thread) there refl more.0 more.1 (rules.act op (place_or thread.place place) state.memory) b at_made len))
       order is)
+
+  -- the same, where there is no reply at the place of the next one
+  pub step_silent : (state next : State Machine Memory Place Form) (t : ℕ) → step rules program state t ≡ Some next
+      → ((a b : Thread Place) → slice_get state.threads t ≡ Some a → slice_get next.threads t ≡ Some b → slice_get b.replies (length a.replies) ≡ None)
+      → (order : List OpId) → IsLinearization program (history_of state) order → IsLinearization program (history_of next) order
+  step_silent state next t leads none order is =
+      step_parts rules program (IsLinearization program (history_of next) order) state next t leads (λ thread there op op_is made.
+      let acted = rules.act op (place_or thread.place (rules.first op)) state.memory in
+      let now = after_there state t thread (at_step rules state op thread) there refl acted in
+      let at_next : slice_get next.threads t ≡ Some now.0 = ap (λ (s : State Machine Memory Place Form). slice_get s.threads t) made ∙ now.1 in
+      step_lends state next t leads thread now.0 there at_next (now.2 (none thread now.0 there at_next)) order is)

@@ -110,7 +110,7 @@ module _ {Machine Memory Place Form : Type 0} (place_eq : Place → Place → Bo
     found_alike r s r_fits s_fits alike (found.Sound order) is = (
       sym alike.astray ∙ is.0,
       alike_ordered rules r s lawful alike is.1,
-      subst (λ h. IsLinearization program h order.items) (alike_history rules r s alike) is.2,
+      subst (λ h. IsLinearization program h order) (alike_history rules r s alike) is.2,
     )
 
     pub merges_by : (merge : Merge) → IsMachine (machine_of {Machine = Machine} {Form = Form} rules program) → Merges (machine_of {Machine = Machine} {Form = Form} rules program) (counted_as_one {Machine = Machine} place_eq memory_eq form_eq form_of merge)

@@ -1,5 +1,5 @@
 -- What is found of a state.
-use Rattle.std.specs.Prelude.{◌≡◌, Bool, true, false, Option, Some, None, IsSome, length, Vec}
+use Rattle.std.specs.Prelude.{◌≡◌, Bool, true, false, Option, Some, None, IsSome, List, length}
 use Rattle.sched_program.specs.History.{History}
 use Rattle.sched_program.specs.Program.{Program}
 use Rattle.sched_program.specs.declared.operation.OpId.{OpId}
@@ -43,10 +43,10 @@ module _ {Machine Memory Place Form : Type 0} (rules : Rules Memory Place) (prog
   IsFindingOf state found.History =
       (state.astray ≡ None) × rules.IsOrdered state.memory × (IsLinearizable program (history_of state) → ⊥)
   IsFindingOf state (found.Sound order) =
-      (state.astray ≡ None) × rules.IsOrdered state.memory × IsLinearization program (history_of state) order.items
+      (state.astray ≡ None) × rules.IsOrdered state.memory × IsLinearization program (history_of state) order
 
 -- what was sought of a history: where a list was found, it is a linearization
-abbrev pub IsLoan : {A : Type 0} → Program → History → Option (Option (Vec OpId A)) → Type 0
+abbrev pub IsLoan : Program → History → Option (Option (List OpId)) → Type 0
 IsLoan program history None = Unit {0}
 IsLoan program history (Some None) = Unit {0}
-IsLoan program history (Some (Some order)) = IsLinearization program history order.items
+IsLoan program history (Some (Some order)) = IsLinearization program history order

@@ -196,6 +196,30 @@ impl<'a, M: Machine> Expansion<'a, M> {
         Expansion::for_merge(alloc, machine, program, state, Merge::Exact)
     }
 
+    /// Does as `for_merge` does for a state of which it is known what is found. Where that is a linearization, it is lent to
+    /// the steps: the history of the state is not judged once more.
+    pub fn of_found(
+        alloc: Global,
+        machine: M,
+        program: &'a Program,
+        state: &'a State<M>,
+        finding: &Finding,
+        merge: Merge,
+    ) -> Result<Expansion<'a, M>, OutOfMemory>
+        requires fits { Fits (M.rules machine) program.now state.now }
+        requires room { state.now.steps + 1 < 2 ^ 64 }
+        requires finding { IsFindingOf (M.rules machine) program.now state.now finding.now }
+        ensures machine { IfOk result (λ x. x.machine ≡ machine) }
+        ensures program { IfOk result (λ x. x.program ≡ program.now) }
+        ensures source { IfOk result (λ x. x.source ≡ state.now) }
+    {
+        let loan = match finding {
+            Finding::Sound(order) => Some(Some(*order)),
+            _ => None,
+        };
+        Expansion::with_loan(alloc, machine, program, state, merge, loan)
+    }
+
     /// Takes each enabled step of a state, judges where it leads, and makes the labels by which a book that merges so
     /// looks for the states.
     pub fn for_merge(
@@ -211,7 +235,25 @@ impl<'a, M: Machine> Expansion<'a, M> {
         ensures program { IfOk result (λ x. x.program ≡ program.now) }
         ensures source { IfOk result (λ x. x.source ≡ state.now) }
     {
-        let mut loan = None;
+        Expansion::with_loan(alloc, machine, program, state, merge, None)
+    }
+
+    /// The same, where this is what was sought of the state's history.
+    fn with_loan(
+        alloc: Global,
+        machine: M,
+        program: &'a Program,
+        state: &'a State<M>,
+        merge: Merge,
+        mut loan: Loan,
+    ) -> Result<Expansion<'a, M>, OutOfMemory>
+        requires fits { Fits (M.rules machine) program.now state.now }
+        requires room { state.now.steps + 1 < 2 ^ 64 }
+        requires loan { IsLoan program.now (history_of state.now) loan }
+        ensures machine { IfOk result (λ x. x.machine ≡ machine) }
+        ensures program { IfOk result (λ x. x.program ≡ program.now) }
+        ensures source { IfOk result (λ x. x.source ≡ state.now) }
+    {
         let mut successors = Vec::new(alloc);
         for thread in 0..program.threads().len() as u8 {
             if let Some(next) = step_of(alloc, machine, program, state, thread, merge, &mut loan)? {

@@ -5,13 +5,13 @@ ghost use Rattle.tree_machine.specs.History.{history_of};
 ghost use Rattle.tree_machine.specs.Step.{Fits};
 ghost use Rattle.book.specs.Findings.{is_sound, IsFindingOf};
 
-use lin::judge;
-use sched_program::{OpId, OutOfMemory, Program};
+use lin::{Order, judge_order};
+use sched_program::{OutOfMemory, Program};
 use std::alloc::Global;
 use tree_machine::{Machine, State};
 
 /// What was found of a state: the first of these that applies. All but `Sound` are faults.
-#[derive(Drop)]
+#[derive(Clone, Copy)]
 pub enum Finding {
     /// A thread met what the machine's tables do not have.
     Astray,
@@ -20,7 +20,7 @@ pub enum Finding {
     /// The history has no linearization.
     History,
     /// No fault: a linearization of the history (Herlihy and Wing, TOPLAS 1990).
-    Sound(Vec<OpId>),
+    Sound(Order),
 }
 
 impl Finding {
@@ -37,13 +37,13 @@ pub(crate) fn judge_anew<M: Machine>(
     alloc: Global,
     program: &Program,
     state: &State<M>,
-) -> Result<Option<Vec<OpId>>, OutOfMemory>
+) -> Result<Option<Order>, OutOfMemory>
     requires { (machine : M) × Fits (M.rules machine) program.now state.now }
-    ensures found { IfOk result (λ answer. IfSome answer (λ order. IsLinearization program.now (history_of state.now) order.items)) }
+    ensures found { IfOk result (λ answer. IfSome answer (λ order. IsLinearization program.now (history_of state.now) order)) }
     ensures none { IfOk result (λ answer. IfNone answer (IsLinearizable program.now (history_of state.now) → ⊥)) }
 {
     let history = state.history(alloc, program)?;
-    judge(alloc, program, &history)
+    judge_order(alloc, program, &history)
 }
 
 /// The finding of a state, judged from nothing.

@@ -1,5 +1,5 @@
 //! Orders that a state lends to its steps.
-ghost use Rattle.std.specs.Prelude.{◌≡◌, ◌+◌, ◌^◌, ◌<◌, length, IfOk, IfSome, IfNone, Some, None, slice_get};
+ghost use Rattle.std.specs.Prelude.{◌≡◌, ◌≤◌, ◌↔◌, All, IsTrue, length, IfOk, IfSome, IfNone, MatchOption, Some, None, slice_get, slice_index};
 ghost use Rattle.lin.specs.Linearization.{IsLinearization, IsLinearizable};
 ghost use Rattle.tree_machine.specs.History.{history_of};
 ghost use Rattle.tree_machine.specs.Step.{Fits, step};
@@ -7,29 +7,54 @@ ghost use Rattle.tree_machine.specs.declared.state.Thread.{Thread};
 ghost use Rattle.book.specs.Findings.{IsFindingOf, IsLoan};
 
 use crate::finding::{Finding, judge_anew};
-use lin::{check_order, judge};
-use sched_program::{OpId, OutOfMemory, Program};
+use lin::{Order, order_with_reply};
+use sched_program::{Note, OpId, OutOfMemory, Program};
 use std::alloc::Global;
 use tree_machine::{Machine, State};
 
 /// A linearization of a state's history, if there is one; nothing as long as none was sought.
-pub(crate) type Loan = Option<Option<Vec<OpId>>>;
+pub(crate) type Loan = Option<Option<Order>>;
 
-/// The operation that a thread's step ended, if it ended one.
-fn ended_by<M: Machine>(source: &State<M>, next: &State<M>, thread: u8) -> Option<OpId>
-    ensures { IfNone result ((a b : Thread M.Loc) × (slice_get source.now.threads thread ≡ Some a) × (slice_get next.now.threads thread ≡ Some b) × (length b.replies ≡ length a.replies)) }
+/// The operation that a thread's step ended, with its reply, if it ended one.
+fn reply_after<M: Machine>(source: &State<M>, next: &State<M>, thread: u8) -> Option<(OpId, bool)>
+    ensures { MatchOption result
+        ((a b : Thread M.Loc) → slice_get source.now.threads thread ≡ Some a → slice_get next.now.threads thread ≡ Some b → slice_get b.replies (length a.replies) ≡ None)
+        (λ p. (a b : Thread M.Loc) × (slice_get source.now.threads thread ≡ Some a) × (slice_get next.now.threads thread ≡ Some b)
+        × (p.0.thread ≡ thread) × (p.0.index ≡ length a.replies) × (slice_get b.replies (length a.replies) ≡ Some p.1)) }
 {
-    let Some(was) = source.threads.get(usize::from(thread)) else {
-        return Some(OpId { thread, index: 0 });
-    };
+    let was = source.threads.get(usize::from(thread))?;
+    let now = next.threads.get(usize::from(thread))?;
     let count = was.replies.len();
-    match next.threads.get(usize::from(thread)) {
-        Some(now) if now.replies.len() == count => None,
-        _ => Some(OpId {
-            thread,
-            index: count as u8,
-        }),
+    let reply = now.replies.get(count)?;
+    let name = OpId {
+        thread,
+        index: count as u8,
+    };
+    Some((name, reply))
+}
+
+/// Whether no note counts the operation among those that had finished.
+fn is_in_no_note(notes: &[Note], name: OpId) -> bool
+    ensures { IsTrue result ↔ All (λ note. slice_index note name.thread ≤ name.index) notes.now }
+{
+    for note in notes {
+        if note.get(usize::from(name.thread)).unwrap_or(0) > name.index {
+            return false;
+        }
     }
+    true
+}
+
+/// Whether no operation of a state began after this one ended.
+fn is_last<M: Machine>(state: &State<M>, name: OpId) -> bool
+    ensures { IsTrue result ↔ All (λ thread. All (λ note. slice_index note name.thread ≤ name.index) thread.notes) state.now.threads }
+{
+    for thread in state.threads.as_slice() {
+        if !is_in_no_note(thread.notes.as_slice(), name) {
+            return false;
+        }
+    }
+    true
 }
 
 /// Seeks a linearization of a state's history, if that was not done yet.
@@ -46,72 +71,38 @@ fn seek<M: Machine>(
     match loan {
         Some(_) => Ok(()),
         None => {
-            let history = source.history(alloc, program)?;
-            let order = judge(alloc, program, &history)?;
+            let order = judge_anew(alloc, program, source)?;
             *loan = Some(order);
             Ok(())
         }
     }
 }
 
-/// The same order.
-fn copy_of(alloc: Global, order: &[OpId]) -> Result<Vec<OpId>, OutOfMemory>
-    ensures { IfOk result (λ copy. copy.items ≡ order.now) }
-{
-    Ok(order.iter().copied().collect(alloc)?)
-}
-
-/// The order with one more name at its end, unless it has that name.
-fn with_name(alloc: Global, order: &[OpId], name: OpId) -> Result<Vec<OpId>, OutOfMemory> {
-    let mut longer = Vec::with_capacity(alloc, order.len())?;
-    for other in order {
-        longer.push(*other)?;
-    }
-    if !order.contains(&name) {
-        longer.push(name)?;
-    }
-    Ok(longer)
-}
-
-/// A linearization of the history of a state, if there is one. The order is tried first.
-fn judge_first<M: Machine>(
-    alloc: Global,
-    program: &Program,
-    next: &State<M>,
-    order: Vec<OpId>,
-) -> Result<Option<Vec<OpId>>, OutOfMemory>
-    requires { (machine : M) × Fits (M.rules machine) program.now next.now }
-    ensures found { IfOk result (λ answer. IfSome answer (λ order. IsLinearization program.now (history_of next.now) order.items)) }
-    ensures none { IfOk result (λ answer. IfNone answer (IsLinearizable program.now (history_of next.now) → ⊥)) }
-{
-    let history = next.history(alloc, program)?;
-    if check_order(program, &history, &order) {
-        Ok(Some(order))
-    } else {
-        judge(alloc, program, &history)
-    }
-}
-
 /// A linearization of the history of a thread's step, if there is one. A step that ended no operation takes the order that
-/// is lent as it is: its history is its source's, or has one pending operation more. For one that did, the operation is
-/// put at the end of that order, which is tried before the history is judged anew.
+/// is lent as it is: its history is its source's, or has one pending operation more. One that did takes it with that
+/// operation, if the operation replied what it replies there. Only where it did not is the history made and judged anew.
 fn order_after<M: Machine>(
     alloc: Global,
     program: &Program,
     source: &State<M>,
     next: &State<M>,
     thread: u8,
-    order: &[OpId],
-) -> Result<Option<Vec<OpId>>, OutOfMemory>
+    order: &Order,
+) -> Result<Option<Order>, OutOfMemory>
     requires step { (machine : M) × Fits (M.rules machine) program.now next.now × (step (M.rules machine) program.now source.now thread ≡ Some next.now) }
     requires order { IsLinearization program.now (history_of source.now) order.now }
-    ensures found { IfOk result (λ answer. IfSome answer (λ order. IsLinearization program.now (history_of next.now) order.items)) }
+    ensures found { IfOk result (λ answer. IfSome answer (λ order. IsLinearization program.now (history_of next.now) order)) }
     ensures none { IfOk result (λ answer. IfNone answer (IsLinearizable program.now (history_of next.now) → ⊥)) }
 {
-    match ended_by(source, next, thread) {
-        None => Ok(Some(copy_of(alloc, order)?)),
-        Some(name) => judge_first(alloc, program, next, with_name(alloc, order, name)?),
+    let Some((name, reply)) = reply_after(source, next, thread) else {
+        return Ok(Some(*order));
+    };
+    if is_last(next, name)
+        && let Some(longer) = order_with_reply(program, order, name, reply)
+    {
+        return Ok(Some(longer));
     }
+    judge_anew(alloc, program, next)
 }
 
 /// The finding of a thread's step, for which its source lends an order.

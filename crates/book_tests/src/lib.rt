@@ -12,6 +12,8 @@ mod forms;
 #[cfg(test)]
 mod layers;
 #[cfg(test)]
+mod lending;
+#[cfg(test)]
 mod refused;
 #[cfg(test)]
 mod replays;

@@ -7,12 +7,12 @@ use std::alloc::Global;
 use std::test::Fail;
 use tree_machine::Atomic;
 
-const ZERO: OpId = OpId {
+pub const ZERO: OpId = OpId {
     thread: 0,
     index: 0,
 };
 
-const ONE: OpId = OpId {
+pub const ONE: OpId = OpId {
     thread: 1,
     index: 0,
 };
@@ -28,7 +28,7 @@ const ENDS: [(&[u8], End); 4] = [
 ];
 
 /// Whether a finding is this linearization.
-fn is_order(finding: &Finding, order: &[OpId]) -> bool {
+pub fn is_order(finding: &Finding, order: &[OpId]) -> bool {
     match finding {
         Finding::Sound(found) => found.as_slice() == order,
         _ => false,

@@ -1,10 +1,11 @@
 //! A machine that goes astray.
-ghost use Rattle.std.specs.Prelude.{refl};
+ghost use Rattle.std.specs.Prelude.{◌≡◌, refl, IfOk};
+ghost use Rattle.tree_machine.specs.Alike.{places_of};
 ghost use Rattle.book_tests.specs.Straying.{straying_rules, straying_lawful, straying_form, straying_forms};
 
 use sched_program::{Exact, Op, OutOfMemory, Sequence};
 use std::alloc::Global;
-use tree_machine::{Machine, Outcome};
+use tree_machine::{Machine, Outcome, Thread};
 
 /// Each operation goes astray at its second step. A place says whether the first is done.
 #[derive(Clone, Copy, PartialEq, Eq)]
@@ -12,6 +13,17 @@ pub struct Straying;
 
 impl Exact for Straying {
     ghost exact = { λ a b h. refl };
+}
+
+/// The place that each thread holds.
+fn places_of(alloc: Global, threads: &[Thread<bool>]) -> Result<Sequence<Option<bool>>, OutOfMemory>
+    ensures { IfOk result (λ places. places ≡ places_of threads.now) }
+{
+    let mut places = Sequence::with_capacity(alloc, threads.len())?;
+    for thread in threads {
+        places.push(thread.place)?;
+    }
+    Ok(places)
 }
 
 impl Machine for Straying {
@@ -63,9 +75,9 @@ impl Machine for Straying {
         &self,
         alloc: Global,
         mem: &bool,
-        places: &[Option<bool>],
+        threads: &[Thread<bool>],
     ) -> Result<Sequence<Option<bool>>, OutOfMemory> {
-        let mut form = Sequence::from_vec(places.iter().copied().collect(alloc)?);
+        let mut form = places_of(alloc, threads)?;
         form.insert(0, Some(*mem))?;
         Ok(form)
     }

@@ -18,7 +18,7 @@ module _ {Machine Memory Place Form : Type 0} (rules : Rules Memory Place) (prog
       go Astray h sound = absurd (true≢false (sym sound))
       go Order h sound = absurd (true≢false (sym sound))
       go History h sound = absurd (true≢false (sym sound))
-      go (Sound order) h sound = (h.0, h.1, (order.items, h.2))
+      go (Sound order) h sound = (h.0, h.1, (order, h.2))
 
   -- and a correct state has no fault
   pub correct_no_fault : (state : State Machine Memory Place Form) (f : Finding) → IsCorrect rules program state → IsFindingOf rules program state f → is_sound f ≡ true

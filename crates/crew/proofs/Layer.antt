@@ -1,20 +1,12 @@
 -- The layer that is taken.
-use Rattle.std.proofs.Common.{◌≡◌, ℕ, ◌+◌, ◌<◌, ◌≤◌, suc, inl, inr, false, Some, List, [], ◌∷◌, All, count_by, length, map, refl, ap, ◌∙◌, arith, slice_get, get_or, Result, Ok, Err, IfOk, OnErr}
+use Rattle.std.proofs.Common.{◌≡◌, ℕ, ◌+◌, suc, inl, inr, false, Some, List, [], ◌∷◌, count_by, length, map, refl, ap, ◌∙◌, arith, slice_get, Result, Ok, Err, IfOk, OnErr}
 use Rattle.std.specs.declared.sync.Arc.{Arc}
-use Rattle.std.proofs.lemmas.Option.{slice_get-get_or}
-use Rattle.sched_program.specs.Program.{Program}
-use Rattle.tree_machine.specs.Rules.{Rules}
-use Rattle.tree_machine.specs.Step.{Fits}
-use Rattle.tree_machine.specs.declared.state.State.{State}
 use Rattle.book.specs.declared.entry.Mark.TheVariants.{Taken}
 use Rattle.book.specs.Schedule.{StepMachine}
 use Rattle.book.specs.Entries.{Entry, At, Contents, TakesLayer, is_expanded, with_mark, with_marks}
-use Rattle.book.specs.Slots.{AllStates}
 use Rattle.book.proofs.EntryLemmas.{with_mark-at}
 use Rattle.book.proofs.Growth.{taken_count}
 use Rattle.book.proofs.Runs.{length-with_marks}
-use Rattle.crew.specs.Working.{IsReady}
-use Rattle.crew.proofs.Ends.{given_own}
 
 module _ {S : Type 0} (m : StepMachine S) where
   marked_count : {A : Type 0} (es : List (Entry S)) (layer : List (ℕ × Arc S A))
@@ -54,14 +46,3 @@ module _ {S : Type 0} (m : StepMachine S) where
   counts_kept items old new (Ok v) takes same = (layer_expanded old.entries new.entries (items v) takes, layer_entries old.entries new.entries (items v) takes)
   counts_kept {X} items old new (Err e) takes same =
       (ap (λ (b : Contents X S). count_by (λ (r : Entry S). is_expanded r.mark) b.entries) same, ap (λ (b : Contents X S). length b.entries) same)
-
--- each state of a layer of the machine and the program is ready
-pub layer_ready : {X Memory Place Form A : Type 0} (rules : X → Rules Memory Place) (b : Contents X (State X Memory Place Form)) (machine : X) (program : Program)
-    (layer : List (ℕ × Arc (State X Memory Place Form) A)) → b.machine ≡ machine → b.program ≡ program → b.limit ≤ 2000000
-    → AllStates (Fits (rules b.machine) b.program) layer → AllStates (λ (s : State X Memory Place Form). s.steps < b.limit) layer
-    → All (λ (p : ℕ × Arc (State X Memory Place Form) A). IsReady (rules machine) program p.1.value) layer
-layer_ready {X} {Memory} {Place} {Form} {A} rules b machine program layer is_machine is_program limit fits few k d within =
-    let at = slice_get-get_or layer k d within in
-    let p : ℕ × Arc (State X Memory Place Form) A = get_or layer k d in
-    let less : p.1.value.steps < b.limit = few k p at in
-    (given_own (λ x q. Fits (rules x) q p.1.value) b.machine machine b.program program is_machine is_program (fits k p at), omega arith)

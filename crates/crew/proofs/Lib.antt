@@ -10,6 +10,7 @@ pub mod Drives
 pub mod NextEntry
 pub mod Counted
 pub mod Layer
+mod Given
 pub mod Reports
 pub mod Room
 pub mod WorkedOff

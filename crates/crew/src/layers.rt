@@ -4,9 +4,10 @@ ghost use Rattle.crew.specs.ClaimSeats.{IsSeatOf};
 
 use crate::claims::{Claims, Seat};
 use crate::gate::Gate;
+use crate::leads::Leads;
 use crate::starting::call_at_once;
 use crate::tally::{Parts, Run, Tally};
-use crate::working::{Exploration, Layer, Leads, Stop, Worker, run_of};
+use crate::working::{Exploration, Layer, Stop, Worker, run_of};
 use sched_program::OutOfMemory;
 use std::alloc::Global;
 use std::sync::{Mutex, Wait};

@@ -7,6 +7,7 @@ mod driving;
 mod explorer;
 mod gate;
 mod layers;
+mod leads;
 mod options;
 mod reading;
 mod reporting;

@@ -5,12 +5,13 @@ ghost use Rattle.crew.specs.Driving.{IsLedgerOf};
 ghost use Rattle.crew.specs.Working.{IsReady};
 
 use crate::answer::Share;
+use crate::leads::{Leads, leads_of};
 use book::{Book, EnterFault, Expansion, Leftovers};
 use sched_program::{OutOfMemory, Program, same};
 use std::alloc::Global;
 use std::marker::{Brand, PhantomData};
+use std::sync::ledger;
 use std::sync::ledger::{Blank, Ledger};
-use std::sync::{Arc, ledger};
 use tree_machine::{Machine, State, StateForm};
 
 /// The three ledgers of one exploration: into how many parts each is cut, and their names.
@@ -197,8 +198,8 @@ impl<J: Run, M: Machine> Desk<J, M> {
         alloc: Global,
         machine: M,
         program: &Program,
-    ) -> Result<Vec<(usize, Arc<State<M>>)>, OutOfMemory>
-        ensures ready { IfOk result (λ v. All (λ lead. IsReady (M.rules machine) program.now lead.1.value) v.items) }
+    ) -> Result<Leads<M>, OutOfMemory>
+        ensures ready { IfOk result (λ v. All (λ lead. IsReady (M.rules machine) program.now lead.state.value lead.finding) v.items) }
     {
         let Desk { book, .. } = self;
         if !is_of(book, machine, program) || book.first_fault().is_some() {
@@ -206,7 +207,7 @@ impl<J: Run, M: Machine> Desk<J, M> {
         }
         book.law();
         let layer = book.take_layer()?;
-        Ok(layer)
+        leads_of(alloc, book, layer)
     }
 
     /// Enters an expansion, and counts it in the worker's tally. What the book knew goes to the leftovers.

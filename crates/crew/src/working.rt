@@ -4,12 +4,13 @@ ghost use Rattle.crew.specs.ClaimSeats.{IsSeatOf};
 
 use crate::claims::{Claims, Seat};
 use crate::gate::Gate;
+use crate::leads::Leads;
 use crate::tally::{Desk, Run, Tally};
 use book::{EnterFault, Expansion, Leftovers, Merge};
 use sched_program::{OutOfMemory, Program};
 use std::alloc::Global;
 use std::marker::Model;
-use std::sync::{Arc, Mutex, MutexGuard, Wait};
+use std::sync::{Mutex, MutexGuard, Wait};
 use tree_machine::{Machine, State, StateForm};
 
 /// Why a worker draws no more.
@@ -66,9 +67,6 @@ fn room_for<M: Machine>(
     Leftovers::with_room(alloc, steps)
 }
 
-/// The numbers and states of entries.
-pub type Leads<M: Machine> = Vec<(usize, Arc<State<M>>)>;
-
 /// The entries of a layer, which are taken and can be expanded, and the counter of their places. Contracts see the counter.
 #[derive(Drop)]
 pub struct Layer<'a, M: Machine> {
@@ -78,7 +76,7 @@ pub struct Layer<'a, M: Machine> {
     pub merge: Merge,
     /// How many steps its states have.
     pub number: u16,
-    /// The entries' numbers and states, by their places.
+    /// The entries, by their places.
     pub leads: Leads<M>,
     pub claims: Claims,
     /// How many places a worker draws in one round.
@@ -96,7 +94,7 @@ impl<'a, M: Machine> Model for Layer<'a, M> {
 
     ghost view = { λ layer. layer.claims };
 
-    ghost invariant = { λ layer. (layer.claims.size.len ≡ length layer.leads.items) × All (λ lead. IsReady (M.rules layer.machine) layer.program.now lead.1.value) layer.leads.items };
+    ghost invariant = { λ layer. (layer.claims.size.len ≡ length layer.leads.items) × All (λ lead. IsReady (M.rules layer.machine) layer.program.now lead.state.value lead.finding) layer.leads.items };
 }
 
 impl<'a, M: Machine> Layer<'a, M> {
@@ -104,15 +102,16 @@ impl<'a, M: Machine> Layer<'a, M> {
     fn expand(&self, place: usize) -> Result<(usize, Expansion<'_, M>), OutOfMemory>
         requires { place < self.now.size.len }
     {
-        let (id, state) = &self.leads[place];
-        let expansion = Expansion::for_merge(
+        let lead = &self.leads[place];
+        let expansion = Expansion::of_found(
             self.alloc,
             self.machine,
             self.program,
-            &**state,
+            &*lead.state,
+            &lead.finding,
             self.merge,
         )?;
-        Ok((*id, expansion))
+        Ok((lead.id, expansion))
     }
 
     /// Draws so many places as the run is, fewer at the end of the layer, and makes the expansions there.

@@ -1,10 +1,11 @@
 //! A machine with a fault for each kind of operation.
-ghost use Rattle.std.specs.Prelude.{refl};
+ghost use Rattle.std.specs.Prelude.{◌≡◌, refl, IfOk};
+ghost use Rattle.tree_machine.specs.Alike.{places_of};
 ghost use Rattle.crew_tests.specs.Faulty.{faulty_rules, faulty_lawful, faulty_form, faulty_forms};
 
 use sched_program::{Exact, Op, OutOfMemory, Sequence};
 use std::alloc::Global;
-use tree_machine::{Machine, Outcome};
+use tree_machine::{Machine, Outcome, Thread};
 
 /// An insert replies true, a delete goes astray at its second step, and a find leaves the memory out of order.
 /// A place says whether the operation's first step is done, the memory whether it is out of order.
@@ -13,6 +14,17 @@ pub struct Faulty;
 
 impl Exact for Faulty {
     ghost exact = { λ a b h. refl };
+}
+
+/// The place that each thread holds.
+fn places_of(alloc: Global, threads: &[Thread<bool>]) -> Result<Sequence<Option<bool>>, OutOfMemory>
+    ensures { IfOk result (λ places. places ≡ places_of threads.now) }
+{
+    let mut places = Sequence::with_capacity(alloc, threads.len())?;
+    for thread in threads {
+        places.push(thread.place)?;
+    }
+    Ok(places)
 }
 
 impl Machine for Faulty {
@@ -73,9 +85,9 @@ impl Machine for Faulty {
         &self,
         alloc: Global,
         mem: &bool,
-        places: &[Option<bool>],
+        threads: &[Thread<bool>],
     ) -> Result<Sequence<Option<bool>>, OutOfMemory> {
-        let mut form = Sequence::from_vec(places.iter().copied().collect(alloc)?);
+        let mut form = places_of(alloc, threads)?;
         form.insert(0, Some(*mem))?;
         Ok(form)
     }

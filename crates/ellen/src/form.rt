@@ -1,15 +1,17 @@
 //! The machine's form: a memory with the places that threads hold, up to the numbers of nodes and records.
-ghost use Rattle.std.specs.Prelude.{◌≡◌, [], ◌∷◌, ◌++◌, map, Some, IfSome, IfOk, OnOk, All};
-ghost use Rattle.tree_machine.specs.Parts.{no_part};
+ghost use Rattle.std.specs.Prelude.{◌≡◌, [], ◌∷◌, Some, IfSome, IfOk, OnOk, All};
+ghost use Rattle.tree_machine.specs.Alike.{places_of};
+ghost use Rattle.tree_machine.specs.Parts.{IsPartBelow};
+ghost use Rattle.tree_machine.specs.Written.{with_part};
 ghost use Rattle.ellen.specs.Range.{IsInRange, IsPlaceInRange};
 ghost use Rattle.ellen.specs.Encoding.{word_number, word_record, node_part, record_part, above_number, above_node, above_record, search_part, help_number, side_number, help_side, help_record, help_node, base_number, place_part, ellen_parts};
 ghost use Rattle.ellen.specs.FormLaws.{ellen_form};
 
 use crate::memory::{EllenMem, Node, Record, UpdateWord};
 use crate::place::{Above, Base, EllenLoc, HelpLoc, Resume, SearchLoc};
-use sched_program::{OutOfMemory, Sequence};
+use sched_program::OutOfMemory;
 use std::alloc::Global;
-use tree_machine::{Part, Parts, Side, form_parts};
+use tree_machine::{Bytes, Parts, Side, Thread, Writer, form_parts};
 
 /// The number that tells the kind of an update word.
 fn word_number(word: UpdateWord) -> u64
@@ -44,19 +46,19 @@ fn word_record(word: UpdateWord) -> Option<usize>
     }
 }
 
-/// Puts a node into an empty part.
-fn put_node(node: Node, part: &mut Part) -> Result<(), OutOfMemory>
-    requires { part.old ≡ no_part }
-    ensures { OnOk result (part.new ≡ node_part node) }
+/// Writes a node.
+fn write_node(node: Node, writer: &mut Writer) -> Result<(), OutOfMemory>
+    requires { IsPartBelow writer.old.nodes writer.old.records (node_part node) }
+    ensures { OnOk result (writer.new ≡ with_part writer.old (node_part node)) }
 {
     match node {
-        Node::Leaf { key } => part.put(&[0, u64::from(key)], &[], &[]),
+        Node::Leaf { key } => writer.put(&[0, u64::from(key)], &[], &[]),
         Node::Internal {
             key,
             update,
             left,
             right,
-        } => part.put(
+        } => writer.put(
             &[1, u64::from(key), word_number(update)],
             &[named(left), named(right)],
             &[word_record(update)],
@@ -64,18 +66,18 @@ fn put_node(node: Node, part: &mut Part) -> Result<(), OutOfMemory>
     }
 }
 
-/// Puts a record into an empty part.
-fn put_record(kept: Record, part: &mut Part) -> Result<(), OutOfMemory>
-    requires { part.old ≡ no_part }
-    ensures { OnOk result (part.new ≡ record_part kept) }
+/// Writes a record.
+fn write_record(kept: Record, writer: &mut Writer) -> Result<(), OutOfMemory>
+    requires { IsPartBelow writer.old.nodes writer.old.records (record_part kept) }
+    ensures { OnOk result (writer.new ≡ with_part writer.old (record_part kept)) }
 {
     match kept {
-        Record::Ins(insert) => part.put(
+        Record::Ins(insert) => writer.put(
             &[0],
             &[named(insert.parent), named(insert.leaf), named(insert.new)],
             &[],
         ),
-        Record::Del(delete) => part.put(
+        Record::Del(delete) => writer.put(
             &[1, word_number(delete.parent_update)],
             &[
                 named(delete.grandparent),
@@ -118,13 +120,13 @@ fn search_nodes(above: Option<Above>, parent: u32) -> [Option<usize>; 2]
     [above_node(above), named(parent)]
 }
 
-/// Puts a place of a search into an empty part.
-fn put_search(at: SearchLoc, part: &mut Part) -> Result<(), OutOfMemory>
-    requires { part.old ≡ no_part }
-    ensures { OnOk result (part.new ≡ search_part at) }
+/// Writes a place of a search.
+fn write_search(at: SearchLoc, writer: &mut Writer) -> Result<(), OutOfMemory>
+    requires { IsPartBelow writer.old.nodes writer.old.records (search_part at) }
+    ensures { OnOk result (writer.new ≡ with_part writer.old (search_part at)) }
 {
     match at {
-        SearchLoc::Update { above, parent } => part.put(
+        SearchLoc::Update { above, parent } => writer.put(
             &[0, above_number(above)],
             &search_nodes(above, parent),
             &[above_record(above)],
@@ -133,7 +135,7 @@ fn put_search(at: SearchLoc, part: &mut Part) -> Result<(), OutOfMemory>
             above,
             parent,
             update,
-        } => part.put(
+        } => writer.put(
             &[1, above_number(above), word_number(update)],
             &search_nodes(above, parent),
             &[above_record(above), word_record(update)],
@@ -142,20 +144,20 @@ fn put_search(at: SearchLoc, part: &mut Part) -> Result<(), OutOfMemory>
             parent,
             update,
             leaf,
-        } => part.put(
+        } => writer.put(
             &[2, word_number(update)],
             &[named(parent), named(leaf)],
             &[word_record(update)],
         ),
         SearchLoc::InsOnly { parent, leaf } => {
-            part.put(&[3], &[named(parent), named(leaf)], &[])
+            writer.put(&[3], &[named(parent), named(leaf)], &[])
         }
         SearchLoc::DFlag {
             above,
             parent,
             update,
             leaf,
-        } => part.put(
+        } => writer.put(
             &[4, word_number(above.update), word_number(update)],
             &[named(above.node), named(parent), named(leaf)],
             &[word_record(above.update), word_record(update)],
@@ -233,31 +235,21 @@ fn base_number(base: Base) -> u64
     }
 }
 
-/// Puts the records of a stack behind those that a part names.
-fn put_stack(stack: &[u32], part: &mut Part) -> Result<(), OutOfMemory>
-    ensures { OnOk result (part.new ≡ record { facts = part.old.facts; nodes = part.old.nodes; records = part.old.records ++ map Some stack.now }) }
-{
-    for record in stack {
-        part.push_record(named(*record))?;
-    }
-    Ok(())
-}
-
-/// Puts a place into an empty part.
-fn put_place(place: &EllenLoc, part: &mut Part) -> Result<(), OutOfMemory>
-    requires { part.old ≡ no_part }
-    ensures { OnOk result (part.new ≡ place_part place.now) }
+/// Writes a place.
+fn write_place(place: &EllenLoc, writer: &mut Writer) -> Result<(), OutOfMemory>
+    requires { IsPartBelow writer.old.nodes writer.old.records (place_part place.now) }
+    ensures { OnOk result (writer.new ≡ with_part writer.old (place_part place.now)) }
 {
     match place {
-        EllenLoc::Search(at) => put_search(*at, part),
+        EllenLoc::Search(at) => write_search(*at, writer),
         EllenLoc::Help(at, resume) => {
             let base = base_number(resume.base);
-            part.put(
+            writer.put_with_stack(
                 &[5, help_number(*at), help_side(*at), base],
                 &[help_node(*at)],
                 &[named(help_record(*at))],
-            )?;
-            put_stack(resume.stack.as_slice(), part)
+                resume.stack.as_slice(),
+            )
         }
     }
 }
@@ -266,11 +258,11 @@ fn put_place(place: &EllenLoc, part: &mut Part) -> Result<(), OutOfMemory>
 #[derive(Drop)]
 struct Held<'a> {
     memory: &'a EllenMem,
-    places: &'a [Option<EllenLoc>],
+    threads: &'a [Thread<EllenLoc>],
 }
 
 impl Parts for Held<'_> {
-    ghost parts = { λ held. ellen_parts held.memory.now held.places.now };
+    ghost parts = { λ held. ellen_parts held.memory.now (places_of held.threads.now) };
 
     fn node_count(&self) -> usize {
         self.memory.nodes.len()
@@ -281,24 +273,24 @@ impl Parts for Held<'_> {
     }
 
     fn held_count(&self) -> usize {
-        self.places.len()
+        self.threads.len()
     }
 
-    fn put_node(&self, index: usize, part: &mut Part) -> Result<(), OutOfMemory> {
-        put_node(self.memory.nodes.as_slice()[index], part)
+    fn write_node(&self, index: usize, writer: &mut Writer) -> Result<(), OutOfMemory> {
+        write_node(self.memory.nodes.as_slice()[index], writer)
     }
 
-    fn put_record(&self, index: usize, part: &mut Part) -> Result<(), OutOfMemory> {
+    fn write_record(&self, index: usize, writer: &mut Writer) -> Result<(), OutOfMemory> {
         match self.memory.records.get(index) {
-            Some(kept) => put_record(*kept, part),
-            None => Ok(()),
+            Some(kept) => write_record(*kept, writer),
+            None => writer.put(&[], &[], &[]),
         }
     }
 
-    fn put_held(&self, index: usize, part: &mut Part) -> Result<(), OutOfMemory> {
-        match &self.places[index] {
-            Some(place) => put_place(place, part),
-            None => Ok(()),
+    fn write_held(&self, index: usize, writer: &mut Writer) -> Result<(), OutOfMemory> {
+        match &self.threads[index].place {
+            Some(place) => write_place(place, writer),
+            None => writer.put(&[], &[], &[]),
         }
     }
 }
@@ -311,11 +303,11 @@ impl Parts for Held<'_> {
 pub fn form(
     alloc: Global,
     memory: &EllenMem,
-    places: &[Option<EllenLoc>],
-) -> Result<Sequence<u8>, OutOfMemory>
+    threads: &[Thread<EllenLoc>],
+) -> Result<Bytes, OutOfMemory>
     requires memory_in_range { IsInRange memory.now }
-    requires places_in_range { All (λ place. IfSome place (IsPlaceInRange memory.now)) places.now }
-    ensures { IfOk result (λ form. form ≡ ellen_form memory.now places.now) }
+    requires places_in_range { All (λ place. IfSome place (IsPlaceInRange memory.now)) (places_of threads.now) }
+    ensures { IfOk result (λ form. form ≡ ellen_form memory.now (places_of threads.now)) }
 {
-    form_parts(alloc, 1, &Held { memory, places })
+    form_parts(alloc, 1, &Held { memory, threads })
 }

@@ -6,9 +6,9 @@ use crate::helping::{first_place, help_act};
 use crate::memory::{DeleteRecord, EllenMem, InsertRecord, Node, Record, UpdateWord};
 use crate::place::{Above, Base, EllenLoc, HelpLoc, Resume, SearchLoc};
 use crate::searching::search_act;
-use sched_program::{Exact, Op, OutOfMemory, Sequence};
+use sched_program::{Exact, Op, OutOfMemory};
 use std::alloc::Global;
-use tree_machine::{Machine, Outcome, keeps_search_order};
+use tree_machine::{Bytes, Machine, Outcome, Thread, keeps_search_order};
 
 /// The machine of Ellen, Fatourou, Ruppert and van Breugel (Non-blocking binary search trees, PODC 2010), whole where
 /// both are true. Where one is false, that step is left out.
@@ -29,7 +29,7 @@ impl Machine for Ellen {
 
     type Loc = EllenLoc;
 
-    type Form = Sequence<u8>;
+    type Form = Bytes;
 
     ghost rules = { ellen_rules };
 
@@ -72,9 +72,9 @@ impl Machine for Ellen {
         &self,
         alloc: Global,
         mem: &EllenMem,
-        places: &[Option<EllenLoc>],
-    ) -> Result<Sequence<u8>, OutOfMemory> {
-        form(alloc, mem, places)
+        threads: &[Thread<EllenLoc>],
+    ) -> Result<Bytes, OutOfMemory> {
+        form(alloc, mem, threads)
     }
 
     ghost lawful = { ellen_lawful };

@@ -329,8 +329,9 @@ impl EllenMem {
     pub(crate) fn copy(&self, alloc: Global) -> Result<EllenMem, OutOfMemory>
         ensures { IfOk result (λ copy. copy ≡ self.now) }
     {
-        let nodes = self.nodes.copy(alloc)?;
-        let records = self.records.copy(alloc)?;
+        // All at once: `Sequence::copy` goes value by value.
+        let nodes = Sequence::from_vec(Vec::from_slice(alloc, self.nodes.as_slice())?);
+        let records = Sequence::from_vec(Vec::from_slice(alloc, self.records.as_slice())?);
         Ok(EllenMem { nodes, records })
     }
 }

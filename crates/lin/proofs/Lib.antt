@@ -7,3 +7,5 @@ pub mod Search
 pub mod Configurations
 pub mod Timelines
 pub mod Steps
+pub mod Bounds
+pub mod Replies

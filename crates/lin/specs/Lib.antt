@@ -6,3 +6,4 @@ pub mod OpSet
 pub mod Configuration
 pub mod Timeline
 pub mod Progress
+pub mod Reply

@@ -2,7 +2,7 @@
 //!
 //! A linearization is an order of operations that explains their replies and keeps to real time (Herlihy and Wing,
 //! "Linearizability: a correctness condition for concurrent objects", TOPLAS 1990). `check_order` decides whether a
-//! list is one, and `judge` searches for one.
+//! list is one, `judge` searches for one, and `order_with_reply` tells whether one explains one reply more.
 #![tactic(auto)]
 
 mod history;
@@ -10,8 +10,12 @@ mod key_set;
 mod op_set;
 mod order;
 mod progress;
+mod reply;
 mod searcher;
+mod short_order;
 mod timeline;
 
 pub use order::check_order;
+pub use reply::order_with_reply;
 pub use searcher::{judge, judge_counted};
+pub use short_order::{Order, judge_order};

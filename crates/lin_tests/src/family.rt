@@ -1,7 +1,8 @@
 //! The judge beside the two plainer searchers, on the histories of many interleavings.
 
-use crate::fixtures::{Broken, ensure, note, program_of};
+use crate::fixtures::{Broken, ensure, is_order, note, program_of};
 use crate::searchers::agree;
+use lin::{Order, check_order, judge_order, order_with_reply};
 use sched_program::{History, Note, OpId, OutOfMemory, Program};
 use std::alloc::Global;
 use std::test::Fail;
@@ -131,11 +132,73 @@ fn agree_after(alloc: Global, program: &Program, events: &[Event]) -> Result<boo
     agree(alloc, program, &history)
 }
 
+/// The operation that the last event finishes, with its reply, if it finishes one.
+fn finished_last(events: &[Event; 6]) -> Option<(OpId, bool)> {
+    let last = events[5];
+    let mut before: u8 = 0;
+    for event in events.iter().take(5) {
+        if event.thread == last.thread {
+            before = before.saturating_add(1);
+        }
+    }
+    if before == 1 || before == 3 {
+        let name = OpId {
+            thread: last.thread,
+            index: before / 2,
+        };
+        Some((name, last.reply))
+    } else {
+        None
+    }
+}
+
+/// An order of at most eleven names with one more at its end, unless it has that name.
+fn with_name(order: &Order, name: OpId) -> Order {
+    let mut longer = *order;
+    if !order.as_slice().contains(&name) && order.len() < 12 {
+        longer.push(name);
+    }
+    longer
+}
+
+/// The order of the history before a reply gives that reply exactly where it is one of the history after it, with the
+/// operation at its end.
+fn gives_reply(
+    program: &Program,
+    order: &Order,
+    after: &History,
+    name: OpId,
+    reply: bool,
+) -> Result<(), Broken> {
+    let longer = with_name(order, name);
+    let told = order_with_reply(program, order, name, reply);
+    if check_order(program, after, longer.as_slice()) {
+        ensure(is_order(&told, Some(longer.as_slice())), Broken::Replied)
+    } else {
+        ensure(told.is_none(), Broken::Replied)
+    }
+}
+
+/// The same, where the last event finishes an operation and the history before it has an order.
+fn last_reply_agrees(alloc: Global, program: &Program, events: &[Event; 6]) -> Result<(), Broken> {
+    let Some((name, reply)) = finished_last(events) else {
+        return Ok(());
+    };
+    let before = history_of(alloc, program, &events[..5])?;
+    let Some(order) = judge_order(alloc, program, &before)? else {
+        return Ok(());
+    };
+    let after = history_of(alloc, program, events)?;
+    gives_reply(program, &order, &after, name, reply)
+}
+
 /// With how many of eight choices of replies the searchers find an order.
 fn found_with(alloc: Global, program: &Program, threads: u32) -> Result<u64, Broken> {
     let mut found: u64 = 0;
     for replies in 0..8 {
-        if agree_after(alloc, program, &events_of(threads, replies * 8 + replies))? {
+        let events = events_of(threads, replies * 8 + replies);
+        last_reply_agrees(alloc, program, &events)?;
+        if agree_after(alloc, program, &events)? {
             found = found.saturating_add(1);
         }
     }

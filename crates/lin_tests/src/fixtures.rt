@@ -1,5 +1,6 @@
 //! What the tests share: why a case fails, programs, notes and answers.
 
+use lin::Order;
 use sched_program::{Note, OpId, OutOfMemory, Program, ProgramFault};
 use std::alloc::Global;
 
@@ -16,6 +17,12 @@ pub enum Broken {
     Answer(usize),
     /// `check_order` takes another list than the row of this number says, or refuses the answer of the judge.
     Order(usize),
+    /// An order with a reply more is another than the case of this number says.
+    Reply(usize),
+    /// An order with a reply more is one where `check_order` does not take it, or is none where it does.
+    Replied,
+    /// The judge answers another order in a list of its own than in the value.
+    Short,
     /// The judge answers another order than the searcher that places operations.
     Pruned,
     /// The judge answers another order than the searcher that tries every list.
@@ -57,6 +64,26 @@ pub fn note(counts: &[u8]) -> Note {
 
 /// Whether the judge answered this order, or that there is none.
 pub fn is_answer(answer: &Option<Vec<OpId>>, expected: Option<&[OpId]>) -> bool {
+    match (answer, expected) {
+        (Some(order), Some(names)) => order.as_slice() == names,
+        (None, None) => true,
+        _ => false,
+    }
+}
+
+/// An order of these names, which are at most twelve.
+pub fn order_of(names: &[OpId]) -> Order {
+    let mut order = Order::new();
+    for name in names {
+        if order.len() < 12 {
+            order.push(*name);
+        }
+    }
+    order
+}
+
+/// Whether it is this order, or none.
+pub fn is_order(answer: &Option<Order>, expected: Option<&[OpId]>) -> bool {
     match (answer, expected) {
         (Some(order), Some(names)) => order.as_slice() == names,
         (None, None) => true,

@@ -11,6 +11,8 @@ mod plain;
 #[cfg(test)]
 mod pruned;
 #[cfg(test)]
+mod replies;
+#[cfg(test)]
 mod rows;
 #[cfg(test)]
 mod searchers;

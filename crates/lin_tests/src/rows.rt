@@ -7,37 +7,38 @@ use std::alloc::Global;
 use std::test::Fail;
 
 /// One thread inserts 1 and deletes it, the other looks for it twice.
-const SMALL: &str = r#"{"version":1,"tree":"atomic","initial":[],"threads":[
+pub const SMALL: &str = r#"{"version":1,"tree":"atomic","initial":[],"threads":[
 [{"op":"insert","key":1},{"op":"delete","key":1}],[{"op":"find","key":1},{"op":"find","key":1}]]}"#;
 
-const A: OpId = OpId {
+pub const A: OpId = OpId {
     thread: 0,
     index: 0,
 };
 
-const B: OpId = OpId {
+pub const B: OpId = OpId {
     thread: 0,
     index: 1,
 };
 
-const C: OpId = OpId {
+pub const C: OpId = OpId {
     thread: 1,
     index: 0,
 };
 
-const D: OpId = OpId {
+pub const D: OpId = OpId {
     thread: 1,
     index: 1,
 };
 
 /// The operations that begin, each with its note, those that finish, each with its reply, and the answer.
-struct Row {
-    begun: &'static [(OpId, [u8; 2])],
-    finished: &'static [(OpId, bool)],
-    order: Option<&'static [OpId]>,
+#[derive(Clone, Copy)]
+pub struct Row {
+    pub begun: &'static [(OpId, [u8; 2])],
+    pub finished: &'static [(OpId, bool)],
+    pub order: Option<&'static [OpId]>,
 }
 
-const ROWS: [Row; 6] = [
+pub const ROWS: [Row; 6] = [
     Row {
         begun: &[],
         finished: &[],
@@ -87,7 +88,7 @@ fn finished_of(alloc: Global, finished: &[(OpId, bool)]) -> Result<Vec<(OpId, bo
 }
 
 /// The history of a row.
-fn history_of(alloc: Global, program: &Program, row: &Row) -> Result<History, Broken> {
+pub fn history_of(alloc: Global, program: &Program, row: &Row) -> Result<History, Broken> {
     let begun = begun_of(alloc, row.begun)?;
     let finished = finished_of(alloc, row.finished)?;
     History::new(program, begun, finished).ok_or(Broken::NoHistory)

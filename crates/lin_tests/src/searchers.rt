@@ -1,9 +1,9 @@
 //! The judge beside the two plainer searchers.
 
-use crate::fixtures::{Broken, ensure};
+use crate::fixtures::{Broken, ensure, is_order};
 use crate::plain::judge_plain;
 use crate::pruned::judge_pruned;
-use lin::{check_order, judge};
+use lin::{check_order, judge, judge_order};
 use sched_program::{History, OpId, Program};
 use std::alloc::Global;
 
@@ -27,6 +27,19 @@ fn is_answer_of_plain(
     ensure(plain == *answer, Broken::Plain)
 }
 
+fn is_answer_in_the_value(
+    alloc: Global,
+    program: &Program,
+    history: &History,
+    answer: &Option<Vec<OpId>>,
+) -> Result<(), Broken> {
+    let short = judge_order(alloc, program, history)?;
+    match answer {
+        Some(order) => ensure(is_order(&short, Some(order)), Broken::Short),
+        None => ensure(short.is_none(), Broken::Short),
+    }
+}
+
 /// An order is taken by `check_order`.
 fn is_taken(
     program: &Program,
@@ -47,6 +60,7 @@ fn is_answer_of_all(
     answer: &Option<Vec<OpId>>,
 ) -> Result<(), Broken> {
     is_taken(program, history, answer)?;
+    is_answer_in_the_value(alloc, program, history, answer)?;
     is_answer_of_pruned(alloc, program, history, answer)?;
     if history.begun().len() <= 4 {
         is_answer_of_plain(alloc, program, history, answer)?;

@@ -8,14 +8,14 @@ use std::alloc::Global;
 use std::test::Fail;
 
 /// Three threads insert, and the last looks for a key that none inserts.
-const PROGRAM: &str = r#"{"version":1,"tree":"atomic","initial":[],"threads":[
+pub const PROGRAM: &str = r#"{"version":1,"tree":"atomic","initial":[],"threads":[
 [{"op":"insert","key":1},{"op":"insert","key":2},{"op":"insert","key":3}],
 [{"op":"insert","key":4},{"op":"insert","key":5},{"op":"insert","key":6}],
 [{"op":"insert","key":7},{"op":"insert","key":8},{"op":"insert","key":10}],
 [{"op":"find","key":9},{"op":"find","key":9},{"op":"find","key":9}]]}"#;
 
 /// The operations in the order of their names.
-const NAMES: [OpId; 12] = [
+pub const NAMES: [OpId; 12] = [
     OpId {
         thread: 0,
         index: 0,

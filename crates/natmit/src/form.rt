@@ -1,12 +1,14 @@
 //! A memory with the places that the threads hold, as parts: the numbers of nodes stand apart from all else.
 ghost use Rattle.std.specs.Prelude.{◌≡◌, ◌∷◌, [], Some, OnOk};
-ghost use Rattle.tree_machine.specs.Parts.{no_part};
+ghost use Rattle.tree_machine.specs.Alike.{places_of};
+ghost use Rattle.tree_machine.specs.Parts.{IsPartBelow};
+ghost use Rattle.tree_machine.specs.Written.{with_part};
 ghost use Rattle.natmit.specs.Parts.{side_number, owned, part_of, node_part, place_part, held_part, natmit_parts};
 
 use crate::memory::{NatMitMem, Node};
 use crate::place::{Mode, NatMitLoc};
 use sched_program::OutOfMemory;
-use tree_machine::{Part, Parts, Side};
+use tree_machine::{Parts, Side, Thread, Writer};
 
 fn side_number(side: Side) -> u64
     ensures { result ≡ side_number side }
@@ -34,14 +36,14 @@ fn owned(mode: Mode) -> Option<usize>
     }
 }
 
-/// Puts a node: its kind, its key, and its children with their flags and tags.
-fn put_node(node: Node, part: &mut Part) -> Result<(), OutOfMemory>
-    requires { part.old ≡ no_part }
-    ensures { OnOk result (part.new ≡ node_part node) }
+/// Writes a node: its kind, its key, and its children with their flags and tags.
+fn write_node(node: Node, writer: &mut Writer) -> Result<(), OutOfMemory>
+    requires { IsPartBelow writer.old.nodes writer.old.records (node_part node) }
+    ensures { OnOk result (writer.new ≡ with_part writer.old (node_part node)) }
 {
     match node {
-        Node::Leaf { key } => part.put(&[0, u64::from(key)], &[], &[]),
-        Node::Internal { key, left, right } => part.put(
+        Node::Leaf { key } => writer.put(&[0, u64::from(key)], &[], &[]),
+        Node::Internal { key, left, right } => writer.put(
             &[
                 1,
                 u64::from(key),
@@ -56,19 +58,19 @@ fn put_node(node: Node, part: &mut Part) -> Result<(), OutOfMemory>
     }
 }
 
-/// Puts a place that holds four nodes and no other locals.
-fn put_four(
+/// Writes a place that holds four nodes and no other locals.
+fn write_four(
     place: u64,
     ancestor: u32,
     successor: u32,
     parent: u32,
     leaf: u32,
-    part: &mut Part,
+    writer: &mut Writer,
 ) -> Result<(), OutOfMemory>
-    requires { part.old ≡ no_part }
-    ensures { OnOk result (part.new ≡ part_of (place ∷ []) (Some ancestor ∷ Some successor ∷ Some parent ∷ Some leaf ∷ [])) }
+    requires { IsPartBelow writer.old.nodes writer.old.records (part_of (place ∷ []) (Some ancestor ∷ Some successor ∷ Some parent ∷ Some leaf ∷ [])) }
+    ensures { OnOk result (writer.new ≡ with_part writer.old (part_of (place ∷ []) (Some ancestor ∷ Some successor ∷ Some parent ∷ Some leaf ∷ []))) }
 {
-    part.put(
+    writer.put(
         &[place],
         &[
             named(ancestor),
@@ -80,32 +82,32 @@ fn put_four(
     )
 }
 
-/// Puts a place that holds three nodes and a mode, with these facts.
-fn put_three(
+/// Writes a place that holds three nodes and a mode, with these facts.
+fn write_three(
     facts: &[u64],
     ancestor: u32,
     successor: u32,
     node: u32,
     mode: Mode,
-    part: &mut Part,
+    writer: &mut Writer,
 ) -> Result<(), OutOfMemory>
-    requires { part.old ≡ no_part }
-    ensures { OnOk result (part.new ≡ part_of facts.now (Some ancestor ∷ Some successor ∷ Some node ∷ owned mode ∷ [])) }
+    requires { IsPartBelow writer.old.nodes writer.old.records (part_of facts.now (Some ancestor ∷ Some successor ∷ Some node ∷ owned mode ∷ [])) }
+    ensures { OnOk result (writer.new ≡ with_part writer.old (part_of facts.now (Some ancestor ∷ Some successor ∷ Some node ∷ owned mode ∷ []))) }
 {
-    part.put(
+    writer.put(
         facts,
         &[named(ancestor), named(successor), named(node), owned(mode)],
         &[],
     )
 }
 
-/// Puts which place it is, and its locals.
-fn put_place(place: NatMitLoc, part: &mut Part) -> Result<(), OutOfMemory>
-    requires { part.old ≡ no_part }
-    ensures { OnOk result (part.new ≡ place_part place) }
+/// Writes which place it is, and its locals.
+fn write_place(place: NatMitLoc, writer: &mut Writer) -> Result<(), OutOfMemory>
+    requires { IsPartBelow writer.old.nodes writer.old.records (place_part place) }
+    ensures { OnOk result (writer.new ≡ with_part writer.old (place_part place)) }
 {
     match place {
-        NatMitLoc::Begin { mode } => part.put(&[1], &[owned(mode)], &[]),
+        NatMitLoc::Begin { mode } => writer.put(&[1], &[owned(mode)], &[]),
         NatMitLoc::Down {
             ancestor: a,
             successor: s,
@@ -113,7 +115,7 @@ fn put_place(place: NatMitLoc, part: &mut Part) -> Result<(), OutOfMemory>
             leaf: l,
             tag,
             mode,
-        } => part.put(
+        } => writer.put(
             &[2, u64::from(tag)],
             &[named(a), named(s), named(p), named(l), owned(mode)],
             &[],
@@ -123,46 +125,46 @@ fn put_place(place: NatMitLoc, part: &mut Part) -> Result<(), OutOfMemory>
             successor: s,
             parent: p,
             leaf: l,
-        } => put_four(3, a, s, p, l, part),
+        } => write_four(3, a, s, p, l, writer),
         NatMitLoc::Flag {
             ancestor: a,
             successor: s,
             parent: p,
             leaf: l,
-        } => put_four(4, a, s, p, l, part),
+        } => write_four(4, a, s, p, l, writer),
         NatMitLoc::Look {
             ancestor: a,
             successor: s,
             parent: p,
             leaf: l,
-        } => put_four(5, a, s, p, l, part),
+        } => write_four(5, a, s, p, l, writer),
         NatMitLoc::CleanRead {
             ancestor: a,
             successor: s,
             parent: p,
             mode,
-        } => put_three(&[6], a, s, p, mode, part),
+        } => write_three(&[6], a, s, p, mode, writer),
         NatMitLoc::Tag {
             ancestor: a,
             successor: s,
             parent: p,
             side,
             mode,
-        } => put_three(&[7, side_number(side)], a, s, p, mode, part),
+        } => write_three(&[7, side_number(side)], a, s, p, mode, writer),
         NatMitLoc::Sibling {
             ancestor: a,
             successor: s,
             parent: p,
             side,
             mode,
-        } => put_three(&[8, side_number(side)], a, s, p, mode, part),
+        } => write_three(&[8, side_number(side)], a, s, p, mode, writer),
         NatMitLoc::Swing {
             ancestor: a,
             successor: s,
             flag,
             node,
             mode,
-        } => put_three(&[9, u64::from(flag)], a, s, node, mode, part),
+        } => write_three(&[9, u64::from(flag)], a, s, node, mode, writer),
     }
 }
 
@@ -171,12 +173,12 @@ fn put_place(place: NatMitLoc, part: &mut Part) -> Result<(), OutOfMemory>
 pub(crate) struct Snapshot<'a> {
     /// The memory.
     pub(crate) mem: &'a NatMitMem,
-    /// The places, by thread. A thread between operations holds none.
-    pub(crate) places: &'a [Option<NatMitLoc>],
+    /// The threads. One between operations holds no place.
+    pub(crate) threads: &'a [Thread<NatMitLoc>],
 }
 
 impl Parts for Snapshot<'_> {
-    ghost parts = { λ s. natmit_parts s.mem.now s.places.now };
+    ghost parts = { λ s. natmit_parts s.mem.now (places_of s.threads.now) };
 
     fn node_count(&self) -> usize {
         self.mem.nodes.len()
@@ -187,21 +189,21 @@ impl Parts for Snapshot<'_> {
     }
 
     fn held_count(&self) -> usize {
-        self.places.len()
+        self.threads.len()
     }
 
-    fn put_node(&self, index: usize, part: &mut Part) -> Result<(), OutOfMemory> {
-        put_node(self.mem.nodes.as_slice()[index], part)
+    fn write_node(&self, index: usize, writer: &mut Writer) -> Result<(), OutOfMemory> {
+        write_node(self.mem.nodes.as_slice()[index], writer)
     }
 
-    fn put_record(&self, _index: usize, _part: &mut Part) -> Result<(), OutOfMemory> {
-        Ok(())
+    fn write_record(&self, _index: usize, writer: &mut Writer) -> Result<(), OutOfMemory> {
+        writer.put(&[], &[], &[])
     }
 
-    fn put_held(&self, index: usize, part: &mut Part) -> Result<(), OutOfMemory> {
-        match self.places[index] {
-            Some(place) => put_place(place, part),
-            None => part.put(&[0], &[], &[]),
+    fn write_held(&self, index: usize, writer: &mut Writer) -> Result<(), OutOfMemory> {
+        match self.threads[index].place {
+            Some(place) => write_place(place, writer),
+            None => writer.put(&[0], &[], &[]),
         }
     }
 }

@@ -7,9 +7,9 @@ use crate::form::Snapshot;
 use crate::initial::build;
 use crate::memory::NatMitMem;
 use crate::place::{Mode, NatMitLoc};
-use sched_program::{Exact, Op, OutOfMemory, Sequence};
+use sched_program::{Exact, Op, OutOfMemory};
 use std::alloc::Global;
-use tree_machine::{Machine, Outcome, form_parts, keeps_search_order};
+use tree_machine::{Bytes, Machine, Outcome, Thread, form_parts, keeps_search_order};
 
 /// The machine of Natarajan and Mittal (PPoPP 2014), whole where `tag` is true.
 #[derive(Clone, Copy, Debug, PartialEq, Eq, Hash)]
@@ -35,7 +35,7 @@ impl Machine for NatMit {
 
     type Loc = NatMitLoc;
 
-    type Form = Sequence<u8>;
+    type Form = Bytes;
 
     ghost rules = { natmit_rules };
 
@@ -75,10 +75,10 @@ impl Machine for NatMit {
         &self,
         alloc: Global,
         mem: &NatMitMem,
-        places: &[Option<NatMitLoc>],
-    ) -> Result<Sequence<u8>, OutOfMemory> {
+        threads: &[Thread<NatMitLoc>],
+    ) -> Result<Bytes, OutOfMemory> {
         // Each search begins at node 1, also where a run of the variant has cut it off from the root, node 0.
-        form_parts(alloc, 2, &Snapshot { mem, places })
+        form_parts(alloc, 2, &Snapshot { mem, threads })
     }
 
     ghost lawful = { natmit_lawful };

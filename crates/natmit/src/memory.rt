@@ -199,7 +199,8 @@ impl NatMitMem {
     pub(crate) fn copy(&self, alloc: Global) -> Result<NatMitMem, OutOfMemory>
         ensures { IfOk result (λ copy. copy ≡ self.now) }
     {
-        let nodes = self.nodes.copy(alloc)?;
+        // All at once: `Sequence::copy` goes node by node.
+        let nodes = Sequence::from_vec(Vec::from_slice(alloc, self.nodes.as_slice())?);
         Ok(NatMitMem { nodes })
     }
 }

@@ -7,16 +7,19 @@ ghost use Rattle.sched_program.specs.declared.counted.ReadFault.TheVariants.{Out
 
 use std::alloc::{AllocError, Global};
 use std::io::Read;
+use thiserror::Error;
 
 /// How many bytes one read asks for.
 const CHUNK: usize = 4096;
 
 /// Why not all bytes were read.
-#[derive(Clone, Copy, Debug, PartialEq, Eq)]
-pub(crate) enum ReadFault {
+#[derive(Clone, Copy, Debug, PartialEq, Eq, Error)]
+pub enum ReadFault {
     /// A read failed.
+    #[error("a read failed")]
     Device,
-    /// Memory ran out.
+    /// A growth was refused.
+    #[error("out of memory")]
     OutOfMemory,
 }
 
@@ -70,8 +73,13 @@ impl<R: Read> Counted<R> {
         }
     }
 
-    /// All bytes up to the end. A failed read ends the call, whatever its cause: one that was interrupted is not tried again.
-    pub(crate) fn read_all(&mut self, alloc: Global) -> Result<Vec<u8>, ReadFault>
+    /// All bytes from where the reader stands to its end.
+    ///
+    /// # Errors
+    ///
+    /// `Device` exactly where a read failed, which is counted and ends the call, whatever its cause: a read that was
+    /// interrupted is not tried again. `OutOfMemory` where a growth was refused. What the reader gave is gone.
+    pub fn read_all(&mut self, alloc: Global) -> Result<Vec<u8>, ReadFault>
         requires { self.old.failures < 2 ^ 64 - 1 }
         ensures bytes { IfOk result (λ bytes. Consumes (R.remaining self.old.reader)
             (R.remaining self.new.reader) bytes.items) }

@@ -15,7 +15,7 @@ mod text;
 mod turns;
 mod version;
 
-pub use crate::counted::Counted;
+pub use crate::counted::{Counted, ReadFault};
 pub use crate::exact::{Exact, same};
 pub use crate::fault::ProgramFault;
 pub use crate::history::{History, Note};

@@ -10,11 +10,12 @@ use Rattle.std.proofs.lemmas.List.Concat.{flat_map-cons}
 use Rattle.std.proofs.lemmas.List.Elements.{All-append, All-weaker, All-nil, All-from_recursion, recursion_from_All}
 use Rattle.std.proofs.lemmas.Option.{slice_get_within}
 use Rattle.tree_machine.specs.Cells.{Content, content_at, met, met_all, met_in, visited, order_of, place_in, renamed, canonical, IsRooted}
-use Rattle.tree_machine.specs.CellOrder.{Has, HasAll, Extends, extends_itself, extends_more, get_extends, met_has, met_all_has, met_all_extends, visited_extends, met_in_order, length-order, content_all}
+use Rattle.tree_machine.specs.CellOrder.{Has, HasAll, Extends, extends_itself, extends_more, get_extends, met_has, met_all_has, met_all_extends, visited_extends, met_in_order, length-order}
 use Rattle.tree_machine.specs.CellPlaces.{place_from_has, get_place}
 use Rattle.tree_machine.specs.Graphs.{numbers_from, roots_of}
-use Rattle.tree_machine.specs.GraphLaws.{numbers_all, numbers_more, content_back, form_rooted}
-use Rattle.tree_machine.specs.Parts.{Part, Parts, ArePartsInRange, part_at, part_cell, parts_graph, parts_held}
+use Rattle.tree_machine.specs.GraphLaws.{numbers_all, numbers_more, content_front, content_back, form_rooted}
+use Rattle.tree_machine.specs.Parts.{Part, Parts, IsPartBelow, ArePartsInRange, part_at, part_cell, parts_graph, parts_held}
+use Rattle.tree_machine.specs.Written.{Written, with_cell, with_part}
 use Rattle.tree_machine.specs.PartLaws.{content_map, length-parts_graph, parts_fit}
 use Rattle.tree_machine.specs.Flat.{number_code, reference_number, counted_codes, cell_code, flat}
 use Rattle.tree_machine.proofs.Walks.{past_none, met_in_done, met_in_end}
@@ -113,6 +114,15 @@ references_done order now bytes more n i refs l h g =
     ∙ (subst (λ left. more ++ met_codes now (shifted n left) ≡ bytes ++ met_codes order (shifted n refs)) none g
     ∙ ap (λ l. bytes ++ l) (met_codes_are order (shifted n refs) ∙ ap (λ o. places_code o (shifted n refs)) (sym done)))
 
+-- the same for cells that are told by their numbers
+pub cells_done : (order now bytes more : List ℕ) (n i : ℕ) (cells : List ℕ) → length cells ≤ i → met_all now (shifted n (map Some (drop i cells))) ≡ met_all order (shifted n (map Some cells)) → more ++ met_codes now (shifted n (map Some (drop i cells))) ≡ bytes ++ met_codes order (shifted n (map Some cells)) → more ≡ bytes ++ places_code now (shifted n (map Some cells))
+cells_done order now bytes more n i cells l h g =
+    let none = drop_whole cells i l in
+    let done : now ≡ met_all order (shifted n (map Some cells)) = subst (λ left. met_all now (shifted n (map Some left)) ≡ met_all order (shifted n (map Some cells))) none h in
+    sym (append-nil more)
+    ∙ (subst (λ left. more ++ met_codes now (shifted n (map Some left)) ≡ bytes ++ met_codes order (shifted n (map Some cells))) none g
+    ∙ ap (λ l. bytes ++ l) (met_codes_are order (shifted n (map Some cells)) ∙ ap (λ o. places_code o (shifted n (map Some cells))) (sym done)))
+
 -- the number of a place fits a word, as the length of the order does
 pub place_below : (order : List ℕ) (x k : ℕ) → place_in order x ≡ Some k → k < length order
 place_below order x k e = slice_get_within order k x (get_place order x k e)
@@ -146,48 +156,50 @@ references_code order refs sefs =
 joined : (x y z a b : List ℕ) → y ≡ x ++ a → z ≡ y ++ b → z ≡ x ++ (a ++ b)
 joined x y z a b e f = f ∙ (ap (λ l. l ++ b) e ∙ append_assoc x a b)
 
--- the facts of a part, number by number
-pub facts_written : (kind named count : ℕ) (p : Part) (facts b c d e f : List ℕ) → named ≡ length p.nodes → count ≡ length p.facts → facts ≡ p.facts → c ≡ b ++ number_code (count + 2) → d ≡ c ++ number_code kind → e ≡ d ++ number_code named → f ≡ e ++ flat_map number_code facts →
-    f ≡ b ++ counted_codes (kind ∷ length p.nodes ∷ p.facts)
-facts_written kind named count p facts b c d e f is_named is_count is_facts h1 h2 h3 h4 =
-    let g1 : c ≡ b ++ number_code (length p.facts + 2) = h1 ∙ ap (λ n. b ++ number_code (n + 2)) is_count in
-    let g3 : e ≡ d ++ number_code (length p.nodes) = h3 ∙ ap (λ n. d ++ number_code n) is_named in
-    let g4 : f ≡ e ++ flat_map number_code p.facts = h4 ∙ ap (λ l. e ++ flat_map number_code l) is_facts in
-    joined b c f (number_code (length p.facts + 2)) (number_code kind ++ (number_code (length p.nodes) ++ flat_map number_code p.facts)) g1
-    (joined c d f (number_code kind) (number_code (length p.nodes) ++ flat_map number_code p.facts) h2
-    (joined d e f (number_code (length p.nodes)) (flat_map number_code p.facts) g3 g4))
-    ∙ ap (λ l. b ++ l) (sym (facts_code p.facts kind (length p.nodes)))
+-- facts, number by number
+pub facts_written : (kind named count : ℕ) (facts b c d e f : List ℕ) → count ≡ length facts → c ≡ b ++ number_code (count + 2) → d ≡ c ++ number_code kind → e ≡ d ++ number_code named → f ≡ e ++ flat_map number_code facts →
+    f ≡ b ++ counted_codes (kind ∷ named ∷ facts)
+facts_written kind named count facts b c d e f is_count h1 h2 h3 h4 =
+    let g1 : c ≡ b ++ number_code (length facts + 2) = h1 ∙ ap (λ n. b ++ number_code (n + 2)) is_count in
+    joined b c f (number_code (length facts + 2)) (number_code kind ++ (number_code named ++ flat_map number_code facts)) g1
+    (joined c d f (number_code kind) (number_code named ++ flat_map number_code facts) h2
+    (joined d e f (number_code named) (flat_map number_code facts) h3 h4))
+    ∙ ap (λ l. b ++ l) (sym (facts_code facts kind named))
 
--- the references of a part, written one list after the other, in places of the order after both
-pub part_places : (order first second : List ℕ) (n : ℕ) (p : Part) → first ≡ met_all order (shifted 0 p.nodes) → second ≡ met_all first (shifted n p.records) →
-    (second ≡ met_all order (p.nodes ++ shifted n p.records)) × (places_code first (shifted 0 p.nodes) ≡ places_code second p.nodes)
-part_places order first second n p e f =
-    let at_first : first ≡ met_all order p.nodes = e ∙ ap (met_all order) (shifted_by_none p.nodes) in
-    let has : HasAll first p.nodes = subst (λ o. HasAll o p.nodes) (sym at_first) (met_all_has p.nodes order) in
-    let more : Extends first second = subst (Extends first) (sym f) (met_all_extends (shifted n p.records) first) in (
-      f ∙ (ap (λ o. met_all o (shifted n p.records)) at_first ∙ sym (met_all_append order p.nodes (shifted n p.records))),
-      ap (places_code first) (shifted_by_none p.nodes) ∙ ap (λ l. flat_map number_code (map reference_number l)) (sym (places_kept more p.nodes has)),
+-- references that are written one list after the other, in places of the order after both
+lists_met : (order first second : List ℕ) (xs ys : List (Option ℕ)) → first ≡ met_all order xs → second ≡ met_all first ys → (second ≡ met_all order (xs ++ ys)) × (places_code first xs ≡ places_code second xs)
+lists_met order first second xs ys e f =
+    let has : HasAll first xs = subst (λ o. HasAll o xs) (sym e) (met_all_has xs order) in
+    let more : Extends first second = subst (Extends first) (sym f) (met_all_extends ys first) in (
+      f ∙ (ap (λ o. met_all o ys) e ∙ sym (met_all_append order xs ys)),
+      ap (λ l. flat_map number_code (map reference_number l)) (sym (places_kept more xs has)),
     )
 
+lists_written : (order first second b c d : List ℕ) (xs ys : List (Option ℕ)) → first ≡ met_all order xs → second ≡ met_all first ys → c ≡ b ++ places_code first xs → d ≡ c ++ places_code second ys →
+    (second ≡ met_all order (xs ++ ys)) × (d ≡ b ++ places_code second (xs ++ ys))
+lists_written order first second b c d xs ys e f g h =
+    let met = lists_met order first second xs ys e f in
+    (met.0, joined b c d (places_code second xs) (places_code second ys) (g ∙ ap (λ l. b ++ l) met.1) h ∙ ap (λ l. b ++ l) (sym (places_code_append second xs ys)))
+
 -- a part, in the pieces in which it is written
-pub part_written : (n kind named : ℕ) (p : Part) (nodes records : List (Option ℕ)) (order first second b c d e f : List ℕ) → nodes ≡ p.nodes → records ≡ p.records → named ≡ length p.nodes + length p.records →
-    first ≡ met_all order (shifted 0 nodes) → second ≡ met_all first (shifted n records) →
-    c ≡ b ++ counted_codes (kind ∷ length p.nodes ∷ p.facts) → d ≡ c ++ number_code named → e ≡ d ++ places_code first (shifted 0 nodes) → f ≡ e ++ places_code second (shifted n records) →
-    (second ≡ met_all order (part_cell n kind p).refs) × (f ≡ b ++ cell_code (renamed second (part_cell n kind p)))
-part_written n kind named p nodes records order first second b c d e f is_nodes is_records is_named m1 m2 h1 h2 h3 h4 =
-    let n1 : first ≡ met_all order (shifted 0 p.nodes) = m1 ∙ ap (λ l. met_all order (shifted 0 l)) is_nodes in
-    let n2 : second ≡ met_all first (shifted n p.records) = m2 ∙ ap (λ l. met_all first (shifted n l)) is_records in
-    let places = part_places order first second n p n1 n2 in
-    let count : named ≡ length p.nodes + length (shifted n p.records) = is_named ∙ ap (λ k. length p.nodes + k) (sym (length-map p.records (option_map (λ x. n + x)))) in
-    let g2 : d ≡ c ++ number_code (length p.nodes + length (shifted n p.records)) = h2 ∙ ap (λ k. c ++ number_code k) count in
-    let g3 : e ≡ d ++ places_code second p.nodes = h3 ∙ (ap (λ l. d ++ places_code first (shifted 0 l)) is_nodes ∙ ap (λ l. d ++ l) places.1) in
-    let g4 : f ≡ e ++ places_code second (shifted n p.records) = h4 ∙ ap (λ l. e ++ places_code second (shifted n l)) is_records in
-    let refs = references_code second p.nodes (shifted n p.records) in
-    let rest : f ≡ c ++ counted_codes (map reference_number (map (option_and_then (place_in second)) (p.nodes ++ shifted n p.records))) =
-    joined c d f (number_code (length p.nodes + length (shifted n p.records))) (places_code second p.nodes ++ places_code second (shifted n p.records)) g2
-    (joined d e f (places_code second p.nodes) (places_code second (shifted n p.records)) g3 g4)
-    ∙ ap (λ l. c ++ l) (sym refs) in
-    (places.0, joined b c f (counted_codes (kind ∷ length p.nodes ∷ p.facts)) (counted_codes (map reference_number (map (option_and_then (place_in second)) (p.nodes ++ shifted n p.records)))) h1 rest)
+pub part_written : (n kind named : ℕ) (facts : List ℕ) (nodes records more : List (Option ℕ)) (order first second third b c d e f g : List ℕ) → named ≡ length nodes + length records + length more →
+    first ≡ met_all order (shifted 0 nodes) → second ≡ met_all first (shifted n records) → third ≡ met_all second (shifted n more) →
+    c ≡ b ++ counted_codes (kind ∷ length nodes ∷ facts) → d ≡ c ++ number_code named → e ≡ d ++ places_code first (shifted 0 nodes) → f ≡ e ++ places_code second (shifted n records) → g ≡ f ++ places_code third (shifted n more) →
+    (third ≡ met_all order (nodes ++ shifted n (records ++ more))) × (g ≡ b ++ cell_code (renamed third (record { facts = kind ∷ length nodes ∷ facts; refs = nodes ++ shifted n (records ++ more) })))
+part_written n kind named facts nodes records more order first second third b c d e f g is_named m1 m2 m3 h1 h2 h3 h4 h5 =
+    let apart : shifted n (records ++ more) ≡ shifted n records ++ shifted n more = map-append (option_map (λ x. n + x)) records more in
+    let n1 : first ≡ met_all order nodes = m1 ∙ ap (met_all order) (shifted_by_none nodes) in
+    let g3 : e ≡ d ++ places_code first nodes = h3 ∙ ap (λ l. d ++ places_code first l) (shifted_by_none nodes) in
+    let both = lists_written first second third e f g (shifted n records) (shifted n more) m2 m3 h4 h5 in
+    let m4 : third ≡ met_all first (shifted n (records ++ more)) = both.0 ∙ ap (met_all first) (sym apart) in
+    let h6 : g ≡ e ++ places_code third (shifted n (records ++ more)) = both.1 ∙ ap (λ l. e ++ places_code third l) (sym apart) in
+    let all = lists_written order first third d e g nodes (shifted n (records ++ more)) n1 m4 g3 h6 in
+    let count : named ≡ length nodes + length (shifted n (records ++ more)) = omega (arith, is_named, length-map (records ++ more) (option_map (λ x. n + x)), length-append records more) in
+    let refs : counted_codes (map reference_number (map (option_and_then (place_in third)) (nodes ++ shifted n (records ++ more)))) ≡ number_code named ++ places_code third (nodes ++ shifted n (records ++ more)) =
+    references_code third nodes (shifted n (records ++ more)) ∙ (ap (λ k. number_code k ++ (places_code third nodes ++ places_code third (shifted n (records ++ more)))) (sym count) ∙ ap (λ l. number_code named ++ l) (sym (places_code_append third nodes (shifted n (records ++ more))))) in
+    let rest : g ≡ c ++ counted_codes (map reference_number (map (option_and_then (place_in third)) (nodes ++ shifted n (records ++ more)))) =
+    joined c d g (number_code named) (places_code third (nodes ++ shifted n (records ++ more))) h2 all.1 ∙ ap (λ l. c ++ l) (sym refs) in
+    (all.0, joined b c g (counted_codes (kind ∷ length nodes ∷ facts)) (counted_codes (map reference_number (map (option_and_then (place_in third)) (nodes ++ shifted n (records ++ more))))) h1 rest)
 
 -- ---- the walk in bytes
 
@@ -273,13 +285,6 @@ module _ (cells : List Content) (roots : List ℕ) where
   code_done n order bytes l b e short =
       b ∙ (code_is_front n l ∙ ap (λ o. flat (map (λ x. renamed (order_of cells roots) (content_at cells x)) o)) (take_whole (order_of cells roots) n (subst (λ o. length o ≤ n) e short)))
 
-  -- the references of a cell are in range
-  pub cell_refs : (n x : ℕ) (c : Content) → IsRooted cells roots → n ≡ length cells → c ≡ content_at cells x → All (λ r. IfSome r (λ y. y < n)) c.refs
-  cell_refs n x c h e is =
-      subst (λ d. All (λ r. IfSome r (λ y. y < n)) d.refs) (sym is)
-      (subst (λ m. All (λ r. IfSome r (λ y. y < m)) (content_at cells x).refs) (sym e)
-      (content_all (λ d. All (λ r. IfSome r (λ y. y < length cells)) d.refs) (All-nil _) cells (recursion_from_All _ cells h.refs_in_range) x))
-
   -- what is written when each cell had its visit
   pub code_at_end : (n : ℕ) (order bytes : List ℕ) → IsRooted cells roots → n ≡ length cells → order ≡ met_in cells roots n → bytes ≡ code_in cells roots n → bytes ≡ flat (canonical cells roots)
   code_at_end n order bytes h l e b =
@@ -300,33 +305,90 @@ fixed_below fixed graph before order e f l =
 pub parts_rooted : (fixed : ℕ) (s : Parts) → ArePartsInRange fixed s → IsRooted (parts_graph s ++ parts_held s) (roots_of fixed (parts_graph s) (parts_held s))
 parts_rooted fixed s h = form_rooted fixed (parts_graph s) (parts_held s) (parts_graph s ++ parts_held s) (roots_of fixed (parts_graph s) (parts_held s)) (parts_fit fixed s h) refl refl
 
--- the records of a part are in range, as its references are
-pub records_below : (n m : ℕ) (refs sefs : List (Option ℕ)) → All (λ r. IfSome r (λ x. x < m)) (refs ++ shifted n sefs) → All (λ r. IfSome r (λ x. n + x < m)) sefs
-records_below n m refs sefs h = All-from_recursion (λ r. IfSome r (λ x. n + x < m)) sefs (go refs sefs (recursion_from_All _ (refs ++ shifted n sefs) h))
+-- numbers below a bound, that are put behind others, stay below as much more
+pub below_behind : (first n m : ℕ) (refs : List (Option ℕ)) → first + n ≤ m → All (λ r. IfSome r (λ x. x < n)) refs → All (λ r. IfSome r (λ x. first + x < m)) refs
+below_behind first n m refs l h = All-weaker (λ r. IfSome r (λ x. x < n)) (λ r. IfSome r (λ x. first + x < m)) more refs h
   where
-    tail : (sefs : List (Option ℕ)) → AllByRecursion (λ r. IfSome r (λ x. x < m)) (shifted n sefs) → AllByRecursion (λ r. IfSome r (λ x. n + x < m)) sefs
-    tail [] h = tt
-    tail (None ∷ sefs) h = (h.0, tail sefs h.1)
-    tail (Some x ∷ sefs) h = (h.0, tail sefs h.1)
+    more : (r : Option ℕ) → IfSome r (λ x. x < n) → IfSome r (λ x. first + x < m)
+    more None k = tt
+    more (Some x) k = let below : x < n = k in omega arith
 
-    go : (refs sefs : List (Option ℕ)) → AllByRecursion (λ r. IfSome r (λ x. x < m)) (refs ++ shifted n sefs) → AllByRecursion (λ r. IfSome r (λ x. n + x < m)) sefs
-    go [] sefs h = tail sefs h
-    go (r ∷ refs) sefs h = go refs sefs h.1
-
--- and so are its nodes
-pub nodes_below : (m : ℕ) (refs sefs : List (Option ℕ)) → All (λ r. IfSome r (λ x. x < m)) (refs ++ sefs) → All (λ r. IfSome r (λ x. 0 + x < m)) refs
-nodes_below m refs sefs h = All-from_recursion (λ r. IfSome r (λ x. 0 + x < m)) refs (go refs (recursion_from_All _ (refs ++ sefs) h))
+-- the same for the records of a stack, and for those before it
+pub stack_below : (first n m : ℕ) (refs : List (Option ℕ)) (stack : List ℕ) → first + n ≤ m → All (λ r. IfSome r (λ x. x < n)) (refs ++ map Some stack) → All (λ x. first + x < m) stack
+stack_below first n m refs stack l h = All-from_recursion _ stack (ahead refs (recursion_from_All _ (refs ++ map Some stack) h))
   where
-    go : (refs : List (Option ℕ)) → AllByRecursion (λ r. IfSome r (λ x. x < m)) (refs ++ sefs) → AllByRecursion (λ r. IfSome r (λ x. 0 + x < m)) refs
+    each : (stack : List ℕ) → AllByRecursion (λ r. IfSome r (λ x. x < n)) (map Some stack) → AllByRecursion (λ x. first + x < m) stack
+    each [] h = tt
+    each (x ∷ stack) h = (let below : x < n = h.0 in omega arith, each stack h.1)
+
+    ahead : (refs : List (Option ℕ)) → AllByRecursion (λ r. IfSome r (λ x. x < n)) (refs ++ map Some stack) → AllByRecursion (λ x. first + x < m) stack
+    ahead [] h = each stack h
+    ahead (r ∷ refs) h = ahead refs h.1
+
+pub before_stack : (n : ℕ) (refs sefs : List (Option ℕ)) → All (λ r. IfSome r (λ x. x < n)) (refs ++ sefs) → All (λ r. IfSome r (λ x. x < n)) refs
+before_stack n refs sefs h = All-from_recursion _ refs (go refs (recursion_from_All _ (refs ++ sefs) h))
+  where
+    go : (refs : List (Option ℕ)) → AllByRecursion (λ r. IfSome r (λ x. x < n)) (refs ++ sefs) → AllByRecursion (λ r. IfSome r (λ x. x < n)) refs
     go [] h = tt
-    go (None ∷ refs) h = (tt, go refs h.1)
-    go (Some x ∷ refs) h = (let below : x < m = h.0 in omega arith, go refs h.1)
+    go (r ∷ refs) h = (h.0, go refs h.1)
 
--- what a thread holds, among the cells
-pub held_cell_at : (s : Parts) (x : ℕ) → length s.nodes ≤ x → length s.records ≤ x - length s.nodes → x < length (parts_graph s ++ parts_held s) → content_at (parts_graph s ++ parts_held s) x ≡ part_cell (length s.nodes) 2 (part_at s.held (x - length s.nodes - length s.records))
-held_cell_at s x l k h =
-    let place = x - length s.nodes - length s.records in
-    let graph : length (parts_graph s) ≡ length s.nodes + length s.records = length-parts_graph s in
-    let is : length (parts_graph s) + place ≡ x = omega arith in
-    let within : place < length s.held = omega (arith, length-append (parts_graph s) (parts_held s), length-map s.held (part_cell (length s.nodes) 2)) in
-    ap (content_at (parts_graph s ++ parts_held s)) (sym is) ∙ (content_back (parts_graph s) (parts_held s) place ∙ content_map (part_cell (length s.nodes) 2) s.held place within)
+-- each part names nodes and records that there are
+pub part_below : (n m i j : ℕ) (parts : List Part) (x : ℕ) → i ≡ n → j ≡ m → All (IsPartBelow n m) parts → IsPartBelow i j (part_at parts x)
+part_below n m i j parts x e f h = subst (λ a. IsPartBelow a j (part_at parts x)) (sym e) (subst (λ b. IsPartBelow n b (part_at parts x)) (sym f) (go parts x (recursion_from_All _ parts h)))
+  where
+    go : (parts : List Part) (x : ℕ) → AllByRecursion (IsPartBelow n m) parts → IsPartBelow n m (part_at parts x)
+    go [] x h = record { nodes = All-nil _; records = All-nil _ }
+    go (p ∷ parts) zero h = h.0
+    go (p ∷ parts) (suc x) h = go parts x h.1
+
+-- where the cell was written, the walk made a visit
+pub cell_visited : (old new : Written) (cells : List Content) (roots : List ℕ) (n x : ℕ) → old.order ≡ met_in cells roots n → old.bytes ≡ code_in cells roots n → slice_get old.order n ≡ Some x → record new { kind = 0 } ≡ with_cell (record old { kind = 0 }) (content_at cells x) →
+    (new.order ≡ met_in cells roots (n + 1)) × (new.bytes ≡ code_in cells roots (n + 1))
+cell_visited old new cells roots n x e b at is =
+    let c = content_at cells x in
+    let order : new.order ≡ met_all old.order c.refs = ap (λ (w : Written). w.order) is in
+    let bytes : new.bytes ≡ old.bytes ++ cell_code (renamed (met_all old.order c.refs) c) = ap (λ (w : Written). w.bytes) is in
+    code_next cells roots old.order new.order old.bytes new.bytes n x c e b at refl order (bytes ∙ ap (λ o. old.bytes ++ cell_code (renamed o c)) (sym order))
+
+-- what a writer has once it wrote a part
+pub is_written : (w : Written) (n r k : ℕ) (order bytes after more : List ℕ) (p : Part) → record { nodes = n; records = r; kind = k; order = order; bytes = bytes } ≡ w → after ≡ met_all order (part_cell n k p).refs → more ≡ bytes ++ cell_code (renamed after (part_cell n k p)) →
+    record { nodes = n; records = r; kind = k; order = after; bytes = more } ≡ with_part w p
+is_written w n r k order bytes after more p v e f =
+    let c = part_cell n k p in
+    let put : more ≡ bytes ++ cell_code (renamed (met_all order c.refs) c) = f ∙ ap (λ o. bytes ++ cell_code (renamed o c)) e in
+    let there : record { nodes = n; records = r; kind = k; order = after; bytes = more } ≡ with_part (record { nodes = n; records = r; kind = k; order = order; bytes = bytes }) p = λ i. record { nodes = n; records = r; kind = k; order = e i; bytes = put i } in
+    there ∙ ap (λ (o : Written). with_part o p) v
+
+-- a part that is written as a cell of its kind
+pub cell_written : (old begun new : Written) (kind n : ℕ) (p : Part) (c : Content) → begun ≡ record old { kind = kind } → new ≡ with_part begun p → old.nodes ≡ n → c ≡ part_cell n kind p → record new { kind = 0 } ≡ with_cell (record old { kind = 0 }) c
+cell_written old begun new kind n p c b w e is =
+    let cell : part_cell old.nodes kind p ≡ c = ap (λ m. part_cell m kind p) e ∙ sym is in
+    ap (λ (w : Written). record w { kind = 0 }) (w ∙ ap (λ (o : Written). with_part o p) b) ∙ ap (with_cell (record old { kind = 0 })) cell
+
+-- a node, a record and what a thread holds, among the cells
+module _ (s : Parts) (x n r : ℕ) (e : n ≡ length s.nodes) where
+  pub node_cell_at : x < n → content_at (parts_graph s ++ parts_held s) x ≡ part_cell (length s.nodes) 0 (part_at s.nodes x)
+  node_cell_at l =
+      let of_nodes = map (part_cell (length s.nodes) 0) s.nodes in
+      let of_records = map (part_cell (length s.nodes) 1) s.records in
+      let within : x < length s.nodes = omega arith in
+      let first : x < length of_nodes = omega (arith, length-map s.nodes (part_cell (length s.nodes) 0)) in
+      let graph : x < length (parts_graph s) = omega (arith, length-parts_graph s) in
+      content_front (parts_graph s) (parts_held s) x graph ∙ (content_front of_nodes of_records x first ∙ content_map (part_cell (length s.nodes) 0) s.nodes x within)
+
+  module _ (f : r ≡ length s.records) where
+    pub record_cell_at : n ≤ x → x - n < r → content_at (parts_graph s ++ parts_held s) x ≡ part_cell (length s.nodes) 1 (part_at s.records (x - n))
+    record_cell_at l k =
+        let of_nodes = map (part_cell (length s.nodes) 0) s.nodes in
+        let of_records = map (part_cell (length s.nodes) 1) s.records in
+        let graph : x < length (parts_graph s) = omega (arith, length-parts_graph s) in
+        let is : length of_nodes + (x - n) ≡ x = omega (arith, length-map s.nodes (part_cell (length s.nodes) 0)) in
+        content_front (parts_graph s) (parts_held s) x graph
+        ∙ (ap (content_at (of_nodes ++ of_records)) (sym is) ∙ (content_back of_nodes of_records (x - n) ∙ content_map (part_cell (length s.nodes) 1) s.records (x - n) (omega arith)))
+
+    pub held_cell_at : n ≤ x → r ≤ x - n → x < length (parts_graph s ++ parts_held s) → content_at (parts_graph s ++ parts_held s) x ≡ part_cell (length s.nodes) 2 (part_at s.held (x - n - r))
+    held_cell_at l k h =
+        let graph : length (parts_graph s) ≡ length s.nodes + length s.records = length-parts_graph s in
+        let is : length (parts_graph s) + (x - n - r) ≡ x = omega arith in
+        let within : x - n - r < length s.held = omega (arith, length-append (parts_graph s) (parts_held s), length-map s.held (part_cell (length s.nodes) 2)) in
+        ap (content_at (parts_graph s ++ parts_held s)) (sym is) ∙ (content_back (parts_graph s) (parts_held s) (x - n - r) ∙ content_map (part_cell (length s.nodes) 2) s.held (x - n - r) within)

@@ -2,12 +2,12 @@
 ghost use Rattle.std.specs.Prelude.{◌≡◌, ◌↔◌, ◌≤◌, length, IfOk};
 ghost use Rattle.sched_program.specs.Program.{Program, IsWithinLimits};
 ghost use Rattle.tree_machine.specs.Step.{Fits};
-ghost use Rattle.tree_machine.specs.Alike.{places_of, replies_of, notes_of, state_form, AreStatesAlike};
+ghost use Rattle.tree_machine.specs.Alike.{replies_of, notes_of, state_form, AreStatesAlike};
 ghost use Rattle.tree_machine.specs.declared.state.State.{State};
 
 use crate::machine::Machine;
-use crate::state::{State, Thread, copy_place};
-use sched_program::{Exact, Note, OutOfMemory, Sequence, ShortList};
+use crate::state::{State, Thread};
+use sched_program::{Exact, Note, OutOfMemory, ShortList};
 use std::alloc::Global;
 
 /// The form of a state: the same for all states that differ in nothing but the numbers of their nodes and records, and
@@ -23,20 +23,6 @@ pub struct StateForm<M: Machine> {
     notes: ShortList<ShortList<Note, 6>, 4>,
     /// The thread by which the run went astray.
     astray: Option<u8>,
-}
-
-fn copy_places<M: Machine>(
-    alloc: Global,
-    machine: M,
-    threads: &Sequence<Thread<M::Loc>>,
-) -> Result<Sequence<Option<M::Loc>>, OutOfMemory>
-    ensures { IfOk result (λ places. places ≡ places_of threads.now) }
-{
-    let mut places = Sequence::with_capacity(alloc, threads.len())?;
-    for thread in threads.as_slice() {
-        places.push(copy_place(alloc, machine, &thread.place)?)?;
-    }
-    Ok(places)
 }
 
 fn all_replies<L>(threads: &[Thread<L>]) -> ShortList<ShortList<bool, 6>, 4>
@@ -69,8 +55,7 @@ impl<M: Machine> State<M> {
         ensures form { IfOk result (λ form. form ≡ state_form (M.form_of machine) self.now) }
         ensures exact { IfOk result (λ form. (program : Program) (other : State M M.Mem M.Loc M.Form) → Fits (M.rules machine) program other → (form ≡ state_form (M.form_of machine) other) ↔ AreStatesAlike (M.rules machine) self.now other) }
     {
-        let places = copy_places(alloc, machine, &self.threads)?;
-        let form = machine.form(alloc, &self.memory, places.as_slice())?;
+        let form = machine.form(alloc, &self.memory, self.threads.as_slice())?;
         Ok(StateForm {
             form,
             replies: all_replies(self.threads.as_slice()),

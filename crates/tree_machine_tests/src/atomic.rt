@@ -1,9 +1,9 @@
 //! The calls of the machine `Atomic`.
 
 use crate::once_more::holds;
-use sched_program::{Op, OutOfMemory, Sequence};
+use sched_program::{Op, OutOfMemory, Sequence, ShortList};
 use std::alloc::Global;
-use tree_machine::{Atomic, AtomicForm, AtomicLoc, Machine, Outcome};
+use tree_machine::{Atomic, AtomicForm, AtomicLoc, Machine, Outcome, Thread};
 
 /// An operation, the keys before and after it, and its reply.
 const ACCESSES: &[(Op, &[u8], &[u8], bool)] = &[
@@ -60,9 +60,26 @@ type Held = (&'static [u8], &'static [Option<AtomicLoc>]);
 
 const HELD: Held = (&[10, 20], &[Some(AtomicLoc::Do), None]);
 
+/// Threads that hold these places.
+fn threads_of(
+    alloc: Global,
+    places: &[Option<AtomicLoc>],
+) -> Result<Sequence<Thread<AtomicLoc>>, OutOfMemory> {
+    let mut threads = Sequence::new(alloc);
+    for place in places {
+        threads.push(Thread {
+            replies: ShortList::new(),
+            place: *place,
+            notes: ShortList::new(),
+        })?;
+    }
+    Ok(threads)
+}
+
 /// The form of keys and places.
 fn form_of(alloc: Global, (keys, places): Held) -> Result<AtomicForm, OutOfMemory> {
-    Atomic.form(alloc, &keys_of(alloc, keys)?, places)
+    let threads = threads_of(alloc, places)?;
+    Atomic.form(alloc, &keys_of(alloc, keys)?, threads.as_slice())
 }
 
 /// Whether keys and places have the form of `HELD`, or not, as is expected.

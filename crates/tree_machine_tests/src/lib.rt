@@ -4,6 +4,8 @@
 #[cfg(test)]
 mod atomic;
 #[cfg(test)]
+mod bytes;
+#[cfg(test)]
 mod cells;
 #[cfg(test)]
 mod once_more;

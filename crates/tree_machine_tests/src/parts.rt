@@ -1,13 +1,14 @@
 //! Forms of a few nodes and records.
 ghost use Rattle.std.specs.Prelude.{◌≡◌, ◌<◌, IsTrue, IfSome, OnOk};
 ghost use Rattle.std.specs.List.{All};
-ghost use Rattle.tree_machine.specs.Parts.{no_part, IsPartBelow, ArePartsInRange};
+ghost use Rattle.tree_machine.specs.Parts.{IsPartBelow, ArePartsInRange};
+ghost use Rattle.tree_machine.specs.Written.{with_part};
 
 use crate::once_more::holds;
-use sched_program::{OutOfMemory, Sequence};
+use sched_program::OutOfMemory;
 use std::alloc::Global;
 use std::marker::Model;
-use tree_machine::{Part, Parts, form_parts};
+use tree_machine::{Bytes, Parts, Writer, form_parts};
 
 /// A part that is there already.
 #[derive(Drop)]
@@ -26,12 +27,12 @@ impl Model for Row {
 }
 
 impl Row {
-    /// Puts it into an empty part.
-    fn put(&self, part: &mut Part) -> Result<(), OutOfMemory>
-        requires { part.old ≡ no_part }
-        ensures { OnOk result (part.new ≡ self.now) }
+    /// Writes it.
+    fn write(&self, writer: &mut Writer) -> Result<(), OutOfMemory>
+        requires { IsPartBelow writer.old.nodes writer.old.records self.now }
+        ensures { OnOk result (writer.new ≡ with_part writer.old self.now) }
     {
-        part.put(self.facts, self.nodes, self.records)
+        writer.put(self.facts, self.nodes, self.records)
     }
 
     /// Whether it names nodes and records below these bounds.
@@ -75,19 +76,19 @@ impl Parts for Tables<'_> {
         self.held.len()
     }
 
-    fn put_node(&self, index: usize, part: &mut Part) -> Result<(), OutOfMemory> {
-        self.nodes[index].put(part)
+    fn write_node(&self, index: usize, writer: &mut Writer) -> Result<(), OutOfMemory> {
+        self.nodes[index].write(writer)
     }
 
-    fn put_record(&self, index: usize, part: &mut Part) -> Result<(), OutOfMemory> {
+    fn write_record(&self, index: usize, writer: &mut Writer) -> Result<(), OutOfMemory> {
         match self.records.get(index) {
-            Some(row) => row.put(part),
-            None => Ok(()),
+            Some(row) => row.write(writer),
+            None => writer.put(&[], &[], &[]),
         }
     }
 
-    fn put_held(&self, index: usize, part: &mut Part) -> Result<(), OutOfMemory> {
-        self.held[index].put(part)
+    fn write_held(&self, index: usize, writer: &mut Writer) -> Result<(), OutOfMemory> {
+        self.held[index].write(writer)
     }
 }
 
@@ -114,11 +115,11 @@ fn are_in_range(fixed: usize, tables: &Tables) -> bool
 }
 
 /// The form of tables whose node 0 is fixed; nothing where a number is out of range.
-fn form_of(alloc: Global, tables: &Tables) -> Result<Sequence<u8>, OutOfMemory> {
+fn form_of(alloc: Global, tables: &Tables) -> Result<Bytes, OutOfMemory> {
     if are_in_range(1, tables) {
         form_parts(alloc, 1, tables)
     } else {
-        Ok(Sequence::new(alloc))
+        Ok(Bytes::from_vec(Vec::new(alloc)))
     }
 }
 
@@ -130,7 +131,7 @@ fn ring(
     fact: &'static [u64],
     record: &'static [Option<usize>],
     node: &'static [Option<usize>],
-) -> Result<Sequence<u8>, OutOfMemory> {
+) -> Result<Bytes, OutOfMemory> {
     let nodes = [
         Row {
             facts: fact,
@@ -184,7 +185,7 @@ fn ring(
 
 /// The form of the ring of fact 511, whose record names none and whose thread names its node, where nodes and records
 /// stand the other way round.
-fn turned_ring(alloc: Global) -> Result<Sequence<u8>, OutOfMemory> {
+fn turned_ring(alloc: Global) -> Result<Bytes, OutOfMemory> {
     let nodes = [
         Row {
             facts: &[511],
@@ -264,7 +265,7 @@ fn is_told_apart(
 ) -> Result<bool, OutOfMemory> {
     let here = ring(alloc, &[511], &[None], &[Some(1)])?;
     let there = ring(alloc, fact, record, node)?;
-    Ok(here.len() > 0 && there.len() > 0 && here != there)
+    Ok(here.as_slice().len() > 0 && there.as_slice().len() > 0 && here != there)
 }
 
 #[test]

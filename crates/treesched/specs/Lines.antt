@@ -61,7 +61,7 @@ order_text (id ∷ rest) = codes "order" ++ flat_map (λ i. codes " " ++ name_te
 
 -- what a replay tells of its last state
 abbrev pub verdict_text : Finding → List ℕ
-verdict_text (finding.Sound order) = order_text order.items ++ codes "no fault" ++ line_end
+verdict_text (finding.Sound order) = order_text order ++ codes "no fault" ++ line_end
 verdict_text fault = codes "fault " ++ finding_name fault ++ line_end
 
 abbrev pub holds_text : ℕ → List ℕ

@@ -45,7 +45,7 @@ module _ {Machine Memory Place Form : Type 0} (rules : Rules Memory Place) (prog
   found_names s found.Astray right sound = absurd (true≢false (sym sound))
   found_names s found.Order right sound = absurd (true≢false (sym sound))
   found_names s found.History right sound = absurd (true≢false (sym sound))
-  found_names s (found.Sound linearization) right sound = (linearization.items, refl, given_names program limits (history_of s) _ linearization.items right.2.replies)
+  found_names s (found.Sound linearization) right sound = (linearization, refl, given_names program limits (history_of s) _ linearization right.2.replies)
 
   pub writable : (same : State Machine Memory Place Form → State Machine Memory Place Form → _) → IsMachine (machine_of {Machine = Machine} {Form = Form} rules program)
       → (es : List (Entry (State Machine Memory Place Form))) → IsLawful (machine_of rules program) same (IsFindingOf rules program) es → length es ≤ 2000000 → AreSound es → AreWritable es

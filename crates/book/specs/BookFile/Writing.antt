@@ -10,7 +10,7 @@ use Rattle.book.specs.declared.file.line.Line.{Line}
 
 -- the finding is sound, with this linearization
 abbrev pub FindsOrder : Finding → List OpId → Type 0
-FindsOrder (found.Sound linearization) order = linearization.items ≡ order
+FindsOrder (found.Sound linearization) order = linearization ≡ order
 FindsOrder _ order = ⊥
 
 -- the line of an entry with this origin and this finding: it has the parent, the thread and the linearization that was found

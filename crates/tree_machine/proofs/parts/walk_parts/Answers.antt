@@ -1,55 +1,42 @@
-use Rattle.std.proofs.Common.{◌≡◌, ◌+◌, ◌≤◌, ◌++◌, length, sym, ◌∙◌, subst, arith, length-append}
-use Rattle.tree_machine.specs.Cells.{content_at}
+use Rattle.std.proofs.Common.{◌≡◌, ◌+◌, ◌++◌, length, sym, ◌∙◌, ap, arith, length-append}
 use Rattle.tree_machine.specs.Graphs.{roots_of}
-use Rattle.tree_machine.specs.Parts.{part_cell, parts_graph, parts_held}
-use Rattle.tree_machine.specs.PartLaws.{length-parts_graph}
+use Rattle.tree_machine.specs.Parts.{parts_graph, parts_held}
+use Rattle.tree_machine.specs.Flat.{flat_form}
+use Rattle.tree_machine.specs.Written.{Written}
 use Rattle.tree_machine.proofs.Walks.{visit_in_range}
-use Rattle.tree_machine.proofs.Passes.{fixed_below, parts_rooted, cell_refs, code_next, code_at_end, code_at_stop}
+use Rattle.tree_machine.proofs.Passes.{parts_rooted, cell_visited, code_at_end, code_at_stop}
 use Rattle.tree_machine.proofs.parts.walk_parts.Goals as goal
 use Rattle.tree_machine.proofs.parts.walk_parts.Goals.{else-loop-visits-test, then-loop-visits-test+in-None}
 
-pub meet_run-requires-2-clause-behind : goal.meet_run-requires-2-clause-behind
-meet_run-requires-2-clause-behind g c =
+pub write_cell-requires-clause-cell_in_range : goal.write_cell-requires-clause-cell_in_range
+write_cell-requires-clause-cell_in_range g c =
     let s = g.P.Parts.parts c.args.parts.now in
-    let fits : c.args.fixed ≤ c.args.graph = omega (arith, c.requires.in_range.fixed_in_range, c.requires.graph, length-parts_graph s) in
-    fixed_below c.args.fixed c.args.graph c.in_ok-pass.pass.numbering.order.items c.meet_run.new.self.numbering.order.items c.in_ok-pass.ensures.nothing c.in_ok-meet_run.ensures.order fits
-
-pub fill-requires : goal.fill-requires
-fill-requires g c =
-    let s = g.P.Parts.parts c.args.parts.now in
-    visit_in_range (parts_graph s ++ parts_held s) (roots_of c.args.fixed (parts_graph s) (parts_held s)) c.loop-visits.pass.numbering.order.items c.loop-visits.visits c.in-Some.cell
+    visit_in_range (parts_graph s ++ parts_held s) (roots_of c.args.fixed (parts_graph s) (parts_held s)) c.loop-visits.writer.order c.loop-visits.visits c.in-Some.cell
     (parts_rooted c.args.fixed s c.requires.in_range) c.loop-visits.invariant.order (sym c.in-Some.ensures)
-
-pub put_part-requires : goal.put_part-requires
-put_part-requires g c =
-    let s = g.P.Parts.parts c.args.parts.now in
-    let is = subst (λ n. part_cell n c.in_ok-kind-in-Some.kind c.fill.new.part ≡ content_at (parts_graph s ++ parts_held s) c.in-Some.cell) (sym c.node_count-nodes.ensures) c.in_ok-kind-in-Some.ensures in
-    cell_refs (parts_graph s ++ parts_held s) (roots_of c.args.fixed (parts_graph s) (parts_held s)) _ c.in-Some.cell (part_cell c.node_count-nodes.result c.in_ok-kind-in-Some.kind c.fill.new.part)
-    (parts_rooted c.args.fixed s c.requires.in_range) c.loop-visits.invariant.range is
 
 pub loop-visits-preserved : goal.loop-visits-preserved
 loop-visits-preserved g c =
     let s = g.P.Parts.parts c.args.parts.now in
-    let is = subst (λ n. part_cell n c.in_ok-kind-in-Some.kind c.fill.new.part ≡ content_at (parts_graph s ++ parts_held s) c.in-Some.cell) (sym c.node_count-nodes.ensures) c.in_ok-kind-in-Some.ensures in
-    let next = code_next (parts_graph s ++ parts_held s) (roots_of c.args.fixed (parts_graph s) (parts_held s)) c.loop-visits.pass.numbering.order.items c.put_part.new.self.numbering.order.items
-    c.loop-visits.pass.bytes.items c.put_part.new.self.bytes.items c.loop-visits.visits c.in-Some.cell (part_cell c.node_count-nodes.result c.in_ok-kind-in-Some.kind c.fill.new.part)
-    c.loop-visits.invariant.order c.loop-visits.invariant.bytes (sym c.in-Some.ensures) is c.in_ok-put_part-in-Some.ensures.order c.in_ok-put_part-in-Some.ensures.bytes in
+    let next = cell_visited c.loop-visits.writer c.write_cell.new.writer (parts_graph s ++ parts_held s) (roots_of c.args.fixed (parts_graph s) (parts_held s)) c.loop-visits.visits c.in-Some.cell
+    c.loop-visits.invariant.order c.loop-visits.invariant.bytes (sym c.in-Some.ensures) c.in_ok-write_cell-in-Some.ensures in
     record {
       order = next.0;
       bytes = next.1;
-      range = c.in_ok-put_part-in-Some.ensures.range ∙ c.loop-visits.invariant.range;
+      nodes = ap (λ (w : Written). w.nodes) c.in_ok-write_cell-in-Some.ensures ∙ c.loop-visits.invariant.nodes;
+      records = ap (λ (w : Written). w.records) c.in_ok-write_cell-in-Some.ensures ∙ c.loop-visits.invariant.records;
     }
 
 pub returns : goal.returns
 returns g c =
     let s = g.P.Parts.parts c.args.parts.now in
     let cells : length (parts_graph s ++ parts_held s) ≡ c.args.graph + c.args.held = omega (arith, length-append (parts_graph s) (parts_held s), c.requires.graph, c.requires.held) in
-    elim c.loop-visits-test.branch [
+    let form : c.loop-visits.writer.bytes ≡ flat_form c.args.fixed s = elim c.loop-visits-test.branch [
       | else-loop-visits-test w ↦
           (let end : c.loop-visits.visits ≡ length (parts_graph s ++ parts_held s) = omega (arith, cells) in
-          code_at_end (parts_graph s ++ parts_held s) (roots_of c.args.fixed (parts_graph s) (parts_held s)) c.loop-visits.visits c.loop-visits.pass.numbering.order.items c.loop-visits.pass.bytes.items
+          code_at_end (parts_graph s ++ parts_held s) (roots_of c.args.fixed (parts_graph s) (parts_held s)) c.loop-visits.visits c.loop-visits.writer.order c.loop-visits.writer.bytes
           (parts_rooted c.args.fixed s c.requires.in_range) end c.loop-visits.invariant.order c.loop-visits.invariant.bytes)
       | then-loop-visits-test+in-None w ↦
-          code_at_stop (parts_graph s ++ parts_held s) (roots_of c.args.fixed (parts_graph s) (parts_held s)) c.loop-visits.visits c.loop-visits.pass.numbering.order.items c.loop-visits.pass.bytes.items
+          code_at_stop (parts_graph s ++ parts_held s) (roots_of c.args.fixed (parts_graph s) (parts_held s)) c.loop-visits.visits c.loop-visits.writer.order c.loop-visits.writer.bytes
           (omega (arith, cells, w.loop-visits-test.true)) c.loop-visits.invariant.order c.loop-visits.invariant.bytes (sym w.in-None.ensures)
-    ]
+    ] in
+    c.into_bytes.ensures ∙ form

@@ -12,7 +12,8 @@ invariant-loop-visits g l =
     let cells = parts_graph s ++ parts_held s in
     let roots = roots_of l.fixed (parts_graph s) (parts_held s) in
     record {
-      order : l.pass.numbering.order.items ≡ met_in cells roots l.visits;
-      bytes : l.pass.bytes.items ≡ code_in cells roots l.visits;
-      range : length l.pass.numbering.numbers.items ≡ length cells;
+      order : l.writer.order ≡ met_in cells roots l.visits;
+      bytes : l.writer.bytes ≡ code_in cells roots l.visits;
+      nodes : l.writer.nodes ≡ length s.nodes;
+      records : l.writer.records ≡ length s.records;
     }

@@ -1,14 +1,10 @@
-use Rattle.std.proofs.Common.{rules, ◌≡◌, subst, sym}
-use Rattle.tree_machine.specs.Alike.{places_of, state_form}
-use Rattle.tree_machine.specs.Rules.{ArePlacesInRange}
+use Rattle.std.proofs.Common.{rules, ◌≡◌}
+use Rattle.tree_machine.specs.Alike.{state_form}
 use Rattle.tree_machine.proofs.Forms.{held_in_range, forms_alike}
 use Rattle.tree_machine.proofs.state.State.form.Goals as goal
 
 pub form-requires-clause-places_in_range : goal.form-requires-clause-places_in_range
-form-requires-clause-places_in_range g c =
-    let same : c.as_slice.result.now ≡ places_of c.args.self.now.threads = search rules in
-    subst (ArePlacesInRange (g.M.Machine.rules c.args.machine) c.args.self.now.memory) (sym same)
-    (held_in_range (g.M.Machine.rules c.args.machine) c.requires.0 c.args.self.now c.requires.2)
+form-requires-clause-places_in_range g c = rw c.as_slice.ensures (held_in_range (g.M.Machine.rules c.args.machine) c.requires.0 c.args.self.now c.requires.2)
 
 pub returns-clause-exact : goal.returns-clause-exact
 returns-clause-exact g c program other fits =

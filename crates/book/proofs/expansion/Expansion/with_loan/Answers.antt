@@ -1,0 +1,55 @@
+use Rattle.std.proofs.Common.{◌≡◌, ◌≤◌, length, ap, ◌∙◌, refl, subst, arith}
+use Rattle.tree_machine.specs.Alike.{state_form}
+use Rattle.book.specs.Findings.{machine_of, IsFindingOf}
+use Rattle.book.specs.Labels.{bare, bares, form_by}
+use Rattle.book.proofs.Expanding.{IsFront, front_none, front_same, front_turn, expansion_from_front}
+use Rattle.book.proofs.Labels.{bares_more, steps_known_more}
+use Rattle.book.proofs.expansion.Expansion.with_loan.Goals as goal
+use Rattle.book.proofs.expansion.Expansion.with_loan.Goals.{in-Some+in_ok-push, in_default}
+
+pub loop-thread-init : goal.loop-thread-init
+loop-thread-init g c =
+    let rules = g.M.Machine.rules c.args.machine in
+    record {
+      loan = c.requires.loan;
+      front = rw c.new-successors.ensures.items (front_none (machine_of rules c.args.program.now) (IsFindingOf rules c.args.program.now) c.args.state.now);
+      known = rw c.new-successors.ensures.items refl;
+    }
+
+-- a thread that is enabled adds its step, and another adds none
+pub loop-thread-preserved : goal.loop-thread-preserved
+loop-thread-preserved g c =
+    let rules = g.M.Machine.rules c.args.machine in
+    let m = machine_of {Machine = g.row.M.Denot} {Form = g.row.M-Form.Denot} rules c.args.program.now in
+    let right = IsFindingOf {Machine = g.row.M.Denot} {Form = g.row.M-Form.Denot} rules c.args.program.now in
+    let was = c.loop-thread.successors.items in
+    record {
+      loan = c.in_ok-next.ensures.loan;
+      front = elim c.match-branch-2.branch [
+        | in-Some+in_ok-push w ↦
+            front_turn m right c.args.state.now c.loop-thread.thread (bares was) (bares c.match-branch-2.successors.items) (bare w.in-Some.next) c.loop-thread.invariant.front
+            (rw w.in-Some.is at c.in_ok-next.ensures.thread) (rw w.in-Some.is at c.in_ok-next.ensures.step) (rw w.in-Some.is at c.in_ok-next.ensures.finding) (rw w.in-Some.is at c.in_ok-next.ensures.fits)
+            (ap bares (rw w.successors-is w.in_ok-push.ensures.items) ∙ bares_more was w.in-Some.next)
+        | in_default w ↦ rw w.successors-is (front_same m right c.args.state.now c.loop-thread.thread (bares was) c.loop-thread.invariant.front (rw w.in_default.is at c.in_ok-next.ensures.none))
+      ];
+      known = elim c.match-branch-2.branch [
+        | in-Some+in_ok-push w ↦
+            rw (w.successors-is, w.in_ok-push.ensures.items) (steps_known_more (form_by c.args.merge (state_form (g.M.Machine.form_of c.args.machine))) was w.in-Some.next c.loop-thread.invariant.known
+            (rw w.in-Some.is at c.in_ok-next.ensures.form))
+        | in_default w ↦ rw w.successors-is c.loop-thread.invariant.known
+      ];
+    }
+
+pub invariant_of-result : goal.invariant_of-result
+invariant_of-result g c =
+    let rules = g.M.Machine.rules c.args.machine in
+    let m = machine_of {Machine = g.row.M.Denot} {Form = g.row.M-Form.Denot} rules c.args.program.now in
+    let right = IsFindingOf {Machine = g.row.M.Denot} {Form = g.row.M-Form.Denot} rules c.args.program.now in
+    let steps = c.loop-thread.successors.items in
+    let most : c.loop-thread.thread ≤ length c.threads.result.now = c.loop-thread.auto.thread-end in
+    let least : length c.threads.result.now ≤ c.loop-thread.thread = c.loop-thread-test.false in
+    let all : length c.threads.result.now ≡ length c.args.program.now.threads = ap length c.threads.ensures.value in
+    let done : c.loop-thread.thread ≡ length c.args.program.now.threads = omega arith in (
+      expansion_from_front m right c.args.state.now (bares steps) (subst (λ n. IsFront m right c.args.state.now n (bares steps)) done c.loop-thread.invariant.front),
+      c.loop-thread.invariant.known,
+    )

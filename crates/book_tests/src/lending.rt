@@ -1,0 +1,67 @@
+//! Steps to which a state lends its linearization.
+
+use crate::fixtures::{Broken, TWO_INSERTS, open, settled, take_next};
+use crate::replays::{ONE, ZERO, is_order};
+use book::{Book, Entered, Expansion, Merge, replay};
+use sched_program::OpId;
+use std::alloc::Global;
+use std::test::Fail;
+use tree_machine::Atomic;
+
+/// Takes the next entry, which is the state after this schedule, and enters its steps. What is found of the state is lent
+/// to them.
+fn enter_lent(alloc: Global, book: &mut Book<Atomic>, schedule: &[u8]) -> Result<Entered, Broken> {
+    let (id, _) = take_next(book)?;
+    let program = book.program().copy(alloc)?;
+    let end = replay(alloc, Atomic, &program, schedule)?;
+    if end.state.steps() > 100 {
+        return Err(Broken::NoEntry);
+    }
+    let expansion = Expansion::of_found(
+        alloc,
+        Atomic,
+        &program,
+        &end.state,
+        &end.finding,
+        Merge::Exact,
+    )?;
+    Ok(book.enter(id, expansion)?)
+}
+
+/// The entries whose steps are entered, each by its schedule.
+const EXPANDED: [&[u8]; 3] = [&[], &[0], &[1]];
+
+/// The linearization of each entry: each step's operation stands behind those of its source.
+const ORDERS: [&[OpId]; 5] = [&[], &[ZERO], &[ONE], &[ZERO, ONE], &[ONE, ZERO]];
+
+fn enter_each(alloc: Global, book: &mut Book<Atomic>) -> Result<(), Broken> {
+    for schedule in EXPANDED {
+        enter_lent(alloc, book, schedule)?;
+    }
+    Ok(())
+}
+
+/// Whether these are the linearizations of the entries, one by one.
+fn have_orders(book: &Book<Atomic>) -> bool {
+    for (id, order) in ORDERS.iter().enumerate() {
+        match book.finding_of(id) {
+            Some(finding) if is_order(finding, order) => {}
+            _ => return false,
+        }
+    }
+    book.len() == ORDERS.len()
+}
+
+fn orders_of_two_inserts(alloc: Global) -> Result<bool, Broken> {
+    let mut book = open(alloc, Atomic, TWO_INSERTS, 100, Merge::Exact)?;
+    enter_each(alloc, &mut *book)?;
+    Ok(have_orders(&*book))
+}
+
+#[test]
+fn a_source_lends_its_order(rt: HostRuntime) -> Result<(), Fail> {
+    let alloc = rt.alloc();
+    let is_so = settled(|| orders_of_two_inserts(alloc))?;
+    assert!(rt; is_so);
+    Ok(())
+}

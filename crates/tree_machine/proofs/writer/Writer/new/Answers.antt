@@ -1,0 +1,7 @@
+use Rattle.std.proofs.Common.{◌+◌, arith}
+use Rattle.tree_machine.proofs.Passes.{fixed_below}
+use Rattle.tree_machine.proofs.writer.Writer.new.Goals as goal
+
+pub meet_run-requires-2-clause-behind : goal.meet_run-requires-2-clause-behind
+meet_run-requires-2-clause-behind c =
+    fixed_below c.args.fixed (c.args.nodes + c.args.records) c.in_ok-pass.pass.numbering.order.items c.meet_run.new.self.numbering.order.items c.in_ok-pass.ensures.nothing c.in_ok-meet_run.ensures.order (omega arith)

@@ -1,0 +1,72 @@
+//! Bytes that are hashed by one write.
+ghost use Rattle.std.specs.Prelude.{◌≡◌, ◌++◌, ◌∷◌, [], length, nat_eq};
+ghost use Rattle.std.specs.Hash as fed;
+ghost use Rattle.std.specs.Cmp.{partial_equiv_from_equiv};
+ghost use Rattle.std.specs.Cmp.Lexicographic.{pointwise, lists_equiv};
+ghost use Rattle.sched_program.specs.Exact.{nat_exact, list_exact};
+ghost use Rattle.tree_machine.specs.CellOrder.{nat_equivalence};
+ghost use Rattle.tree_machine.specs.ByteLists.{bytes_input, bytes_fed};
+
+use sched_program::Exact;
+use std::hash::{Hash, Hasher};
+use std::marker::Model;
+
+/// A list of bytes, over a `Vec`, which contracts see as the list itself. It is hashed by one write of all bytes, behind
+/// their number.
+#[derive(Drop)]
+pub struct Bytes {
+    items: Vec<u8>,
+}
+
+impl Model for Bytes {
+    ghost use Rattle.std.specs.Prelude.{List, ℕ};
+
+    ghost Value = { List ℕ };
+
+    ghost view = { λ b. b.items.items };
+}
+
+impl Bytes {
+    /// The list of a `Vec`'s bytes. It takes no memory.
+    pub fn from_vec(items: Vec<u8>) -> Self
+        ensures { result ≡ items.items }
+    {
+        Bytes { items }
+    }
+
+    /// The bytes.
+    pub fn as_slice(&self) -> &[u8]
+        ensures { result.now ≡ self.now }
+    {
+        self.items.as_slice()
+    }
+}
+
+impl PartialEq for Bytes {
+    ghost eq = { pointwise nat_eq };
+
+    ghost laws = { partial_equiv_from_equiv (lists_equiv nat_equivalence) };
+
+    fn eq(&self, other: &Bytes) -> bool {
+        self.items == other.items
+    }
+}
+
+impl Eq for Bytes {
+    ghost laws = { lists_equiv nat_equivalence };
+}
+
+impl Exact for Bytes {
+    ghost exact = { list_exact nat_exact };
+}
+
+impl Hash for Bytes {
+    ghost hash_input = { bytes_input };
+
+    ghost respects_eq = { bytes_fed };
+
+    fn hash<H: Hasher>(&self, state: &mut H) {
+        state.write_usize(self.items.len());
+        state.write(self.items.as_slice());
+    }
+}

@@ -1,0 +1,241 @@
+//! Parts in bytes, each written as it is visited.
+ghost use Rattle.std.specs.Prelude.{◌≡◌, ◌<◌, ◌≤◌, ◌+◌, ◌^◌, ◌++◌, ◌∷◌, [], Some, length, map, slice_get, IfOk, OnOk, IfSome};
+ghost use Rattle.std.specs.List.{All, flat_map};
+ghost use Rattle.std.specs.Option.{option_map, option_and_then};
+ghost use Rattle.tree_machine.specs.Cells.{met_all, place_in, renamed};
+ghost use Rattle.tree_machine.specs.Graphs.{numbers_from};
+ghost use Rattle.tree_machine.specs.Parts.{IsPartBelow, part_cell};
+ghost use Rattle.tree_machine.specs.Flat.{number_code, counted_codes, reference_number, cell_code};
+ghost use Rattle.tree_machine.specs.Written.{with_part};
+
+use crate::cells::Numbering;
+use sched_program::OutOfMemory;
+use std::alloc::Global;
+use std::marker::Model;
+
+/// Puts a number behind bytes: 255 for each 255 in it, and then the rest. Nearly all numbers of a form are small.
+fn put_number(bytes: &mut Vec<u8>, number: u64) -> Result<(), OutOfMemory>
+    ensures { OnOk result (bytes.new.items ≡ bytes.old.items ++ number_code number) }
+{
+    for _whole in 0..number / 255 {
+        bytes.push(255)?;
+    }
+    bytes.push((number % 255) as u8)?;
+    Ok(())
+}
+
+/// Puts numbers behind bytes.
+fn put_numbers(bytes: &mut Vec<u8>, numbers: &[u64]) -> Result<(), OutOfMemory>
+    ensures { OnOk result (bytes.new.items ≡ bytes.old.items ++ flat_map number_code numbers.now) }
+{
+    for number in numbers {
+        put_number(bytes, *number)?;
+    }
+    Ok(())
+}
+
+/// Puts facts behind bytes, as a cell of this kind that names so many nodes has them.
+fn put_facts(bytes: &mut Vec<u8>, kind: u64, nodes: usize, facts: &[u64]) -> Result<(), OutOfMemory>
+    ensures { OnOk result (bytes.new.items ≡ bytes.old.items ++ counted_codes (kind ∷ nodes ∷ facts.now)) }
+{
+    put_number(bytes, facts.len() as u64 + 2)?;
+    put_number(bytes, kind)?;
+    put_number(bytes, nodes as u64)?;
+    put_numbers(bytes, facts)?;
+    Ok(())
+}
+
+/// The cells met, and the cells visited, in bytes.
+#[derive(Drop)]
+struct Pass {
+    numbering: Numbering,
+    bytes: Vec<u8>,
+}
+
+impl Pass {
+    /// Nothing of so many cells is met yet. There is room for twelve bytes a cell, about as many as a node takes.
+    fn new(alloc: Global, cells: usize) -> Result<Self, OutOfMemory>
+        ensures nothing { IfOk result (λ pass. pass.numbering.order.items ≡ []) }
+        ensures empty { IfOk result (λ pass. pass.bytes.items ≡ []) }
+        ensures range { IfOk result (λ pass. length pass.numbering.numbers.items ≡ cells) }
+    {
+        Ok(Pass {
+            numbering: Numbering::new(alloc, cells)?,
+            bytes: Vec::with_capacity(alloc, cells.saturating_mul(12))?,
+        })
+    }
+
+    /// Meets so many cells from one on, all behind those met before.
+    fn meet_run(&mut self, first: usize, count: usize) -> Result<(), OutOfMemory>
+        requires in_range { first + count ≤ length self.old.numbering.numbers.items }
+        requires behind { All (λ x. x < first) self.old.numbering.order.items }
+        ensures order { OnOk result (self.new.numbering.order.items ≡ self.old.numbering.order.items ++ numbers_from first count) }
+        ensures bytes { self.new.bytes.items ≡ self.old.bytes.items }
+        ensures range { length self.new.numbering.numbers.items ≡ length self.old.numbering.numbers.items }
+    {
+        for i in 0..count {
+            let _place = self.numbering.meet(first + i)?;
+        }
+        Ok(())
+    }
+
+    /// Meets what is referred to, and puts its place behind the bytes.
+    fn put_reference(&mut self, reference: Option<usize>) -> Result<(), OutOfMemory>
+        requires { IfSome reference (λ x. x < length self.old.numbering.numbers.items) }
+        ensures order { OnOk result (self.new.numbering.order.items ≡ met_all self.old.numbering.order.items (reference ∷ [])) }
+        ensures bytes { OnOk result (self.new.bytes.items ≡ self.old.bytes.items ++ number_code (reference_number (option_and_then (place_in self.new.numbering.order.items) reference))) }
+        ensures range { length self.new.numbering.numbers.items ≡ length self.old.numbering.numbers.items }
+    {
+        match reference {
+            Some(cell) => {
+                let place = self.numbering.meet(cell)?;
+                put_number(&mut self.bytes, place as u64 + 1)
+            }
+            None => put_number(&mut self.bytes, 0),
+        }
+    }
+
+    /// The same for references one after the other, that name cells from one on.
+    fn put_references(
+        &mut self,
+        first: usize,
+        references: &[Option<usize>],
+    ) -> Result<(), OutOfMemory>
+        requires { All (λ r. IfSome r (λ x. first + x < length self.old.numbering.numbers.items)) references.now }
+        ensures order { OnOk result (self.new.numbering.order.items ≡ met_all self.old.numbering.order.items (map (option_map (λ x. first + x)) references.now)) }
+        ensures bytes { OnOk result (self.new.bytes.items ≡ self.old.bytes.items ++ flat_map number_code (map reference_number (map (option_and_then (place_in self.new.numbering.order.items)) (map (option_map (λ x. first + x)) references.now)))) }
+        ensures range { length self.new.numbering.numbers.items ≡ length self.old.numbering.numbers.items }
+    {
+        for reference in references {
+            self.put_reference(match reference {
+                Some(place) => Some(first + *place),
+                None => None,
+            })?;
+        }
+        Ok(())
+    }
+
+    /// The same for cells that are told by their numbers.
+    fn put_cells(&mut self, first: usize, cells: &[u32]) -> Result<(), OutOfMemory>
+        requires { All (λ x. first + x < length self.old.numbering.numbers.items) cells.now }
+        ensures order { OnOk result (self.new.numbering.order.items ≡ met_all self.old.numbering.order.items (map (option_map (λ x. first + x)) (map Some cells.now))) }
+        ensures bytes { OnOk result (self.new.bytes.items ≡ self.old.bytes.items ++ flat_map number_code (map reference_number (map (option_and_then (place_in self.new.numbering.order.items)) (map (option_map (λ x. first + x)) (map Some cells.now))))) }
+        ensures range { length self.new.numbering.numbers.items ≡ length self.old.numbering.numbers.items }
+    {
+        for cell in cells {
+            self.put_reference(Some(first + *cell as usize))?;
+        }
+        Ok(())
+    }
+}
+
+/// What parts are written to: the cells met so far, and the parts written so far, in bytes.
+///
+/// Contracts see it as these two lists, with how many nodes and records there are, and the kind of the part that comes
+/// next.
+#[derive(Drop)]
+pub struct Writer {
+    pass: Pass,
+    nodes: usize,
+    records: usize,
+    kind: u64,
+    ghost room: { nodes + records ≤ length pass.numbering.numbers.items },
+}
+
+impl Model for Writer {
+    ghost use Rattle.tree_machine.specs.Written.{Written};
+
+    ghost Value = { Written };
+
+    ghost view = { λ w. record { nodes = w.nodes; records = w.records; kind = w.kind; order = w.pass.numbering.order.items; bytes = w.pass.bytes.items } };
+}
+
+impl Writer {
+    /// Nothing is written, and the roots are met: the first nodes, as many as are fixed, and what the threads hold.
+    pub(crate) fn new(
+        alloc: Global,
+        fixed: usize,
+        nodes: usize,
+        records: usize,
+        held: usize,
+    ) -> Result<Self, OutOfMemory>
+        requires fixed { fixed ≤ nodes }
+        requires fits { nodes + records + held < 2 ^ 64 }
+        ensures nodes { IfOk result (λ writer. writer.nodes ≡ nodes) }
+        ensures records { IfOk result (λ writer. writer.records ≡ records) }
+        ensures order { IfOk result (λ writer. writer.order ≡ numbers_from 0 fixed ++ numbers_from (nodes + records) held) }
+        ensures bytes { IfOk result (λ writer. writer.bytes ≡ []) }
+    {
+        let graph = nodes + records;
+        let mut pass = Pass::new(alloc, graph + held)?;
+        pass.meet_run(0, fixed)?;
+        pass.meet_run(graph, held)?;
+        Ok(Writer {
+            pass,
+            nodes,
+            records,
+            kind: 0,
+        })
+    }
+
+    /// The part that comes next is of this kind.
+    pub(crate) fn begin(&mut self, kind: u64)
+        ensures { self.new ≡ record self.old { kind = kind } }
+    {
+        self.kind = kind;
+    }
+
+    /// The cell that was met after so many others, if so many were met.
+    pub(crate) fn cell_at(&self, place: usize) -> Option<usize>
+        ensures { result ≡ slice_get self.now.order place }
+    {
+        self.pass.numbering.cell_at(place)
+    }
+
+    /// The bytes written.
+    pub(crate) fn into_bytes(self) -> Vec<u8>
+        ensures { result.items ≡ self.bytes }
+    {
+        self.pass.bytes
+    }
+
+    /// Writes the part of these facts, nodes and records.
+    ///
+    /// # Errors
+    /// `OutOfMemory` where a growth was refused. Some of the part may then be written.
+    pub fn put(
+        &mut self,
+        facts: &[u64],
+        nodes: &[Option<usize>],
+        records: &[Option<usize>],
+    ) -> Result<(), OutOfMemory>
+        requires { IsPartBelow self.old.nodes self.old.records (record { facts = facts.now; nodes = nodes.now; records = records.now }) }
+        ensures { OnOk result (self.new ≡ with_part self.old (record { facts = facts.now; nodes = nodes.now; records = records.now })) }
+    {
+        self.put_with_stack(facts, nodes, records, &[])
+    }
+
+    /// Writes the part of these facts and nodes, of these records, and of those of a stack behind them.
+    ///
+    /// # Errors
+    /// `OutOfMemory` where a growth was refused. Some of the part may then be written.
+    pub fn put_with_stack(
+        &mut self,
+        facts: &[u64],
+        nodes: &[Option<usize>],
+        records: &[Option<usize>],
+        stack: &[u32],
+    ) -> Result<(), OutOfMemory>
+        requires { IsPartBelow self.old.nodes self.old.records (record { facts = facts.now; nodes = nodes.now; records = records.now ++ map Some stack.now }) }
+        ensures { OnOk result (self.new ≡ with_part self.old (record { facts = facts.now; nodes = nodes.now; records = records.now ++ map Some stack.now })) }
+    {
+        let behind = self.nodes;
+        put_facts(&mut self.pass.bytes, self.kind, nodes.len(), facts)?;
+        let named = nodes.len() + records.len() + stack.len();
+        put_number(&mut self.pass.bytes, named as u64)?;
+        self.pass.put_references(0, nodes)?;
+        self.pass.put_references(behind, records)?;
+        self.pass.put_cells(behind, stack)?;
+        Ok(())
+    }
+}
