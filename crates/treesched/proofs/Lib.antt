@@ -1,5 +1,6 @@
 mod Accepted
 mod Entered
+mod Given
 mod Ledgers
 mod Loaded
 mod Parsed

@@ -34,8 +34,8 @@ module _ (choices : Choices) where
   abbrev leaf : Shape → Shape
   leaf s = built_leaf (inherited (with_leaf_noted (marked_built (command_line choices).top)) s)
 
-  three : all.subs ≡ leaf (line.explore choices).top ∷ leaf line.replay.top ∷ leaf help_shape ∷ []
-  three = refl
+  four : all.subs ≡ leaf (line.explore choices).top ∷ leaf line.replay.top ∷ leaf line.check.top ∷ leaf help_shape ∷ []
+  four = refl
 
   regular : AreRegular all.top.rules all.top.rules
   regular = (record { own = refl; valued = λ set. absurd (cc) }, tt)
@@ -53,7 +53,10 @@ module _ (choices : Choices) where
             record { own = refl; valued = λ set. refl },
             (
               record { own = refl; valued = λ set. absurd (cc) },
-              (record { own = refl; valued = λ set. absurd (cc) }, tt),
+              (
+                record { own = refl; valued = λ set. refl },
+                (record { own = refl; valued = λ set. absurd (cc) }, tt),
+              ),
             ),
           ),
         ),
@@ -63,6 +66,15 @@ module _ (choices : Choices) where
 
   replay_regular : AreRegular (leaf line.replay.top).rules (leaf line.replay.top).rules
   replay_regular = (
+    record { own = refl; valued = λ set. refl },
+    (
+      record { own = refl; valued = λ set. refl },
+      (record { own = refl; valued = λ set. absurd (cc) }, tt),
+    ),
+  )
+
+  check_regular : AreRegular (leaf line.check.top).rules (leaf line.check.top).rules
+  check_regular = (
     record { own = refl; valued = λ set. refl },
     (
       record { own = refl; valued = λ set. refl },
@@ -89,26 +101,31 @@ module _ (choices : Choices) where
       let same : rows_at s words ≡ (name, rows) = ap (λ o. unwrap_or o (name, rows)) is in
       record { words = words; named = sym (ap (λ p. p.0) same); are = sym (ap (λ p. p.1) same); none = none }
 
-  -- the first of the three whose name is this
+  -- the words after the name of one of the subcommands have no fault
+  abbrev AreNamed : Text → List Row → Type 0
+  AreNamed name rows = IsPassed (leaf (line.explore choices).top) name rows ⊎ IsPassed (leaf line.replay.top) name rows ⊎ IsPassed (leaf line.check.top) name rows
+
+  -- the first of the four whose name is this
   module _ (name : Text) (rows : List Row) where
     by_name : (p : Text × List Text) → bytes_eq p.0 (codes "help") ≡ false
         → entered all (Some p) ≡ Some (name, rows) → entered_fault all (Some p) ≡ []
-        → IsPassed (leaf (line.explore choices).top) name rows ⊎ IsPassed (leaf line.replay.top) name rows
-    by_name p other is none = go (bytes_eq (codes "explore") p.0) (bytes_eq (codes "replay") p.0) (bytes_eq (codes "help") p.0) refl is none
+        → AreNamed name rows
+    by_name p other is none = go (bytes_eq (codes "explore") p.0) (bytes_eq (codes "replay") p.0) (bytes_eq (codes "check") p.0) (bytes_eq (codes "help") p.0) refl is none
       where
-        go : (e r h : Bool) → bytes_eq (codes "help") p.0 ≡ h
+        go : (e r c h : Bool) → bytes_eq (codes "help") p.0 ≡ h
             → option_map (λ s. rows_at s p.1) (cond (e || false) (Some (leaf (line.explore choices).top)) (cond (r || false) (Some (leaf line.replay.top))
-            (cond (h || false) (Some (leaf help_shape)) None))) ≡ Some (name, rows)
+            (cond (c || false) (Some (leaf line.check.top)) (cond (h || false) (Some (leaf help_shape)) None)))) ≡ Some (name, rows)
             → option_map_or (λ s. level_fault s [] nothing_held p.1 false []) (cond (e || false) (Some (leaf (line.explore choices).top)) (cond (r || false) (Some (leaf line.replay.top))
-            (cond (h || false) (Some (leaf help_shape)) None))) [] ≡ []
-            → IsPassed (leaf (line.explore choices).top) name rows ⊎ IsPassed (leaf line.replay.top) name rows
-        go true r h said is none = inl (passed (leaf (line.explore choices).top) p.1 name rows is none)
-        go false true h said is none = inr (passed (leaf line.replay.top) p.1 name rows is none)
-        go false false true said is none =
+            (cond (c || false) (Some (leaf line.check.top)) (cond (h || false) (Some (leaf help_shape)) None)))) [] ≡ []
+            → AreNamed name rows
+        go true r c h said is none = inl (passed (leaf (line.explore choices).top) p.1 name rows is none)
+        go false true c h said is none = inr (inl (passed (leaf line.replay.top) p.1 name rows is none))
+        go false false true h said is none = inr (inr (passed (leaf line.check.top) p.1 name rows is none))
+        go false false false true said is none =
             let word : codes "help" ≡ p.0 = (bytes_eq-Decides (codes "help") p.0).0 said in
             let same : bytes_eq p.0 (codes "help") ≡ true = (bytes_eq-Decides p.0 (codes "help")).1 (sym word) in
             absurd (cc)
-        go false false false said is none = absurd (cc)
+        go false false false false said is none = absurd (cc)
 
   module _ (words : List Text) (none : fault_of (command_line choices) words ≡ []) where
     stop : Option (Text × List Text)
@@ -120,7 +137,7 @@ module _ (choices : Choices) where
     level = none
 
     pub which : (name : Text) (rows : List Row) → subcommand_of (command_line choices) words ≡ Some (name, rows)
-        → IsPassed (leaf (line.explore choices).top) name rows ⊎ IsPassed (leaf line.replay.top) name rows
+        → AreNamed name rows
     unfolding stop
     which name rows is = go stop not_help is below
       where
@@ -133,7 +150,7 @@ module _ (choices : Choices) where
             (entered_fault all stop) level
 
         go : (o : Option (Text × List Text)) → IfSome o (λ q. is_help all.top q.0 ≡ false) → entered all o ≡ Some (name, rows)
-            → entered_fault all o ≡ [] → IsPassed (leaf (line.explore choices).top) name rows ⊎ IsPassed (leaf line.replay.top) name rows
+            → entered_fault all o ≡ [] → AreNamed name rows
         go None other is none = absurd (cc)
         go (Some p) other is none = by_name name rows p (no_and (bytes_eq p.0 (codes "help")) other) is none
 
@@ -204,25 +221,55 @@ module _ (choices : Choices) where
     pub replay_schedule : HasText rows (codes "schedule")
     replay_schedule = replayed (codes "schedule") _ refl refl refl
 
+  module _ (name : Text) (rows : List Row) (is : IsPassed (leaf line.check.top) name rows) where
+    checked : (id : Text) (a : Rule) → arg_by_id (leaf line.check.top).rules id ≡ Some a → action_of a ≡ Set → a.required ≡ true → HasText rows id
+    checked id a found set required =
+        text_of_value a id rows (subst (HasValue a id) (sym is.are)
+        (required_value (leaf line.check.top) [] is.words false [] is.none check_regular refl id a found set required))
+
+    pub check_file : HasText rows (codes "file")
+    check_file = checked (codes "file") _ refl refl refl
+
+    pub check_book : HasText rows (codes "book")
+    check_book = checked (codes "book") _ refl refl refl
+
 explore_is_not_replay : codes "explore" ≡ codes "replay" → ⊥
 explore_is_not_replay e =
     let heads : 101 ≡ 114 = ap (λ (l : List ℕ). slice_index l 0) e in absurd (omega (arith, heads))
+
+explore_is_not_check : codes "explore" ≡ codes "check" → ⊥
+explore_is_not_check e =
+    let heads : 101 ≡ 99 = ap (λ (l : List ℕ). slice_index l 0) e in absurd (omega (arith, heads))
+
+replay_is_not_check : codes "replay" ≡ codes "check" → ⊥
+replay_is_not_check e =
+    let heads : 114 ≡ 99 = ap (λ (l : List ℕ). slice_index l 0) e in absurd (omega (arith, heads))
 
 module _ (words : List Text) (name : Text) (rows : List Row) (are : AreRead words name rows) where
   pub exploring : codes "explore" ≡ name → HasText rows (codes "file") × ((settings : Settings) × OptionsAre rows settings)
   exploring named = elim (which are.0 words are.2 name rows are.3) [
     | inl is ↦ (explore_file are.0 name rows is, explore_options are.0 name rows is are.1)
-    | inr is ↦ absurd (explore_is_not_replay (named ∙ is.named))
+    | inr (inl is) ↦ absurd (explore_is_not_replay (named ∙ is.named))
+    | inr (inr is) ↦ absurd (explore_is_not_check (named ∙ is.named))
   ]
 
   pub replaying : codes "replay" ≡ name → HasText rows (codes "file") × HasText rows (codes "schedule")
   replaying named = elim (which are.0 words are.2 name rows are.3) [
     | inl is ↦ absurd (explore_is_not_replay (sym (named ∙ is.named)))
-    | inr is ↦ (replay_file are.0 name rows is, replay_schedule are.0 name rows is)
+    | inr (inl is) ↦ (replay_file are.0 name rows is, replay_schedule are.0 name rows is)
+    | inr (inr is) ↦ absurd (replay_is_not_check (named ∙ is.named))
   ]
 
-  pub no_other : (codes "explore" ≡ name → ⊥) → (codes "replay" ≡ name → ⊥) → ⊥
-  no_other not_explore not_replay = elim (which are.0 words are.2 name rows are.3) [
+  pub checking : codes "check" ≡ name → HasText rows (codes "file") × HasText rows (codes "book")
+  checking named = elim (which are.0 words are.2 name rows are.3) [
+    | inl is ↦ absurd (explore_is_not_check (sym (named ∙ is.named)))
+    | inr (inl is) ↦ absurd (replay_is_not_check (sym (named ∙ is.named)))
+    | inr (inr is) ↦ (check_file are.0 name rows is, check_book are.0 name rows is)
+  ]
+
+  pub no_other : (codes "explore" ≡ name → ⊥) → (codes "replay" ≡ name → ⊥) → (codes "check" ≡ name → ⊥) → ⊥
+  no_other not_explore not_replay not_check = elim (which are.0 words are.2 name rows are.3) [
     | inl is ↦ not_explore (sym is.named)
-    | inr is ↦ not_replay (sym is.named)
+    | inr (inl is) ↦ not_replay (sym is.named)
+    | inr (inr is) ↦ not_check (sym is.named)
   ]

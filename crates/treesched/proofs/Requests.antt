@@ -36,16 +36,20 @@ read words app line m matches none name rows n r =
     )
 
 module _ (words : List Text) (name : Text) (rows : List Row) (are : AreRead words name rows) where
-  pub explored : codes "explore" ≡ name → (r : Request) → IsRequestOf (codes "explore") rows r → AskFor words r
-  explored named r is = (name, (rows, (are, subst (λ n. IsRequestOf n rows r) named is)))
+  -- a request of the subcommand is one of the words
+  pub asked : (own : Text) → own ≡ name → (r : Request) → IsRequestOf own rows r → AskFor words r
+  asked own named r is = (name, (rows, (are, subst (λ n. IsRequestOf n rows r) named is)))
 
-  pub replayed : codes "replay" ≡ name → (r : Result Request WordsFault) → MatchResult r (IsRequestOf (codes "replay") rows) (IsFaultOf rows)
+  -- so is a request or a fault
+  pub asked_or_refused : (own : Text) → own ≡ name → (r : Result Request WordsFault) → MatchResult r (IsRequestOf own rows) (IsFaultOf own rows)
       → MatchResult r (AskFor words) (AreRefused words)
-  replayed named (Ok q) is = (name, (rows, (are, subst (λ n. IsRequestOf n rows q) named is)))
-  replayed named (Err (fault.Usage help text)) is = absurd is
-  replayed named (Err fault.Schedule) is =
-      (rows, (is.0, ((are.0, are.1, are.2, are.3 ∙ ap (λ (n : Text). Some (n, rows)) (sym named)), is.1, is.2)))
-  replayed named (Err fault.OutOfMemory) is = tt
+  asked_or_refused own named (Ok q) is = asked own named q is
+  asked_or_refused own named (Err (fault.Usage help text)) is = absurd is
+  asked_or_refused own named (Err fault.Schedule) is =
+      (rows, ((are.0, are.1, are.2, are.3 ∙ ap (λ (n : Text). Some (n, rows)) (sym named ∙ is.0)), is.1))
+  asked_or_refused own named (Err fault.BookMerge) is =
+      (rows, ((are.0, are.1, are.2, are.3 ∙ ap (λ (n : Text). Some (n, rows)) (sym named ∙ is.0)), is.1))
+  asked_or_refused own named (Err fault.OutOfMemory) is = tt
 
 module _ (words : List Text) (error : Error) (choices : Choices) (merges : AreMerges choices) where
   told_of : HasKind (fault_of (command_line choices) words) error → (e : WordsFault) → Tells (kind_of error) e
@@ -53,6 +57,7 @@ module _ (words : List Text) (error : Error) (choices : Choices) (merges : AreMe
   told_of (inl out) e tells memory = subst (AreRefused words) (sym (memory out)) tt
   told_of (inr among) (fault.Usage help text) tells memory = (choices, merges, (kind_of error, among, tells))
   told_of (inr among) fault.Schedule tells memory = absurd tells
+  told_of (inr among) fault.BookMerge tells memory = absurd tells
   told_of (inr among) fault.OutOfMemory tells memory = tt
 
 pub told : (words : List Text) (error : Error) (app : App) → IsCommandLine app → (is_simple_and_free app ≡ true → HasKind (fault_of app words) error)

@@ -22,8 +22,7 @@ use Rattle.tree_machine.proofs.Forms.{forms_alike}
 use Rattle.book.specs.Findings.{machine_of}
 use Rattle.book.specs.declared.replayed.ReplayFault.{ReplayFault}
 use Rattle.treesched.specs.Lines.{IsRefusal, no_step_text}
-use Rattle.treesched.specs.Serving.{CountsAsOne, IsAnswerTo, IsEquality, IsReplayed, IsServed, IsServedFrom, IsStuck, IsUnread}
-use Rattle.sched_program.specs.declared.counted.Counted.{Counted}
+use Rattle.treesched.specs.Serving.{CountsAsOne, IsAnswerTo, IsEquality, IsKept, IsReplayed, IsServedBySome, IsStuck}
 use Rattle.clap.specs.Walk.{Text}
 use Rattle.treesched.specs.Reading.{AskFor}
 use Rattle.treesched.specs.declared.request.Request.{Request}
@@ -76,16 +75,7 @@ module _ (Machine Form : Type 0) {Memory Place : Type 0} (rules : Rules Memory P
             (subst (λ (k : ℕ). IsRefusal 4 (no_step_text n (get_or schedule k 0)) output) place h);
       })) told
 
-module _ (words : List Text) (asked : Request) (ask : AskFor words asked) where
-  -- what is served for the request of the words, from a reader or without one, answers them
-  pub answers : {F E : Type 0} (remaining : F → Option (List ℕ)) (before after : Counted F) (r : Result Output E)
-      → IfOk r (IsServedFrom remaining before after asked) → IfOk r (IsAnswerTo words)
-  answers remaining before after r served = IfOk-weaker r _ _ (λ output h. inl (asked, ask, from output h)) served
-    where
-      from : (output : Output) → IsServedFrom remaining before after asked output
-          → IsUnread asked output ⊎ ((text : List ℕ) × IsServed text asked output)
-      from output (inl (grew, told)) = inl told
-      from output (inr (same, (text, all, told))) = inr (text, told)
-
-  pub unread : {E : Type 0} (r : Result Output E) → IfOk r (IsUnread asked) → IfOk r (IsAnswerTo words)
-  unread r told = IfOk-weaker r _ _ (λ output h. inl (asked, ask, inl h)) told
+-- what is kept of an output that is served for the request of the words answers them
+pub answers : (words : List Text) (asked : Request) → AskFor words asked → {E : Type 0} (served : Output) → IsServedBySome asked served
+    → (r : Result Output E) → IfOk r (IsKept asked served) → IfOk r (IsAnswerTo words)
+answers words asked ask served some r kept = IfOk-weaker r _ _ (λ output h. inl (asked, ask, (served, some, h))) kept

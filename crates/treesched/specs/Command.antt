@@ -61,10 +61,18 @@ schedule = record (new_rule (codes "schedule")) {
   required = true;
 }
 
--- explore FILE --steps N [--workers W] [--states M] [--merge exact|names] [--ledger]
+-- where the book file goes
+abbrev pub book_out : Rule
+book_out = record (new_rule (codes "book")) { long = Some (codes "book"); value_names = 1 }
+
+-- the book file to check
+abbrev pub book_file : Rule
+book_file = record (new_rule (codes "book")) { value_names = 1; required = true }
+
+-- explore FILE --steps N [--workers W] [--states M] [--merge exact|names] [--ledger] [--book OUT]
 abbrev pub explore : Choices → App
-explore choices = with_rule (with_rule (with_rule (with_rule (with_rule (with_rule (new_app (codes "explore"))
-    file) steps) workers) states) (merge choices)) ledger
+explore choices = with_rule (with_rule (with_rule (with_rule (with_rule (with_rule (with_rule (new_app (codes "explore"))
+    file) steps) workers) states) (merge choices)) ledger) book_out
 
 abbrev pub IsExplore : App → Type 0
 IsExplore app = (choices : Choices) × AreMerges choices × (app ≡ explore choices)
@@ -73,14 +81,18 @@ IsExplore app = (choices : Choices) × AreMerges choices × (app ≡ explore cho
 abbrev pub replay : App
 replay = with_rule (with_rule (new_app (codes "replay")) file) schedule
 
+-- check FILE BOOK
+abbrev pub check : App
+check = with_rule (with_rule (new_app (codes "check")) file) book_file
+
 -- a command that wants one of its subcommands
 abbrev pub wanting_subcommand : App → App
 wanting_subcommand a = record a { top = record a.top { subcommand_required = true } }
 
 -- the command line of the program
 abbrev pub command_line : Choices → App
-command_line choices = with_subcommand (with_subcommand
-    (wanting_subcommand (new_app (codes "treesched"))) (explore choices).top) replay.top
+command_line choices = with_subcommand (with_subcommand (with_subcommand
+    (wanting_subcommand (new_app (codes "treesched"))) (explore choices).top) replay.top) check.top
 
 -- the command line with some list of the words for the two merges
 abbrev pub IsCommandLine : App → Type 0

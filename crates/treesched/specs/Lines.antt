@@ -14,6 +14,8 @@ use Rattle.std.specs.Option.{option_map_or}
 use Rattle.book.specs.declared.finding.Finding.{Finding}
 use Rattle.book.specs.declared.finding.Finding.TheVariants as finding
 use Rattle.book.specs.declared.book.Totals.{Totals}
+use Rattle.book.specs.declared.file.fault.CheckFault.{CheckFault}
+use Rattle.book.specs.declared.file.fault.CheckFault.TheVariants as check_fault
 use Rattle.crew.specs.declared.answer.Answer.{Answer}
 use Rattle.crew.specs.declared.answer.Answer.TheVariants as answer
 use Rattle.crew.specs.declared.answer.Share.{Share}
@@ -127,16 +129,42 @@ status_of (answer.Holds steps) = 0
 status_of (answer.Fault fault schedule) = 1
 status_of (answer.Stopped limit holds_to) = 2
 
+abbrev pub check_fault_text : CheckFault → List ℕ
+check_fault_text (check_fault.Form line) = codes "C1 at line " ++ decimal line
+check_fault_text (check_fault.Parent line) = codes "C2 at line " ++ decimal line
+check_fault_text (check_fault.Step line) = codes "C3 at line " ++ decimal line
+check_fault_text (check_fault.Fault line) = codes "C4 at line " ++ decimal line
+check_fault_text (check_fault.History line) = codes "C5 at line " ++ decimal line
+check_fault_text (check_fault.Open line) = codes "C6 at line " ++ decimal line
+check_fault_text check_fault.OutOfMemory = codes "C7"
+
+-- what is told of a book file that passes, with its number of entries
+abbrev pub passed_text : ℕ → List ℕ
+passed_text entries = codes "every schedule holds" ++ line_end ++ states_text entries
+
+-- the output is a text on the standard output alone, without a book file
+abbrev pub IsPage : ℕ → List ℕ → Output → Type 0
+IsPage status text output = (output.status ≡ status) × (string_bytes output.out ≡ text)
+    × (string_bytes output.err ≡ []) × (output.book ≡ None)
+
 -- the output tells a refusal: one line on the standard error, and nothing on the standard output
 abbrev pub IsRefusal : ℕ → List ℕ → Output → Type 0
 IsRefusal status text output = (output.status ≡ status) × (string_bytes output.out ≡ [])
-    × (string_bytes output.err ≡ codes "treesched: " ++ text ++ line_end)
+    × (string_bytes output.err ≡ codes "treesched: " ++ text ++ line_end) × (output.book ≡ None)
+
+-- the output tells that a file can't be read, or can't be written
+abbrev pub IsUnreadable : List ℕ → Output → Type 0
+IsUnreadable name output = IsRefusal 6 (codes "can't read " ++ name) output
+
+abbrev pub IsUnwritable : List ℕ → Output → Type 0
+IsUnwritable name output = IsRefusal 6 (codes "can't write " ++ name) output
 
 -- the output tells why the words make no request; want of memory has no output
 abbrev pub TellsFault : WordsFault → Output → Type 0
 TellsFault (words.Usage true text) output =
-    (output.status ≡ 0) × (output.out ≡ text) × (string_bytes output.err ≡ [])
+    (output.status ≡ 0) × (output.out ≡ text) × (string_bytes output.err ≡ []) × (output.book ≡ None)
 TellsFault (words.Usage false text) output =
-    (output.status ≡ 4) × (string_bytes output.out ≡ []) × (output.err ≡ text)
+    (output.status ≡ 4) × (string_bytes output.out ≡ []) × (output.err ≡ text) × (output.book ≡ None)
 TellsFault words.Schedule output = IsRefusal 4 (codes "bad schedule") output
+TellsFault words.BookMerge output = IsRefusal 4 (codes "--book needs --merge names") output
 TellsFault words.OutOfMemory output = ⊥

@@ -1,9 +1,9 @@
 -- What was printed.
-use Rattle.std.specs.Prelude.{◌≡◌, ◌+◌, ◌++◌, ◌⊎◌, ℕ, List, Option, codes}
+use Rattle.std.specs.Prelude.{◌≡◌, ◌+◌, ◌++◌, ◌⊎◌, ℕ, List, Option, None, IsSomeAnd, codes}
 use Rattle.std.specs.Io.KnownBytes.{Appends}
 use Rattle.std.specs.String.{string_bytes}
 use Rattle.treesched.specs.Devices.{BeginningWentOut}
-use Rattle.treesched.specs.Lines.{line_end}
+use Rattle.treesched.specs.Lines.{IsUnwritable, line_end}
 use Rattle.treesched.specs.declared.output.CountedWriter.{CountedWriter}
 use Rattle.treesched.specs.declared.serve.Output.{Output}
 
@@ -31,3 +31,9 @@ IsPrinted contents out new_out error_contents err new_err output status =
     × WasTried error_contents err new_err (string_bytes output.err) × (status ≡ output.status))
     ⊎ (WasCutOff contents out new_out (string_bytes output.out)
     × WasTried error_contents err new_err unwritable_text × (status ≡ 6))
+
+-- the text went out whole, and no refusal is told; or it was cut off, and the refusal tells it
+abbrev pub IsBookPut : {W : Type 0} → (W → Option (List ℕ)) → CountedWriter W → CountedWriter W → List ℕ → List ℕ → Option Output → Type 0
+IsBookPut contents file new_file text name refusal =
+    (WentOut contents file new_file text × (refusal ≡ None))
+    ⊎ (WasCutOff contents file new_file text × IsSomeAnd refusal (IsUnwritable name))

@@ -1,5 +1,5 @@
 -- What the words ask for, by clap's exact reading of them.
-use Rattle.std.specs.Prelude.{◌≡◌, ◌↔◌, ℕ, Bool, true, List, [], Option, Some, codes, option_map}
+use Rattle.std.specs.Prelude.{◌≡◌, ◌↔◌, ℕ, Bool, true, List, [], Option, Some, None, IfSome, codes, option_map}
 use Rattle.std.specs.Borrow.{Bor}
 use Rattle.std.specs.Str.Parse.{IsNumeral, digits_value, without_leading_plus}
 use Rattle.clap.specs.Words.{IsAmong, Row, Text, fault_of, first_of, one_of, subcommand_of}
@@ -45,17 +45,31 @@ abbrev pub HasText : List Row → Text → Type 0
 HasText rows id = (text : Text) × (first_of id rows ≡ Some text)
 
 abbrev pub file_of : Request → Text
-file_of (request.Explore file options ledger) = file.now
+file_of (request.Explore file options ledger book) = file.now
 file_of (request.Replay file schedule) = file.now
+file_of (request.Check file book) = file.now
 
--- the request is that of the subcommand with these matches
+-- the book file to check
+abbrev pub book_of : Request → Option Text
+book_of (request.Check file book) = Some book.now
+book_of _ = None
+
+-- the file that the book is written to
+abbrev pub out_of : Request → Option Text
+out_of (request.Explore file options ledger book) = text_of book
+out_of _ = None
+
+-- the request is that of the subcommand with these matches; a book file is asked for with merging by names alone
 abbrev pub IsRequestOf : Text → List Row → Request → Type 0
-IsRequestOf name rows (request.Explore file options ledger) = (name ≡ codes "explore")
+IsRequestOf name rows (request.Explore file options ledger book) = (name ≡ codes "explore")
     × (first_of (codes "file") rows ≡ Some file.now) × OptionsAre rows options
     × (ledger ≡ true ↔ IsUsed rows (codes "ledger"))
+    × (text_of book ≡ first_of (codes "book") rows) × IfSome book (λ _. options.merge ≡ merge.Names)
 IsRequestOf name rows (request.Replay file schedule) = (name ≡ codes "replay")
     × (first_of (codes "file") rows ≡ Some file.now)
     × ((text : Text) × (first_of (codes "schedule") rows ≡ Some text) × IsSchedule text schedule.items)
+IsRequestOf name rows (request.Check file book) = (name ≡ codes "check")
+    × (first_of (codes "file") rows ≡ Some file.now) × (first_of (codes "book") rows ≡ Some book.now)
 
 -- clap takes the words, and its exact reading of them is this subcommand with these matches
 abbrev pub AreRead : List Text → Text → List Row → Type 0
@@ -66,10 +80,22 @@ AreRead words name rows = (choices : Choices) × AreMerges choices × (fault_of 
 abbrev pub AskFor : List Text → Request → Type 0
 AskFor words r = (name : Text) × ((rows : List Row) × (AreRead words name rows × IsRequestOf name rows r))
 
+-- a schedule is asked for that is none
+abbrev pub IsBadSchedule : List Row → Type 0
+IsBadSchedule rows = (text : Text) × (first_of (codes "schedule") rows ≡ Some text)
+    × ((threads : List ℕ) → IsSchedule text threads → ⊥)
+
+-- a book file is asked for with exact merging
+abbrev pub IsBadBook : List Row → Type 0
+IsBadBook rows = HasText rows (codes "book") × MergeIs rows merge.Exact
+
 -- the words ask for a replay of what is no schedule
 abbrev pub HaveBadSchedule : List Text → Type 0
-HaveBadSchedule words = (rows : List Row) × ((text : Text) × (AreRead words (codes "replay") rows
-    × (first_of (codes "schedule") rows ≡ Some text) × ((threads : List ℕ) → IsSchedule text threads → ⊥)))
+HaveBadSchedule words = (rows : List Row) × (AreRead words (codes "replay") rows × IsBadSchedule rows)
+
+-- the words ask for a book file with exact merging
+abbrev pub HaveBadBook : List Text → Type 0
+HaveBadBook words = (rows : List Row) × (AreRead words (codes "explore") rows × IsBadBook rows)
 
 -- clap finds a fault in the words, which is a call for help or not
 abbrev pub HaveFault : List Text → Bool → Type 0
@@ -80,17 +106,19 @@ HaveFault words help = (choices : Choices) × AreMerges choices
 abbrev pub AreRefused : List Text → WordsFault → Type 0
 AreRefused words (fault.Usage help text) = HaveFault words help
 AreRefused words fault.Schedule = HaveBadSchedule words
+AreRefused words fault.BookMerge = HaveBadBook words
 AreRefused words fault.OutOfMemory = Unit {0}
 
--- why the matches of `replay` make no request
-abbrev pub IsFaultOf : List Row → WordsFault → Type 0
-IsFaultOf rows (fault.Usage help text) = ⊥
-IsFaultOf rows fault.Schedule = (text : Text) × (first_of (codes "schedule") rows ≡ Some text)
-    × ((threads : List ℕ) → IsSchedule text threads → ⊥)
-IsFaultOf rows fault.OutOfMemory = Unit {0}
+-- why the matches of a subcommand make no request
+abbrev pub IsFaultOf : Text → List Row → WordsFault → Type 0
+IsFaultOf name rows (fault.Usage help text) = ⊥
+IsFaultOf name rows fault.Schedule = (name ≡ codes "replay") × IsBadSchedule rows
+IsFaultOf name rows fault.BookMerge = (name ≡ codes "explore") × IsBadBook rows
+IsFaultOf name rows fault.OutOfMemory = Unit {0}
 
 -- the fault tells an error of clap's of this kind
 abbrev pub Tells : ErrorKind → WordsFault → Type 0
 Tells kind (fault.Usage help text) = help ≡ true ↔ kind ≡ DisplayHelp
 Tells kind fault.Schedule = ⊥
+Tells kind fault.BookMerge = ⊥
 Tells kind fault.OutOfMemory = Unit {0}

@@ -94,6 +94,25 @@ fn schedule<'a>(alloc: Global) -> Arg<'a>
         .help("The thread of each step, single digits with commas between them, at most 400")
 }
 
+fn book_out<'a>(alloc: Global) -> Arg<'a>
+    ensures rule { rule_of result ≡ line.book_out }
+    ensures local { result.global ≡ false }
+{
+    Arg::new(alloc, "book").long("book").value_name("OUT").help(
+        "Writes the book file to OUT, over what stands there, if the answer is for every schedule; needs --merge names",
+    )
+}
+
+fn book_file<'a>(alloc: Global) -> Arg<'a>
+    ensures rule { rule_of result ≡ line.book_file }
+    ensures local { result.global ≡ false }
+{
+    Arg::new(alloc, "book")
+        .value_name("BOOK")
+        .required(true)
+        .help("The book file, whoever wrote it (docs/FORMATS.md)")
+}
+
 fn explore<'a>(alloc: Global) -> Result<Command<'a>, AllocError>
     ensures app { IfOk result (λ c. line.IsExplore (app_of c)) }
     ensures local { IfOk result (λ c. (fields_of c).has_globals ≡ false) }
@@ -105,7 +124,8 @@ fn explore<'a>(alloc: Global) -> Result<Command<'a>, AllocError>
         .arg(workers(alloc))?
         .arg(states(alloc))?
         .arg(merge(alloc))?
-        .arg(ledger(alloc))
+        .arg(ledger(alloc))?
+        .arg(book_out(alloc))
 }
 
 fn replay<'a>(alloc: Global) -> Result<Command<'a>, AllocError>
@@ -116,6 +136,16 @@ fn replay<'a>(alloc: Global) -> Result<Command<'a>, AllocError>
         .about("Replays one schedule of the program in FILE")
         .arg(file(alloc))?
         .arg(schedule(alloc))
+}
+
+fn check<'a>(alloc: Global) -> Result<Command<'a>, AllocError>
+    ensures app { IfOk result (λ c. app_of c ≡ line.check) }
+    ensures local { IfOk result (λ c. (fields_of c).has_globals ≡ false) }
+{
+    Command::new(alloc, "check")
+        .about("Checks that a book file shows every schedule of the program in FILE correct")
+        .arg(file(alloc))?
+        .arg(book_file(alloc))
 }
 
 /// The command `treesched` with its subcommands.
@@ -130,5 +160,6 @@ pub fn treesched_command<'a>(alloc: Global) -> Result<Command<'a>, AllocError>
         .after_help(EXAMPLE)
         .subcommand_required(true)
         .subcommand(explore(alloc)?)?
-        .subcommand(replay(alloc)?)
+        .subcommand(replay(alloc)?)?
+        .subcommand(check(alloc)?)
 }

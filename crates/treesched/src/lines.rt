@@ -154,6 +154,14 @@ fn put_states(page: &mut String, states: usize) -> Result<(), OutOfMemory>
     writeln!(page, "states {states}")
 }
 
+/// What is told of a book file of so many entries that passes.
+pub fn put_passed(page: &mut String, entries: usize) -> Result<(), OutOfMemory>
+    ensures { IfOk result (λ _. string_bytes page.new ≡ string_bytes page.old ++ lines.passed_text entries) }
+{
+    writeln!(page, "every schedule holds")?;
+    put_states(page, entries)
+}
+
 /// The answer of an exploration that met so many states.
 fn put_answer(page: &mut String, states: usize, answer: &Answer) -> Result<(), OutOfMemory>
     ensures { IfOk result (λ _. string_bytes page.new ≡ string_bytes page.old ++ lines.answer_text states answer.now) }

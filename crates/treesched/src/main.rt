@@ -1,23 +1,24 @@
 //! The program `treesched`: reads its words, opens the files, and prints what `serve` answers.
 #![tactic(auto)]
 
-ghost use Rattle.std.specs.Prelude.{◌≡◌, ◌-◌, ◌<◌, ◌^◌, List, IfOk, codes, map};
-ghost use Rattle.clap.specs.Walk.{Text};
-ghost use Rattle.treesched.specs.Lines.{IsRefusal};
-ghost use Rattle.treesched.specs.Printing.{IsPrinted, WasTried};
-ghost use Rattle.treesched.specs.Serving.{IsAnswerTo};
+ghost use Rattle.std.specs.Prelude.{◌≡◌, ◌-◌, ◌<◌, ◌^◌, IfOk, map};
+ghost use Rattle.treesched.specs.Printing.{IsBookPut, IsPrinted, WasTried};
+ghost use Rattle.treesched.specs.Serving.{IsAnswerTo, IsKept, IsServedBySome};
 
 mod command;
 mod lines;
 mod output;
+mod refusals;
 mod request;
 mod schedule;
 mod serve;
 
 use crate::output::{CountedWriter, put_all};
-use crate::request::read_words;
-use crate::serve::{Output, refusal, refused, serve};
+use crate::refusals::{refusal, refused, unwritable};
+use crate::request::{Request, read_words};
+use crate::serve::{Output, serve};
 use sched_program::{Counted, OutOfMemory};
+use std::alloc::Global;
 use std::env::Env;
 use std::fs::{File, Files};
 use std::io;
@@ -52,6 +53,77 @@ fn print<O: Write, E: Write>(
     output.status
 }
 
+/// The book file to check, if the request is to check one and it can be opened.
+fn open_book<R: Files>(rt: &R, request: &Request<'_>) -> Option<R::File> {
+    match request.book() {
+        Some(name) => File::open(rt, name).ok(),
+        None => None,
+    }
+}
+
+/// The output for a request, once its files are opened.
+fn serve_files<R: AllocGlobal + Files + Sync + Threads + Wait>(
+    rt: &R,
+    request: &Request<'_>,
+) -> Result<Output, OutOfMemory>
+    ensures { IfOk result (IsServedBySome request.now) }
+{
+    let Ok(file) = File::open(rt, request.file()) else {
+        return serve::<R, File, File>(rt, rt.alloc(), request, None, None);
+    };
+    let mut file = Counted::new(file);
+    let Some(book) = open_book(rt, request) else {
+        return serve::<R, R::File, File>(rt, rt.alloc(), request, Some(&mut file), None);
+    };
+    let mut book = Counted::new(book);
+    serve(rt, rt.alloc(), request, Some(&mut file), Some(&mut book))
+}
+
+/// Writes the text of a book file. The output that tells it where that fails.
+fn put_book<W: Write>(
+    alloc: Global,
+    file: &mut CountedWriter<W>,
+    name: &str,
+    text: &[u8],
+) -> Result<Option<Output>, OutOfMemory>
+    requires { file.old.failures < 2 ^ 64 - 1 }
+    ensures { IfOk result (IsBookPut W.contents file.old file.new text.now name.now) }
+{
+    match put_all(file, text) {
+        Ok(()) => Ok(None),
+        Err(_) => Ok(Some(unwritable(alloc, name)?)),
+    }
+}
+
+/// Writes the output's book file, if it has one, over what stands in the file that the request names. The output, or the
+/// one that tells where that fails.
+fn kept<R: AllocGlobal + Files>(
+    rt: &R,
+    request: &Request<'_>,
+    output: Output,
+) -> Result<Output, OutOfMemory>
+    ensures { IfOk result (IsKept request.now output) }
+{
+    let Some(name) = request.out() else {
+        return Ok(output);
+    };
+    let Some(text) = &output.book else {
+        return Ok(output);
+    };
+    let Ok(file) = File::create(rt, name) else {
+        return unwritable(rt.alloc(), name);
+    };
+    match put_book(
+        rt.alloc(),
+        &mut CountedWriter::new(file),
+        name,
+        text.as_slice(),
+    )? {
+        Some(refusal) => Ok(refusal),
+        None => Ok(output),
+    }
+}
+
 /// The output for these words, of which the first is the program's name.
 fn answer<R: AllocGlobal + Files + Sync + Threads + Wait>(
     rt: &R,
@@ -60,10 +132,10 @@ fn answer<R: AllocGlobal + Files + Sync + Threads + Wait>(
     ensures { IfOk result (IsAnswerTo (map (λ s. s.now) words.now)) }
 {
     match read_words(rt.alloc(), words) {
-        Ok(request) => match File::open(rt, request.file()) {
-            Ok(file) => serve(rt, rt.alloc(), &request, Some(&mut Counted::new(file))),
-            Err(_) => serve::<R, File>(rt, rt.alloc(), &request, None),
-        },
+        Ok(request) => {
+            let output = serve_files(rt, &request)?;
+            kept(rt, &request, output)
+        }
         Err(fault) => refused(rt.alloc(), fault),
     }
 }

@@ -4,8 +4,8 @@ ghost use Rattle.clap.specs.Words.{first_of, found_of, kind_of, rows_of};
 ghost use Rattle.clap.specs.declared.error.kind.ErrorKind.TheVariants as kind;
 ghost use Rattle.book.specs.declared.book.Merge.{Merge};
 ghost use Rattle.crew.specs.Settings.{Settings};
-ghost use Rattle.treesched.specs.Reading.{AreRefused, AskFor, file_of, HasText, IsFaultOf, IsRequestOf, IsUsed};
-ghost use Rattle.treesched.specs.Reading.{MergeIs, NumberIs, OptionsAre, Tells, text_of};
+ghost use Rattle.treesched.specs.Reading.{AreRefused, AskFor, book_of, file_of, HasText, IsFaultOf, IsRequestOf, IsUsed};
+ghost use Rattle.treesched.specs.Reading.{MergeIs, NumberIs, OptionsAre, out_of, Tells, text_of};
 ghost use Rattle.treesched.specs.declared.request.WordsFault.TheVariants as fault;
 
 use crate::command::treesched_command;
@@ -27,6 +27,8 @@ pub enum Request<'a> {
         options: Options,
         /// Whether the workers' counts are printed.
         ledger: bool,
+        /// The file that the book is written to, where every schedule holds.
+        book: Option<&'a str>,
     },
     /// Replay a schedule of the program of a file.
     Replay {
@@ -34,6 +36,13 @@ pub enum Request<'a> {
         file: &'a str,
         /// The threads of the steps.
         schedule: Vec<u8>,
+    },
+    /// Check a book file against the program of a file.
+    Check {
+        /// The file of the program.
+        file: &'a str,
+        /// The book file.
+        book: &'a str,
     },
 }
 
@@ -45,6 +54,27 @@ impl<'a> Request<'a> {
         match self {
             Request::Explore { file, .. } => *file,
             Request::Replay { file, .. } => *file,
+            Request::Check { file, .. } => *file,
+        }
+    }
+
+    /// The book file to check, if the request is to check one.
+    pub fn book(&self) -> Option<&'a str>
+        ensures { text_of result ≡ book_of self.now }
+    {
+        match self {
+            Request::Check { book, .. } => Some(*book),
+            _ => None,
+        }
+    }
+
+    /// The file that the book is written to, if the request asks for one.
+    pub fn out(&self) -> Option<&'a str>
+        ensures { text_of result ≡ out_of self.now }
+    {
+        match self {
+            Request::Explore { book, .. } => *book,
+            _ => None,
         }
     }
 }
@@ -61,6 +91,8 @@ pub enum WordsFault {
     },
     /// The schedule is no list of single digits.
     Schedule,
+    /// A book file is asked for, and states are not merged by names.
+    BookMerge,
     /// Memory ran out.
     OutOfMemory,
 }
@@ -138,10 +170,11 @@ fn options_of(matches: &ArgMatches<'_>) -> Option<Options>
 }
 
 /// The request of `explore`, whose arguments have values in range.
-fn explore_of<'a>(matches: &ArgMatches<'a>) -> Request<'a>
+fn explore_of<'a>(matches: &ArgMatches<'a>) -> Result<Request<'a>, WordsFault>
     requires file { HasText (rows_of (found_of matches.now)) (codes "file") }
     requires options { (settings : Settings) × OptionsAre (rows_of (found_of matches.now)) settings }
-    ensures { IsRequestOf (codes "explore") (rows_of (found_of matches.now)) result }
+    ensures { let rows = rows_of (found_of matches.now) in
+        MatchResult result (IsRequestOf (codes "explore") rows) (IsFaultOf (codes "explore") rows) }
 {
     let Some(file) = text(matches, "file") else {
         unreachable!()
@@ -150,11 +183,16 @@ fn explore_of<'a>(matches: &ArgMatches<'a>) -> Request<'a>
         unreachable!()
     };
     let ledger = flag(matches, "ledger");
-    Request::Explore {
+    let book = text(matches, "book");
+    if book.is_some() && options.merge() == Merge::Exact {
+        return Err(WordsFault::BookMerge);
+    }
+    Ok(Request::Explore {
         file,
         options,
         ledger,
-    }
+        book,
+    })
 }
 
 /// The request of `replay`, whose arguments have values.
@@ -162,7 +200,7 @@ fn replay_of<'a>(alloc: Global, matches: &ArgMatches<'a>) -> Result<Request<'a>,
     requires file { HasText (rows_of (found_of matches.now)) (codes "file") }
     requires schedule { HasText (rows_of (found_of matches.now)) (codes "schedule") }
     ensures { let rows = rows_of (found_of matches.now) in
-        MatchResult result (IsRequestOf (codes "replay") rows) (IsFaultOf rows) }
+        MatchResult result (IsRequestOf (codes "replay") rows) (IsFaultOf (codes "replay") rows) }
 {
     let Some(file) = text(matches, "file") else {
         unreachable!()
@@ -176,12 +214,28 @@ fn replay_of<'a>(alloc: Global, matches: &ArgMatches<'a>) -> Result<Request<'a>,
     }
 }
 
+/// The request of `check`, whose arguments have values.
+fn check_of<'a>(matches: &ArgMatches<'a>) -> Request<'a>
+    requires file { HasText (rows_of (found_of matches.now)) (codes "file") }
+    requires book { HasText (rows_of (found_of matches.now)) (codes "book") }
+    ensures { IsRequestOf (codes "check") (rows_of (found_of matches.now)) result }
+{
+    let Some(file) = text(matches, "file") else {
+        unreachable!()
+    };
+    let Some(book) = text(matches, "book") else {
+        unreachable!()
+    };
+    Request::Check { file, book }
+}
+
 /// The request that the words make by the exact reading of `clap`. The first word is the program's
 /// name.
 ///
 /// # Errors
 /// `Usage` exactly where `clap` refuses the words or finds a call for help, `Schedule` where the words ask for
-/// a replay of what is no schedule, and `OutOfMemory`, which may come at any point.
+/// a replay of what is no schedule, `BookMerge` where they ask for a book file with exact merging, and `OutOfMemory`,
+/// which may come at any point.
 pub fn read_words<'a>(alloc: Global, words: &'a [&'a str]) -> Result<Request<'a>, WordsFault>
     ensures { let texts = map (λ s. s.now) words.entry.now in
         MatchResult result (AskFor texts) (AreRefused texts) }
@@ -195,8 +249,9 @@ pub fn read_words<'a>(alloc: Global, words: &'a [&'a str]) -> Result<Request<'a>
         unreachable!()
     };
     match name {
-        "explore" => Ok(explore_of(inner)),
+        "explore" => explore_of(inner),
         "replay" => replay_of(alloc, inner),
+        "check" => Ok(check_of(inner)),
         _ => unreachable!(),
     }
 }

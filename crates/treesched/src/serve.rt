@@ -1,22 +1,24 @@
 //! The answer to a request: the status and all that is to be written.
-ghost use Rattle.std.specs.Prelude.{◌≡◌, ◌≢◌, ◌-◌, ◌^◌, ◌<◌, ◌++◌, ◌⊎◌, [], codes, IfOk, IfSome, if◌then◌else◌};
-ghost use Rattle.std.specs.String.{string_bytes};
-ghost use Rattle.std.specs.Prelude.{MatchOption};
+ghost use Rattle.std.specs.Prelude.{◌≡◌, ◌-◌, ◌^◌, ◌<◌, ◌⊎◌, IfOk, IfSome, None, MatchOption, if◌then◌else◌, length};
 ghost use Rattle.std.specs.Cmp.{IsEquivalence};
+ghost use Rattle.std.specs.String.{string_bytes};
 ghost use Rattle.sched_program.specs.Exact.{IsExact};
 ghost use Rattle.book.specs.Books.{counted_as_one};
+ghost use Rattle.book.specs.Closed.{AreSound, IsClosed};
 ghost use Rattle.book.specs.Findings.{is_sound};
 ghost use Rattle.treesched.specs.Devices.{LeavesBehind};
 ghost use Rattle.treesched.specs.Lines as lines;
-ghost use Rattle.treesched.specs.Serving.{CountsAsOne, IsAnswered, IsAnsweredBy, IsExplored, IsReplayed, IsServedFrom, IsStuck, IsUnread};
+ghost use Rattle.treesched.specs.Serving.{CountsAsOne, IsAnswered, IsAnsweredBy, IsAsked, IsBookDue, IsBookRead, IsChecked};
+ghost use Rattle.treesched.specs.Serving.{IsExplored, IsReplayed, IsServed, IsServedFrom, IsStuck, IsUnopened};
 
-use crate::lines::{put_operations, put_report, put_verdict};
-use crate::request::{Request, WordsFault};
-use book::{Finding, Merge, ReplayFault, replay};
-use crew::{Answer, Open, Options, explore};
+use crate::lines::{put_operations, put_passed, put_report, put_verdict};
+use crate::refusals::{book_refused, no_step, not_loaded, unreadable};
+use crate::request::Request;
+use book::{Finding, Merge, ReplayFault, check_book, replay};
+use crew::{Answer, Open, Options, Report, explore};
 use ellen::Ellen;
 use natmit::NatMit;
-use sched_program::{Counted, Exact, LoadFault, OutOfMemory, Program, ProgramFault, Tree};
+use sched_program::{Counted, Exact, OutOfMemory, Program, ReadFault, Tree};
 use std::alloc::Global;
 use std::io::Read;
 use std::mem::forget;
@@ -33,84 +35,30 @@ pub struct Output {
     pub out: String,
     /// The text of the standard error.
     pub err: String,
+    /// The text of the book file, where one is due.
+    pub book: Option<Vec<u8>>,
 }
 
-/// The output of a refusal: nothing on the standard output, and one line on the standard error.
-pub fn refusal(alloc: Global, status: u8, text: &str) -> Result<Output, OutOfMemory>
-    ensures { IfOk result (lines.IsRefusal status text.now) }
+/// What came of the book file to check.
+#[derive(Debug, Drop)]
+pub enum BookRead {
+    /// The request is to check none, or FILE gave no program.
+    NotAsked,
+    /// It could not be opened, or a read failed.
+    Unreadable,
+    /// All its bytes.
+    Read(Vec<u8>),
+}
+
+/// The output that is a text on the standard output alone.
+fn page(alloc: Global, status: u8, out: String) -> Output
+    ensures { lines.IsPage status (string_bytes out) result }
 {
-    let err = format!(in alloc; "treesched: {text}\n")?;
-    Ok(Output {
+    Output {
         status,
-        out: String::new(alloc),
-        err,
-    })
-}
-
-/// The output for words that make no request: help goes to the standard output, and all else to the standard error.
-///
-/// # Errors
-/// Memory ran out, now or when the words were read.
-pub fn refused(alloc: Global, fault: WordsFault) -> Result<Output, OutOfMemory>
-    ensures { IfOk result (lines.TellsFault fault) }
-{
-    match fault {
-        WordsFault::Usage { help: true, text } => Ok(Output {
-            status: 0,
-            out: text,
-            err: String::new(alloc),
-        }),
-        WordsFault::Usage { help: false, text } => Ok(Output {
-            status: 4,
-            out: String::new(alloc),
-            err: text,
-        }),
-        WordsFault::Schedule => refusal(alloc, 4, "bad schedule"),
-        WordsFault::OutOfMemory => Err(std::alloc::AllocError),
-    }
-}
-
-fn unreadable(alloc: Global, name: &str) -> Result<Output, OutOfMemory>
-    ensures { IfOk result (lines.IsRefusal 6 (codes "can't read " ++ name.now)) }
-{
-    let text = format!(in alloc; "can't read {name}")?;
-    refusal(alloc, 6, text.as_str())
-}
-
-fn no_step(alloc: Global, step: usize, thread: u8) -> Result<Output, OutOfMemory>
-    ensures { IfOk result (lines.IsRefusal 4 (lines.no_step_text step thread)) }
-{
-    let text = format!(in alloc; "step {step}: thread {thread} has no step")?;
-    refusal(alloc, 4, text.as_str())
-}
-
-/// The number and the name of a fault of a program, as `Display` shows them.
-pub fn fault_text(fault: ProgramFault) -> &'static str
-    ensures { result.now ≡ lines.fault_text fault }
-{
-    match fault {
-        ProgramFault::NotJson => "P1 NotJson",
-        ProgramFault::NotObject => "P2 NotObject",
-        ProgramFault::Version => "P3 Version",
-        ProgramFault::Tree => "P4 Tree",
-        ProgramFault::Initial => "P5 Initial",
-        ProgramFault::InitialTwice => "P6 InitialTwice",
-        ProgramFault::Threads => "P7 Threads",
-        ProgramFault::Ops => "P8 Ops",
-        ProgramFault::Op => "P9 Op",
-        ProgramFault::Key => "P10 Key",
-        ProgramFault::OutOfMemory => "P11 OutOfMemory",
-        ProgramFault::After => "P12 After",
-    }
-}
-
-/// The refusal of a text that is no program.
-fn no_program(alloc: Global, fault: ProgramFault) -> Result<Output, OutOfMemory>
-    ensures { IfOk result (λ output. (fault ≢ ProgramFault.OutOfMemory) × lines.IsRefusal 3 (lines.fault_text fault) output) }
-{
-    match fault {
-        ProgramFault::OutOfMemory => Err(OutOfMemory),
-        fault => refusal(alloc, 3, fault_text(fault)),
+        out,
+        err: String::new(alloc),
+        book: None,
     }
 }
 
@@ -143,6 +91,24 @@ fn counts_as_one<M: Machine>(machine: M, program: &Program, merge: Merge)
     tests_equality::<StateForm<M>>();
 }
 
+/// The text of the book, where it is asked for and the answer is for every schedule.
+fn due_book<M: Machine>(
+    alloc: Global,
+    report: &Report<M>,
+    is_asked: bool,
+) -> Result<Option<Vec<u8>>, OutOfMemory>
+    requires { report.now.answer ≡ Answer.Every → IsClosed report.now.book × AreSound report.now.book.entries }
+    ensures { IfOk result (IsBookDue M M.Form (M.rules report.now.book.machine) report.now.book.program is_asked report.now.answer (length report.now.book.entries)) }
+{
+    if !is_asked {
+        return Ok(None);
+    }
+    match report.answer {
+        Answer::Every => report.book.to_text(alloc),
+        _ => Ok(None),
+    }
+}
+
 /// Explores the schedules of a program.
 fn explored<M: Machine, R: Threads + Wait + Sync>(
     rt: &R,
@@ -151,11 +117,13 @@ fn explored<M: Machine, R: Threads + Wait + Sync>(
     program: &Program,
     options: Options,
     ledger: bool,
+    asks_book: bool,
 ) -> Result<Output, OutOfMemory>
-    ensures { IfOk result (IsExplored M M.Form (M.rules machine) program.now options ledger) }
+    ensures { IfOk result (IsExplored M M.Form (M.rules machine) program.now options ledger asks_book) }
 {
     counts_as_one::<M>(machine, program, options.merge());
     let report = explore(rt, alloc, machine, program, options, &Open)?;
+    let book = due_book(alloc, &report, asks_book)?;
     let mut out = String::new(alloc);
     put_report(&mut out, ledger, &report)?;
     let status = status_of(&report.answer);
@@ -165,6 +133,7 @@ fn explored<M: Machine, R: Threads + Wait + Sync>(
         status,
         out,
         err: String::new(alloc),
+        book,
     })
 }
 
@@ -194,11 +163,26 @@ fn replayed<M: Machine>(
     let mut out = String::new(alloc);
     put_operations(&mut out, program, &history)?;
     put_verdict(&mut out, &last.finding)?;
-    Ok(Output {
-        status: status_of_finding(&last.finding),
-        out,
-        err: String::new(alloc),
-    })
+    Ok(page(alloc, status_of_finding(&last.finding), out))
+}
+
+/// Checks the bytes of a book file against a program.
+fn checked<M: Machine>(
+    alloc: Global,
+    machine: M,
+    program: &Program,
+    bytes: &[u8],
+) -> Result<Output, OutOfMemory>
+    ensures { IfOk result (IsChecked M M.Form (M.rules machine) program.now bytes.now) }
+{
+    match check_book(alloc, machine, program, bytes) {
+        Ok(entries) => {
+            let mut out = String::new(alloc);
+            put_passed(&mut out, entries)?;
+            Ok(page(alloc, 0, out))
+        }
+        Err(fault) => book_refused(alloc, fault),
+    }
 }
 
 /// Answers the request on a machine.
@@ -207,17 +191,31 @@ fn answered<M: Machine, R: Threads + Wait + Sync>(
     alloc: Global,
     machine: M,
     program: &Program,
+    book: &BookRead,
     request: &Request<'_>,
 ) -> Result<Output, OutOfMemory>
-    ensures { IfOk result (IsAnswered M M.Form (M.rules machine) program.now request.now) }
+    ensures { IfOk result (IsAnswered M M.Form (M.rules machine) program.now book.now request.now) }
 {
     match request {
         Request::Explore {
             options,
             ledger,
+            book,
             ..
-        } => explored(rt, alloc, machine, program, *options, *ledger),
+        } => explored(
+            rt,
+            alloc,
+            machine,
+            program,
+            *options,
+            *ledger,
+            book.is_some(),
+        ),
         Request::Replay { schedule, .. } => replayed(alloc, machine, program, schedule.as_slice()),
+        Request::Check { book: name, .. } => match book {
+            BookRead::Read(bytes) => checked(alloc, machine, program, bytes.as_slice()),
+            _ => unreadable(alloc, name),
+        },
     }
 }
 
@@ -226,12 +224,13 @@ fn served<R: Threads + Wait + Sync>(
     rt: &R,
     alloc: Global,
     program: &Program,
+    book: &BookRead,
     request: &Request<'_>,
 ) -> Result<Output, OutOfMemory>
-    ensures { IfOk result (IsAnsweredBy program.now.tree program.now request.now) }
+    ensures { IfOk result (IsAnsweredBy program.now.tree program.now book.now request.now) }
 {
     match program.tree() {
-        Tree::Atomic => answered(rt, alloc, Atomic, program, request),
+        Tree::Atomic => answered(rt, alloc, Atomic, program, book, request),
         Tree::Ellen => answered(
             rt,
             alloc,
@@ -240,6 +239,7 @@ fn served<R: Threads + Wait + Sync>(
                 iflag: true,
             },
             program,
+            book,
             request,
         ),
         Tree::EllenNoMark => answered(
@@ -250,6 +250,7 @@ fn served<R: Threads + Wait + Sync>(
                 iflag: true,
             },
             program,
+            book,
             request,
         ),
         Tree::EllenNoIflag => answered(
@@ -260,48 +261,108 @@ fn served<R: Threads + Wait + Sync>(
                 iflag: false,
             },
             program,
+            book,
             request,
         ),
-        Tree::Nm => answered(rt, alloc, NatMit { tag: true }, program, request),
-        Tree::NmNoTag => answered(rt, alloc, NatMit { tag: false }, program, request),
+        Tree::Nm => answered(rt, alloc, NatMit { tag: true }, program, book, request),
+        Tree::NmNoTag => answered(rt, alloc, NatMit { tag: false }, program, book, request),
     }
 }
 
-/// Answers the request for what the reader gives.
-fn served_from<R: Threads + Wait + Sync, F: Read>(
+/// Reads the book file, if the request is to check one.
+fn read_book<B: Read>(
+    alloc: Global,
+    request: &Request<'_>,
+    book: &mut Counted<B>,
+) -> Result<BookRead, OutOfMemory>
+    requires { book.old.failures < 2 ^ 64 - 1 }
+    ensures asked { IfOk result (IsAsked request.now) }
+    ensures read { IfOk result (IsBookRead B.remaining book.old book.new) }
+{
+    if request.book().is_none() {
+        return Ok(BookRead::NotAsked);
+    }
+    match book.read_all(alloc) {
+        Ok(bytes) => Ok(BookRead::Read(bytes)),
+        Err(ReadFault::Device) => Ok(BookRead::Unreadable),
+        Err(ReadFault::OutOfMemory) => Err(OutOfMemory),
+    }
+}
+
+/// What comes of a book file that could not be opened.
+fn unopened(request: &Request<'_>) -> BookRead
+    ensures asked { IsAsked request.now result }
+    ensures unopened { IsUnopened result }
+{
+    if request.book().is_some() {
+        BookRead::Unreadable
+    } else {
+        BookRead::NotAsked
+    }
+}
+
+/// Answers the request for what the readers of FILE and of the book file give.
+fn served_from<R: Threads + Wait + Sync, F: Read, B: Read>(
     rt: &R,
     alloc: Global,
     request: &Request<'_>,
-    reader: &mut Counted<F>,
+    file: &mut Counted<F>,
+    book: &mut Counted<B>,
 ) -> Result<Output, OutOfMemory>
-    requires { reader.old.failures < 2 ^ 64 - 1 }
-    ensures { IfOk result (IsServedFrom F.remaining reader.old reader.new request.now) }
+    requires file { file.old.failures < 2 ^ 64 - 1 }
+    requires book { book.old.failures < 2 ^ 64 - 1 }
+    ensures { IfOk result (IsServedFrom F.remaining file.old file.new (IsBookRead B.remaining book.old book.new) request.now) }
 {
-    match Program::from_reader(alloc, reader) {
-        Ok(program) => served(rt, alloc, &program, request),
-        Err(LoadFault::Device) => unreadable(alloc, request.file()),
-        Err(LoadFault::Program(fault)) => no_program(alloc, fault),
+    match Program::from_reader(alloc, file) {
+        Ok(program) => {
+            let read = read_book(alloc, request, book)?;
+            served(rt, alloc, &program, &read, request)
+        }
+        Err(fault) => not_loaded(alloc, request, fault),
     }
 }
 
-/// Answers the request. That the file can't be read is told exactly where a read failed, as the reader counts it. A
-/// reader that is none stands for a file that could not be opened, which is told as a failed read. The runtime is for
-/// the workers of an exploration, which are joined before the answer. Nothing is written: the output has all text.
+/// Answers the request for what the reader of FILE gives, where no book file was opened.
+fn served_alone<R: Threads + Wait + Sync, F: Read>(
+    rt: &R,
+    alloc: Global,
+    request: &Request<'_>,
+    file: &mut Counted<F>,
+) -> Result<Output, OutOfMemory>
+    requires { file.old.failures < 2 ^ 64 - 1 }
+    ensures { IfOk result (IsServedFrom F.remaining file.old file.new IsUnopened request.now) }
+{
+    match Program::from_reader(alloc, file) {
+        Ok(program) => served(rt, alloc, &program, &unopened(request), request),
+        Err(fault) => not_loaded(alloc, request, fault),
+    }
+}
+
+/// Answers the request. That a file can't be read is told exactly where a read failed, as its reader counts it; the book
+/// file is read once FILE gave a program, and only to be checked. A reader that is none stands for a file that could not
+/// be opened, which is told as a failed read where it would be read. The runtime is for the workers of an exploration,
+/// which are joined before the answer. Nothing is written: the output has all text, and the book file's.
 ///
 /// # Errors
 /// Memory ran out.
-pub fn serve<R: Threads + Wait + Sync, F: Read>(
+pub fn serve<R: Threads + Wait + Sync, F: Read, B: Read>(
     rt: &R,
     alloc: Global,
     request: &Request<'_>,
     file: Option<&mut Counted<F>>,
+    book: Option<&mut Counted<B>>,
 ) -> Result<Output, OutOfMemory>
-    requires { IfSome file (λ reader. reader.now.failures < 2 ^ 64 - 1) }
-    ensures { IfOk result (λ output. MatchOption file.entry (IsUnread request.now output)
-        (λ reader. LeavesBehind (λ after. IsServedFrom F.remaining reader.now after request.now output) file.exit)) }
+    requires file { IfSome file (λ reader. reader.now.failures < 2 ^ 64 - 1) }
+    requires book { IfSome book (λ reader. reader.now.failures < 2 ^ 64 - 1) }
+    ensures { IfOk result (λ output. MatchOption file.entry (IsServed None BookRead.NotAsked request.now output)
+        (λ reader. LeavesBehind (λ after. MatchOption book.entry (IsServedFrom F.remaining reader.now after IsUnopened request.now output)
+        (λ reading. LeavesBehind (λ read. IsServedFrom F.remaining reader.now after (IsBookRead B.remaining reading.now read) request.now output) book.exit)) file.exit)) }
 {
-    match file {
-        Some(reader) => served_from(rt, alloc, request, reader),
-        None => unreadable(alloc, request.file()),
-    }
+    let Some(file) = file else {
+        return unreadable(alloc, request.file());
+    };
+    let Some(book) = book else {
+        return served_alone(rt, alloc, request, file);
+    };
+    served_from(rt, alloc, request, file, book)
 }

@@ -2,6 +2,7 @@
 //! more where memory was refused, and fails where it is refused again.
 
 mod answers;
+mod books;
 mod cases;
 mod devices;
 mod exploring;

@@ -1,11 +1,7 @@
 use Rattle.std.proofs.Common.{map}
-use Rattle.treesched.proofs.Servings.{answers, unread}
+use Rattle.treesched.proofs.Servings.{answers}
 use Rattle.treesched.proofs.answer.Goals as goal
 
-pub returns-in-Ok-open : goal.returns-in-Ok-open
-returns-in-Ok-open g c =
-    answers (map (λ s. s.now) c.args.words.now) c.in-Ok.request c.in-Ok.ensures g.R.File.Read.remaining c.new.result c.serve.new.file.0 c.serve.result c.serve.ensures
-
-pub returns-in-Ok : goal.returns-in-Ok
-returns-in-Ok g c =
-    unread (map (λ s. s.now) c.args.words.now) c.in-Ok.request c.in-Ok.ensures c.serve-in-Err-open.result c.serve-in-Err-open.ensures
+pub returns-in_ok-output-in-Ok : goal.returns-in_ok-output-in-Ok
+returns-in_ok-output-in-Ok g c =
+    answers (map (λ s. s.now) c.args.words.now) c.in-Ok.request c.in-Ok.ensures c.in_ok-output-in-Ok.output c.in_ok-output-in-Ok.ensures c.kept.result c.kept.ensures

@@ -1,6 +1,7 @@
 //! What the program answers to its words.
+use crate::refusals::refused;
 use crate::request::read_words;
-use crate::serve::{Output, refused, serve};
+use crate::serve::{Output, serve};
 use crate::tests::cases::Runtime;
 use sched_program::{Counted, OutOfMemory};
 use std::alloc::Global;
@@ -17,10 +18,36 @@ pub fn words_of<'a>(alloc: Global, line: &'a str) -> Result<Vec<&'a str>, OutOfM
     Ok(words)
 }
 
-/// The output for these words, the first of which is the program's name, where FILE has these bytes.
+/// The output for these words, the first of which is the program's name, where FILE has these bytes and the book file
+/// those.
+pub fn answer_with<R: Runtime>(
+    rt: &R,
+    words: &[&str],
+    file: &[u8],
+    book: &[u8],
+) -> Result<Output, OutOfMemory> {
+    match read_words(rt.alloc(), words) {
+        Ok(request) => serve(
+            rt,
+            rt.alloc(),
+            &request,
+            Some(&mut Counted::new(file)),
+            Some(&mut Counted::new(book)),
+        ),
+        Err(fault) => refused(rt.alloc(), fault),
+    }
+}
+
+/// The same where there is no book file.
 pub fn answer<R: Runtime>(rt: &R, words: &[&str], file: &[u8]) -> Result<Output, OutOfMemory> {
     match read_words(rt.alloc(), words) {
-        Ok(request) => serve(rt, rt.alloc(), &request, Some(&mut Counted::new(file))),
+        Ok(request) => serve::<R, &[u8], &[u8]>(
+            rt,
+            rt.alloc(),
+            &request,
+            Some(&mut Counted::new(file)),
+            None,
+        ),
         Err(fault) => refused(rt.alloc(), fault),
     }
 }
@@ -31,11 +58,18 @@ pub fn answer_to<R: Runtime>(rt: &R, line: &str, file: &[u8]) -> Result<Output, 
     answer(rt, words.as_slice(), file)
 }
 
+/// The output of a check of the book file of these bytes.
+pub fn check_of<R: Runtime>(rt: &R, file: &[u8], book: &[u8]) -> Result<Output, OutOfMemory> {
+    let words = ["treesched", "check", "f", "b"];
+    answer_with(rt, words.as_slice(), file, book)
+}
+
 /// Whether the output has this status and these texts. Another one is printed.
 pub fn shows<P: Print>(rt: &P, output: &Output, status: u8, out: &str, err: &str) -> bool {
     let is_met = output.status == status
         && output.out.as_str() == out
-        && output.err.as_str() == err;
+        && output.err.as_str() == err
+        && output.book.is_none();
     or_printed(rt, is_met, output)
 }
 

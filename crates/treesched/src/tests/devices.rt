@@ -1,8 +1,13 @@
 //! Readers and writers that fail.
+ghost use Rattle.std.specs.Prelude.{◌≡◌};
+
 use crate::output::{CountedWriter, WriteFault, put_all};
-use crate::request::{WordsFault, read_words};
-use crate::serve::{Output, refused, serve};
-use crate::tests::answers::shows;
+use crate::put_book;
+use crate::refusals::refused;
+use crate::request::read_words;
+use crate::serve::{Output, serve};
+use crate::tests::answers::{answer, shows};
+use crate::tests::books::BOOK;
 use crate::tests::cases::{Runtime, check};
 use crate::tests::sources::TWICE;
 use sched_program::{Counted, OutOfMemory};
@@ -77,9 +82,15 @@ impl Serves {
         match self.0 {
             Some(fails_at) => {
                 let mut file = Counted::new(failing(TWICE, fails_at));
-                serve(rt, rt.alloc(), &request, Some(&mut file))
+                serve::<R, FailingReader<'_>, &[u8]>(
+                    rt,
+                    rt.alloc(),
+                    &request,
+                    Some(&mut file),
+                    None,
+                )
             }
-            None => serve::<R, &[u8]>(rt, rt.alloc(), &request, None),
+            None => serve::<R, &[u8], &[u8]>(rt, rt.alloc(), &request, None, None),
         }
     }
 }
@@ -96,6 +107,85 @@ fn tells_a_file_that_cannot_be_read(rt: HostRuntime) -> Result<(), Fail> {
 #[test]
 fn tells_a_file_that_cannot_be_opened(rt: HostRuntime) -> Result<(), Fail> {
     check(&rt, &Serves(None), |case| case.is_met(&rt))
+}
+
+/// A book file whose read of this number fails, or one that cannot be opened. The program tells of it, but checks the book
+/// if the file has no such read.
+#[derive(Clone, Copy, Debug)]
+struct Checks(Option<usize>);
+
+impl Checks {
+    fn is_met<R: Runtime>(&self, rt: &R) -> Result<bool, OutOfMemory> {
+        let output = self.output(rt)?;
+        if self
+            .0
+            .is_none_or(|fails_at| has_failed_read(BOOK, fails_at))
+        {
+            let err = "treesched: can't read a book\n";
+            return Ok(shows(rt, &output, 6, "", err));
+        }
+        let out = "every schedule holds\nstates 5\n";
+        Ok(shows(rt, &output, 0, out, ""))
+    }
+
+    fn output<R: Runtime>(&self, rt: &R) -> Result<Output, OutOfMemory> {
+        let words = ["treesched", "check", "a file", "a book"];
+        match self.0 {
+            Some(fails_at) => {
+                let mut book = Counted::new(failing(BOOK, fails_at));
+                served(rt, words.as_slice(), &mut book)
+            }
+            None => answer(rt, words.as_slice(), TWICE.as_bytes()),
+        }
+    }
+}
+
+/// The output for these words, where FILE is `TWICE` and the book file has this reader.
+fn served<R: Runtime>(
+    rt: &R,
+    words: &[&str],
+    book: &mut Counted<FailingReader<'_>>,
+) -> Result<Output, OutOfMemory>
+    requires { book.old.failures ≡ 0 }
+{
+    match read_words(rt.alloc(), words) {
+        Ok(request) => serve(
+            rt,
+            rt.alloc(),
+            &request,
+            Some(&mut Counted::new(TWICE.as_bytes())),
+            Some(book),
+        ),
+        Err(fault) => refused(rt.alloc(), fault),
+    }
+}
+
+#[test]
+fn tells_a_book_that_cannot_be_read(rt: HostRuntime) -> Result<(), Fail> {
+    for fails_at in 0..BOOK.len() + 3 {
+        let case = Checks(Some(fails_at));
+        check(&rt, &case, |case| case.is_met(&rt))?;
+    }
+    Ok(())
+}
+
+#[test]
+fn tells_a_book_that_cannot_be_opened(rt: HostRuntime) -> Result<(), Fail> {
+    check(&rt, &Checks(None), |case| case.is_met(&rt))
+}
+
+/// Whether a book file whose every read fails is let alone by a request that checks none.
+fn is_let_alone<R: Runtime>(rt: &R) -> Result<bool, OutOfMemory> {
+    let words = ["treesched", "explore", "a file", "--steps", "2"];
+    let mut book = Counted::new(failing("", 0));
+    let output = served(rt, words.as_slice(), &mut book)?;
+    let out = "holds to 2 steps\nstates 5\n";
+    Ok(shows(rt, &output, 0, out, "") && book.failures() == 0)
+}
+
+#[test]
+fn reads_no_book_that_is_not_checked(rt: HostRuntime) -> Result<(), Fail> {
+    check(&rt, &"explore", |_| is_let_alone(&rt))
 }
 
 /// A writer that takes two bytes a write, of which the write of this number fails; the first is that of number 0.
@@ -162,6 +252,38 @@ impl Writes {
             Err(WriteFault::TookNone) => Ok(false),
         }
     }
+}
+
+/// The number of the write of a book that fails: the program tells it, and prints nothing else.
+#[derive(Clone, Copy, Debug)]
+struct Puts(usize);
+
+impl Puts {
+    fn is_met<R: Runtime>(&self, rt: &R) -> Result<bool, OutOfMemory> {
+        let mut writer = FailingWriter {
+            held: Vec::with_capacity(rt.alloc(), BOOK.len())?,
+            writes: 0,
+            fails_at: self.0,
+        };
+        let mut file = CountedWriter::new(&mut writer);
+        let refusal = put_book(rt.alloc(), &mut file, "a book", BOOK.as_bytes())?;
+        let is_whole = writer.held.as_slice() == BOOK.as_bytes();
+        match refusal {
+            None => Ok(is_whole && self.0 >= BOOK.len().div_ceil(2)),
+            Some(output) => {
+                let err = "treesched: can't write a book\n";
+                Ok(!is_whole && shows(rt, &output, 6, "", err))
+            }
+        }
+    }
+}
+
+#[test]
+fn tells_a_book_that_cannot_be_written(rt: HostRuntime) -> Result<(), Fail> {
+    for fails_at in 0..BOOK.len() {
+        check(&rt, &Puts(fails_at), |case| case.is_met(&rt))?;
+    }
+    Ok(())
 }
 
 #[test]

@@ -1,6 +1,6 @@
 //! Which words make which request.
 use crate::request::{Request, WordsFault, read_words};
-use crate::tests::answers::{answer_to, or_printed, words_of};
+use crate::tests::answers::{answer_to, or_printed, shows, words_of};
 use crate::tests::cases::{Runtime, check, check_all};
 use crate::tests::sources::TWICE;
 use book::Merge;
@@ -24,9 +24,9 @@ fn asks<F: Fn(&Request<'_>) -> bool>(
 }
 
 /// The words behind the subcommand that ask to explore the file `f` to 5 steps and at most 200000 states; how states are
-/// merged, by how many workers, and whether the ledger is asked for.
+/// merged, by how many workers, whether the ledger is asked for, and where the book goes.
 #[derive(Clone, Copy, Debug)]
-struct Explores(&'static str, Merge, u8, bool);
+struct Explores(&'static str, Merge, u8, bool, Option<&'static str>);
 
 impl Explores {
     fn is_met(&self, alloc: Global) -> Result<bool, OutOfMemory> {
@@ -36,12 +36,13 @@ impl Explores {
     }
 
     fn is_asked(&self, request: &Request<'_>) -> bool {
-        let Explores(_, merge, workers, has_ledger) = *self;
+        let Explores(_, merge, workers, has_ledger, out) = *self;
         match request {
             Request::Explore {
                 file,
                 options,
                 ledger,
+                book,
             } => {
                 *file == "f"
                     && options.steps() == 5
@@ -49,27 +50,50 @@ impl Explores {
                     && options.merge() == merge
                     && options.workers() == workers
                     && *ledger == has_ledger
+                    && *book == out
             }
-            Request::Replay { .. } => false,
+            _ => false,
         }
     }
 }
 
-static EXPLORATIONS: [Explores; 9] = [
-    Explores("f --steps 5 --ledger", Merge::Exact, 1, true),
-    Explores("--ledger --steps=5 f", Merge::Exact, 1, true),
+static EXPLORATIONS: [Explores; 12] = [
+    Explores("f --steps 5 --ledger", Merge::Exact, 1, true, None),
+    Explores("--ledger --steps=5 f", Merge::Exact, 1, true, None),
     Explores(
         "--states 200000 --steps +5 --ledger f",
         Merge::Exact,
         1,
         true,
+        None,
     ),
-    Explores("--steps 005 --ledger -- f", Merge::Exact, 1, true),
-    Explores("f --steps 5 --workers 8", Merge::Exact, 8, false),
-    Explores("--workers=08 f --steps 5", Merge::Exact, 8, false),
-    Explores("f --steps 5", Merge::Exact, 1, false),
-    Explores("f --steps 5 --merge exact", Merge::Exact, 1, false),
-    Explores("--merge=names f --steps 5", Merge::Names, 1, false),
+    Explores("--steps 005 --ledger -- f", Merge::Exact, 1, true, None),
+    Explores("f --steps 5 --workers 8", Merge::Exact, 8, false, None),
+    Explores("--workers=08 f --steps 5", Merge::Exact, 8, false, None),
+    Explores("f --steps 5", Merge::Exact, 1, false, None),
+    Explores("f --steps 5 --merge exact", Merge::Exact, 1, false, None),
+    Explores("--merge=names f --steps 5", Merge::Names, 1, false, None),
+    Explores(
+        "f --steps 5 --merge names --book b",
+        Merge::Names,
+        1,
+        false,
+        Some("b"),
+    ),
+    Explores(
+        "--book=b.txt --merge names --steps 5 f --ledger",
+        Merge::Names,
+        1,
+        true,
+        Some("b.txt"),
+    ),
+    Explores(
+        "--book f f --steps 5 --merge names",
+        Merge::Names,
+        1,
+        false,
+        Some("f"),
+    ),
 ];
 
 #[test]
@@ -85,7 +109,7 @@ fn is_replay(request: &Request<'_>) -> bool {
         Request::Replay { file, schedule } => {
             *file == "a file" && schedule.as_slice() == [0u8, 9, 1].as_slice()
         }
-        Request::Explore { .. } => false,
+        _ => false,
     }
 }
 
@@ -95,6 +119,48 @@ fn reads_a_replay(rt: HostRuntime) -> Result<(), Fail> {
         &rt,
         &REPLAY,
         |words| asks(rt.alloc(), words.as_slice(), is_replay),
+    )
+}
+
+static CHECK: [&str; 5] = ["treesched", "check", "--", "a file", "-b"];
+
+/// Whether the request is to check the book file `-b` against a file whose name has a space.
+fn is_check(request: &Request<'_>) -> bool {
+    match request {
+        Request::Check { file, book } => *file == "a file" && *book == "-b",
+        _ => false,
+    }
+}
+
+#[test]
+fn reads_a_check(rt: HostRuntime) -> Result<(), Fail> {
+    check(
+        &rt,
+        &CHECK,
+        |words| asks(rt.alloc(), words.as_slice(), is_check),
+    )
+}
+
+/// A line that asks for a book file with another merge than that by names.
+static BOOKS_OF_EXACT_MERGING: [&str; 3] = [
+    "treesched explore f --steps 5 --book b",
+    "treesched explore --book b f --steps 5 --merge exact",
+    "treesched explore f --merge=exact --steps 5 --ledger --book=b",
+];
+
+/// Whether the line is refused for the merge.
+fn is_told_the_merge<R: Runtime>(rt: &R, line: &str) -> Result<bool, OutOfMemory> {
+    let output = answer_to(rt, line, TWICE.as_bytes())?;
+    let err = "treesched: --book needs --merge names\n";
+    Ok(shows(rt, &output, 4, "", err))
+}
+
+#[test]
+fn refuses_books_of_exact_merging(rt: HostRuntime) -> Result<(), Fail> {
+    check_all(
+        &rt,
+        BOOKS_OF_EXACT_MERGING.as_slice(),
+        |line| is_told_the_merge(&rt, line),
     )
 }
 
@@ -110,7 +176,7 @@ impl NoUse {
     }
 }
 
-static NO_USES: [NoUse; 21] = [
+static NO_USES: [NoUse; 26] = [
     NoUse("treesched explore f --steps 401"),
     NoUse("treesched explore f --steps 5 --workers 0"),
     NoUse("treesched explore f --steps 5 --workers 9"),
@@ -129,7 +195,12 @@ static NO_USES: [NoUse; 21] = [
     NoUse("treesched explore f g --steps 5"),
     NoUse("treesched replay f"),
     NoUse("treesched replay f --schedule -1"),
-    NoUse("treesched check f b"),
+    NoUse("treesched replay f --schedule 0 --book b"),
+    NoUse("treesched explore f --steps 5 --merge names --book"),
+    NoUse("treesched explore f --steps 5 --merge names --book b --book c"),
+    NoUse("treesched check f"),
+    NoUse("treesched check f b c"),
+    NoUse("treesched check --book b f"),
     NoUse("treesched"),
     NoUse(""),
 ];
@@ -154,7 +225,7 @@ impl Help {
     }
 }
 
-static CALLS_FOR_HELP: [Help; 12] = [
+static CALLS_FOR_HELP: [Help; 15] = [
     Help("treesched --help", "Example: treesched explore"),
     Help("treesched -h", "explore"),
     Help("treesched help", "replay"),
@@ -170,6 +241,9 @@ static CALLS_FOR_HELP: [Help; 12] = [
     ),
     Help("treesched explore --help", "each thread that explored"),
     Help("treesched replay --help", "single digits"),
+    Help("treesched explore --help", "needs --merge names"),
+    Help("treesched help", "check"),
+    Help("treesched check --help", "BOOK"),
 ];
 
 #[test]

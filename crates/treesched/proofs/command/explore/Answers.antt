@@ -14,8 +14,9 @@ returns-clause-app c =
     let states : app_of c.in_ok-arg-4.field-0 ≡ _ = c.in_ok-arg-4.ensures.shape c.states.ensures.local ∙ ap₂ with_rule workers c.states.ensures.rule in
     let choices = c.merge.ensures.rule in
     let merge : app_of c.in_ok-arg-5.field-0 ≡ _ = c.in_ok-arg-5.ensures.shape c.merge.ensures.local ∙ ap₂ with_rule states choices.2 in
-    IfOk-weaker c.arg-6.result _ _
-    (λ m h. (choices.0, choices.1, h.shape c.ledger.ensures.local ∙ ap₂ with_rule merge c.ledger.ensures.rule)) c.arg-6.ensures
+    let ledger : app_of c.in_ok-arg-6.field-0 ≡ _ = c.in_ok-arg-6.ensures.shape c.ledger.ensures.local ∙ ap₂ with_rule merge c.ledger.ensures.rule in
+    IfOk-weaker c.arg-7.result _ _
+    (λ m h. (choices.0, choices.1, h.shape c.book_out.ensures.local ∙ ap₂ with_rule ledger c.book_out.ensures.rule)) c.arg-7.ensures
 
 pub returns-clause-local : goal.returns-clause-local
 returns-clause-local c =
@@ -26,4 +27,5 @@ returns-clause-local c =
     let workers = c.in_ok-arg-3.ensures.globals ∙ ap₂ either steps c.workers.ensures.local in
     let states = c.in_ok-arg-4.ensures.globals ∙ ap₂ either workers c.states.ensures.local in
     let merge = c.in_ok-arg-5.ensures.globals ∙ ap₂ either states c.merge.ensures.local in
-    IfOk-weaker c.arg-6.result _ _ (λ m h. h.globals ∙ ap₂ either merge c.ledger.ensures.local) c.arg-6.ensures
+    let ledger = c.in_ok-arg-6.ensures.globals ∙ ap₂ either merge c.ledger.ensures.local in
+    IfOk-weaker c.arg-7.result _ _ (λ m h. h.globals ∙ ap₂ either ledger c.book_out.ensures.local) c.arg-7.ensures

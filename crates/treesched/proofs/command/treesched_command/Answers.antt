@@ -12,6 +12,8 @@ returns c =
     let line = c.in_ok-explore.ensures.app in
     let explore : app_of c.in_ok-subcommand.field-0 ≡ _ = c.in_ok-subcommand.ensures.shape c.in_ok-explore.ensures.local
     ∙ ap₂ with_subcommand top (ap (λ (a : App). a.top) line.2) in
-    IfOk-weaker c.subcommand-2.result _ _
-    (λ m h. (line.0, line.1, h.shape c.in_ok-replay.ensures.local ∙ ap₂ with_subcommand explore (ap (λ (a : App). a.top) c.in_ok-replay.ensures.app)))
-    c.subcommand-2.ensures
+    let replay : app_of c.in_ok-subcommand-2.field-0 ≡ _ = c.in_ok-subcommand-2.ensures.shape c.in_ok-replay.ensures.local
+    ∙ ap₂ with_subcommand explore (ap (λ (a : App). a.top) c.in_ok-replay.ensures.app) in
+    IfOk-weaker c.subcommand-3.result _ _
+    (λ m h. (line.0, line.1, h.shape c.in_ok-check.ensures.local ∙ ap₂ with_subcommand replay (ap (λ (a : App). a.top) c.in_ok-check.ensures.app)))
+    c.subcommand-3.ensures

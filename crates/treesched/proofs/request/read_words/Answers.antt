@@ -1,7 +1,7 @@
 use Rattle.std.proofs.Common.{◌≡◌, rules, map, codes}
 use Rattle.clap.specs.Words.{app_of, found_of, rows_of}
-use Rattle.treesched.proofs.Parsed.{exploring, no_other, replaying}
-use Rattle.treesched.proofs.Requests.{explored, read, replayed, told}
+use Rattle.treesched.proofs.Parsed.{checking, exploring, no_other, replaying}
+use Rattle.treesched.proofs.Requests.{asked, asked_or_refused, read, told}
 use Rattle.treesched.proofs.request.read_words.Goals as goal
 
 pub returns-in-Err : goal.returns-in-Err
@@ -34,7 +34,7 @@ returns-in-explore c =
     let is : codes "explore" ≡ c.in-Some.name.now = search rules in
     let are = read words (app_of c.in_ok-command.command) c.in_ok-command.ensures c.in-Ok.matches c.in-Ok.ensures.matches c.in-Ok.ensures.kinds
     c.in-Some.name.now rows c.in-Some.ensures.name c.in-Some.ensures.rows in
-    explored words c.in-Some.name.now rows are is c.explore_of.result c.explore_of.ensures
+    asked_or_refused words c.in-Some.name.now rows are (codes "explore") is c.explore_of.result c.explore_of.ensures
 
 pub replay_of-requires-clause-file : goal.replay_of-requires-clause-file
 replay_of-requires-clause-file c =
@@ -61,7 +61,34 @@ returns-in-replay c =
     let is : codes "replay" ≡ c.in-Some.name.now = search rules in
     let are = read words (app_of c.in_ok-command.command) c.in_ok-command.ensures c.in-Ok.matches c.in-Ok.ensures.matches c.in-Ok.ensures.kinds
     c.in-Some.name.now rows c.in-Some.ensures.name c.in-Some.ensures.rows in
-    replayed words c.in-Some.name.now rows are is c.replay_of.result c.replay_of.ensures
+    asked_or_refused words c.in-Some.name.now rows are (codes "replay") is c.replay_of.result c.replay_of.ensures
+
+pub check_of-requires-clause-file : goal.check_of-requires-clause-file
+check_of-requires-clause-file c =
+    let words = map (λ s. s.now) c.args.words.now in
+    let rows = rows_of (found_of c.in-Some.inner.now) in
+    let is : codes "check" ≡ c.in-Some.name.now = search rules in
+    let are = read words (app_of c.in_ok-command.command) c.in_ok-command.ensures c.in-Ok.matches c.in-Ok.ensures.matches c.in-Ok.ensures.kinds
+    c.in-Some.name.now rows c.in-Some.ensures.name c.in-Some.ensures.rows in
+    (checking words c.in-Some.name.now rows are is).0
+
+pub check_of-requires-clause-book : goal.check_of-requires-clause-book
+check_of-requires-clause-book c =
+    let words = map (λ s. s.now) c.args.words.now in
+    let rows = rows_of (found_of c.in-Some.inner.now) in
+    let is : codes "check" ≡ c.in-Some.name.now = search rules in
+    let are = read words (app_of c.in_ok-command.command) c.in_ok-command.ensures c.in-Ok.matches c.in-Ok.ensures.matches c.in-Ok.ensures.kinds
+    c.in-Some.name.now rows c.in-Some.ensures.name c.in-Some.ensures.rows in
+    (checking words c.in-Some.name.now rows are is).1
+
+pub returns-in-check : goal.returns-in-check
+returns-in-check c =
+    let words = map (λ s. s.now) c.args.words.now in
+    let rows = rows_of (found_of c.in-Some.inner.now) in
+    let is : codes "check" ≡ c.in-Some.name.now = search rules in
+    let are = read words (app_of c.in_ok-command.command) c.in_ok-command.ensures c.in-Ok.matches c.in-Ok.ensures.matches c.in-Ok.ensures.kinds
+    c.in-Some.name.now rows c.in-Some.ensures.name c.in-Some.ensures.rows in
+    asked words c.in-Some.name.now rows are (codes "check") is c.check_of.result c.check_of.ensures
 
 pub unreachable-requires-in_default-name : goal.unreachable-requires-in_default-name
 unreachable-requires-in_default-name c =
@@ -69,6 +96,7 @@ unreachable-requires-in_default-name c =
     let rows = rows_of (found_of c.in-Some.inner.now) in
     let not_explore : codes "explore" ≡ c.in-Some.name.now → ⊥ = search rules in
     let not_replay : codes "replay" ≡ c.in-Some.name.now → ⊥ = search rules in
+    let not_check : codes "check" ≡ c.in-Some.name.now → ⊥ = search rules in
     let are = read words (app_of c.in_ok-command.command) c.in_ok-command.ensures c.in-Ok.matches c.in-Ok.ensures.matches c.in-Ok.ensures.kinds
     c.in-Some.name.now rows c.in-Some.ensures.name c.in-Some.ensures.rows in
-    no_other words c.in-Some.name.now rows are not_explore not_replay
+    no_other words c.in-Some.name.now rows are not_explore not_replay not_check

@@ -1,8 +1,10 @@
-use Rattle.std.proofs.Common.{◌∙◌, ◌++◌, List, ℕ, ap, subst}
+use Rattle.std.proofs.Common.{◌∙◌, ◌++◌, List, ℕ, ap, subst, sym}
 use Rattle.book.specs.Books.{counted_as_one}
+use Rattle.book.specs.Findings.{machine_of}
 use Rattle.book.specs.declared.book.Merge.{Merge}
 use Rattle.treesched.specs.Lines.{report_text}
 use Rattle.treesched.specs.Serving.{CountsAsOne}
+use Rattle.treesched.proofs.Given.{closed}
 use Rattle.treesched.proofs.serve.explored.Goals as goal
 
 pub returns : goal.returns
@@ -24,4 +26,11 @@ returns g c =
       out = c.in_ok-put_report.ensures
           ∙ ap (λ (page : List ℕ). page ++ report_text c.args.ledger report.answer report.totals report.shares.items) c.new-out.ensures.bytes;
       err = c.new.ensures.bytes;
+      book = rw (sym c.in_ok-report.ensures.machine, sym c.in_ok-report.ensures.program, c.in_ok-report.ensures.totals) c.in_ok-book.ensures;
     }
+
+pub due_book-requires-after_bounds : goal.due_book-requires-after_bounds
+due_book-requires-after_bounds g c =
+    let report = c.in_ok-report.report in
+    λ κs lives. closed (machine_of {Machine = g.row.M.Denot} {Form = g.row.M-Form.Denot} (g.M.Machine.rules c.args.machine) c.args.program.now) report.book report.answer
+    c.in_ok-report.ensures.first c.in_ok-report.ensures.closed

@@ -15,10 +15,9 @@ returns g c = inl (record {
   finding = c.in-Ok.last.finding;
   leads = c.in-Ok.ensures.state;
   found = c.in-Ok.ensures.finding;
-  status = c.status_of_finding.ensures;
-  out =
+  told =
       let operations = ap (λ (h : History). operations_text c.args.program.now h) c.in_ok-history.ensures in
-      let page = c.in_ok-put_operations.ensures ∙ ap₂ (λ (a b : List ℕ). a ++ b) c.new-out.ensures.bytes operations in
-      c.in_ok-put_verdict.ensures ∙ ap (λ (l : List ℕ). l ++ verdict_text c.in-Ok.last.finding) page;
-  err = c.new.ensures.bytes;
+      let lines = c.in_ok-put_operations.ensures ∙ ap₂ (λ (a b : List ℕ). a ++ b) c.new-out.ensures.bytes operations in
+      let out = c.in_ok-put_verdict.ensures ∙ ap (λ (l : List ℕ). l ++ verdict_text c.in-Ok.last.finding) lines in
+      (c.page.ensures.0 ∙ c.status_of_finding.ensures, c.page.ensures.1 ∙ out, c.page.ensures.2, c.page.ensures.3);
 })

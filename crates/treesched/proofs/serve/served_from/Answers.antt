@@ -1,14 +1,15 @@
-use Rattle.std.proofs.Common.{◌≡◌, arith}
-use Rattle.treesched.proofs.Loaded.{loaded, refused}
+use Rattle.std.proofs.Common.{refl}
+use Rattle.treesched.specs.Serving.{IsBookRead}
+use Rattle.treesched.proofs.Loaded.{loaded, unloaded}
 use Rattle.treesched.proofs.serve.served_from.Goals as goal
 
-pub returns-in-Ok : goal.returns-in-Ok
-returns-in-Ok g c =
-    let same : c.from_reader.new.reader.failures ≡ c.args.reader.now.failures = let count = c.in-Ok.ensures.count in omega arith in
-    loaded g.F.Read.remaining c.args.reader.now c.from_reader.new.reader same c.args.request.now c.served.result c.in-Ok.program c.in-Ok.ensures.read c.served.ensures
+pub returns-in_ok-read-in-Ok : goal.returns-in_ok-read-in-Ok
+returns-in_ok-read-in-Ok g c =
+    loaded g.F.Read.remaining c.args.file.now c.from_reader.new.reader (IsBookRead g.B.Read.remaining c.args.book.now c.read_book.new.book) c.args.request.now
+    c.served.result c.in-Ok.program c.in-Ok.ensures.read c.in-Ok.ensures.count c.in_ok-read-in-Ok.read c.in_ok-read-in-Ok.ensures.read
+    c.in_ok-read-in-Ok.ensures.asked c.served.ensures
 
-pub returns-in-Err-Program : goal.returns-in-Err-Program
-returns-in-Err-Program g c =
-    let same : c.from_reader.new.reader.failures ≡ c.args.reader.now.failures = let count = rw c.in-Err-Program.field-0-is at c.in-Err-Program.ensures.count in omega arith in
-    refused g.F.Read.remaining c.args.reader.now c.from_reader.new.reader same c.args.request.now c.no_program.result c.in-Err-Program.fault
-    (rw c.in-Err-Program.field-0-is at c.in-Err-Program.ensures.read) c.no_program.ensures
+pub returns-in-Err : goal.returns-in-Err
+returns-in-Err g c =
+    unloaded g.F.Read.remaining c.args.file.now c.from_reader.new.reader (IsBookRead g.B.Read.remaining c.args.book.now c.args.book.now) c.args.request.now
+    c.not_loaded.result c.in-Err.fault c.in-Err.ensures.read c.in-Err.ensures.count refl c.not_loaded.ensures
