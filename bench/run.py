@@ -31,19 +31,23 @@ RUNS = [
     ("ellen-4x1.json", ["--steps", "400", "--states", "2000000", "--merge", "names"]),
     ("nm-2x3.json", ["--steps", "400", "--states", "2000000", "--merge", "names"]),
     ("nm-3x2.json", ["--steps", "400", "--states", "2000000", "--merge", "names"]),
+    # of each tree the programs with the most states of the families of docs/RESULTS.md
+    ("most-ellen-2x2.json", ["--steps", "400", "--merge", "names"]),
+    ("most-ellen-3x1.json", ["--steps", "400", "--merge", "names"]),
+    ("most-nm-2x2.json", ["--steps", "400", "--merge", "names"]),
+    ("most-nm-3x1.json", ["--steps", "400", "--merge", "names"]),
 ]
 
 
-def run(binary, program, words):
-    """One run: its standard output, exit status, wall seconds, CPU seconds and peak memory in bytes."""
+def run(binary, words):
+    """One run of a binary on words: its standard output, exit status, wall seconds, CPU seconds and peak memory in bytes."""
     out_read, out_write = os.pipe()
     begun = time.monotonic()
     child = os.fork()
     if child == 0:
         os.dup2(out_write, 1)
         os.close(out_read)
-        path = os.path.join(HERE, "programs", program)
-        os.execv(binary, [binary, "explore", path] + words)
+        os.execv(binary, [binary, *words])
     os.close(out_write)
     with os.fdopen(out_read) as pipe:
         text = pipe.read()
@@ -66,10 +70,11 @@ def main():
     for program, words in RUNS:
         if options.only not in program:
             continue
+        path = os.path.join(HERE, "programs", program)
         runs = {turn: [] for turn in turns}
         for _ in range(options.repeat):
             for crew, binary in turns:
-                runs[crew, binary].append(run(os.path.abspath(binary), program, [*words, *crew]))
+                runs[crew, binary].append(run(os.path.abspath(binary), ["explore", path, *words, *crew]))
         for crew, binary in turns:
             name = " ".join([program[: -len(".json")], *(["names"] if "names" in words else []), *(f"by {count}" for count in crew[1:])])
             texts, statuses, walls, cpus, peaks = zip(*runs[crew, binary])

@@ -16,7 +16,7 @@ trap 'rm -rf "$work"' EXIT
 runs=0
 failed=0
 
-lines='explore two_inserts.json --steps 2 --ledger
+lines="explore two_inserts.json --steps 2 --ledger
 explore two_inserts.json --steps 2 --states 4
 explore two_inserts.json --steps 2 --states 4 --workers 2
 explore two_inserts.json --steps 2 --states 4 --workers 8
@@ -34,8 +34,17 @@ explore nm_no_tag.json --steps 20
 replay two_inserts.json --schedule 1,0
 replay two_inserts.json --schedule 0,0
 replay two_inserts.json --schedule 0,,1
+explore two_inserts.json --steps 400 --merge names --book /dev/null
+explore nm_after.json --steps 400 --merge names --book /dev/null
+explore nm_after.json --steps 400 --merge names --workers 2 --book /dev/null
+check two_inserts.json two_inserts.book
+check three_threads.json two_inserts.book
+check nm_after.json $work/nm_after.book
+check nm.json $work/nm_after.book
 explore no-such-file.json --steps 2
-explore two_inserts.json --steps 401'
+check two_inserts.json no-such-file.book
+explore two_inserts.json --steps 400 --book /dev/null
+explore two_inserts.json --steps 401"
 
 # refuse WHAT N WORD..: runs a command with its Nth request refused, and leaves its output in files. With 0 none is.
 refuse() {
@@ -48,20 +57,20 @@ refuse() {
 refuse_each() {
   local judge=$1 requests threads what number
   shift
-  local shown="$*"
+  local shown="${1##*/} ${*:2}"
   refuse REFUSE 0 "$@"
   read -r requests threads < <(sed -n 's/^requests \([0-9]*\) threads \([0-9]*\)$/\1 \2/p' "$work/refused.err")
-  [ -n "$requests" ] || { echo "${shown##*/}: its requests are not counted" && failed=$((failed + 1)); }
+  [ -n "$requests" ] || { echo "$shown: its requests are not counted" && failed=$((failed + 1)); }
   while read -r what number; do
     refuse "$what" "$number" "$@"
-    "$judge" $? || { echo "${shown##*/}: wrong with $what=$number" && failed=$((failed + 1)); }
+    "$judge" $? || { echo "$shown: wrong with $what=$number" && failed=$((failed + 1)); }
     runs=$((runs + 1))
   done < <(
     seq -f 'REFUSE %.0f' 1 $((requests < 2000 ? requests : 2000))
     seq -f 'REFUSE %.0f' 2991 997 "$requests"
     seq -f 'REFUSE_THREAD %.0f' 1 "$threads"
   )
-  echo "${shown##*/}: $requests requests for memory, $threads starts of threads"
+  echo "$shown: $requests requests for memory, $threads starts of threads"
 }
 
 # What is the same for every number of workers.
@@ -80,6 +89,7 @@ is_answered() {
 refuse_program() {
   local program=$top/crates/treesched/out/treesched words status
   cd "$top/examples" || exit 2
+  "$program" explore nm_after.json --steps 400 --merge names --book "$work/nm_after.book" >/dev/null || exit 2
   while IFS= read -r words; do
     # shellcheck disable=SC2086
     "$program" $words >"$work/ample.out" 2>"$work/ample.err"
