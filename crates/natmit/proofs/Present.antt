@@ -8,7 +8,7 @@ use Rattle.natmit.specs.declared.memory.Node.TheVariants.{Leaf}
 use Rattle.natmit.specs.declared.memory.NatMitMem.{NatMitMem}
 use Rattle.natmit.specs.Memory.{node_at, word_on, shapes, with_internal, internal_over, key_at, put_at}
 use Rattle.natmit.specs.Initial.{put_in, initial_memory}
-use Rattle.natmit.specs.InitialLaws.{parent_present, initial_in_range}
+use Rattle.natmit.specs.Laws.Initial.{parent_present, initial_in_range}
 use Rattle.tree_machine.specs.SearchOrder.{end_of}
 use Rattle.tree_machine.specs.declared.search_order.End.{End}
 

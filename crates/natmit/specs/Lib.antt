@@ -1,13 +1,8 @@
-pub mod Exact
 pub mod Initial
-pub mod InitialLaws
+pub mod Laws
 pub mod Memory
 pub mod NatMitRules
-pub mod PairedMemories
 pub mod Pairs
-pub mod PairsLaws
 pub mod Parts
-pub mod PartsLaws
 pub mod Range
-pub mod RangeLaws
 pub mod Table

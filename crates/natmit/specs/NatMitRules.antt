@@ -1,8 +1,5 @@
 -- What the machine means.
-use Rattle.std.specs.Prelude.{length}
-use Rattle.tree_machine.specs.declared.machine.Outcome.{Outcome}
-use Rattle.tree_machine.specs.declared.machine.Outcome.TheVariants.{Goes, Replies, Astray}
-use Rattle.tree_machine.specs.Rules.{Rules, AreLawful, AreFormsExact, IsOutcomeInRange}
+use Rattle.tree_machine.specs.Rules.{Rules}
 use Rattle.tree_machine.specs.SearchOrder.{KeepsSearchOrder}
 use Rattle.natmit.specs.declared.memory.NatMitMem.{NatMitMem}
 use Rattle.natmit.specs.declared.place.Mode.TheVariants.{Plain}
@@ -11,13 +8,8 @@ use Rattle.natmit.specs.declared.place.NatMitLoc.TheVariants.{Begin}
 use Rattle.natmit.specs.declared.machine.NatMit.{NatMit}
 use Rattle.natmit.specs.Memory.{shapes}
 use Rattle.natmit.specs.Initial.{initial_memory}
-use Rattle.natmit.specs.InitialLaws.{initial_in_range, initial_ordered}
 use Rattle.natmit.specs.Pairs.{natmit_pairs}
-use Rattle.natmit.specs.PairsLaws.{natmit_pairs_lawful}
-use Rattle.natmit.specs.Parts.{natmit_form}
-use Rattle.natmit.specs.PartsLaws.{natmit_forms_exact}
 use Rattle.natmit.specs.Range.{IsInRange, IsPlaceInRange}
-use Rattle.natmit.specs.RangeLaws.{IsOutcomeIn, place_more, act_kept, act_leaves}
 use Rattle.natmit.specs.Table.{act}
 
 abbrev pub natmit_rules : NatMit → Rules NatMitMem NatMitLoc
@@ -31,23 +23,3 @@ natmit_rules machine =
       IsPlaceInRange = IsPlaceInRange;
       pairs = natmit_pairs;
     }
-
-outcome_in_range : (machine : NatMit) (memory : NatMitMem) (outcome : Outcome NatMitLoc) → IsOutcomeIn (length memory.nodes) outcome → IsOutcomeInRange (natmit_rules machine) memory outcome
-outcome_in_range machine memory (Goes place) h = h
-outcome_in_range machine memory (Replies reply) h = h
-outcome_in_range machine memory Astray h = h
-
-pub natmit_lawful : (machine : NatMit) → AreLawful (natmit_rules machine)
-natmit_lawful machine = record {
-  initial_in_range = λ keys _. initial_in_range keys;
-  initial_ordered = initial_ordered;
-  first_in_range = λ _ _ _. tt;
-  act_in_range = λ op place memory h at. (act_kept memory h machine op place at).memory_in;
-  outcome_in_range = λ op place memory h at. outcome_in_range machine (act machine op place memory).0 (act machine op place memory).1 (act_kept memory h machine op place at).outcome_in;
-  others_in_range = λ op place other memory h at held. place_more (length memory.nodes) (length (act machine op place memory).0.nodes) (act_kept memory h machine op place at).nodes other held;
-  astray_unchanged = λ op place memory. act_leaves memory machine op place;
-  pairs_lawful = natmit_pairs_lawful machine;
-}
-
-pub natmit_forms : (machine : NatMit) → AreFormsExact (natmit_rules machine) natmit_form
-natmit_forms machine = natmit_forms_exact

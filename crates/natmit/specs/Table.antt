@@ -102,3 +102,11 @@ act machine op (Sibling a s p d mode) m =
     after_read m p d (λ w. Goes (Swing a s w.flag w.node mode))
 act machine op (Swing a s f n mode) m =
     after_exchange m a (side_at (key_of op) m a) s m (record { flag = f; tag = false; node = n }) (swung mode) (not_swung mode)
+
+-- a place at which a flagged leaf is cut off, which is the operation's own or that of a delete that it helps
+abbrev pub IsHelping : NatMitLoc → Type 0
+IsHelping (CleanRead a s p mode) = Unit {0}
+IsHelping (Tag a s p d mode) = Unit {0}
+IsHelping (Sibling a s p d mode) = Unit {0}
+IsHelping (Swing a s f n mode) = Unit {0}
+IsHelping _ = ⊥

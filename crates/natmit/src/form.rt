@@ -3,7 +3,8 @@ ghost use Rattle.std.specs.Prelude.{◌≡◌, ◌∷◌, [], Some, OnOk};
 ghost use Rattle.tree_machine.specs.Alike.{places_of};
 ghost use Rattle.tree_machine.specs.Parts.{IsPartBelow};
 ghost use Rattle.tree_machine.specs.Written.{with_part};
-ghost use Rattle.natmit.specs.Parts.{side_number, owned, part_of, node_part, place_part, held_part, natmit_parts};
+ghost use Rattle.natmit.specs.Parts.{side_number, owned, part_of, node_part, place_part, natmit_parts};
+ghost use Rattle.natmit.specs.Table.{IsHelping};
 
 use crate::memory::{NatMitMem, Node};
 use crate::place::{Mode, NatMitLoc};
@@ -101,6 +102,44 @@ fn write_three(
     )
 }
 
+/// Writes a place at which a flagged leaf is cut off, and its locals.
+fn write_helping(place: NatMitLoc, writer: &mut Writer) -> Result<(), OutOfMemory>
+    requires helping { IsHelping place }
+    requires named { IsPartBelow writer.old.nodes writer.old.records (place_part place) }
+    ensures { OnOk result (writer.new ≡ with_part writer.old (place_part place)) }
+{
+    match place {
+        NatMitLoc::CleanRead {
+            ancestor: a,
+            successor: s,
+            parent: p,
+            mode,
+        } => write_three(&[6], a, s, p, mode, writer),
+        NatMitLoc::Tag {
+            ancestor: a,
+            successor: s,
+            parent: p,
+            side,
+            mode,
+        } => write_three(&[7, side_number(side)], a, s, p, mode, writer),
+        NatMitLoc::Sibling {
+            ancestor: a,
+            successor: s,
+            parent: p,
+            side,
+            mode,
+        } => write_three(&[8, side_number(side)], a, s, p, mode, writer),
+        NatMitLoc::Swing {
+            ancestor: a,
+            successor: s,
+            flag,
+            node,
+            mode,
+        } => write_three(&[9, u64::from(flag)], a, s, node, mode, writer),
+        _ => unreachable!(),
+    }
+}
+
 /// Writes which place it is, and its locals.
 fn write_place(place: NatMitLoc, writer: &mut Writer) -> Result<(), OutOfMemory>
     requires { IsPartBelow writer.old.nodes writer.old.records (place_part place) }
@@ -138,33 +177,7 @@ fn write_place(place: NatMitLoc, writer: &mut Writer) -> Result<(), OutOfMemory>
             parent: p,
             leaf: l,
         } => write_four(5, a, s, p, l, writer),
-        NatMitLoc::CleanRead {
-            ancestor: a,
-            successor: s,
-            parent: p,
-            mode,
-        } => write_three(&[6], a, s, p, mode, writer),
-        NatMitLoc::Tag {
-            ancestor: a,
-            successor: s,
-            parent: p,
-            side,
-            mode,
-        } => write_three(&[7, side_number(side)], a, s, p, mode, writer),
-        NatMitLoc::Sibling {
-            ancestor: a,
-            successor: s,
-            parent: p,
-            side,
-            mode,
-        } => write_three(&[8, side_number(side)], a, s, p, mode, writer),
-        NatMitLoc::Swing {
-            ancestor: a,
-            successor: s,
-            flag,
-            node,
-            mode,
-        } => write_three(&[9, u64::from(flag)], a, s, node, mode, writer),
+        _ => write_helping(place, writer),
     }
 }
 

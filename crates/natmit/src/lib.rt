@@ -2,11 +2,12 @@
 #![tactic(auto)]
 
 mod form;
+mod helping;
 mod initial;
 mod machine;
 mod memory;
 mod place;
-mod table;
+mod searching;
 
 pub use crate::machine::NatMit;
 pub use crate::memory::{NatMitMem, Node, Word};

@@ -1,6 +1,8 @@
 //! The machine and its variant.
-ghost use Rattle.natmit.specs.Exact.{machine_exact, memory_exact, place_exact};
-ghost use Rattle.natmit.specs.NatMitRules.{natmit_rules, natmit_lawful, natmit_forms};
+ghost use Rattle.natmit.specs.Laws.Exact.{machine_exact, memory_exact, place_exact};
+ghost use Rattle.natmit.specs.Laws.Forms.{natmit_forms};
+ghost use Rattle.natmit.specs.Laws.Rules.{natmit_lawful};
+ghost use Rattle.natmit.specs.NatMitRules.{natmit_rules};
 ghost use Rattle.natmit.specs.Parts.{natmit_form};
 
 use crate::form::Snapshot;

@@ -1,20 +1,20 @@
--- Paired memories: what is read of them is paired, and writing paired words and appending paired nodes keeps them paired.
-use Rattle.std.specs.Prelude.{◌≡◌, ℕ, ◌+◌, ◌<◌, true, false, not, ◌&&◌, if◌then◌else◌, nat_eq, nat_lt, [], ◌∷◌, ◌++◌, length, refl, Option, Some, None, unwrap_or, slice_get}
+-- More pairs pair what fewer do, and new nodes, paired under fresh numbers, keep a pairing.
+use Rattle.std.specs.Prelude.{◌≡◌, ℕ, ◌+◌, ◌<◌, true, false, if◌then◌else◌, nat_lt, [], ◌∷◌, ◌++◌, length, refl, Some, unwrap_or, slice_get}
 use Rattle.std.proofs.Common.{arith, sym, ◌∙◌, ap, subst, inl, inr, length-append}
-use Rattle.std.proofs.lemmas.Bool.Decides.{eqb_tells}
-use Rattle.std.proofs.lemmas.List.{length-set, append_assoc}
-use Rattle.tree_machine.specs.declared.search_order.Side.{Side}
-use Rattle.tree_machine.specs.declared.search_order.Side.TheVariants.{Left, Right}
-use Rattle.tree_machine.specs.SearchOrder.{side_of}
+use Rattle.std.proofs.lemmas.List.{append_assoc}
 use Rattle.tree_machine.proofs.Lists.{get_at, get-append_left, get-append_right}
 use Rattle.tree_machine.specs.Pairing.{Pairing, Extends, IsAmong, IsOneToOne}
 use Rattle.natmit.specs.declared.memory.Word.{Word}
 use Rattle.natmit.specs.declared.memory.Node.{Node}
 use Rattle.natmit.specs.declared.memory.Node.TheVariants.{Leaf, Internal}
 use Rattle.natmit.specs.declared.memory.NatMitMem.{NatMitMem}
-use Rattle.natmit.specs.Memory.{plain, is_plain, key_in, word_on, with_word, node_at, key_at, side_at, set_node, set_word, internal_over, with_internal, new_internal}
-use Rattle.natmit.specs.InitialLaws.{get-set_same, get-set_other}
-use Rattle.natmit.specs.Pairs.{AreWordsPaired, AreNodesPaired, AreMemoriesPaired}
+use Rattle.natmit.specs.Memory.{plain, node_at, key_at, internal_over, with_internal, new_internal}
+use Rattle.natmit.specs.Pairs.{AreWordsPaired, AreNodesPaired, AreMemoriesPaired, AreModesPaired, ArePlacesPaired}
+use Rattle.natmit.specs.declared.place.Mode.{Mode}
+use Rattle.natmit.specs.declared.place.Mode.TheVariants.{Plain, Owner}
+use Rattle.natmit.specs.declared.place.NatMitLoc.{NatMitLoc}
+use Rattle.natmit.specs.declared.place.NatMitLoc.TheVariants.{Begin, Down, Put, Flag, Look, CleanRead, Tag, Sibling, Swing}
+use Rattle.natmit.specs.Laws.PairedAccesses.{key_paired}
 
 -- ---- more pairs pair what fewer do
 
@@ -27,96 +27,25 @@ module _ (P Q : ℕ → ℕ → Type 0) (f : (x y : ℕ) → P x y → Q x y) wh
   nodes_extend (Internal k l r) (Internal j m s) h = (h.0, words_extend l m h.1, words_extend r s h.2)
   nodes_extend _ _ h = absurd h
 
--- ---- what is read of paired nodes
+-- ---- more pairs pair the places that fewer do
 
-module _ (P : ℕ → ℕ → Type 0) where
-  key_paired : (a b : Node) → AreNodesPaired P a b → key_in a ≡ key_in b
-  key_paired (Leaf k) (Leaf j) h = h
-  key_paired (Internal k l r) (Internal j m s) h = h.0
-  key_paired _ _ h = absurd h
+module _ (P Q : ℕ → ℕ → Type 0) (f : (x y : ℕ) → P x y → Q x y) where
+  modes_extend : (m o : Mode) → AreModesPaired P m o → AreModesPaired Q m o
+  modes_extend Plain Plain h = tt
+  modes_extend (Owner x) (Owner y) h = f x y h
+  modes_extend _ _ h = absurd h
 
-  -- no word in both, or paired words
-  abbrev pub AreReadsPaired : Option Word → Option Word → Type 0
-  AreReadsPaired None None = Unit {0}
-  AreReadsPaired (Some v) (Some w) = AreWordsPaired P v w
-  AreReadsPaired _ _ = ⊥
-
-  word_paired : (d : Side) (a b : Node) → AreNodesPaired P a b → AreReadsPaired (word_on d a) (word_on d b)
-  word_paired d (Leaf k) (Leaf j) h = tt
-  word_paired Left (Internal k l r) (Internal j m s) h = h.1
-  word_paired Right (Internal k l r) (Internal j m s) h = h.2
-  word_paired _ _ _ h = absurd h
-
-  with_word_paired : (d : Side) (v w : Word) (a b : Node) → AreNodesPaired P a b → AreWordsPaired P v w → AreNodesPaired P (with_word d v a) (with_word d w b)
-  with_word_paired d v w (Leaf k) (Leaf j) h g = h
-  with_word_paired Left v w (Internal k l r) (Internal j m s) h g = (h.0, g, h.2)
-  with_word_paired Right v w (Internal k l r) (Internal j m s) h g = (h.0, h.1, g)
-  with_word_paired _ v w _ _ h g = absurd h
-
-  module _ (one : IsOneToOne P) where
-    -- two numbers are the same exactly if those paired with them are
-    pub same_node : (x y a b : ℕ) → P x y → P a b → nat_eq x a ≡ nat_eq y b
-    same_node x y a b p q =
-        elim (eqb_tells x a) [
-          | inl e ↦ elim (eqb_tells y b) [ inl f ↦ e.0 ∙ sym f.0 | inr f ↦ absurd (f.1 ((one x y a b p q).0 e.1)) ]
-          | inr e ↦ elim (eqb_tells y b) [ inl f ↦ absurd (e.1 ((one x y a b p q).1 f.1)) | inr f ↦ e.0 ∙ sym f.0 ]
-        ]
-
-    -- exchanges that compare with the plain word of paired nodes succeed together
-    pub plain_paired : (x y : ℕ) (v w : Word) → P x y → AreWordsPaired P v w → is_plain x v ≡ is_plain y w
-    plain_paired x y v w p h =
-        let flag : v.flag ≡ w.flag = h.0 in
-        let tag : v.tag ≡ w.tag = h.1 in
-        let node : nat_eq v.node x ≡ nat_eq w.node y = same_node v.node w.node x y h.2 p in
-        λ i. not (flag i) && not (tag i) && node i
-
--- ---- a word that is written
-
-node_set_same : (memory : NatMitMem) (x : ℕ) (a : Node) → x < length memory.nodes → node_at (set_node memory x a) x ≡ a
-node_set_same memory x a h = ap (λ o. unwrap_or o (Leaf 0)) (get-set_same memory.nodes x a h)
-
-node_set_other : (memory : NatMitMem) (x y : ℕ) (a : Node) → (y ≡ x → ⊥) → node_at (set_node memory x a) y ≡ node_at memory y
-node_set_other memory x y a h = ap (λ o. unwrap_or o (Leaf 0)) (get-set_other memory.nodes x y a h)
-
-module _ (P : ℕ → ℕ → Type 0) (memory twin : NatMitMem) (h : AreMemoriesPaired P memory twin) where
-  pub side_paired : (k x y : ℕ) → P x y → side_at k memory x ≡ side_at k twin y
-  side_paired k x y p = ap (side_of k) (key_paired P (node_at memory x) (node_at twin y) (h.nodes_paired x y p))
-
-  pub reads_paired : (d : Side) (x y : ℕ) → P x y → AreReadsPaired P (word_on d (node_at memory x)) (word_on d (node_at twin y))
-  reads_paired d x y p = word_paired P d (node_at memory x) (node_at twin y) (h.nodes_paired x y p)
-
-  -- paired nodes are exchanged for paired nodes
-  set_paired : (x y : ℕ) (a b : Node) → P x y → AreNodesPaired P a b → AreMemoriesPaired P (set_node memory x a) (set_node twin y b)
-  set_paired x y a b p g = record {
-    one_to_one = h.one_to_one;
-    root_paired = h.root_paired;
-    begin_paired = h.begin_paired;
-    in_range = λ v w q. let r = h.in_range v w q in (
-      subst (λ n. v < n) (sym (length-set memory.nodes x a)) r.0,
-      subst (λ n. w < n) (sym (length-set twin.nodes y b)) r.1,
-    );
-    nodes_paired = λ v w q. elim (eqb_tells v x) [
-      | inl e ↦ same v w e.1 ((h.one_to_one v w x y q p).0 e.1)
-      | inr e ↦ other v w q e.1 (λ f. e.1 ((h.one_to_one v w x y q p).1 f))
-    ];
-  }
-    where
-      same : (v w : ℕ) → v ≡ x → w ≡ y → AreNodesPaired P (node_at (set_node memory x a) v) (node_at (set_node twin y b) w)
-      same v w e f =
-          let r = h.in_range x y p in
-          let left : node_at (set_node memory x a) v ≡ a = ap (node_at (set_node memory x a)) e ∙ node_set_same memory x a r.0 in
-          let right : node_at (set_node twin y b) w ≡ b = ap (node_at (set_node twin y b)) f ∙ node_set_same twin y b r.1 in
-          subst (λ n. AreNodesPaired P n (node_at (set_node twin y b) w)) (sym left) (subst (AreNodesPaired P a) (sym right) g)
-
-      other : (v w : ℕ) → P v w → (v ≡ x → ⊥) → (w ≡ y → ⊥) → AreNodesPaired P (node_at (set_node memory x a) v) (node_at (set_node twin y b) w)
-      other v w q e f =
-          subst (λ n. AreNodesPaired P n (node_at (set_node twin y b) w)) (sym (node_set_other memory x v a e))
-          (subst (AreNodesPaired P (node_at memory v)) (sym (node_set_other twin y w b f)) (h.nodes_paired v w q))
-
-  pub set_word_paired : (x y : ℕ) (d : Side) (v w : Word) → P x y → AreWordsPaired P v w → AreMemoriesPaired P (set_word memory x d v) (set_word twin y d w)
-  set_word_paired x y d v w p g =
-      set_paired x y (with_word d v (node_at memory x)) (with_word d w (node_at twin y)) p
-      (with_word_paired P d v w (node_at memory x) (node_at twin y) (h.nodes_paired x y p) g)
+  pub places_extend : (place twin : NatMitLoc) → ArePlacesPaired P place twin → ArePlacesPaired Q place twin
+  places_extend (Begin m) (Begin o) h = modes_extend m o h
+  places_extend (Down a s p l t m) (Down b u q k v o) h = (f a b h.0, f s u h.1, f p q h.2, f l k h.3, h.4, modes_extend m o h.5)
+  places_extend (Put a s p l) (Put b u q k) h = (f a b h.0, f s u h.1, f p q h.2, f l k h.3)
+  places_extend (Flag a s p l) (Flag b u q k) h = (f a b h.0, f s u h.1, f p q h.2, f l k h.3)
+  places_extend (Look a s p l) (Look b u q k) h = (f a b h.0, f s u h.1, f p q h.2, f l k h.3)
+  places_extend (CleanRead a s p m) (CleanRead b u q o) h = (f a b h.0, f s u h.1, f p q h.2, modes_extend m o h.3)
+  places_extend (Tag a s p d m) (Tag b u q e o) h = (f a b h.0, f s u h.1, f p q h.2, h.3, modes_extend m o h.4)
+  places_extend (Sibling a s p d m) (Sibling b u q e o) h = (f a b h.0, f s u h.1, f p q h.2, h.3, modes_extend m o h.4)
+  places_extend (Swing a s g x m) (Swing b u v y o) h = (f a b h.0, f s u h.1, h.2, f x y h.3, modes_extend m o h.4)
+  places_extend _ _ h = absurd h
 
 -- ---- a node that is appended
 

@@ -1,9 +1,9 @@
-//! The place table: one access of an operation.
-ghost use Rattle.std.specs.Prelude.{◌≡◌, IfOk, OnErr};
+//! The rows of the table at which an operation looks for its key, and writes at the leaf where it found it.
+ghost use Rattle.std.specs.Prelude.{◌≡◌, Bool, IfOk, OnErr};
 ghost use Rattle.sched_program.specs.Program.{key_of};
 ghost use Rattle.natmit.specs.declared.place.NatMitLoc.TheVariants as place;
 ghost use Rattle.natmit.specs.Memory.{side_at};
-ghost use Rattle.natmit.specs.Table.{act, other_side, arrived, went_down, looked, tagging, clean_read, swung};
+ghost use Rattle.natmit.specs.Table.{act, arrived, went_down, looked};
 
 use crate::machine::NatMit;
 use crate::memory::{NatMitMem, Node, Word, is_plain, key_in, plain, word_on};
@@ -21,18 +21,76 @@ fn key_of(op: Op) -> u8
 }
 
 /// The side of a node on which the operation's key is looked for.
-fn side_at(op: Op, mem: &NatMitMem, x: u32) -> Side
+pub(crate) fn side_at(op: Op, mem: &NatMitMem, x: u32) -> Side
     ensures { result ≡ side_at (key_of op) mem.now x }
 {
     side_of(key_of(op), key_in(mem.node(x)))
 }
 
-fn other_side(side: Side) -> Side
-    ensures { result ≡ other_side side }
+/// What a delete does at the leaf, of this key, at which its search has ended.
+fn decide_delete(
+    wanted: u8,
+    ancestor: u32,
+    successor: u32,
+    parent: u32,
+    leaf: u32,
+    mode: Mode,
+    key: u8,
+) -> Outcome<NatMitLoc>
+    ensures { (tag : Bool) → result ≡ arrived (Op.Delete wanted) ancestor successor parent leaf tag mode (Node.Leaf key) }
 {
-    match side {
-        Side::Left => Side::Right,
-        Side::Right => Side::Left,
+    match mode {
+        Mode::Plain => {
+            if key != wanted {
+                return Outcome::Replies(false);
+            }
+            Outcome::Goes(NatMitLoc::Flag {
+                ancestor,
+                successor,
+                parent,
+                leaf,
+            })
+        }
+        Mode::Owner(owned) => {
+            if leaf != owned {
+                return Outcome::Replies(true);
+            }
+            Outcome::Goes(NatMitLoc::CleanRead {
+                ancestor,
+                successor,
+                parent,
+                mode,
+            })
+        }
+    }
+}
+
+/// What an operation does at the leaf, of this key, at which its search has ended, whatever tag led there.
+fn decide(
+    op: Op,
+    ancestor: u32,
+    successor: u32,
+    parent: u32,
+    leaf: u32,
+    mode: Mode,
+    key: u8,
+) -> Outcome<NatMitLoc>
+    ensures { (tag : Bool) → result ≡ arrived op ancestor successor parent leaf tag mode (Node.Leaf key) }
+{
+    match op {
+        Op::Find(wanted) => Outcome::Replies(key == wanted),
+        Op::Insert(wanted) => {
+            if key == wanted {
+                return Outcome::Replies(false);
+            }
+            Outcome::Goes(NatMitLoc::Put {
+                ancestor,
+                successor,
+                parent,
+                leaf,
+            })
+        }
+        Op::Delete(wanted) => decide_delete(wanted, ancestor, successor, parent, leaf, mode, key),
     }
 }
 
@@ -49,8 +107,8 @@ fn arrived(
 ) -> Outcome<NatMitLoc>
     ensures { result ≡ arrived op ancestor successor parent leaf tag mode node }
 {
-    match (op, mode, node) {
-        (_, _, Node::Internal { .. }) => Outcome::Goes(NatMitLoc::Down {
+    match node {
+        Node::Internal { .. } => Outcome::Goes(NatMitLoc::Down {
             ancestor,
             successor,
             parent,
@@ -58,43 +116,7 @@ fn arrived(
             tag,
             mode,
         }),
-        (Op::Find(wanted), _, Node::Leaf { key }) => Outcome::Replies(key == wanted),
-        (Op::Insert(wanted), _, Node::Leaf { key }) => {
-            if key == wanted {
-                Outcome::Replies(false)
-            } else {
-                Outcome::Goes(NatMitLoc::Put {
-                    ancestor,
-                    successor,
-                    parent,
-                    leaf,
-                })
-            }
-        }
-        (Op::Delete(wanted), Mode::Plain, Node::Leaf { key }) => {
-            if key == wanted {
-                Outcome::Goes(NatMitLoc::Flag {
-                    ancestor,
-                    successor,
-                    parent,
-                    leaf,
-                })
-            } else {
-                Outcome::Replies(false)
-            }
-        }
-        (Op::Delete(_), Mode::Owner(owned), Node::Leaf { .. }) => {
-            if leaf == owned {
-                Outcome::Goes(NatMitLoc::CleanRead {
-                    ancestor,
-                    successor,
-                    parent,
-                    mode,
-                })
-            } else {
-                Outcome::Replies(true)
-            }
-        }
+        Node::Leaf { key } => decide(op, ancestor, successor, parent, leaf, mode, key),
     }
 }
 
@@ -138,65 +160,8 @@ fn looked(ancestor: u32, successor: u32, parent: u32, leaf: u32, word: Word) -> 
     }
 }
 
-/// Where the cleanup goes once it knows the side of the sibling: to the tag, or past it in the variant.
-fn tagging(
-    machine: NatMit,
-    ancestor: u32,
-    successor: u32,
-    parent: u32,
-    side: Side,
-    mode: Mode,
-) -> NatMitLoc
-    ensures { result ≡ tagging machine ancestor successor parent side mode }
-{
-    if machine.tag {
-        NatMitLoc::Tag {
-            ancestor,
-            successor,
-            parent,
-            side,
-            mode,
-        }
-    } else {
-        NatMitLoc::Sibling {
-            ancestor,
-            successor,
-            parent,
-            side,
-            mode,
-        }
-    }
-}
-
-/// Where the cleanup goes that has read this word of the parent, on the side of the key.
-fn clean_read(
-    machine: NatMit,
-    ancestor: u32,
-    successor: u32,
-    parent: u32,
-    side: Side,
-    mode: Mode,
-    word: Word,
-) -> Outcome<NatMitLoc>
-    ensures { result ≡ clean_read machine ancestor successor parent side mode word }
-{
-    if word.flag {
-        let side = other_side(side);
-        Outcome::Goes(tagging(machine, ancestor, successor, parent, side, mode))
-    } else {
-        Outcome::Goes(tagging(machine, ancestor, successor, parent, side, mode))
-    }
-}
-
-/// Where the cleanup goes that has cut the parent off.
-fn swung(mode: Mode) -> Outcome<NatMitLoc>
-    ensures { result ≡ swung mode }
-{
-    match mode {
-        Mode::Plain => Outcome::Goes(NatMitLoc::Begin { mode }),
-        Mode::Owner(_) => Outcome::Replies(true),
-    }
-}
+/// What comes of an access, unless memory is refused.
+pub(crate) type Access = Result<Outcome<NatMitLoc>, OutOfMemory>;
 
 // ---- the rows of the table
 
@@ -245,7 +210,7 @@ impl NatMit {
         successor: u32,
         parent: u32,
         leaf: u32,
-    ) -> Result<Outcome<NatMitLoc>, OutOfMemory>
+    ) -> Access
         ensures ok { IfOk result (λ outcome. act self op (place.Put ancestor successor parent leaf) mem.old ≡ (mem.new, outcome)) }
         ensures err { OnErr result (mem.new ≡ mem.old) }
     {
@@ -322,116 +287,8 @@ impl NatMit {
         }
     }
 
-    /// Of the two children of the parent the one that is not flagged stays.
-    fn clean_read_row(
-        self,
-        op: Op,
-        mem: &NatMitMem,
-        ancestor: u32,
-        successor: u32,
-        parent: u32,
-        mode: Mode,
-    ) -> Outcome<NatMitLoc>
-        ensures { act self op (place.CleanRead ancestor successor parent mode) mem.now ≡ (mem.now, result) }
-    {
-        let side = side_at(op, mem, parent);
-        match word_on(side, mem.node(parent)) {
-            Some(word) => clean_read(self, ancestor, successor, parent, side, mode, word),
-            None => Outcome::Astray,
-        }
-    }
-
-    /// The word of the sibling is tagged, so that no exchange changes it from here on.
-    #[tactic(auto, using(crate::proofs::Present::has_word))]
-    fn tag_row(
-        self,
-        op: Op,
-        mem: &mut NatMitMem,
-        ancestor: u32,
-        successor: u32,
-        parent: u32,
-        side: Side,
-        mode: Mode,
-    ) -> Outcome<NatMitLoc>
-        ensures { act self op (place.Tag ancestor successor parent side mode) mem.old ≡ (mem.new, result) }
-    {
-        let Some(word) = word_on(side, mem.node(parent)) else {
-            return Outcome::Astray;
-        };
-        let tagged = Word { tag: true, ..word };
-        mem.set_word(parent, side, tagged);
-        Outcome::Goes(NatMitLoc::Sibling {
-            ancestor,
-            successor,
-            parent,
-            side,
-            mode,
-        })
-    }
-
-    /// The sibling may itself be flagged, and the flag goes up with it.
-    fn sibling_row(
-        self,
-        op: Op,
-        mem: &NatMitMem,
-        ancestor: u32,
-        successor: u32,
-        parent: u32,
-        side: Side,
-        mode: Mode,
-    ) -> Outcome<NatMitLoc>
-        ensures { act self op (place.Sibling ancestor successor parent side mode) mem.now ≡ (mem.now, result) }
-    {
-        match word_on(side, mem.node(parent)) {
-            Some(word) => Outcome::Goes(NatMitLoc::Swing {
-                ancestor,
-                successor,
-                flag: word.flag,
-                node: word.node,
-                mode,
-            }),
-            None => Outcome::Astray,
-        }
-    }
-
-    /// The word of the ancestor leads to the sibling then, and all between them is cut off.
-    #[tactic(auto, using(crate::proofs::Present::has_word))]
-    fn swing_row(
-        self,
-        op: Op,
-        mem: &mut NatMitMem,
-        ancestor: u32,
-        successor: u32,
-        flag: bool,
-        node: u32,
-        mode: Mode,
-    ) -> Outcome<NatMitLoc>
-        ensures { act self op (place.Swing ancestor successor flag node mode) mem.old ≡ (mem.new, result) }
-    {
-        let side = side_at(op, mem, ancestor);
-        let Some(word) = word_on(side, mem.node(ancestor)) else {
-            return Outcome::Astray;
-        };
-        if is_plain(successor, word) {
-            let sibling = Word {
-                flag,
-                ..plain(node)
-            };
-            mem.set_word(ancestor, side, sibling);
-            swung(mode)
-        } else {
-            Outcome::Goes(NatMitLoc::Begin { mode })
-        }
-    }
-
     /// One access to the memory, by the row of its place. Where memory is refused the memory is unchanged.
-    pub(crate) fn access(
-        self,
-        alloc: Global,
-        op: Op,
-        loc: NatMitLoc,
-        mem: &mut NatMitMem,
-    ) -> Result<Outcome<NatMitLoc>, OutOfMemory>
+    pub(crate) fn access(self, alloc: Global, op: Op, loc: NatMitLoc, mem: &mut NatMitMem) -> Access
         ensures ok { IfOk result (λ outcome. act self op loc mem.old ≡ (mem.new, outcome)) }
         ensures err { OnErr result (mem.new ≡ mem.old) }
     {
@@ -463,33 +320,7 @@ impl NatMit {
                 parent: p,
                 leaf: l,
             } => Ok(self.look_row(op, mem, a, s, p, l)),
-            NatMitLoc::CleanRead {
-                ancestor: a,
-                successor: s,
-                parent: p,
-                mode,
-            } => Ok(self.clean_read_row(op, mem, a, s, p, mode)),
-            NatMitLoc::Tag {
-                ancestor: a,
-                successor: s,
-                parent: p,
-                side,
-                mode,
-            } => Ok(self.tag_row(op, mem, a, s, p, side, mode)),
-            NatMitLoc::Sibling {
-                ancestor: a,
-                successor: s,
-                parent: p,
-                side,
-                mode,
-            } => Ok(self.sibling_row(op, mem, a, s, p, side, mode)),
-            NatMitLoc::Swing {
-                ancestor: a,
-                successor: s,
-                flag,
-                node,
-                mode,
-            } => Ok(self.swing_row(op, mem, a, s, flag, node, mode)),
+            _ => Ok(self.help_act(op, loc, mem)),
         }
     }
 }

@@ -1,9 +1,8 @@
--- Every access keeps the numbers of nodes in range; one that goes astray leaves the memory.
-use Rattle.std.specs.Prelude.{◌≡◌, ℕ, zero, suc, ◌+◌, ◌<◌, ◌≤◌, Bool, true, false, ◌&&◌, ◌||◌, if◌then◌else◌, nat_eq, nat_lt, List, [], ◌∷◌, length, refl, Option, Some, None, unwrap_or, slice_get, slice_set, All}
+-- Each kind of access keeps the numbers of nodes in range.
+use Rattle.std.specs.Prelude.{◌≡◌, ℕ, zero, suc, ◌+◌, ◌<◌, ◌≤◌, Bool, true, false, if◌then◌else◌, nat_eq, nat_lt, List, [], ◌∷◌, length, refl, Option, Some, None, unwrap_or, slice_get, slice_set, All}
 use Rattle.std.proofs.Common.{arith, sym, subst, length-append}
 use Rattle.std.proofs.lemmas.List.{length-set}
 use Rattle.std.proofs.lemmas.List.Elements.{All-nil, All-cons, All-head, All-tail, All-append, All-set, All-weaker}
-use Rattle.sched_program.specs.Program.{key_of}
 use Rattle.sched_program.specs.declared.operation.Op.{Op}
 use Rattle.sched_program.specs.declared.operation.Op.TheVariants.{Insert, Delete, Find}
 use Rattle.tree_machine.specs.declared.machine.Outcome.{Outcome}
@@ -19,9 +18,9 @@ use Rattle.natmit.specs.declared.place.Mode.TheVariants.{Plain, Owner}
 use Rattle.natmit.specs.declared.place.NatMitLoc.{NatMitLoc}
 use Rattle.natmit.specs.declared.place.NatMitLoc.TheVariants.{Begin, Down, Put, Flag, Look, CleanRead, Tag, Sibling, Swing}
 use Rattle.natmit.specs.declared.machine.NatMit.{NatMit}
-use Rattle.natmit.specs.Memory.{plain, is_plain, word_on, with_word, node_at, key_at, side_at, set_node, set_word, internal_over, with_internal, new_internal}
-use Rattle.natmit.specs.Table.{After, found, after_read, after_exchange, after_tag, other_side, arrived, went_down, looked, tagging, clean_read, swung, not_swung, act}
-use Rattle.natmit.specs.Range.{IsNodeIn, IsModeIn, IsPlaceIn, IsInRange, IsPlaceInRange}
+use Rattle.natmit.specs.Memory.{plain, is_plain, word_on, with_word, node_at, key_at, set_node, set_word, internal_over, with_internal}
+use Rattle.natmit.specs.Table.{After, found, after_read, after_exchange, after_tag, arrived, tagging, swung}
+use Rattle.natmit.specs.Range.{IsNodeIn, IsModeIn, IsPlaceIn, IsInRange}
 
 -- ---- what is in range stays so where there are more nodes
 
@@ -59,22 +58,22 @@ IsOutcomeIn n (Replies reply) = Unit {0}
 IsOutcomeIn n Astray = Unit {0}
 
 module _ (n : ℕ) where
-  either : (b : Bool) (first second : Outcome NatMitLoc) → IsOutcomeIn n first → IsOutcomeIn n second → IsOutcomeIn n (if b then first else second)
+  pub either : (b : Bool) (first second : Outcome NatMitLoc) → IsOutcomeIn n first → IsOutcomeIn n second → IsOutcomeIn n (if b then first else second)
   either true first second h k = h
   either false first second h k = k
 
-  swung_in : (mode : Mode) → IsOutcomeIn n (swung mode)
+  pub swung_in : (mode : Mode) → IsOutcomeIn n (swung mode)
   swung_in Plain = tt
   swung_in (Owner o) = tt
 
-  arrived_in : (op : Op) (a s p l : ℕ) (t : Bool) (mode : Mode) (node : Node) → a < n → s < n → p < n → l < n → IsModeIn n mode → IsOutcomeIn n (arrived op a s p l t mode node)
+  pub arrived_in : (op : Op) (a s p l : ℕ) (t : Bool) (mode : Mode) (node : Node) → a < n → s < n → p < n → l < n → IsModeIn n mode → IsOutcomeIn n (arrived op a s p l t mode node)
   arrived_in op a s p l t mode (Internal j left right) x y z w h = (x, y, z, w, h)
   arrived_in (Find k) a s p l t mode (Leaf j) x y z w h = tt
   arrived_in (Insert k) a s p l t mode (Leaf j) x y z w h = either (nat_eq j k) (Replies false) (Goes (Put a s p l)) tt (x, y, z, w)
   arrived_in (Delete k) a s p l t Plain (Leaf j) x y z w h = either (nat_eq j k) (Goes (Flag a s p l)) (Replies false) (x, y, z, w) tt
   arrived_in (Delete k) a s p l t (Owner o) (Leaf j) x y z w h = either (nat_eq l o) (Goes (CleanRead a s p (Owner o))) (Replies true) (x, y, z, h) tt
 
-  tagging_in : (machine : NatMit) (a s p : ℕ) (d : Side) (mode : Mode) → (a < n) × (s < n) × (p < n) × IsModeIn n mode → IsPlaceIn n (tagging machine a s p d mode)
+  pub tagging_in : (machine : NatMit) (a s p : ℕ) (d : Side) (mode : Mode) → (a < n) × (s < n) × (p < n) × IsModeIn n mode → IsPlaceIn n (tagging machine a s p d mode)
   tagging_in machine a s p d mode h = elim machine.tag as (λ b. IsPlaceIn n (if b then Tag a s p d mode else Sibling a s p d mode)) [ true ↦ h | false ↦ h ]
 
 -- ---- what is read of a memory
@@ -162,12 +161,12 @@ cond_kept memory true first second h k = h
 cond_kept memory false first second h k = k
 
 module _ (memory : NatMitMem) (h : IsInRange memory) where
-  read_kept : (x : ℕ) (d : Side) (goes : Word → Outcome NatMitLoc) → ((w : Word) → w.node < length memory.nodes → IsOutcomeIn (length memory.nodes) (goes w)) → IsKept memory (after_read memory x d goes)
+  pub read_kept : (x : ℕ) (d : Side) (goes : Word → Outcome NatMitLoc) → ((w : Word) → w.node < length memory.nodes → IsOutcomeIn (length memory.nodes) (goes w)) → IsKept memory (after_read memory x d goes)
   read_kept x d goes f =
       found_kept memory (word_on d (node_at memory x)) (λ w. (memory, goes w)) h
       (λ w e. stays memory (goes w) h (f w (word_in (length memory.nodes) d (node_at memory x) w (node_in memory x h) e)))
 
-  exchange_kept : (appended : NatMitMem) → length memory.nodes ≤ length appended.nodes → IsInRange appended → (x : ℕ) (d : Side) (l : ℕ) (desired : Word) (success failure : Outcome NatMitLoc)
+  pub exchange_kept : (appended : NatMitMem) → length memory.nodes ≤ length appended.nodes → IsInRange appended → (x : ℕ) (d : Side) (l : ℕ) (desired : Word) (success failure : Outcome NatMitLoc)
       → desired.node < length appended.nodes → IsOutcomeIn (length appended.nodes) success → IsOutcomeIn (length memory.nodes) failure
       → IsKept memory (after_exchange memory x d l appended desired success failure)
   exchange_kept appended more k x d l desired success failure b o f =
@@ -176,100 +175,8 @@ module _ (memory : NatMitMem) (h : IsInRange memory) where
       (set_kept memory appended x d desired success more k b o)
       (stays memory failure h f))
 
-  tag_kept : (x : ℕ) (d : Side) (place : NatMitLoc) → IsPlaceIn (length memory.nodes) place → IsKept memory (after_tag memory x d (Goes place))
+  pub tag_kept : (x : ℕ) (d : Side) (place : NatMitLoc) → IsPlaceIn (length memory.nodes) place → IsKept memory (after_tag memory x d (Goes place))
   tag_kept x d place o =
       found_kept memory (word_on d (node_at memory x)) (λ w. (set_word memory x d (record { flag = w.flag; tag = true; node = w.node }), Goes place)) h
       (λ w e. set_kept memory memory x d (record { flag = w.flag; tag = true; node = w.node }) (Goes place) (omega arith) h
       (word_in (length memory.nodes) d (node_at memory x) w (node_in memory x h) e) o)
-
-  -- ---- the rows of the table
-
-  begin_kept : (op : Op) (mode : Mode) → IsModeIn (length memory.nodes) mode → (w : Word) → w.node < length memory.nodes → IsOutcomeIn (length memory.nodes) (arrived op 0 1 1 w.node w.tag mode (node_at memory w.node))
-  begin_kept op mode at w below =
-      let first = h.first_nodes in
-      arrived_in (length memory.nodes) op 0 1 1 w.node w.tag mode (node_at memory w.node) (omega arith) first first below at
-
-  down_kept : (op : Op) (a s p l : ℕ) (t : Bool) (mode : Mode) → IsPlaceInRange memory (Down a s p l t mode) → (w : Word) → w.node < length memory.nodes → IsOutcomeIn (length memory.nodes) (went_down op a s p l t mode memory w)
-  down_kept op a s p l t mode at w below =
-      let n = length memory.nodes in
-      either n t _ _
-      (arrived_in n op a s l w.node w.tag mode (node_at memory w.node) at.0 at.1 at.3 below at.4)
-      (arrived_in n op p l l w.node w.tag mode (node_at memory w.node) at.2 at.3 at.3 below at.4)
-
-  pub act_kept : (machine : NatMit) (op : Op) (place : NatMitLoc) → IsPlaceInRange memory place → IsKept memory (act machine op place memory)
-  act_kept machine op (Begin mode) at = read_kept 1 Left _ (begin_kept op mode at)
-  act_kept machine op (Down a s p l t mode) at = read_kept l (side_at (key_of op) memory l) _ (down_kept op a s p l t mode at)
-  act_kept machine op (Put a s p l) at =
-      let more = two_more memory (key_of op) l in
-      exchange_kept (with_internal memory (key_of op) l) (omega arith) (with_internal_in memory (key_of op) l h at.3) p (side_at (key_of op) memory p) l (plain (new_internal memory)) (Replies true) (Goes (Look a s p l)) (omega arith) tt at
-  act_kept machine op (Flag a s p l) at =
-      exchange_kept memory (omega arith) h p (side_at (key_of op) memory p) l (record { flag = true; tag = false; node = l }) (Goes (CleanRead a s p (Owner l))) (Goes (Look a s p l)) at.3 at at
-  act_kept machine op (Look a s p l) at =
-      read_kept p (side_at (key_of op) memory p) (looked a s p l)
-      (λ w below. either (length memory.nodes) (nat_eq w.node l && (w.flag || w.tag)) (Goes (CleanRead a s p Plain)) (Goes (Begin Plain)) (at.0, at.1, at.2, tt) tt)
-  act_kept machine op (CleanRead a s p mode) at =
-      let d = side_at (key_of op) memory p in
-      read_kept p d (clean_read machine a s p d mode)
-      (λ w below. either (length memory.nodes) w.flag (Goes (tagging machine a s p (other_side d) mode)) (Goes (tagging machine a s p d mode))
-      (tagging_in (length memory.nodes) machine a s p (other_side d) mode at) (tagging_in (length memory.nodes) machine a s p d mode at))
-  act_kept machine op (Tag a s p d mode) at = tag_kept p d (Sibling a s p d mode) at
-  act_kept machine op (Sibling a s p d mode) at =
-      read_kept p d (λ w. Goes (Swing a s w.flag w.node mode)) (λ w below. (at.0, at.1, below, at.3))
-  act_kept machine op (Swing a s f x mode) at =
-      exchange_kept memory (omega arith) h a (side_at (key_of op) memory a) s (record { flag = f; tag = false; node = x }) (swung mode) (not_swung mode) at.2 (swung_in (length memory.nodes) mode) at.3
-
--- ---- an access that goes astray leaves the memory
-
--- an outcome other than astray
-abbrev IsSure : Outcome NatMitLoc → Type 0
-IsSure (Goes place) = Unit {0}
-IsSure (Replies reply) = Unit {0}
-IsSure Astray = ⊥
-
-never_astray : (outcome : Outcome NatMitLoc) → IsSure outcome → outcome ≡ Astray → ⊥
-never_astray (Goes place) h e = cc
-never_astray (Replies reply) h e = cc
-never_astray Astray h e = h
-
-swung_sure : (mode : Mode) → IsSure (swung mode)
-swung_sure Plain = tt
-swung_sure (Owner o) = tt
-
-abbrev LeavesMemory : NatMitMem → After → Type 0
-LeavesMemory memory after = after.1 ≡ Astray → after.0 ≡ memory
-
-found_leaves : (memory : NatMitMem) (o : Option Word) (goes : Word → After) → ((w : Word) → LeavesMemory memory (goes w)) → LeavesMemory memory (found memory o goes)
-found_leaves memory None goes f = λ _. refl
-found_leaves memory (Some w) goes f = f w
-
-cond_leaves : (memory changed : NatMitMem) (b : Bool) (success failure : Outcome NatMitLoc) → IsSure success → LeavesMemory memory (if b then (changed, success) else (memory, failure))
-cond_leaves memory changed true success failure sure = λ e. absurd (never_astray success sure e)
-cond_leaves memory changed false success failure sure = λ _. refl
-
-module _ (memory : NatMitMem) where
-  read_leaves : (x : ℕ) (d : Side) (goes : Word → Outcome NatMitLoc) → LeavesMemory memory (after_read memory x d goes)
-  read_leaves x d goes = found_leaves memory (word_on d (node_at memory x)) (λ w. (memory, goes w)) (λ w _. refl)
-
-  exchange_leaves : (x : ℕ) (d : Side) (l : ℕ) (appended : NatMitMem) (desired : Word) (success failure : Outcome NatMitLoc) → IsSure success → LeavesMemory memory (after_exchange memory x d l appended desired success failure)
-  exchange_leaves x d l appended desired success failure sure =
-      found_leaves memory (word_on d (node_at memory x)) (λ w. if is_plain l w then (set_word appended x d desired, success) else (memory, failure))
-      (λ w. cond_leaves memory (set_word appended x d desired) (is_plain l w) success failure sure)
-
-  tag_leaves : (x : ℕ) (d : Side) (goes : Outcome NatMitLoc) → IsSure goes → LeavesMemory memory (after_tag memory x d goes)
-  tag_leaves x d goes sure =
-      found_leaves memory (word_on d (node_at memory x)) (λ w. (set_word memory x d (record { flag = w.flag; tag = true; node = w.node }), goes))
-      (λ w e. absurd (never_astray goes sure e))
-
-  pub act_leaves : (machine : NatMit) (op : Op) (place : NatMitLoc) → (act machine op place memory).1 ≡ Astray → (act machine op place memory).0 ≡ memory
-  act_leaves machine op (Begin mode) = read_leaves 1 Left _
-  act_leaves machine op (Down a s p l t mode) = read_leaves l (side_at (key_of op) memory l) _
-  act_leaves machine op (Put a s p l) =
-      exchange_leaves p (side_at (key_of op) memory p) l (with_internal memory (key_of op) l) (plain (new_internal memory)) (Replies true) (Goes (Look a s p l)) tt
-  act_leaves machine op (Flag a s p l) =
-      exchange_leaves p (side_at (key_of op) memory p) l memory (record { flag = true; tag = false; node = l }) (Goes (CleanRead a s p (Owner l))) (Goes (Look a s p l)) tt
-  act_leaves machine op (Look a s p l) = read_leaves p (side_at (key_of op) memory p) _
-  act_leaves machine op (CleanRead a s p mode) = read_leaves p (side_at (key_of op) memory p) _
-  act_leaves machine op (Tag a s p d mode) = tag_leaves p d (Goes (Sibling a s p d mode)) tt
-  act_leaves machine op (Sibling a s p d mode) = read_leaves p d _
-  act_leaves machine op (Swing a s f x mode) =
-      exchange_leaves a (side_at (key_of op) memory a) s memory (record { flag = f; tag = false; node = x }) (swung mode) (not_swung mode) (swung_sure mode)

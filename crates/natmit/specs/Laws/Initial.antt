@@ -22,7 +22,7 @@ use Rattle.natmit.specs.declared.memory.NatMitMem.{NatMitMem}
 use Rattle.natmit.specs.Memory.{plain, key_in, shape_in, shapes, with_word, node_at, key_at, side_at, internal_over, with_internal, new_internal, put_at}
 use Rattle.natmit.specs.Initial.{empty_tree, put_in, initial_memory}
 use Rattle.natmit.specs.Range.{IsNodeIn, IsInRange}
-use Rattle.natmit.specs.RangeLaws.{node_in, set_word_in, two_more, with_internal_in}
+use Rattle.natmit.specs.Laws.Range.{node_in, set_word_in, two_more, with_internal_in}
 
 -- ---- lists
 

@@ -1,0 +1,223 @@
+//! The rows of the table at which an operation cuts a flagged leaf off, its own or that of a delete which it helps.
+ghost use Rattle.std.specs.Prelude.{◌≡◌};
+ghost use Rattle.natmit.specs.declared.place.NatMitLoc.TheVariants as place;
+ghost use Rattle.natmit.specs.Table.{act, other_side, tagging, clean_read, swung, IsHelping};
+
+use crate::machine::NatMit;
+use crate::memory::{NatMitMem, Word, is_plain, plain, word_on};
+use crate::place::{Mode, NatMitLoc};
+use crate::searching::side_at;
+use sched_program::Op;
+use tree_machine::{Outcome, Side};
+
+fn other_side(side: Side) -> Side
+    ensures { result ≡ other_side side }
+{
+    match side {
+        Side::Left => Side::Right,
+        Side::Right => Side::Left,
+    }
+}
+
+/// Where the cleanup goes once it knows the side of the sibling: to the tag, or past it in the variant.
+fn tagging(
+    machine: NatMit,
+    ancestor: u32,
+    successor: u32,
+    parent: u32,
+    side: Side,
+    mode: Mode,
+) -> NatMitLoc
+    ensures { result ≡ tagging machine ancestor successor parent side mode }
+{
+    if machine.tag {
+        NatMitLoc::Tag {
+            ancestor,
+            successor,
+            parent,
+            side,
+            mode,
+        }
+    } else {
+        NatMitLoc::Sibling {
+            ancestor,
+            successor,
+            parent,
+            side,
+            mode,
+        }
+    }
+}
+
+/// Where the cleanup goes that has read this word of the parent, on the side of the key.
+fn clean_read(
+    machine: NatMit,
+    ancestor: u32,
+    successor: u32,
+    parent: u32,
+    side: Side,
+    mode: Mode,
+    word: Word,
+) -> Outcome<NatMitLoc>
+    ensures { result ≡ clean_read machine ancestor successor parent side mode word }
+{
+    if word.flag {
+        let side = other_side(side);
+        Outcome::Goes(tagging(machine, ancestor, successor, parent, side, mode))
+    } else {
+        Outcome::Goes(tagging(machine, ancestor, successor, parent, side, mode))
+    }
+}
+
+/// Where the cleanup goes that has cut the parent off.
+fn swung(mode: Mode) -> Outcome<NatMitLoc>
+    ensures { result ≡ swung mode }
+{
+    match mode {
+        Mode::Plain => Outcome::Goes(NatMitLoc::Begin { mode }),
+        Mode::Owner(_) => Outcome::Replies(true),
+    }
+}
+
+// ---- the rows of the table
+
+impl NatMit {
+    /// Of the two children of the parent the one that is not flagged stays.
+    fn clean_read_row(
+        self,
+        op: Op,
+        mem: &NatMitMem,
+        ancestor: u32,
+        successor: u32,
+        parent: u32,
+        mode: Mode,
+    ) -> Outcome<NatMitLoc>
+        ensures { act self op (place.CleanRead ancestor successor parent mode) mem.now ≡ (mem.now, result) }
+    {
+        let side = side_at(op, mem, parent);
+        match word_on(side, mem.node(parent)) {
+            Some(word) => clean_read(self, ancestor, successor, parent, side, mode, word),
+            None => Outcome::Astray,
+        }
+    }
+
+    /// The word of the sibling is tagged, so that no exchange changes it from here on.
+    #[tactic(auto, using(crate::proofs::Present::has_word))]
+    fn tag_row(
+        self,
+        op: Op,
+        mem: &mut NatMitMem,
+        ancestor: u32,
+        successor: u32,
+        parent: u32,
+        side: Side,
+        mode: Mode,
+    ) -> Outcome<NatMitLoc>
+        ensures { act self op (place.Tag ancestor successor parent side mode) mem.old ≡ (mem.new, result) }
+    {
+        let Some(word) = word_on(side, mem.node(parent)) else {
+            return Outcome::Astray;
+        };
+        let tagged = Word { tag: true, ..word };
+        mem.set_word(parent, side, tagged);
+        Outcome::Goes(NatMitLoc::Sibling {
+            ancestor,
+            successor,
+            parent,
+            side,
+            mode,
+        })
+    }
+
+    /// The sibling may itself be flagged, and the flag goes up with it.
+    fn sibling_row(
+        self,
+        op: Op,
+        mem: &NatMitMem,
+        ancestor: u32,
+        successor: u32,
+        parent: u32,
+        side: Side,
+        mode: Mode,
+    ) -> Outcome<NatMitLoc>
+        ensures { act self op (place.Sibling ancestor successor parent side mode) mem.now ≡ (mem.now, result) }
+    {
+        match word_on(side, mem.node(parent)) {
+            Some(word) => Outcome::Goes(NatMitLoc::Swing {
+                ancestor,
+                successor,
+                flag: word.flag,
+                node: word.node,
+                mode,
+            }),
+            None => Outcome::Astray,
+        }
+    }
+
+    /// The word of the ancestor leads to the sibling then, and all between them is cut off.
+    #[tactic(auto, using(crate::proofs::Present::has_word))]
+    fn swing_row(
+        self,
+        op: Op,
+        mem: &mut NatMitMem,
+        ancestor: u32,
+        successor: u32,
+        flag: bool,
+        node: u32,
+        mode: Mode,
+    ) -> Outcome<NatMitLoc>
+        ensures { act self op (place.Swing ancestor successor flag node mode) mem.old ≡ (mem.new, result) }
+    {
+        let side = side_at(op, mem, ancestor);
+        let Some(word) = word_on(side, mem.node(ancestor)) else {
+            return Outcome::Astray;
+        };
+        if is_plain(successor, word) {
+            let sibling = Word {
+                flag,
+                ..plain(node)
+            };
+            mem.set_word(ancestor, side, sibling);
+            swung(mode)
+        } else {
+            Outcome::Goes(NatMitLoc::Begin { mode })
+        }
+    }
+
+    /// One access at a place at which a flagged leaf is cut off.
+    pub(crate) fn help_act(self, op: Op, loc: NatMitLoc, mem: &mut NatMitMem) -> Outcome<NatMitLoc>
+        requires { IsHelping loc }
+        ensures { act self op loc mem.old ≡ (mem.new, result) }
+    {
+        match loc {
+            NatMitLoc::CleanRead {
+                ancestor: a,
+                successor: s,
+                parent: p,
+                mode,
+            } => self.clean_read_row(op, mem, a, s, p, mode),
+            NatMitLoc::Tag {
+                ancestor: a,
+                successor: s,
+                parent: p,
+                side,
+                mode,
+            } => self.tag_row(op, mem, a, s, p, side, mode),
+            NatMitLoc::Sibling {
+                ancestor: a,
+                successor: s,
+                parent: p,
+                side,
+                mode,
+            } => self.sibling_row(op, mem, a, s, p, side, mode),
+            NatMitLoc::Swing {
+                ancestor: a,
+                successor: s,
+                flag,
+                node,
+                mode,
+            } => self.swing_row(op, mem, a, s, flag, node, mode),
+            _ => unreachable!(),
+        }
+    }
+}
