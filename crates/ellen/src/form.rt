@@ -4,11 +4,10 @@ ghost use Rattle.tree_machine.specs.Alike.{places_of};
 ghost use Rattle.tree_machine.specs.Parts.{IsPartBelow};
 ghost use Rattle.tree_machine.specs.Written.{with_part};
 ghost use Rattle.ellen.specs.Range.{IsInRange, IsPlaceInRange};
-ghost use Rattle.ellen.specs.Encoding.{word_number, word_record, node_part, record_part, above_number, above_node, above_record, search_part, help_number, side_number, help_side, help_record, help_node, base_number, place_part, ellen_parts};
-ghost use Rattle.ellen.specs.FormLaws.{ellen_form};
+ghost use Rattle.ellen.specs.Parts.{word_number, word_record, node_part, record_part, above_number, above_node, above_record, search_part, help_number, help_side, help_record, help_node, base_number, place_part, ellen_parts, ellen_form};
 
 use crate::memory::{EllenMem, Node, Record, UpdateWord};
-use crate::place::{Above, Base, EllenLoc, HelpLoc, Resume, SearchLoc};
+use crate::place::{Above, Base, EllenLoc, HelpLoc, SearchLoc};
 use sched_program::OutOfMemory;
 use std::alloc::Global;
 use tree_machine::{Bytes, Parts, Side, Thread, Writer, form_parts};
@@ -120,6 +119,24 @@ fn search_nodes(above: Option<Above>, parent: u32) -> [Option<usize>; 2]
     [above_node(above), named(parent)]
 }
 
+/// Writes the place at which a delete flags the grandparent.
+fn write_delete_flag(
+    above: Above,
+    parent: u32,
+    update: UpdateWord,
+    leaf: u32,
+    writer: &mut Writer,
+) -> Result<(), OutOfMemory>
+    requires { IsPartBelow writer.old.nodes writer.old.records (search_part (SearchLoc.DFlag above parent update leaf)) }
+    ensures { OnOk result (writer.new ≡ with_part writer.old (search_part (SearchLoc.DFlag above parent update leaf))) }
+{
+    writer.put(
+        &[4, word_number(above.update), word_number(update)],
+        &[named(above.node), named(parent), named(leaf)],
+        &[word_record(above.update), word_record(update)],
+    )
+}
+
 /// Writes a place of a search.
 fn write_search(at: SearchLoc, writer: &mut Writer) -> Result<(), OutOfMemory>
     requires { IsPartBelow writer.old.nodes writer.old.records (search_part at) }
@@ -157,11 +174,7 @@ fn write_search(at: SearchLoc, writer: &mut Writer) -> Result<(), OutOfMemory>
             parent,
             update,
             leaf,
-        } => writer.put(
-            &[4, word_number(above.update), word_number(update)],
-            &[named(above.node), named(parent), named(leaf)],
-            &[word_record(above.update), word_record(update)],
-        ),
+        } => write_delete_flag(above, parent, update, leaf, writer),
     }
 }
 
@@ -256,13 +269,13 @@ fn write_place(place: &EllenLoc, writer: &mut Writer) -> Result<(), OutOfMemory>
 
 /// A memory with what the threads hold, as parts.
 #[derive(Drop)]
-struct Held<'a> {
+struct Snapshot<'a> {
     memory: &'a EllenMem,
     threads: &'a [Thread<EllenLoc>],
 }
 
-impl Parts for Held<'_> {
-    ghost parts = { λ held. ellen_parts held.memory.now (places_of held.threads.now) };
+impl Parts for Snapshot<'_> {
+    ghost parts = { λ s. ellen_parts s.memory.now (places_of s.threads.now) };
 
     fn node_count(&self) -> usize {
         self.memory.nodes.len()
@@ -309,5 +322,5 @@ pub fn form(
     requires places_in_range { All (λ place. IfSome place (IsPlaceInRange memory.now)) (places_of threads.now) }
     ensures { IfOk result (λ form. form ≡ ellen_form memory.now (places_of threads.now)) }
 {
-    form_parts(alloc, 1, &Held { memory, threads })
+    form_parts(alloc, 1, &Snapshot { memory, threads })
 }

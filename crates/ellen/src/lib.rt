@@ -1,9 +1,9 @@
 //! The step machine of Ellen, Fatourou, Ruppert and van Breugel's tree, and its variants.
 #![tactic(auto)]
 
-mod build;
 mod form;
 mod helping;
+mod initial;
 mod machine;
 mod memory;
 mod place;

@@ -1,8 +1,8 @@
 //! The machine and its variants.
 
-use crate::build::build;
 use crate::form::form;
 use crate::helping::{first_place, help_act};
+use crate::initial::build;
 use crate::memory::{DeleteRecord, EllenMem, InsertRecord, Node, Record, UpdateWord};
 use crate::place::{Above, Base, EllenLoc, HelpLoc, Resume, SearchLoc};
 use crate::searching::search_act;
@@ -22,8 +22,9 @@ pub struct Ellen {
 
 impl Machine for Ellen {
     ghost use Rattle.ellen.specs.EllenRules.{ellen_rules};
-    ghost use Rattle.ellen.specs.EllenLaws.{ellen_lawful};
-    ghost use Rattle.ellen.specs.FormLaws.{ellen_form, ellen_forms};
+    ghost use Rattle.ellen.specs.Laws.Rules.{ellen_lawful};
+    ghost use Rattle.ellen.specs.Laws.Forms.{ellen_forms};
+    ghost use Rattle.ellen.specs.Parts.{ellen_form};
 
     type Mem = EllenMem;
 
@@ -83,79 +84,79 @@ impl Machine for Ellen {
 }
 
 impl Exact for Ellen {
-    ghost use Rattle.ellen.specs.EllenExact.{machine_exact};
+    ghost use Rattle.ellen.specs.Laws.Exact.{machine_exact};
 
     ghost exact = { machine_exact };
 }
 
 impl Exact for EllenMem {
-    ghost use Rattle.ellen.specs.EllenExact.{memory_exact};
+    ghost use Rattle.ellen.specs.Laws.Exact.{memory_exact};
 
     ghost exact = { memory_exact };
 }
 
 impl Exact for EllenLoc {
-    ghost use Rattle.ellen.specs.EllenExact.{place_exact};
+    ghost use Rattle.ellen.specs.Laws.Exact.{place_exact};
 
     ghost exact = { place_exact };
 }
 
 impl Exact for SearchLoc {
-    ghost use Rattle.ellen.specs.EllenExact.{search_exact};
+    ghost use Rattle.ellen.specs.Laws.Exact.{search_exact};
 
     ghost exact = { search_exact };
 }
 
 impl Exact for HelpLoc {
-    ghost use Rattle.ellen.specs.EllenExact.{help_exact};
+    ghost use Rattle.ellen.specs.Laws.Exact.{help_exact};
 
     ghost exact = { help_exact };
 }
 
 impl Exact for UpdateWord {
-    ghost use Rattle.ellen.specs.EllenExact.{word_exact};
+    ghost use Rattle.ellen.specs.Laws.Exact.{word_exact};
 
     ghost exact = { word_exact };
 }
 
 impl Exact for Node {
-    ghost use Rattle.ellen.specs.EllenExact.{node_exact};
+    ghost use Rattle.ellen.specs.Laws.Exact.{node_exact};
 
     ghost exact = { node_exact };
 }
 
 impl Exact for InsertRecord {
-    ghost use Rattle.ellen.specs.EllenExact.{insert_exact};
+    ghost use Rattle.ellen.specs.Laws.Exact.{insert_exact};
 
     ghost exact = { insert_exact };
 }
 
 impl Exact for DeleteRecord {
-    ghost use Rattle.ellen.specs.EllenExact.{delete_exact};
+    ghost use Rattle.ellen.specs.Laws.Exact.{delete_exact};
 
     ghost exact = { delete_exact };
 }
 
 impl Exact for Record {
-    ghost use Rattle.ellen.specs.EllenExact.{record_exact};
+    ghost use Rattle.ellen.specs.Laws.Exact.{record_exact};
 
     ghost exact = { record_exact };
 }
 
 impl Exact for Above {
-    ghost use Rattle.ellen.specs.EllenExact.{above_exact};
+    ghost use Rattle.ellen.specs.Laws.Exact.{above_exact};
 
     ghost exact = { above_exact };
 }
 
 impl Exact for Base {
-    ghost use Rattle.ellen.specs.EllenExact.{base_exact};
+    ghost use Rattle.ellen.specs.Laws.Exact.{base_exact};
 
     ghost exact = { base_exact };
 }
 
 impl Exact for Resume {
-    ghost use Rattle.ellen.specs.EllenExact.{resume_exact};
+    ghost use Rattle.ellen.specs.Laws.Exact.{resume_exact};
 
     ghost exact = { resume_exact };
 }

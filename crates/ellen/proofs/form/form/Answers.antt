@@ -1,5 +1,5 @@
 use Rattle.tree_machine.specs.Alike.{places_of}
-use Rattle.ellen.specs.EncodingRange.{parts_in_range}
+use Rattle.ellen.specs.Laws.PartsRange.{parts_in_range}
 use Rattle.ellen.proofs.form.form.Goals as goal
 
 pub form_parts-requires : goal.form_parts-requires

@@ -1,9 +1,8 @@
--- Every access keeps the numbers of nodes and records in range.
+-- Each kind of access keeps the numbers of nodes and records in range.
 use Rattle.std.specs.Prelude.{◌≡◌, ℕ, zero, suc, ◌+◌, ◌<◌, ◌≤◌, Bool, true, false, if◌then◌else◌, nat_eq, nat_lt, List, [], ◌∷◌, length, refl, Option, Some, None, IfSome, unwrap_or, slice_get, slice_set, All}
 use Rattle.std.proofs.Common.{arith, sym, subst, length-append}
 use Rattle.std.proofs.lemmas.List.{length-set}
 use Rattle.std.proofs.lemmas.List.Elements.{All-nil, All-cons, All-head, All-tail, All-append, All-set, All-push, All-weaker}
-use Rattle.sched_program.specs.Program.{key_of}
 use Rattle.sched_program.specs.declared.operation.Op.{Op}
 use Rattle.sched_program.specs.declared.operation.Op.TheVariants.{Insert, Delete, Find}
 use Rattle.tree_machine.specs.declared.machine.Outcome.{Outcome}
@@ -31,13 +30,13 @@ use Rattle.ellen.specs.declared.place.SearchLoc.TheVariants.{Update, Child, IFla
 use Rattle.ellen.specs.declared.place.HelpLoc.{HelpLoc}
 use Rattle.ellen.specs.declared.place.HelpLoc.TheVariants.{InsChild, InsClean, Mark, Right, Other, Splice, DelClean, Back}
 use Rattle.ellen.specs.declared.machine.Ellen.{Ellen}
-use Rattle.ellen.specs.Memory.{update_of, child_on, with_update, with_child, is_word, is_clean, node_at, record_at, key_at, set_node, set_update, set_child, internal_over, with_internal, new_internal, add_record}
-use Rattle.ellen.specs.Table.{After, found, read_update, read_child, exchange_update, exchange_child, with_insert, with_delete, first_place, with_base, awaiting, settled, top_taken, unwound, returned, marking, help, help_first, flagging, decide, arrived, search_act, help_act, act}
-use Rattle.ellen.specs.Range.{IsWordIn, IsResumeIn, IsNodeIn, IsRecordIn, IsAboveIn, IsSearchIn, IsHelpIn, IsPlaceIn, IsInRange, IsPlaceInRange}
+use Rattle.ellen.specs.Memory.{update_of, child_on, with_update, with_child, is_word, is_clean, node_at, record_at, key_at, set_node, set_update, set_child, internal_over, with_internal, add_record}
+use Rattle.ellen.specs.Table.{After, found, read_update, read_child, exchange_update, exchange_child, with_insert, with_delete, with_base, settled, top_taken, unwound, returned, marking, help, help_first, flagging, decide, arrived}
+use Rattle.ellen.specs.Range.{IsWordIn, IsResumeIn, IsNodeIn, IsRecordIn, IsAboveIn, IsSearchIn, IsHelpIn, IsPlaceIn, IsInRange}
 
 -- ---- what is in range stays so where there are more nodes and records
 
-word_more : (m more : ℕ) → m ≤ more → (u : UpdateWord) → IsWordIn m u → IsWordIn more u
+pub word_more : (m more : ℕ) → m ≤ more → (u : UpdateWord) → IsWordIn m u → IsWordIn more u
 word_more m more le word.Untouched h = tt
 word_more m more le (word.Clean r) h = omega arith
 word_more m more le (word.InsertFlag r) h = omega arith
@@ -86,7 +85,7 @@ module _ (n m nodes records : ℕ) (len : n ≤ nodes) (lem : m ≤ records) whe
 
 -- ---- outcomes
 
-abbrev IsOutcomeIn : ℕ → ℕ → Outcome EllenLoc → Type 0
+abbrev pub IsOutcomeIn : ℕ → ℕ → Outcome EllenLoc → Type 0
 IsOutcomeIn n m (Goes place) = IsPlaceIn n m place
 IsOutcomeIn n m (Replies reply) = Unit {0}
 IsOutcomeIn n m Astray = Unit {0}
@@ -108,26 +107,26 @@ module _ (n m : ℕ) (root : 0 < n) where
   unwound_in done b [] h = settled_in done b
   unwound_in done b (r ∷ stack) h = let t = top_in r stack h in (t.1, t.0)
 
-  returned_in : (done : Bool) (resume : Resume) → IsResumeIn m resume → IsOutcomeIn n m (returned done resume)
+  pub returned_in : (done : Bool) (resume : Resume) → IsResumeIn m resume → IsOutcomeIn n m (returned done resume)
   returned_in done resume h = unwound_in done resume.base resume.stack h
 
-  marking_in : (machine : Ellen) (r : ℕ) → r < m → IsHelpIn n m (marking machine r)
+  pub marking_in : (machine : Ellen) (r : ℕ) → r < m → IsHelpIn n m (marking machine r)
   marking_in machine r below = elim machine.mark as (λ b. IsHelpIn n m (if b then Mark r else Right r)) [ true ↦ below | false ↦ below ]
 
-  help_in : (machine : Ellen) (u : UpdateWord) (resume : Resume) → IsWordIn m u → IsResumeIn m resume → IsOutcomeIn n m (help machine u resume)
+  pub help_in : (machine : Ellen) (u : UpdateWord) (resume : Resume) → IsWordIn m u → IsResumeIn m resume → IsOutcomeIn n m (help machine u resume)
   help_in machine word.Untouched resume w h = returned_in true resume h
   help_in machine (word.Clean r) resume w h = returned_in true resume h
   help_in machine (word.InsertFlag r) resume w h = (w, h)
   help_in machine (word.DeleteFlag r) resume w h = (marking_in machine r w, h)
   help_in machine (word.Mark r) resume w h = (w, h)
 
-  help_first_in : (machine : Ellen) (u : UpdateWord) → IsWordIn m u → IsOutcomeIn n m (help_first machine u)
+  pub help_first_in : (machine : Ellen) (u : UpdateWord) → IsWordIn m u → IsOutcomeIn n m (help_first machine u)
   help_first_in machine u w = help_in machine u (with_base base.Again) w (All-nil (λ r. r < m))
 
   flagging_in : (machine : Ellen) (p : ℕ) (u : UpdateWord) (l : ℕ) → p < n → IsWordIn m u → l < n → IsSearchIn n m (flagging machine p u l)
   flagging_in machine p u l a w b = elim machine.iflag as (λ c. IsSearchIn n m (if c then IFlag p u l else InsOnly p l)) [ true ↦ (a, w, b) | false ↦ (a, b) ]
 
-  either : (b : Bool) (first second : Outcome EllenLoc) → IsOutcomeIn n m first → IsOutcomeIn n m second → IsOutcomeIn n m (if b then first else second)
+  pub either : (b : Bool) (first second : Outcome EllenLoc) → IsOutcomeIn n m first → IsOutcomeIn n m second → IsOutcomeIn n m (if b then first else second)
   either true first second h k = h
   either false first second h k = k
 
@@ -139,7 +138,7 @@ module _ (n m : ℕ) (root : 0 < n) where
   decide_in machine (Delete k) (Some above) p u l j a b w c =
       either (nat_eq j k) _ _ (either (is_clean above.update) _ _ (either (is_clean u) (Goes (Search (DFlag above p u l))) _ (a, b, w, c) (help_first_in machine u w)) (help_first_in machine above.update a.1)) tt
 
-  arrived_in : (machine : Ellen) (op : Op) (above : Option Above) (p : ℕ) (u : UpdateWord) (c : ℕ) (node : Node) → IfSome above (IsAboveIn n m) → p < n → IsWordIn m u → c < n → IsOutcomeIn n m (arrived machine op above p u c node)
+  pub arrived_in : (machine : Ellen) (op : Op) (above : Option Above) (p : ℕ) (u : UpdateWord) (c : ℕ) (node : Node) → IfSome above (IsAboveIn n m) → p < n → IsWordIn m u → c < n → IsOutcomeIn n m (arrived machine op above p u c node)
   arrived_in machine op above p u c (Internal j v l r) a b w d = ((b, w), d)
   arrived_in machine op above p u c (Leaf j) a b w d = decide_in machine op above p u c j a b w d
 
@@ -219,17 +218,17 @@ cond_kept memory true first second h k = h
 cond_kept memory false first second h k = k
 
 module _ (memory : EllenMem) (h : IsInRange memory) where
-  read_update_kept : (x : ℕ) (goes : UpdateWord → Outcome EllenLoc) → ((u : UpdateWord) → IsWordIn (length memory.records) u → IsOutcomeIn (length memory.nodes) (length memory.records) (goes u)) → IsKept memory (read_update memory x goes)
+  pub read_update_kept : (x : ℕ) (goes : UpdateWord → Outcome EllenLoc) → ((u : UpdateWord) → IsWordIn (length memory.records) u → IsOutcomeIn (length memory.nodes) (length memory.records) (goes u)) → IsKept memory (read_update memory x goes)
   read_update_kept x goes f =
       found_kept memory (update_of (node_at memory x)) (λ u. (memory, goes u)) h
       (λ u e. stays memory (goes u) h (f u (word_in (length memory.nodes) (length memory.records) (node_at memory x) u (node_in memory x h) e)))
 
-  read_child_kept : (x : ℕ) (s : Side) (goes : ℕ → Outcome EllenLoc) → ((c : ℕ) → c < length memory.nodes → IsOutcomeIn (length memory.nodes) (length memory.records) (goes c)) → IsKept memory (read_child memory x s goes)
+  pub read_child_kept : (x : ℕ) (s : Side) (goes : ℕ → Outcome EllenLoc) → ((c : ℕ) → c < length memory.nodes → IsOutcomeIn (length memory.nodes) (length memory.records) (goes c)) → IsKept memory (read_child memory x s goes)
   read_child_kept x s goes f =
       found_kept memory (child_on s (node_at memory x)) (λ c. (memory, goes c)) h
       (λ c e. stays memory (goes c) h (f c (child_in (length memory.nodes) (length memory.records) s (node_at memory x) c (node_in memory x h) e)))
 
-  with_insert_kept : (r : ℕ) (row : InsertRecord → After) → ((i : InsertRecord) → IsRecordIn (length memory.nodes) (length memory.records) (Ins i) → IsKept memory (row i)) → IsKept memory (with_insert memory (record_at memory r) row)
+  pub with_insert_kept : (r : ℕ) (row : InsertRecord → After) → ((i : InsertRecord) → IsRecordIn (length memory.nodes) (length memory.records) (Ins i) → IsKept memory (row i)) → IsKept memory (with_insert memory (record_at memory r) row)
   with_insert_kept r row f = go (record_at memory r) refl
     where
       go : (o : Option Record) → record_at memory r ≡ o → IsKept memory (with_insert memory o row)
@@ -237,7 +236,7 @@ module _ (memory : EllenMem) (h : IsInRange memory) where
       go (Some (Ins i)) e = f i (get_all (IsRecordIn (length memory.nodes) (length memory.records)) memory.records r (Ins i) h.records e)
       go (Some (Del d)) e = stays memory Astray h tt
 
-  with_delete_kept : (r : ℕ) (row : DeleteRecord → After) → ((d : DeleteRecord) → IsRecordIn (length memory.nodes) (length memory.records) (Del d) → IsKept memory (row d)) → IsKept memory (with_delete memory (record_at memory r) row)
+  pub with_delete_kept : (r : ℕ) (row : DeleteRecord → After) → ((d : DeleteRecord) → IsRecordIn (length memory.nodes) (length memory.records) (Del d) → IsKept memory (row d)) → IsKept memory (with_delete memory (record_at memory r) row)
   with_delete_kept r row f = go (record_at memory r) refl
     where
       go : (o : Option Record) → record_at memory r ≡ o → IsKept memory (with_delete memory o row)
@@ -246,7 +245,7 @@ module _ (memory : EllenMem) (h : IsInRange memory) where
       go (Some (Del d)) e = f d (get_all (IsRecordIn (length memory.nodes) (length memory.records)) memory.records r (Del d) h.records e)
 
   module _ (appended : EllenMem) (more_nodes : length memory.nodes ≤ length appended.nodes) (more_records : length memory.records ≤ length appended.records) (k : IsInRange appended) where
-    exchange_update_kept : (x : ℕ) (expected desired : UpdateWord) (success : Outcome EllenLoc) (failure : UpdateWord → Outcome EllenLoc)
+    pub exchange_update_kept : (x : ℕ) (expected desired : UpdateWord) (success : Outcome EllenLoc) (failure : UpdateWord → Outcome EllenLoc)
         → IsWordIn (length appended.records) desired → IsOutcomeIn (length appended.nodes) (length appended.records) success
         → ((w : UpdateWord) → IsWordIn (length memory.records) w → IsOutcomeIn (length memory.nodes) (length memory.records) (failure w))
         → IsKept memory (exchange_update memory x expected desired appended success failure)
@@ -256,7 +255,7 @@ module _ (memory : EllenMem) (h : IsInRange memory) where
         (set_kept memory appended x (with_update desired (node_at appended x)) success more_nodes more_records k (with_update_in (length appended.nodes) (length appended.records) desired (node_at appended x) (node_in appended x k) d) o)
         (stays memory (failure w) h (f w (word_in (length memory.nodes) (length memory.records) (node_at memory x) w (node_in memory x h) e))))
 
-    exchange_child_kept : (x a b : ℕ) (success failure : Outcome EllenLoc)
+    pub exchange_child_kept : (x a b : ℕ) (success failure : Outcome EllenLoc)
         → b < length appended.nodes → IsOutcomeIn (length appended.nodes) (length appended.records) success → IsOutcomeIn (length memory.nodes) (length memory.records) failure
         → IsKept memory (exchange_child memory x a b appended success failure)
     exchange_child_kept x a b success failure d o f =
@@ -292,10 +291,10 @@ with_internal_in memory k l h =
       records = subst (λ c. All (IsRecordIn c m) memory.records) (sym same) records;
     }
 
-one_more : (memory : EllenMem) (new : Record) → length (add_record memory new).records ≡ length memory.records + 1
+pub one_more : (memory : EllenMem) (new : Record) → length (add_record memory new).records ≡ length memory.records + 1
 one_more memory new = length-append memory.records (new ∷ [])
 
-add_record_in : (memory : EllenMem) (new : Record) → IsInRange memory → IsRecordIn (length memory.nodes) (length memory.records + 1) new → IsInRange (add_record memory new)
+pub add_record_in : (memory : EllenMem) (new : Record) → IsInRange memory → IsRecordIn (length memory.nodes) (length memory.records + 1) new → IsInRange (add_record memory new)
 add_record_in memory new h k =
     let n = length memory.nodes in
     let m = length memory.records in
@@ -308,100 +307,3 @@ add_record_in memory new h k =
       nodes = subst (λ c. All (IsNodeIn n c) memory.nodes) (sym same) nodes;
       records = subst (λ c. All (IsRecordIn n c) (add_record memory new).records) (sym same) records;
     }
-
--- ---- the rows of the table
-
-module _ (machine : Ellen) (op : Op) (memory : EllenMem) (h : IsInRange memory) where
-  insert_flag_kept : (p : ℕ) (u : UpdateWord) (l : ℕ) → IsSearchIn (length memory.nodes) (length memory.records) (IFlag p u l) → IsKept memory (search_act machine op (IFlag p u l) memory)
-  insert_flag_kept p u l at =
-      let n = length memory.nodes in
-      let m = length memory.records in
-      let a = at.0 in
-      let b = at.2 in
-      let new : Record = Ins (record { parent = p; leaf = l; new = new_internal memory }) in
-      let nodes = with_internal memory (key_of op) l in
-      let appended = add_record nodes new in
-      let more : length appended.nodes ≡ n + 3 = three_more memory (key_of op) l in
-      let one : length appended.records ≡ m + 1 = one_more nodes new in
-      let below : m < length appended.records = omega arith in
-      let in_range : IsInRange appended = add_record_in nodes new (with_internal_in memory (key_of op) l h) (omega arith, omega arith, omega arith) in
-      exchange_update_kept memory h appended (omega arith) (omega arith) in_range p u (word.InsertFlag m) (Goes (Help (InsChild m) (with_base base.Insert))) (λ w. help_first machine w)
-      below (below, All-nil (λ r. r < length appended.records)) (λ w k. help_first_in n m h.root machine w k)
-
-  insert_only_kept : (p l : ℕ) → IsKept memory (search_act machine op (InsOnly p l) memory)
-  insert_only_kept p l =
-      let more = three_more memory (key_of op) l in
-      exchange_child_kept memory h (with_internal memory (key_of op) l) (omega arith) (omega arith) (with_internal_in memory (key_of op) l h) p l (new_internal memory) (Replies true) (Goes first_place)
-      (omega arith) tt (tt, h.root)
-
-  delete_flag_kept : (above : Above) (p : ℕ) (u : UpdateWord) (l : ℕ) → IsSearchIn (length memory.nodes) (length memory.records) (DFlag above p u l) → IsKept memory (search_act machine op (DFlag above p u l) memory)
-  delete_flag_kept above p u l at =
-      let n = length memory.nodes in
-      let m = length memory.records in
-      let new : Record = Del (record { grandparent = above.node; parent = p; leaf = l; parent_update = u }) in
-      let appended = add_record memory new in
-      let one : length appended.records ≡ m + 1 = one_more memory new in
-      let below : m < length appended.records = omega arith in
-      let in_range : IsInRange appended = add_record_in memory new h (at.0.0, at.1, at.3, word_more m (m + 1) (omega arith) u at.2) in
-      exchange_update_kept memory h appended (omega arith) (omega arith) in_range above.node above.update (word.DeleteFlag m) (Goes (Help (marking machine m) (with_base base.Delete))) (λ w. help_first machine w)
-      below (marking_in n (length appended.records) h.root machine m below, All-nil (λ r. r < length appended.records)) (λ w k. help_first_in n m h.root machine w k)
-
-  search_kept : (at : SearchLoc) → IsSearchIn (length memory.nodes) (length memory.records) at → IsKept memory (search_act machine op at memory)
-  search_kept (Update above p) at = read_update_kept memory h p _ (λ u w. (at.0, at.1, w))
-  search_kept (Child above p u) at =
-      read_child_kept memory h p _ _ (λ c below. arrived_in (length memory.nodes) (length memory.records) h.root machine op above p u c (node_at memory c) at.0 at.1 at.2 below)
-  search_kept (IFlag p u l) at = insert_flag_kept p u l at
-  search_kept (InsOnly p l) at = insert_only_kept p l
-  search_kept (DFlag above p u l) at = delete_flag_kept above p u l at
-
-module _ (machine : Ellen) (memory : EllenMem) (h : IsInRange memory) (resume : Resume) (held : IsResumeIn (length memory.records) resume) where
-  -- an exchange that appends nothing
-  update_kept : (x : ℕ) (expected desired : UpdateWord) (success : Outcome EllenLoc) (failure : UpdateWord → Outcome EllenLoc)
-      → IsWordIn (length memory.records) desired → IsOutcomeIn (length memory.nodes) (length memory.records) success
-      → ((w : UpdateWord) → IsWordIn (length memory.records) w → IsOutcomeIn (length memory.nodes) (length memory.records) (failure w))
-      → IsKept memory (exchange_update memory x expected desired memory success failure)
-  update_kept = exchange_update_kept memory h memory (omega arith) (omega arith) h
-
-  child_kept : (x a b : ℕ) (success failure : Outcome EllenLoc)
-      → b < length memory.nodes → IsOutcomeIn (length memory.nodes) (length memory.records) success → IsOutcomeIn (length memory.nodes) (length memory.records) failure
-      → IsKept memory (exchange_child memory x a b memory success failure)
-  child_kept = exchange_child_kept memory h memory (omega arith) (omega arith) h
-
-  back_in : (done : Bool) → IsOutcomeIn (length memory.nodes) (length memory.records) (returned done resume)
-  back_in done = returned_in (length memory.nodes) (length memory.records) h.root done resume held
-
-  mark_kept : (r : ℕ) → r < length memory.records → IsKept memory (help_act machine (Mark r) resume memory)
-  mark_kept r at =
-      let n = length memory.nodes in
-      let m = length memory.records in
-      with_delete_kept memory h r _ (λ d in_range.
-      update_kept d.parent d.parent_update (word.Mark r) (Goes (Help (Right r) resume)) (λ w. if is_word w (word.Mark r) then Goes (Help (Right r) resume) else help machine w (awaiting r resume))
-      at (at, held)
-      (λ w k. either n m h.root (is_word w (word.Mark r)) (Goes (Help (Right r) resume)) (help machine w (awaiting r resume)) (at, held)
-      (help_in n m h.root machine w (awaiting r resume) k (All-push (λ s. s < m) resume.stack r held at))))
-
-  right_kept : (r : ℕ) → r < length memory.records → IsKept memory (help_act machine (Right r) resume memory)
-  right_kept r at =
-      with_delete_kept memory h r _ (λ d in_range.
-      read_child_kept memory h d.parent side.Right (λ c. if nat_eq c d.leaf then Goes (Help (Other r side.Left) resume) else Goes (Help (Other r side.Right) resume))
-      (λ c below. either (length memory.nodes) (length memory.records) h.root (nat_eq c d.leaf) (Goes (Help (Other r side.Left) resume)) (Goes (Help (Other r side.Right) resume)) (at, held) (at, held)))
-
-  help_kept : (at : HelpLoc) → IsHelpIn (length memory.nodes) (length memory.records) at → IsKept memory (help_act machine at resume memory)
-  help_kept (InsChild r) at =
-      with_insert_kept memory h r _ (λ i in_range. child_kept i.parent i.leaf i.new (Goes (Help (InsClean r) resume)) (Goes (Help (InsClean r) resume)) in_range.2 (at, held) (at, held))
-  help_kept (InsClean r) at =
-      with_insert_kept memory h r _ (λ i in_range. update_kept i.parent (word.InsertFlag r) (word.Clean r) (returned true resume) (λ w. returned true resume) at (back_in true) (λ w k. back_in true))
-  help_kept (Mark r) at = mark_kept r at
-  help_kept (Right r) at = right_kept r at
-  help_kept (Other r s) at =
-      with_delete_kept memory h r _ (λ d in_range. read_child_kept memory h d.parent s (λ o. Goes (Help (Splice r o) resume)) (λ o below. ((at, below), held)))
-  help_kept (Splice r o) at =
-      with_delete_kept memory h r _ (λ d in_range. child_kept d.grandparent d.parent o (Goes (Help (DelClean r) resume)) (Goes (Help (DelClean r) resume)) at.1 (at.0, held) (at.0, held))
-  help_kept (DelClean r) at =
-      with_delete_kept memory h r _ (λ d in_range. update_kept d.grandparent (word.DeleteFlag r) (word.Clean r) (returned true resume) (λ w. returned true resume) at (back_in true) (λ w k. back_in true))
-  help_kept (Back r) at =
-      with_delete_kept memory h r _ (λ d in_range. update_kept d.grandparent (word.DeleteFlag r) (word.Clean r) (returned false resume) (λ w. returned false resume) at (back_in false) (λ w k. back_in false))
-
-pub act_kept : (machine : Ellen) (op : Op) (memory : EllenMem) → IsInRange memory → (place : EllenLoc) → IsPlaceInRange memory place → IsKept memory (act machine op place memory)
-act_kept machine op memory h (Search at) in_range = search_kept machine op memory h at in_range
-act_kept machine op memory h (Help at resume) in_range = help_kept machine memory h resume in_range.1 at in_range.0

@@ -28,9 +28,9 @@ use Rattle.ellen.specs.declared.place.EllenLoc.TheVariants.{Search, Help}
 use Rattle.ellen.specs.declared.machine.Ellen.{Ellen}
 use Rattle.ellen.specs.Memory.{is_word, is_clean, with_internal, new_internal}
 use Rattle.ellen.specs.Table.{After, with_base, settled, top_taken, unwound, returned, marking, help, help_first, flagging, decide, arrived, search_act, help_act, act}
-use Rattle.ellen.specs.Alike.{AreBoth, AreWordsPaired, AreNodesPaired, AreAbovesPaired, AreSearchesPaired, AreHelpsPaired, AreResumesPaired, ellen_pairs}
-use Rattle.ellen.specs.AlikeAccesses.{same_number, words_compared, key_paired, with_pairs, read_update_keeps, read_child_keeps, exchange_update_keeps, exchange_child_keeps, with_insert_keeps, with_delete_keeps}
-use Rattle.ellen.specs.AlikeAppends.{words_weaker, append_record, append_internal, fresh_nodes}
+use Rattle.ellen.specs.Pairs.{AreBoth, AreWordsPaired, AreNodesPaired, AreAbovesPaired, AreSearchesPaired, AreHelpsPaired, AreResumesPaired, ellen_pairs}
+use Rattle.ellen.specs.Laws.PairedAccesses.{same_number, words_compared, key_paired, with_pairs, read_update_keeps, read_child_keeps, exchange_update_keeps, exchange_child_keeps, with_insert_keeps, with_delete_keeps}
+use Rattle.ellen.specs.Laws.PairedAppends.{words_weaker, append_record, append_internal, fresh_nodes}
 
 -- ---- where operations go, from paired places
 

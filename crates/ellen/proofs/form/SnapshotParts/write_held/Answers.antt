@@ -3,8 +3,8 @@ use Rattle.std.proofs.lemmas.Result.{on_ok_weaker}
 use Rattle.tree_machine.specs.Parts.{IsPartBelow}
 use Rattle.tree_machine.specs.Written.{with_part}
 use Rattle.tree_machine.proofs.Held.{held_part_at}
-use Rattle.ellen.specs.Encoding.{held_part}
-use Rattle.ellen.proofs.form.HeldParts.write_held.Goals as goal
+use Rattle.ellen.specs.Parts.{held_part}
+use Rattle.ellen.proofs.form.SnapshotParts.write_held.Goals as goal
 
 pub write_place-requires : goal.write_place-requires
 write_place-requires c =

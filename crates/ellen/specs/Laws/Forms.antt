@@ -1,24 +1,19 @@
--- The form of a memory with what the threads hold, and its law.
-use Rattle.std.specs.Prelude.{◌≡◌, ◌↔◌, ℕ, List, length, Option}
+-- Two forms are equal exactly if memories and places are alike.
+use Rattle.std.specs.Prelude.{◌≡◌, ◌↔◌, List, length, Option}
 use Rattle.std.proofs.Common.{sym, ◌∙◌}
 use Rattle.std.proofs.lemmas.List.{length-map}
 use Rattle.tree_machine.specs.Pairing.{AreAlike}
 use Rattle.tree_machine.specs.Rules.{ArePlacesInRange}
-use Rattle.tree_machine.specs.Flat.{flat_form}
 use Rattle.tree_machine.specs.FlatLaws.{flat_forms_exact}
 use Rattle.ellen.specs.declared.memory.EllenMem.{EllenMem}
 use Rattle.ellen.specs.declared.place.EllenLoc.{EllenLoc}
 use Rattle.ellen.specs.declared.machine.Ellen.{Ellen}
-use Rattle.ellen.specs.Alike.{ellen_pairs}
+use Rattle.ellen.specs.Pairs.{ellen_pairs}
 use Rattle.ellen.specs.Range.{IsInRange}
 use Rattle.ellen.specs.EllenRules.{ellen_rules}
-use Rattle.ellen.specs.Encoding.{held_part, ellen_parts}
-use Rattle.ellen.specs.EncodingLaws.{parts_alike}
-use Rattle.ellen.specs.EncodingRange.{parts_in_range}
-
--- the form of a memory with what the threads hold
-abbrev pub ellen_form : EllenMem → List (Option EllenLoc) → List ℕ
-ellen_form memory held = flat_form 1 (ellen_parts memory held)
+use Rattle.ellen.specs.Parts.{held_part, ellen_parts, ellen_form}
+use Rattle.ellen.specs.Laws.Parts.{parts_alike}
+use Rattle.ellen.specs.Laws.PartsRange.{parts_in_range}
 
 -- two forms are equal exactly if some pairing pairs what they are of
 pub ellen_forms : (machine : Ellen) (memory other : EllenMem) (held others : List (Option EllenLoc)) → IsInRange memory → ArePlacesInRange (ellen_rules machine) memory held → IsInRange other → ArePlacesInRange (ellen_rules machine) other others →

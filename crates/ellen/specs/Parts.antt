@@ -1,5 +1,6 @@
 -- Nodes, records and what the threads hold as parts: what is told of them, and the nodes and the records that they name.
 use Rattle.std.specs.Prelude.{ℕ, suc, List, [], ◌∷◌, map, Option, Some, None}
+use Rattle.tree_machine.specs.Flat.{flat_form}
 use Rattle.tree_machine.specs.Parts.{Part, Parts, no_part}
 use Rattle.tree_machine.specs.declared.search_order.Side.{Side}
 use Rattle.tree_machine.specs.declared.search_order.Side.TheVariants as side
@@ -149,3 +150,7 @@ held_part (Some place) = place_part place
 -- the nodes and the records of a memory, and what each thread holds
 abbrev pub ellen_parts : EllenMem → List (Option EllenLoc) → Parts
 ellen_parts memory held = record { nodes = map node_part memory.nodes; records = map record_part memory.records; held = map held_part held }
+
+-- the form of a memory with what the threads hold; the root is paired with itself
+abbrev pub ellen_form : EllenMem → List (Option EllenLoc) → List ℕ
+ellen_form memory held = flat_form 1 (ellen_parts memory held)

@@ -19,7 +19,7 @@ use Rattle.ellen.specs.declared.place.HelpLoc.TheVariants.{InsChild, InsClean, M
 use Rattle.ellen.specs.declared.place.EllenLoc.{EllenLoc}
 use Rattle.ellen.specs.declared.place.EllenLoc.TheVariants.{Search, Help}
 use Rattle.ellen.specs.Range.{IsWordIn, IsNodeIn, IsRecordIn, IsAboveIn, IsSearchIn, IsHelpIn, IsPlaceIn, IsInRange, IsPlaceInRange}
-use Rattle.ellen.specs.Encoding.{word_record, node_part, record_part, above_node, above_record, search_part, help_record, help_node, place_part, held_part, ellen_parts}
+use Rattle.ellen.specs.Parts.{word_record, node_part, record_part, above_node, above_record, search_part, help_record, help_node, place_part, held_part, ellen_parts}
 
 module _ (n : ℕ) where
   abbrev Below : Option ℕ → Type 0

@@ -1,11 +1,12 @@
 -- The machine keeps its numbers in range and its pairings, and begins with a memory that keeps search order.
 use Rattle.tree_machine.specs.Rules.{AreLawful}
 use Rattle.ellen.specs.declared.machine.Ellen.{Ellen}
-use Rattle.ellen.specs.AlikeLaws.{ellen_pairs_lawful}
-use Rattle.ellen.specs.AstrayLaws.{astray_unchanged}
+use Rattle.ellen.specs.Laws.Pairs.{ellen_pairs_lawful}
+use Rattle.ellen.specs.Laws.Astray.{astray_unchanged}
 use Rattle.ellen.specs.EllenRules.{ellen_rules}
-use Rattle.ellen.specs.RangeLaws.{act_kept, place_more}
-use Rattle.ellen.specs.InitialLaws.{initial_in_range, initial_ordered}
+use Rattle.ellen.specs.Laws.Range.{place_more}
+use Rattle.ellen.specs.Laws.RangeSteps.{act_kept}
+use Rattle.ellen.specs.Laws.Initial.{initial_in_range, initial_ordered}
 
 pub ellen_lawful : (machine : Ellen) → AreLawful (ellen_rules machine)
 ellen_lawful machine = record {

@@ -25,8 +25,8 @@ use Rattle.ellen.specs.declared.place.HelpLoc.TheVariants.{InsChild, InsClean, M
 use Rattle.ellen.specs.declared.place.EllenLoc.{EllenLoc}
 use Rattle.ellen.specs.declared.place.EllenLoc.TheVariants.{Search, Help}
 use Rattle.ellen.specs.Memory.{node_at, record_at}
-use Rattle.ellen.specs.Alike.{AreBoth, AreWordsPaired, AreNodesPaired, AreRecordsPaired, AreAbovesPaired, AreSearchesPaired, AreHelpsPaired, ArePlacesPaired, AreMemoriesPaired, ellen_pairs}
-use Rattle.ellen.specs.Encoding.{word_number, word_record, node_part, record_part, above_number, above_node, above_record, search_part, help_number, side_number, help_side, help_record, help_node, base_number, place_part, held_part, ellen_parts}
+use Rattle.ellen.specs.Pairs.{AreBoth, AreWordsPaired, AreNodesPaired, AreRecordsPaired, AreAbovesPaired, AreSearchesPaired, AreHelpsPaired, ArePlacesPaired, AreMemoriesPaired, ellen_pairs}
+use Rattle.ellen.specs.Parts.{word_number, word_record, node_part, record_part, above_number, above_node, above_record, search_part, help_number, side_number, help_side, help_record, help_node, base_number, place_part, held_part, ellen_parts}
 
 module _ (P R : ℕ → ℕ → Type 0) where
   abbrev Parted : Part → Part → Type 0

@@ -21,7 +21,7 @@ use Rattle.ellen.specs.declared.memory.EllenMem.{EllenMem}
 use Rattle.ellen.specs.Memory.{shape_in, shapes, key_in, node_at, key_at, with_child, set_child, internal_over, with_internal, new_internal}
 use Rattle.ellen.specs.Initial.{empty_tree, put_in, initial_memory}
 use Rattle.ellen.specs.Range.{IsNodeIn, IsInRange}
-use Rattle.ellen.specs.RangeLaws.{set_in, with_child_in, node_in, with_internal_in, three_more}
+use Rattle.ellen.specs.Laws.Range.{set_in, with_child_in, node_in, with_internal_in, three_more}
 
 -- ---- numbers in range
 

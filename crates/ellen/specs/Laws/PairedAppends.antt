@@ -18,8 +18,8 @@ use Rattle.ellen.specs.declared.place.HelpLoc.TheVariants.{InsChild, InsClean, M
 use Rattle.ellen.specs.declared.place.EllenLoc.{EllenLoc}
 use Rattle.ellen.specs.declared.place.EllenLoc.TheVariants.{Search, Help}
 use Rattle.ellen.specs.Memory.{node_at, key_at, internal_over, with_internal, add_record}
-use Rattle.ellen.specs.Alike.{AreBoth, AreWordsPaired, AreNodesPaired, AreRecordsPaired, AreAbovesPaired, AreSearchesPaired, AreHelpsPaired, ArePlacesPaired, AreMemoriesPaired, ellen_pairs}
-use Rattle.ellen.specs.AlikeAccesses.{key_paired, with_pairs}
+use Rattle.ellen.specs.Pairs.{AreBoth, AreWordsPaired, AreNodesPaired, AreRecordsPaired, AreAbovesPaired, AreSearchesPaired, AreHelpsPaired, ArePlacesPaired, AreMemoriesPaired, ellen_pairs}
+use Rattle.ellen.specs.Laws.PairedAccesses.{key_paired, with_pairs}
 
 -- ---- more pairs
 

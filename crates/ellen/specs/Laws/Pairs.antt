@@ -12,9 +12,9 @@ use Rattle.ellen.specs.declared.memory.EllenMem.{EllenMem}
 use Rattle.ellen.specs.declared.machine.Ellen.{Ellen}
 use Rattle.ellen.specs.Memory.{shape_in, shapes, node_at}
 use Rattle.ellen.specs.Table.{first_place, act}
-use Rattle.ellen.specs.Alike.{AreNodesPaired, AreMemoriesPaired, ellen_pairs}
-use Rattle.ellen.specs.AlikeAppends.{places_weaker}
-use Rattle.ellen.specs.AlikeSteps.{act_keeps}
+use Rattle.ellen.specs.Pairs.{AreNodesPaired, AreMemoriesPaired, ellen_pairs}
+use Rattle.ellen.specs.Laws.PairedAppends.{places_weaker}
+use Rattle.ellen.specs.Laws.PairedSteps.{act_keeps}
 
 -- ---- search order
 

@@ -1,0 +1,14 @@
+-- What is proved of the definitions. No contract's meaning rests on these files, and no definition imports one.
+pub mod Astray
+pub mod Exact
+pub mod Forms
+pub mod Initial
+pub mod Pairs
+pub mod PairedAccesses
+pub mod PairedAppends
+pub mod PairedSteps
+pub mod Parts
+pub mod PartsRange
+pub mod Range
+pub mod RangeSteps
+pub mod Rules
