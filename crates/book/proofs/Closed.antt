@@ -8,7 +8,8 @@ use Rattle.book.specs.Entries.{Entry, At, is_expanded, states}
 use Rattle.book.specs.Law.{IsLawful}
 use Rattle.book.specs.Findings.{IsSound}
 use Rattle.book.specs.Closed.{IsAlikeToOneOf, AreClosed, IsWorkedOut, AreSound, HoldsForEvery}
-use Rattle.book.proofs.Next.{first_passes, none_passes, expanded_from}
+use Rattle.book.proofs.Marks.{expanded_from}
+use Rattle.book.proofs.Next.{first_passes, none_passes}
 use Rattle.book.proofs.Unknown.{at-states, states-at}
 use Rattle.book.proofs.Ways.{fits_after}
 

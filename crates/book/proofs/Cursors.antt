@@ -8,6 +8,7 @@ use Rattle.book.specs.Findings.{is_sound}
 use Rattle.book.specs.Slots.{IsFirstLeft, AreCursors}
 use Rattle.book.proofs.EntryLemmas.{at-with_mark, length-with_mark, get-append_cases, get-append_left, get_at, get_within}
 use Rattle.book.proofs.Next.{first_passes, none_passes}
+use Rattle.book.proofs.Marks.{expanded_fails, left_passes, open_fails, open_from, open_passes}
 
 -- the first that passes is at most one
 pub first_is : {X : Type 0} (p : X → Bool) (xs : List X) (i : ℕ) (x : X) → slice_get xs i ≡ Some x → p x ≡ true
@@ -41,37 +42,6 @@ below_next P xs n x at is before i y there less =
       | inl l ↦ before i y there l
       | inr ge ↦ (let e : i ≡ n = omega arith in let same : x ≡ y = cc in subst P same is)
     ]
-
-pub expanded_so : (k : Mark) → is_expanded k ≡ true → k ≡ Expanded
-expanded_so Open h = absurd (true≢false (sym h))
-expanded_so Taken h = absurd (true≢false (sym h))
-expanded_so Expanded h = refl
-
-pub not_expanded_so : (k : Mark) → is_expanded k ≡ false → k ≢ Expanded
-not_expanded_so Open h = λ e. cc
-not_expanded_so Taken h = λ e. cc
-not_expanded_so Expanded h = absurd (true≢false h)
-
-is_open_so : (k : Mark) → k ≡ Open → is_open k ≡ true
-is_open_so k h = rw h refl
-
-is_open_not : (k : Mark) → k ≢ Open → is_open k ≡ false
-is_open_not Open h = absurd (h refl)
-is_open_not Taken h = refl
-is_open_not Expanded h = refl
-
-open_so : (k : Mark) → is_open k ≡ true → k ≡ Open
-open_so Open h = refl
-open_so Taken h = absurd (true≢false (sym h))
-open_so Expanded h = absurd (true≢false (sym h))
-
-left_not : (k : Mark) → k ≡ Expanded → not (is_expanded k) ≡ false
-left_not k h = rw h refl
-
-left_so : (k : Mark) → k ≢ Expanded → not (is_expanded k) ≡ true
-left_so Open h = refl
-left_so Taken h = refl
-left_so Expanded h = absurd (h refl)
 
 -- the marks do not tell which entries are sound
 pub fault-with_mark : {S : Type 0} (es : List (Entry S)) (i : ℕ) (k : Mark)
@@ -120,37 +90,37 @@ module _ {S : Type 0} (es : List (Entry S)) where
     pub open_at : next_open < length es → position (λ (e : Entry S). is_open e.mark) es ≡ Some next_open
     open_at less =
         let at = get_at es next_open less in
-        first_is (λ (e : Entry S). is_open e.mark) es next_open at.0 at.1 (is_open_so at.0.mark (cursors.above next_open at.0 at.1 (omega arith)))
-        (λ k y there l. is_open_not y.mark (cursors.below k y there l))
+        first_is (λ (e : Entry S). is_open e.mark) es next_open at.0 at.1 (open_passes at.0.mark (cursors.above next_open at.0 at.1 (omega arith)))
+        (λ k y there l. open_fails y.mark (cursors.below k y there l))
 
     pub open_none : length es ≤ next_open → position (λ (e : Entry S). is_open e.mark) es ≡ None
     open_none le =
         none_is (λ (e : Entry S). is_open e.mark) es (λ k y there.
-        is_open_not y.mark (cursors.below k y there (let w : k < length es = get_within es k y there in omega arith)))
+        open_fails y.mark (cursors.below k y there (let w : k < length es = get_within es k y there in omega arith)))
 
     pub left_at : first_left < length es → position (λ (e : Entry S). not (is_expanded e.mark)) es ≡ Some first_left
     left_at less =
         let at = get_at es first_left less in
-        first_is (λ (e : Entry S). not (is_expanded e.mark)) es first_left at.0 at.1 (left_so at.0.mark (cursors.left.stops at.0 at.1))
-        (λ k y there l. left_not y.mark (cursors.left.expanded k y there l))
+        first_is (λ (e : Entry S). not (is_expanded e.mark)) es first_left at.0 at.1 (left_passes at.0.mark (cursors.left.stops at.0 at.1))
+        (λ k y there l. expanded_fails y.mark (cursors.left.expanded k y there l))
 
     pub left_none : length es ≤ first_left → position (λ (e : Entry S). not (is_expanded e.mark)) es ≡ None
     left_none le =
         none_is (λ (e : Entry S). not (is_expanded e.mark)) es (λ k y there.
-        left_not y.mark (cursors.left.expanded k y there (let w : k < length es = get_within es k y there in omega arith)))
+        expanded_fails y.mark (cursors.left.expanded k y there (let w : k < length es = get_within es k y there in omega arith)))
 
     -- where some entry is open, the cursor is at the first
     pub cursor_is : (i : ℕ) → position (λ (e : Entry S). is_open e.mark) es ≡ Some i → i ≡ next_open
     cursor_is i first =
         let f = first_passes (λ (e : Entry S). is_open e.mark) es i first in
-        let was : f.0.mark ≡ Open = open_so f.0.mark f.2 in
+        let was : f.0.mark ≡ Open = open_from f.0.mark f.2 in
         let w : i < length es = get_within es i f.0 f.1 in
         elim (cases_lt i next_open) [
           | inl l ↦ absurd (cursors.below i f.0 f.1 l was)
           | inr ge ↦ elim (cases_lt next_open i) [
             | inl l ↦ absurd (
                 let at = get_at es next_open (omega arith) in
-                true≢false (sym (is_open_so at.0.mark (cursors.above next_open at.0 at.1 (omega arith))) ∙ f.3 next_open at.0 l at.1))
+                true≢false (sym (open_passes at.0.mark (cursors.above next_open at.0 at.1 (omega arith))) ∙ f.3 next_open at.0 l at.1))
             | inr le ↦ omega arith
           ]
         ]
@@ -159,7 +129,7 @@ module _ {S : Type 0} (es : List (Entry S)) where
     pub cursors_taken : (i : ℕ) → position (λ (e : Entry S). is_open e.mark) es ≡ Some i → AreCursors (with_mark es i Taken) (i + 1) first_left fault
     cursors_taken i first =
         let f = first_passes (λ (e : Entry S). is_open e.mark) es i first in
-        let was : f.0.mark ≡ Open = open_so f.0.mark f.2 in
+        let was : f.0.mark ≡ Open = open_from f.0.mark f.2 in
         let w : i < length es = get_within es i f.0 f.1 in
         let l : length (with_mark es i Taken) ≡ length es = length-with_mark es i Taken in
         let is_next : i ≡ next_open = cursor_is i first in

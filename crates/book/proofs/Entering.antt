@@ -1,6 +1,6 @@
 -- An expansion is entered.
-use Rattle.std.proofs.Common.{◌≡◌, ◌⊎◌, inl, inr, Result, Ok, Err, OnOk, IfOk, IfErr, ℕ, zero, suc, ◌+◌, ◌-◌, ◌^◌, ◌<◌, ◌≤◌, Bool, true, Some, List, [], ◌∷◌, ◌++◌, length, map, refl, sym, ap, ◌∙◌, arith, slice_get, length-append, subst}
-use Rattle.std.proofs.lemmas.Bool.{true≢false, cond_both}
+use Rattle.std.proofs.Common.{◌≡◌, ◌⊎◌, inl, inr, Result, Ok, Err, OnOk, IfOk, IfErr, ℕ, zero, suc, ◌+◌, ◌-◌, ◌^◌, ◌<◌, ◌≤◌, Bool, Some, List, [], ◌∷◌, ◌++◌, length, map, refl, sym, ap, ◌∙◌, arith, slice_get, length-append, subst}
+use Rattle.std.proofs.lemmas.Bool.{cond_both}
 use Rattle.std.proofs.Math.ListN.{length-map}
 use Rattle.sched_program.specs.Program.{Program}
 use Rattle.book.specs.declared.book.Entered.{Entered}
@@ -8,17 +8,12 @@ use Rattle.book.specs.declared.book.EnterFault.{EnterFault}
 use Rattle.book.specs.declared.book.EnterFault.TheVariants.{NotTaken, Stranger, Full, OutOfMemory}
 use Rattle.book.specs.declared.finding.Finding.{Finding}
 use Rattle.book.specs.declared.entry.Mark.{Mark}
-use Rattle.book.specs.declared.entry.Mark.TheVariants.{Open, Taken, Expanded}
+use Rattle.book.specs.declared.entry.Mark.TheVariants.{Taken, Expanded}
 use Rattle.book.specs.Schedule.{StepMachine, IsMachine, Merges}
-use Rattle.book.specs.Entries.{Entry, Successor, Steps, Contents, At, Enters, IsOwn, IsTaken, Refuses, with_mark, with_successors, knows, unknown, opened, states, is_taken}
+use Rattle.book.specs.Entries.{Entry, Successor, Steps, Contents, At, Enters, IsOwn, IsTaken, Refuses, with_mark, with_successors, knows, unknown, opened, states}
 use Rattle.book.specs.Law.{IsLawfulBook, IsExpansion}
 use Rattle.book.proofs.EntryLemmas.{get_within, get-append_left}
 use Rattle.book.proofs.LawfulBooks.{entered_book, met_fits}
-
-pub taken_from : (k : Mark) → is_taken k ≡ true → k ≡ Taken
-taken_from Open h = absurd (true≢false (sym h))
-taken_from Taken h = refl
-taken_from Expanded h = absurd (true≢false (sym h))
 
 -- an entry's machine and state are its own
 pub own_from : {X S : Type 0} (book : Contents X S) (i : ℕ) (e : Entry S) (x : X) (p : Program) (s r : S) → At book.entries i e → r ≡ e.state → x ≡ book.machine → p ≡ book.program → s ≡ r → IsOwn book i x p s

@@ -1,6 +1,6 @@
 -- How a book grows by one expansion.
-use Rattle.std.proofs.Common.{◌≡◌, ◌≢◌, ℕ, zero, suc, ◌+◌, ◌<◌, ◌≤◌, inl, inr, Bool, true, false, not, cond, Option, Some, None, List, [], ◌∷◌, length, map, refl, sym, ap, ◌∙◌, arith, slice_get, position, subst, count_by}
-use Rattle.std.proofs.lemmas.Bool.{true≢false, cases_lt}
+use Rattle.std.proofs.Common.{◌≡◌, ◌≢◌, ℕ, zero, suc, ◌+◌, ◌<◌, ◌≤◌, inl, inr, Bool, false, not, cond, Option, Some, None, List, [], ◌∷◌, length, map, refl, sym, ap, ◌∙◌, arith, slice_get, position, subst, count_by}
+use Rattle.std.proofs.lemmas.Bool.{cases_lt}
 use Rattle.std.proofs.lemmas.List.Sums.{sum_by-cons, sum_by-append}
 use Rattle.book.specs.declared.finding.Finding.{Finding}
 use Rattle.book.specs.declared.entry.Mark.{Mark}
@@ -13,26 +13,7 @@ use Rattle.book.specs.Findings.{is_sound}
 use Rattle.book.proofs.EntryLemmas.{at-with_mark, with_mark-at, get_within}
 use Rattle.book.proofs.Next.{first_passes, none_passes}
 use Rattle.book.proofs.Kept.{entered_grows, entered_rests}
-
-expanded_from : (k : Mark) → not (is_expanded k) ≡ false → k ≡ Expanded
-expanded_from Open h = absurd (true≢false h)
-expanded_from Taken h = absurd (true≢false h)
-expanded_from Expanded h = refl
-
-not_expanded_from : (k : Mark) → not (is_expanded k) ≡ true → k ≢ Expanded
-not_expanded_from Open h = λ e. cc
-not_expanded_from Taken h = λ e. cc
-not_expanded_from Expanded h = absurd (true≢false (sym h))
-
-not_expanded_to : (k : Mark) → k ≢ Expanded → not (is_expanded k) ≡ true
-not_expanded_to Open h = refl
-not_expanded_to Taken h = refl
-not_expanded_to Expanded h = absurd (h refl)
-
-open_by : (k : Mark) → k ≢ Expanded → k ≢ Taken → k ≡ Open
-open_by Open p q = refl
-open_by Taken p q = absurd (q refl)
-open_by Expanded p q = absurd (p refl)
+use Rattle.book.proofs.Marks.{expanded_from, not_expanded_from, open_between}
 
 -- ---- which entries are left
 module _ {S : Type 0} (m : StepMachine S) (same : S → S → Bool) (right : S → Finding → Type 0) (machine : IsMachine m)
@@ -91,7 +72,7 @@ module _ {S : Type 0} (m : StepMachine S) (same : S → S → Bool) (right : S �
       go None h = left.3 (expanded_from left.1.mark (none_passes (λ (r : Entry S). not (is_expanded r.mark)) es h left.0 left.1 left.2))
       go (Some a) h =
           let f = first_passes (λ (r : Entry S). not (is_expanded r.mark)) es a h in
-          let is_open_one : f.0.mark ≡ Open = open_by f.0.mark (not_expanded_from f.0.mark f.2) (none_taken a f.0 f.1) in
+          let is_open_one : f.0.mark ≡ Open = open_between f.0.mark (not_expanded_from f.0.mark f.2) (none_taken a f.0 f.1) in
           no_next a f.0 (record {
             entry = f.1;
             is_open = is_open_one;

@@ -14,6 +14,7 @@ use Rattle.book.specs.Entries.{Entry, Successor, Contents, At, IsNext, with_mark
 use Rattle.book.specs.Law.{IsExpansion, IsLawfulBook, steps_entered}
 use Rattle.book.proofs.EntryLemmas.{length-with_mark, get_within}
 use Rattle.book.proofs.Kept.{taken_keeps, entered_keeps}
+use Rattle.book.proofs.Marks.{open_left, taken_left}
 
 module _ {S : Type 0} (m : StepMachine S) where
   -- an entry counts the steps of its state once it is expanded
@@ -57,12 +58,6 @@ module _ {S : Type 0} (m : StepMachine S) where
       at_most machine e true = (let f : length (enabled_threads m e.state) < 256 = few_steps machine e.state in omega arith)
       at_most machine e false = omega arith
 
-closed_open : (k : Mark) → k ≡ Open → is_expanded k ≡ false
-closed_open k h = rw h refl
-
-closed_taken : (k : Mark) → k ≡ Taken → is_expanded k ≡ false
-closed_taken k h = rw h refl
-
 module _ {X S : Type 0} (m : StepMachine S) (same : S → S → Bool) (right : S → Finding → Type 0) (machine : IsMachine m) (merges : Merges m same) where
   -- a book with the start alone is lawful
   pub opened_book : (x : X) (p : Program) (k : Merge) (n : ℕ) (s : S) (f : Finding) → s ≡ m.start → right s f → m.Fits s → 1 ≤ n → n ≤ 2000000
@@ -99,7 +94,7 @@ module _ {X S : Type 0} (m : StepMachine S) (same : S → S → Bool) (right : S
         within = (let l : length (with_mark b.entries i Taken) ≡ length b.entries = length-with_mark b.entries i Taken in let w : length b.entries ≤ b.limit = book.within in omega arith);
         limit = book.limit;
         counted = (let l : length (with_mark b.entries i Taken) ≡ length b.entries = length-with_mark b.entries i Taken in
-            let q : sum_by (steps_entered m) (with_mark b.entries i Taken) ≡ sum_by (steps_entered m) b.entries + 0 = sum-with_mark m b.entries i Taken e next.entry (closed_open e.mark next.is_open) in
+            let q : sum_by (steps_entered m) (with_mark b.entries i Taken) ≡ sum_by (steps_entered m) b.entries + 0 = sum-with_mark m b.entries i Taken e next.entry (open_left e.mark next.is_open) in
             let c : length b.entries + b.met ≡ 1 + sum_by (steps_entered m) b.entries = book.counted in omega arith);
       }
 
@@ -126,7 +121,7 @@ module _ {X S : Type 0} (m : StepMachine S) (same : S → S → Bool) (right : S
               sum_by-append (steps_entered m) (with_mark b.entries i Expanded) (map (opened i) (unknown same (states b.entries) xs)) in
               let z : sum_by (steps_entered m) (map (opened i) (unknown same (states b.entries) xs)) ≡ 0 = sum-opened m i (unknown same (states b.entries) xs) in
               let q : sum_by (steps_entered m) (with_mark b.entries i Expanded) ≡ sum_by (steps_entered m) b.entries + length (enabled_threads m e.state) =
-              sum-with_mark m b.entries i Expanded e at_i (closed_taken e.mark is_taken) in
+              sum-with_mark m b.entries i Expanded e at_i (taken_left e.mark is_taken) in
               let c : length b.entries + b.met ≡ 1 + sum_by (steps_entered m) b.entries = book.counted in
               let t : length xs ≡ length (enabled_threads m e.state) = all_steps in
               omega arith);

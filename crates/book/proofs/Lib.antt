@@ -1,4 +1,5 @@
 pub mod EntryLemmas
+mod Marks
 pub mod Unknown
 pub mod Coverage
 pub mod Leaving
@@ -19,5 +20,7 @@ pub mod Machines
 mod Loans
 mod Answered
 pub mod Runs
+mod InBook
+mod Putting
 pub mod Text
 pub mod BookFile

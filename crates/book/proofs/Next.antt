@@ -12,6 +12,7 @@ use Rattle.book.specs.Schedule.{StepMachine}
 use Rattle.book.specs.Entries.{Entry, At, IsNext, is_open, is_expanded}
 use Rattle.book.specs.Law.{IsLawful}
 use Rattle.book.proofs.EntryLemmas.{get_at, get_within}
+use Rattle.book.proofs.Marks.{expanded_from, not_expanded_from, open_passes}
 
 module _ {X : Type 0} (p : X → Bool) where
   position-within : (xs : List X) (i : ℕ) → position p xs ≡ Some i → i < length xs
@@ -50,23 +51,10 @@ open_from Open h = refl
 open_from Taken h = absurd (true≢false (sym h))
 open_from Expanded h = absurd (true≢false (sym h))
 
-is_open-Open : (k : Mark) → k ≡ Open → is_open k ≡ true
-is_open-Open k h = rw h refl
-
-pub expanded_from : (k : Mark) → not (is_expanded k) ≡ false → k ≡ Expanded
-expanded_from Open h = absurd (true≢false h)
-expanded_from Taken h = absurd (true≢false h)
-expanded_from Expanded h = refl
-
-not_expanded_from : (k : Mark) → not (is_expanded k) ≡ true → k ≢ Expanded
-not_expanded_from Open h = λ e. cc
-not_expanded_from Taken h = λ e. cc
-not_expanded_from Expanded h = absurd (true≢false (sym h))
-
 module _ {S : Type 0} (m : StepMachine S) (same : S → S → Bool) (right : S → Finding → Type 0) (es : List (Entry S)) (law : IsLawful m same right es) where
   -- where no entry is open, or all are expanded, none is next
   pub no_next_open : position (λ (r : Entry S). is_open r.mark) es ≡ None → (i : ℕ) (e : Entry S) → IsNext m.steps es i e → ⊥
-  no_next_open h i e next = true≢false (sym (is_open-Open e.mark next.is_open) ∙ none_passes (λ (r : Entry S). is_open r.mark) es h i e next.entry)
+  no_next_open h i e next = true≢false (sym (open_passes e.mark next.is_open) ∙ none_passes (λ (r : Entry S). is_open r.mark) es h i e next.entry)
 
   pub no_next_expanded : position (λ (r : Entry S). not (is_expanded r.mark)) es ≡ None → (i : ℕ) (e : Entry S) → IsNext m.steps es i e → ⊥
   no_next_expanded h i e next =
@@ -89,7 +77,7 @@ module _ {S : Type 0} (m : StepMachine S) (same : S → S → Bool) (right : S �
             | inr le ↦ (let p : m.steps d.state ≤ m.steps g.state = law.ordered a j d g at_a at le in omega arith)
           ]);
           lowest = (λ j g at is_open_too _. elim (cases_lt j b) [
-            | inl l ↦ absurd (true≢false (sym (is_open-Open g.mark is_open_too) ∙ o.3 j g l at))
+            | inl l ↦ absurd (true≢false (sym (open_passes g.mark is_open_too) ∙ o.3 j g l at))
             | inr le ↦ le
           ]);
         }
@@ -108,7 +96,7 @@ module _ {S : Type 0} (m : StepMachine S) (same : S → S → Bool) (right : S �
           | inr le ↦ law.ordered a b d e at_a at_b le
         ]) in
         let b_le_i : m.steps e.state ≤ m.steps g.state = (elim (cases_lt i b) [
-          | inl l ↦ absurd (true≢false (sym (is_open-Open g.mark next.is_open) ∙ o.3 i g l next.entry))
+          | inl l ↦ absurd (true≢false (sym (open_passes g.mark next.is_open) ∙ o.3 i g l next.entry))
           | inr le ↦ law.ordered b i e g at_b next.entry le
         ]) in
         differ (omega arith)

@@ -16,6 +16,7 @@ use Rattle.book.proofs.Expanding.{range-more}
 use Rattle.book.proofs.Next.{first_passes}
 use Rattle.book.proofs.Cursors.{open_at, cursors_taken}
 use Rattle.book.proofs.LawfulBooks.{taken_book}
+use Rattle.book.proofs.Marks.{open_passes}
 
 -- ---- marks
 module _ {S : Type 0} where
@@ -206,9 +207,6 @@ module _ {S : Type 0} (steps : S → ℕ) where
     none_next = (λ i e next. none_after old a n run some d at_a later i e (rw (← marked) next));
   }
 
-is_open-Open : (k : Mark) → k ≡ Open → is_open k ≡ true
-is_open-Open k h = rw h refl
-
 -- the next layer: the entries from number a on to below `end`
 pub record IsLayerAt {S : Type 0} (steps : S → ℕ) (es : List (Entry S)) (a end : ℕ) : Type 0 where
   pub entry : Entry S
@@ -239,7 +237,7 @@ module _ {S : Type 0} (m : StepMachine S) (same : S → S → Bool) (right : S �
         there = next'.1.entry;
         some = is_some;
         run = record {
-          below = (λ i d at less. λ (q : d.mark ≡ Open). true≢false (sym (is_open-Open d.mark q) ∙ (first_passes (λ (r : Entry S). is_open r.mark) es a first').3 i d less at));
+          below = (λ i d at less. λ (q : d.mark ≡ Open). true≢false (sym (open_passes d.mark q) ∙ (first_passes (λ (r : Entry S). is_open r.mark) es a first').3 i d less at));
           are_open = (λ i d at ge less. above' i d at ge);
           fewest = (λ i j d f at ge less there left.
               let p : m.steps d.state ≤ k = below' i d at (omega arith) in

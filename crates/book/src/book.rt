@@ -1,32 +1,23 @@
-//! The book of states.
-ghost use Rattle.std.specs.Prelude.{◌≡◌, ◌≢◌, ℕ, ◌+◌, ◌-◌, ◌^◌, ◌<◌, ◌≤◌, ◌↔◌, List, [], ◌∷◌, ◌++◌, ◌⊎◌, length, IsTrue, IfOk, IfSome, IfNone, OnOk, OnErr, IfErr, Some, None, not, position, true, false, count_by, nat_le, slice_get};
-ghost use Rattle.std.specs.Option.{option_copied, option_map};
+//! The book of states: what is put into it and taken.
+
+ghost use Rattle.std.specs.Prelude.{◌≡◌, ℕ, ◌+◌, ◌-◌, ◌<◌, ◌≤◌, [], ◌∷◌, ◌⊎◌, length, IfOk, IfSome, IfNone, OnOk, OnErr, IfErr, Some, None, position, true};
 ghost use Rattle.sched_program.specs.Program.{IsWithinLimits};
 ghost use Rattle.tree_machine.specs.Step.{Fits};
 ghost use Rattle.tree_machine.specs.declared.state.State.{State};
-ghost use Rattle.std.specs.Cmp.{IsEquivalence};
-ghost use Rattle.sched_program.specs.Exact.{IsExact};
 ghost use Rattle.book.specs.Entries.{Entry, At, Enters, IsNext, IsOwn, IsTaken, Refuses, Takes, TakesLayer, is_open, states, unknown, with_successors};
-ghost use Rattle.book.specs.Findings.{is_sound, IsSound};
+ghost use Rattle.book.specs.Findings.{IsSound};
 ghost use Rattle.book.specs.Slots.{AllStates, IsOpenFrom};
 ghost use Rattle.tree_machine.specs.Alike.{state_form};
 ghost use Rattle.book.specs.Labels.{AreStepsKnownBy, bares, form_by};
-ghost use Rattle.book.specs.Books.{counted_as_one, machine_in, right_in, totals_of, IsLawfulIn};
+ghost use Rattle.book.specs.Books.{counted_as_one, machine_in, right_in, IsLawfulIn};
 ghost use Rattle.book.specs.Law.{FindsAlike, IsExpansion, StandsForReached};
 ghost use Rattle.book.specs.Leftovers.{Keeps};
-ghost use Rattle.book.specs.Counts.{IsCount};
-ghost use Rattle.book.specs.Layers.{IsExpandedTo, IsExpandedBelow, IsLeftTo};
-ghost use Rattle.book.specs.BookFile.Checks.{PassAs};
-ghost use Rattle.book.specs.BookFile.Written.{IsFileOf};
-ghost use Rattle.book.specs.Closed.{AreSound, HoldsForEvery, IsClosed};
-ghost use Rattle.book.specs.Schedule.{after, IsMachine, Merges};
-ghost use Rattle.book.specs.Ways.{IsWay};
+ghost use Rattle.book.specs.Schedule.{IsMachine, Merges};
 
-use crate::entry::{Mark, Row};
+use crate::entry::Mark;
 use crate::exactly::tests_exactly;
 use crate::expansion::{Expansion, Stepped, label};
-use crate::file::write_entries;
-use crate::finding::{Finding, find};
+use crate::finding::find;
 use crate::leftovers::Leftovers;
 use crate::table::{Table, TableFault};
 use sched_program::{OutOfMemory, Program, same};
@@ -34,6 +25,8 @@ use std::alloc::Global;
 use std::marker::Model;
 use std::sync::Arc;
 use tree_machine::{Machine, State, StateForm};
+
+mod reading;
 
 /// Which states a book counts as one.
 #[derive(Clone, Copy, Debug, PartialEq, Eq)]
@@ -303,59 +296,6 @@ impl<M: Machine> Book<M> {
         }
     }
 
-    /// The lowest-numbered entry that is not sound.
-    pub fn first_fault(&self) -> Option<usize>
-        ensures { result ≡ position (λ e. not (is_sound e.finding)) self.now.entries }
-    {
-        self.table.first_fault()
-    }
-
-    /// What was found of an entry's state; none if there is no such entry.
-    pub fn finding_of(&self, id: usize) -> Option<&Finding>
-        ensures { option_copied result ≡ option_map (λ e. e.finding) (slice_get self.now.entries id) }
-    {
-        match self.table.row(id) {
-            Some(row) => Some(&row.finding),
-            None => None,
-        }
-    }
-
-    /// The threads on the way from entry 0 to an entry, as its origin and those before it record it. No other way leads
-    /// there.
-    pub fn schedule_of(&self, alloc: Global, id: usize) -> Result<Vec<u8>, OutOfMemory>
-        requires { id < length self.now.entries }
-        ensures leads { IfOk result (λ c. (e : Entry (State M M.Mem M.Loc M.Form)) × At self.now.entries id e
-            × (after (machine_in M.rules self.now) c.items ≡ Some e.state) × (length c.items ≡ e.state.steps)) }
-        ensures way { IfOk result (λ c. IsWay self.now.entries 0 c.items id) }
-        ensures only { IfOk result (λ c. (d : List ℕ) → IsWay self.now.entries 0 d id → d ≡ c.items) }
-    {
-        let mut schedule = Vec::new(alloc);
-        let mut at = id;
-        while let Some(origin) = self.table.origin(at) {
-            schedule.push(origin.thread)?;
-            at = origin.parent;
-        }
-        schedule.reverse();
-        Ok(schedule)
-    }
-
-    /// How many entries there are, and what became of the steps that were entered.
-    pub fn totals(&self) -> Totals
-        ensures totals { result ≡ totals_of self.now }
-        ensures marks { result.entries ≡ result.fresh + result.taken + result.expanded }
-        ensures entered { result.entries ≡ result.entered + 1 }
-    {
-        let entries = self.table.len();
-        Totals {
-            entries,
-            fresh: self.table.count_open(),
-            taken: self.table.count_taken(),
-            expanded: self.table.count_expanded(),
-            entered: entries - 1,
-            met: self.met,
-        }
-    }
-
     /// The number of the first entry of more than so many steps, or the number of entries. Step counts never fall along the entries.
     fn first_above(&self, steps: u64) -> usize
         ensures below { (i : ℕ) (e : Entry (State M M.Mem M.Loc M.Form)) → At self.now.entries i e → i < result → e.state.steps ≤ steps }
@@ -373,99 +313,5 @@ impl<M: Machine> Book<M> {
             }
         }
         low
-    }
-
-    /// How many entries have at most so many steps. Once all of fewer steps are expanded, so many states are reached by so many steps.
-    pub fn count_to(&self, steps: u64) -> usize
-        ensures value { result ≡ count_by (λ e. nat_le e.state.steps steps) self.now.entries }
-        ensures within { result ≤ length self.now.entries }
-        ensures count { IsExpandedBelow (machine_in M.rules self.now).steps self.now.entries steps
-            → IsCount (machine_in M.rules self.now) (counted_as_one M.Loc.PartialEq.eq M.Mem.PartialEq.eq M.Form.PartialEq.eq (M.form_of self.now.machine) self.now.merge) steps result }
-    {
-        self.law();
-        self.first_above(steps)
-    }
-
-    /// Whether an entry of at most so many steps is not expanded.
-    pub fn is_left_to(&self, steps: u64) -> bool
-        ensures left { result ≡ true → IsLeftTo (machine_in M.rules self.now).steps self.now.entries steps }
-        ensures none { result ≡ false → IsExpandedTo (machine_in M.rules self.now).steps self.now.entries steps }
-    {
-        match self.table.first_left() {
-            None => false,
-            Some(first) => steps_at(&self.table, first) <= steps,
-        }
-    }
-
-    /// Whether the book merges by names and has no entry open or taken. Then, if all its entries are sound, every schedule
-    /// of any length leads to a sound state. It takes no memory.
-    pub fn closed(&self) -> bool
-        ensures closed { IsTrue result ↔ IsClosed self.now }
-        ensures every { result ≡ true → AreSound self.now.entries → HoldsForEvery (machine_in M.rules self.now) (right_in M.rules self.now) }
-    {
-        self.law();
-        match self.table.first_left() {
-            Some(_) => false,
-            None => self.merge == Merge::Names,
-        }
-    }
-
-    /// The text of the book's file: the line of each entry has its parent, its thread and the linearization that was found
-    /// of its state. None where the book is not closed, or some entry is not sound. The lines pass with the book's machine
-    /// and program.
-    ///
-    /// # Errors
-    ///
-    /// A growth was refused.
-    pub fn to_text(&self, alloc: Global) -> Result<Option<Vec<u8>>, OutOfMemory>
-        ensures text { IfOk result (λ o. IfSome o (λ text. IsFileOf self.now.entries text.items)) }
-        ensures some { IfOk result (λ o. IfSome o (λ _. IsClosed self.now × AreSound self.now.entries)) }
-        ensures none { IfOk result (λ o. IfNone o (IsClosed self.now → AreSound self.now.entries → ⊥)) }
-        ensures passes { IfOk result (λ o. IfSome o (λ text. PassAs M M.Form (M.rules self.now.machine) self.now.program text.items (length self.now.entries))) }
-    {
-        if !self.closed() {
-            return Ok(None);
-        }
-        if self.first_fault().is_some() {
-            return Ok(None);
-        }
-        self.law();
-        tests_exactly::<StateForm<M>>();
-        Ok(Some(write_entries(alloc, &self.table)?))
-    }
-
-    /// The number of entries.
-    pub fn len(&self) -> usize
-        ensures { result ≡ length self.now.entries }
-    {
-        self.table.len()
-    }
-
-    /// The machine of the states.
-    pub fn machine(&self) -> M
-        ensures { result ≡ self.now.machine }
-    {
-        self.machine
-    }
-
-    /// The program of the states.
-    pub fn program(&self) -> &Program
-        ensures { result.now ≡ self.now.program }
-    {
-        &self.program
-    }
-
-    /// How many entries there may be.
-    pub fn limit(&self) -> usize
-        ensures { result ≡ self.now.limit }
-    {
-        self.limit
-    }
-
-    /// Which states count as one.
-    pub fn merge(&self) -> Merge
-        ensures { result ≡ self.now.merge }
-    {
-        self.merge
     }
 }

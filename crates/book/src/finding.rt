@@ -1,5 +1,6 @@
 //! What is found of a state.
-ghost use Rattle.std.specs.Prelude.{◌≡◌, IfOk, IfSome, IfNone};
+ghost use Rattle.std.specs.Prelude.{◌≡◌, IfOk, IfSome, IfNone, None};
+ghost use Rattle.sched_program.specs.Program.{Program};
 ghost use Rattle.lin.specs.Linearization.{IsLinearization, IsLinearizable};
 ghost use Rattle.tree_machine.specs.History.{history_of};
 ghost use Rattle.tree_machine.specs.Step.{Fits};
@@ -32,6 +33,21 @@ impl Finding {
     }
 }
 
+/// The fault that a state shows without its history, if it shows one.
+pub(crate) fn fault_in<M: Machine>(machine: M, state: &State<M>) -> Option<Finding>
+    requires { (M.rules machine).IsInRange state.now.memory }
+    ensures some { IfSome result (λ fault. (program : Program) → IsFindingOf (M.rules machine) program state.now fault) }
+    ensures none { IfNone result ((state.now.astray ≡ None) × (M.rules machine).IsOrdered state.now.memory) }
+{
+    if state.astray().is_some() {
+        return Some(Finding::Astray);
+    }
+    if !machine.ordered(state.memory()) {
+        return Some(Finding::Order);
+    }
+    None
+}
+
 /// A linearization of the history of a state, if there is one.
 pub(crate) fn judge_anew<M: Machine>(
     alloc: Global,
@@ -56,11 +72,8 @@ pub(crate) fn find<M: Machine>(
     requires { Fits (M.rules machine) program.now state.now }
     ensures { IfOk result (IsFindingOf (M.rules machine) program.now state.now) }
 {
-    if state.astray().is_some() {
-        return Ok(Finding::Astray);
-    }
-    if !machine.ordered(state.memory()) {
-        return Ok(Finding::Order);
+    if let Some(fault) = fault_in(machine, state) {
+        return Ok(fault);
     }
     match judge_anew(alloc, program, state)? {
         None => Ok(Finding::History),

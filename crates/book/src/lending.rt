@@ -6,7 +6,7 @@ ghost use Rattle.tree_machine.specs.Step.{Fits, step};
 ghost use Rattle.tree_machine.specs.declared.state.Thread.{Thread};
 ghost use Rattle.book.specs.Findings.{IsFindingOf, IsLoan};
 
-use crate::finding::{Finding, judge_anew};
+use crate::finding::{Finding, fault_in, judge_anew};
 use lin::{Order, order_with_reply};
 use sched_program::{Note, OpId, OutOfMemory, Program};
 use std::alloc::Global;
@@ -122,11 +122,8 @@ pub(crate) fn find_after<M: Machine>(
     ensures finding { IfOk result (IsFindingOf (M.rules machine) program.now next.now) }
     ensures loan { IfOk result (λ _. IsLoan program.now (history_of source.now) loan.new) }
 {
-    if next.astray().is_some() {
-        return Ok(Finding::Astray);
-    }
-    if !machine.ordered(next.memory()) {
-        return Ok(Finding::Order);
+    if let Some(fault) = fault_in(machine, next) {
+        return Ok(fault);
     }
     seek(alloc, program, source, loan)?;
     let order = match loan {

@@ -1,10 +1,10 @@
 use Rattle.std.proofs.Common.{◌≡◌, sym, ap, ◌∙◌}
 use Rattle.tree_machine.specs.declared.state.State.{State}
 use Rattle.book.specs.declared.entry.Mark.TheVariants.{Taken}
-use Rattle.book.specs.Books.{machine_in, right_in, counted_as_one}
 use Rattle.book.specs.Entries.{Contents, is_taken}
 use Rattle.std.proofs.lemmas.Bool.{true≢false}
-use Rattle.book.proofs.Entering.{taken_from, own_from}
+use Rattle.book.proofs.Entering.{own_from}
+use Rattle.book.proofs.Marks.{taken_from}
 use Rattle.book.proofs.book.Book.admits.Goals as goal
 
 pub returns-then-is_of-clause-admitted : goal.returns-then-is_of-clause-admitted
@@ -12,10 +12,6 @@ returns-then-is_of-clause-admitted g c =
     let s = c.self.inside in
     let b : Contents g.row.M.Denot (State g.row.M.Denot g.row.M-Mem.Denot g.row.M-Loc.Denot g.row.M-Form.Denot) =
     record { machine = s.machine; program = s.program; merge = s.merge; limit = s.limit; entries = s.table.entries; met = s.met } in
-    let m = machine_in g.M.Machine.rules b in
-    let right = right_in g.M.Machine.rules b in
-    let same = counted_as_one {Machine = g.row.M.Denot} {Form = g.row.M-Form.Denot} g.M.Loc.PartialEq.eq g.M.Mem.PartialEq.eq g.M.Form.PartialEq.eq (g.M.Machine.form_of s.machine) s.merge in
-    let book = c.self.invariant.0 in
     let at = c.in-Some.ensures.some in
     let there = c.state.ensures in
     let taken : at.0.mark ≡ Taken = taken_from at.0.mark (ap is_taken at.4 ∙ sym c.is_taken.ensures ∙ c.if-not-is_taken.false) in
@@ -31,10 +27,6 @@ returns-else-is_of-clause-refused g c =
     let s = c.self.inside in
     let b : Contents g.row.M.Denot (State g.row.M.Denot g.row.M-Mem.Denot g.row.M-Loc.Denot g.row.M-Form.Denot) =
     record { machine = s.machine; program = s.program; merge = s.merge; limit = s.limit; entries = s.table.entries; met = s.met } in
-    let m = machine_in g.M.Machine.rules b in
-    let right = right_in g.M.Machine.rules b in
-    let same = counted_as_one {Machine = g.row.M.Denot} {Form = g.row.M-Form.Denot} g.M.Loc.PartialEq.eq g.M.Mem.PartialEq.eq g.M.Form.PartialEq.eq (g.M.Machine.form_of s.machine) s.merge in
-    let book = c.self.invariant.0 in
     let at = c.in-Some.ensures.some in
     let there = c.state.ensures in
     let taken : at.0.mark ≡ Taken = taken_from at.0.mark (ap is_taken at.4 ∙ sym c.is_taken.ensures ∙ c.if-not-is_taken.false) in

@@ -1,0 +1,68 @@
+-- What the tests of marks tell.
+use Rattle.std.proofs.Common.{◌≡◌, ◌≢◌, true, false, not, refl, sym}
+use Rattle.std.proofs.lemmas.Bool.{true≢false}
+use Rattle.book.specs.declared.entry.Mark.{Mark}
+use Rattle.book.specs.declared.entry.Mark.TheVariants.{Open, Taken, Expanded}
+use Rattle.book.specs.Entries.{is_open, is_taken, is_expanded}
+
+-- ---- from a test to the mark
+
+pub open_from : (k : Mark) → is_open k ≡ true → k ≡ Open
+open_from Open h = refl
+open_from Taken h = absurd (true≢false (sym h))
+open_from Expanded h = absurd (true≢false (sym h))
+
+pub taken_from : (k : Mark) → is_taken k ≡ true → k ≡ Taken
+taken_from Open h = absurd (true≢false (sym h))
+taken_from Taken h = refl
+taken_from Expanded h = absurd (true≢false (sym h))
+
+pub expanded_by : (k : Mark) → is_expanded k ≡ true → k ≡ Expanded
+expanded_by Open h = absurd (true≢false (sym h))
+expanded_by Taken h = absurd (true≢false (sym h))
+expanded_by Expanded h = refl
+
+pub left_by : (k : Mark) → is_expanded k ≡ false → k ≢ Expanded
+left_by Open h = λ e. cc
+left_by Taken h = λ e. cc
+left_by Expanded h = absurd (true≢false h)
+
+pub expanded_from : (k : Mark) → not (is_expanded k) ≡ false → k ≡ Expanded
+expanded_from Open h = absurd (true≢false h)
+expanded_from Taken h = absurd (true≢false h)
+expanded_from Expanded h = refl
+
+pub not_expanded_from : (k : Mark) → not (is_expanded k) ≡ true → k ≢ Expanded
+not_expanded_from Open h = λ e. cc
+not_expanded_from Taken h = λ e. cc
+not_expanded_from Expanded h = absurd (true≢false (sym h))
+
+-- what is neither expanded nor taken is open
+pub open_between : (k : Mark) → k ≢ Expanded → k ≢ Taken → k ≡ Open
+open_between Open p q = refl
+open_between Taken p q = absurd (q refl)
+open_between Expanded p q = absurd (p refl)
+
+-- ---- from the mark to a test
+
+pub open_passes : (k : Mark) → k ≡ Open → is_open k ≡ true
+open_passes k h = rw h refl
+
+pub open_fails : (k : Mark) → k ≢ Open → is_open k ≡ false
+open_fails Open h = absurd (h refl)
+open_fails Taken h = refl
+open_fails Expanded h = refl
+
+pub open_left : (k : Mark) → k ≡ Open → is_expanded k ≡ false
+open_left k h = rw h refl
+
+pub taken_left : (k : Mark) → k ≡ Taken → is_expanded k ≡ false
+taken_left k h = rw h refl
+
+pub expanded_fails : (k : Mark) → k ≡ Expanded → not (is_expanded k) ≡ false
+expanded_fails k h = rw h refl
+
+pub left_passes : (k : Mark) → k ≢ Expanded → not (is_expanded k) ≡ true
+left_passes Open h = refl
+left_passes Taken h = refl
+left_passes Expanded h = absurd (h refl)
