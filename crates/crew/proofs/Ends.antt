@@ -5,7 +5,7 @@ use Rattle.std.proofs.lemmas.Option.{option_and_then_some}
 use Rattle.sched_program.specs.Program.{Program}
 use Rattle.tree_machine.specs.Rules.{Rules}
 use Rattle.tree_machine.specs.declared.state.State.{State}
-use Rattle.book.specs.Schedule.{StepMachine, run}
+use Rattle.book.specs.Schedule.{StepMachine, after, run}
 use Rattle.book.specs.Findings.{machine_of, IsFindingOf}
 use Rattle.book.specs.declared.book.Merge.{Merge}
 use Rattle.book.specs.Entries.{Contents}
@@ -24,6 +24,19 @@ beginning_runs {S} m (t ∷ c) (suc k) s r leads stops =
 -- a fact on the machine and the program that were given is one on the book's
 pub given_own : {X : Type 0} (P : X → Program → Type 0) (x y : X) (p q : Program) → x ≡ y → p ≡ q → P x p → P y q
 given_own P x y p q machine program h = subst (λ r. P y r) program (subst (λ z. P z p) machine h)
+
+-- a replay by a machine and a program that are the book's ends where the book's schedule does, and is not cut short
+module _ {X Memory Place Form : Type 0} (rules : X → Rules Memory Place) (b : Contents X (State X Memory Place Form)) (x : X) (p : Program) (machine : x ≡ b.machine) (program : p ≡ b.program)
+    (c : List ℕ) (s : State X Memory Place Form) (leads : after (machine_in rules b) c ≡ Some s) where
+  pub same_end : (r : State X Memory Place Form) → after (machine_of {Machine = X} {Form = Form} (rules x) p) c ≡ Some r → r ≡ s
+  same_end r ends =
+      let own : after (machine_in rules b) c ≡ Some r = given_own (λ y q. after (machine_of {Machine = X} {Form = Form} (rules y) q) c ≡ Some r) x b.machine p b.program machine program ends in
+      cc
+
+  pub no_stop : (n : ℕ) → after (machine_of {Machine = X} {Form = Form} (rules x) p) (take n c) ≡ None → ⊥
+  no_stop n stops =
+      beginning_runs (machine_in rules b) c n (machine_in rules b).start s leads
+      (given_own (λ y q. after (machine_of {Machine = X} {Form = Form} (rules y) q) (take n c) ≡ None) x b.machine p b.program machine program stops)
 
 pub given_merge : {X : Type 0} (P : X → Program → Merge → Type 0) (x y : X) (p q : Program) (k l : Merge) → x ≡ y → p ≡ q → k ≡ l → P x p k → P y q l
 given_merge P x y p q k l machine program merge h = subst (λ r. P y q r) merge (given_own (λ z r. P z r k) x y p q machine program h)

@@ -17,5 +17,6 @@ pub mod WorkedOff
 pub mod Reaching
 pub mod Verdicts
 pub mod Rest
+mod ReadOff
 pub mod ClaimSteps
 pub mod ClaimTurns

@@ -1,5 +1,5 @@
 //! The due answer, read off the book in hand.
-ghost use Rattle.std.specs.Prelude.{◌≡◌, ℕ, ◌+◌, ◌<◌, ◌≤◌, ◌↔◌, IsTrue, IsSome, IfOk, IfSome, IfNone, Some, None, length, false, true};
+ghost use Rattle.std.specs.Prelude.{◌≡◌, ℕ, ◌<◌, ◌≤◌, ◌↔◌, IsTrue, IsSome, IfOk, IfSome, Some, None, length, false, true};
 ghost use Rattle.book.specs.Books.{counted_as_one, machine_in, right_in};
 ghost use Rattle.tree_machine.specs.declared.state.State.{State};
 ghost use Rattle.book.specs.Entries.{At, Entry};
@@ -23,10 +23,7 @@ fn fault_at<M: Machine>(book: &Book<M>, id: usize) -> Finding
     ensures { (e : Entry (State M M.Mem M.Loc M.Form)) × At book.now.entries id e × (e.finding ≡ result) }
 {
     match book.finding_of(id) {
-        Some(Finding::Astray) => Finding::Astray,
-        Some(Finding::Order) => Finding::Order,
-        Some(Finding::History) => Finding::History,
-        Some(Finding::Sound(_)) => unreachable!(),
+        Some(finding) => *finding,
         None => unreachable!(),
     }
 }

@@ -1,57 +1,41 @@
-use Rattle.std.proofs.Common.{◌≡◌, ◌+◌, ◌<◌, ◌≤◌, ◌∙◌, ap, length, arith, refl, Some, None, slice_get, take}
+use Rattle.std.proofs.Common.{◌≡◌, ◌+◌, ◌<◌, ◌≤◌, ◌∙◌, ap, length, arith, refl, Some, slice_get}
 use Rattle.tree_machine.specs.declared.state.State.{State}
 use Rattle.book.specs.Entries.{Entry, IsTaken, IsOwn, states, unknown}
-use Rattle.book.specs.Schedule.{after}
 use Rattle.book.specs.Findings.{machine_of}
 use Rattle.book.specs.Books.{counted_as_one, machine_in, right_in}
+use Rattle.book.specs.Replay.{StopsAt}
+use Rattle.book.specs.declared.replayed.ReplayFault.TheVariants.{NotEnabled}
 use Rattle.book.proofs.Growth.{few_steps}
 use Rattle.book.proofs.Entering.{own_from}
 use Rattle.crew.proofs.Expansions.{expansion_in, same_unknown}
-use Rattle.crew.proofs.Ends.{beginning_runs, given_own}
-use Rattle.book.specs.Replay.{StopsAt}
-use Rattle.book.specs.declared.replayed.ReplayFault.TheVariants.{NotEnabled}
+use Rattle.crew.proofs.Ends.{no_stop, same_end}
 use Rattle.crew.proofs.reading.is_full_at.Goals as goal
 
 pub returns-in-Err-NotEnabled-clause-yes : goal.returns-in-Err-NotEnabled-clause-yes
 returns-in-Err-NotEnabled-clause-yes g c =
-    let b = c.args.book.now in
-    let m = machine_in g.M.Machine.rules b in
-    let same = counted_as_one {Machine = g.row.M.Denot} {Form = g.row.M-Form.Denot} g.M.Loc.PartialEq.eq g.M.Mem.PartialEq.eq g.M.Form.PartialEq.eq (g.M.Machine.form_of b.machine) b.merge in
-    let right = right_in g.M.Machine.rules b in
     let way = c.requires.way in
     let n = c.in-Err-NotEnabled.field-0-0 in
     let stops : StopsAt (machine_of {Machine = g.row.M.Denot} {Form = g.row.M-Form.Denot} (g.M.Machine.rules c.machine.result) c.args.program.now) c.args.schedule.now (NotEnabled n) =
     rw c.in-Err-NotEnabled.field-0-is at c.in-Err-NotEnabled.ensures.not_enabled in
-    let none : after m (take n c.args.schedule.now) ≡ None =
-    given_own (λ x p. after (machine_of {Machine = g.row.M.Denot} {Form = g.row.M-Form.Denot} (g.M.Machine.rules x) p) (take n c.args.schedule.now) ≡ None) c.machine.result b.machine c.args.program.now b.program
-    c.machine.ensures c.requires.program stops.3 in
-    λ _. absurd (beginning_runs m c.args.schedule.now n m.start way.0.state way.2 none)
+    λ _. absurd (no_stop g.M.Machine.rules c.args.book.now c.machine.result c.args.program.now c.machine.ensures c.requires.program c.args.schedule.now way.0.state way.2 n stops.3)
 
 pub of-requires-clause-room : goal.of-requires-clause-room
 of-requires-clause-room g c κs within =
     let b = c.args.book.now in
-    let m = machine_in g.M.Machine.rules b in
-    let same = counted_as_one {Machine = g.row.M.Denot} {Form = g.row.M-Form.Denot} g.M.Loc.PartialEq.eq g.M.Mem.PartialEq.eq g.M.Form.PartialEq.eq (g.M.Machine.form_of b.machine) b.merge in
-    let right = right_in g.M.Machine.rules b in
     let law = c.law.ensures in
     let way = c.requires.way in
-    let ends : after m c.args.schedule.now ≡ Some c.in-Ok.end.state =
-    given_own (λ x p. after (machine_of {Machine = g.row.M.Denot} {Form = g.row.M-Form.Denot} (g.M.Machine.rules x) p) c.args.schedule.now ≡ Some c.in-Ok.end.state) c.machine.result b.machine c.args.program.now b.program
-    c.machine.ensures c.requires.program c.in-Ok.ensures.state in
-    let there : after m c.args.schedule.now ≡ Some way.0.state = way.2 in
-    let is : c.in-Ok.end.state ≡ way.0.state = cc in
+    let is = same_end g.M.Machine.rules b c.machine.result c.args.program.now c.machine.ensures c.requires.program c.args.schedule.now way.0.state way.2 c.in-Ok.end.state c.in-Ok.ensures.state in
     let steps : c.in-Ok.end.state.steps ≡ way.0.state.steps = ap (λ (q : State g.row.M.Denot g.row.M-Mem.Denot g.row.M-Loc.Denot g.row.M-Form.Denot). q.steps) is in
-    let few : way.0.state.steps < b.limit = few_steps m same right law.machine b.entries law.law.law c.args.id b.limit way.0 way.1 law.law.within in
+    let same = counted_as_one {Machine = g.row.M.Denot} {Form = g.row.M-Form.Denot} g.M.Loc.PartialEq.eq g.M.Mem.PartialEq.eq g.M.Form.PartialEq.eq (g.M.Machine.form_of b.machine) b.merge in
+    let few : way.0.state.steps < b.limit = few_steps (machine_in g.M.Machine.rules b) same (right_in g.M.Machine.rules b) law.machine b.entries law.law.law c.args.id b.limit way.0 way.1 law.law.within in
     let limit : b.limit ≤ 2000000 = law.law.limit in
     omega arith
 
 pub returns-in-Err-Full-clause-full : goal.returns-in-Err-Full-clause-full
 returns-in-Err-Full-clause-full g c =
     let b = c.args.book.now in
-    let m = machine_in g.M.Machine.rules b in
-    let same = counted_as_one {Machine = g.row.M.Denot} {Form = g.row.M-Form.Denot} g.M.Loc.PartialEq.eq g.M.Mem.PartialEq.eq g.M.Form.PartialEq.eq (g.M.Machine.form_of b.machine) b.merge in
-    let right = right_in g.M.Machine.rules b in
     let x = c.in_ok-expansion.expansion in
+    let same = counted_as_one {Machine = g.row.M.Denot} {Form = g.row.M-Form.Denot} g.M.Loc.PartialEq.eq g.M.Mem.PartialEq.eq g.M.Form.PartialEq.eq (g.M.Machine.form_of b.machine) b.merge in
     let refused : IsTaken b.entries c.args.id × IsOwn {X = g.row.M.Denot} b c.args.id x.machine x.program x.source × (b.limit < length b.entries + length (unknown same (states b.entries) x.successors)) =
     rw c.in-Err-Full.field-0-is at c.in-Err-Full.ensures.refused in
     let e = refused.0 in
@@ -74,43 +58,26 @@ returns-in-Err-NotTaken-clause-yes g c =
 pub returns-in-Err-Stranger-clause-yes : goal.returns-in-Err-Stranger-clause-yes
 returns-in-Err-Stranger-clause-yes g c =
     let b = c.args.book.now in
-    let m = machine_in g.M.Machine.rules b in
-    let same = counted_as_one {Machine = g.row.M.Denot} {Form = g.row.M-Form.Denot} g.M.Loc.PartialEq.eq g.M.Mem.PartialEq.eq g.M.Form.PartialEq.eq (g.M.Machine.form_of b.machine) b.merge in
-    let right = right_in g.M.Machine.rules b in
     let x = c.in_ok-expansion.expansion in
     let way = c.requires.way in
-    let ends : after m c.args.schedule.now ≡ Some c.in-Ok.end.state =
-    given_own (λ x p. after (machine_of {Machine = g.row.M.Denot} {Form = g.row.M-Form.Denot} (g.M.Machine.rules x) p) c.args.schedule.now ≡ Some c.in-Ok.end.state) c.machine.result b.machine c.args.program.now b.program
-    c.machine.ensures c.requires.program c.in-Ok.ensures.state in
-    let there : after m c.args.schedule.now ≡ Some way.0.state = way.2 in
-    let is : c.in-Ok.end.state ≡ way.0.state = cc in
-    let machine : x.machine ≡ b.machine = c.in_ok-expansion.ensures.machine ∙ c.machine-2.ensures in
-    let program : x.program ≡ b.program = c.in_ok-expansion.ensures.program ∙ c.requires.program in
-    let source : x.source ≡ way.0.state = c.in_ok-expansion.ensures.source ∙ is in
+    let is = same_end g.M.Machine.rules b c.machine.result c.args.program.now c.machine.ensures c.requires.program c.args.schedule.now way.0.state way.2 c.in-Ok.end.state c.in-Ok.ensures.state in
     let refused : IsTaken b.entries c.args.id × (IsOwn {X = g.row.M.Denot} b c.args.id x.machine x.program x.source → ⊥) = rw c.in-Err-Stranger.field-0-is at c.in-Err-Stranger.ensures.refused in
-    λ full. absurd (refused.1 (own_from {X = g.row.M.Denot} b c.args.id way.0 x.machine x.program x.source way.0.state way.1 refl machine program source))
+    λ full. absurd (refused.1 (own_from {X = g.row.M.Denot} b c.args.id way.0 x.machine x.program x.source way.0.state way.1 refl (c.in_ok-expansion.ensures.machine ∙ c.machine-2.ensures)
+    (c.in_ok-expansion.ensures.program ∙ c.requires.program) (c.in_ok-expansion.ensures.source ∙ is)))
 
 pub returns-clause-yes : goal.returns-clause-yes
 returns-clause-yes g c =
     let b = c.args.book.now in
-    let m = machine_in g.M.Machine.rules b in
-    let same = counted_as_one {Machine = g.row.M.Denot} {Form = g.row.M-Form.Denot} g.M.Loc.PartialEq.eq g.M.Mem.PartialEq.eq g.M.Form.PartialEq.eq (g.M.Machine.form_of b.machine) b.merge in
-    let right = right_in g.M.Machine.rules b in
     let x = c.in_ok-expansion.expansion in
     let way = c.requires.way in
-    let ends : after m c.args.schedule.now ≡ Some c.in-Ok.end.state =
-    given_own (λ x p. after (machine_of {Machine = g.row.M.Denot} {Form = g.row.M-Form.Denot} (g.M.Machine.rules x) p) c.args.schedule.now ≡ Some c.in-Ok.end.state) c.machine.result b.machine c.args.program.now b.program
-    c.machine.ensures c.requires.program c.in-Ok.ensures.state in
-    let there : after m c.args.schedule.now ≡ Some way.0.state = way.2 in
-    let is : c.in-Ok.end.state ≡ way.0.state = cc in
-    let machine : x.machine ≡ b.machine = c.in_ok-expansion.ensures.machine ∙ c.machine-2.ensures in
-    let program : x.program ≡ b.program = c.in_ok-expansion.ensures.program ∙ c.requires.program in
-    let source : x.source ≡ way.0.state = c.in_ok-expansion.ensures.source ∙ is in
+    let is = same_end g.M.Machine.rules b c.machine.result c.args.program.now c.machine.ensures c.requires.program c.args.schedule.now way.0.state way.2 c.in-Ok.end.state c.in-Ok.ensures.state in
+    let same = counted_as_one {Machine = g.row.M.Denot} {Form = g.row.M-Form.Denot} g.M.Loc.PartialEq.eq g.M.Mem.PartialEq.eq g.M.Form.PartialEq.eq (g.M.Machine.form_of b.machine) b.merge in
     let enters = c.in-Ok-enter.ensures.entered in
     λ full. absurd (
     let same_entry : way.0 ≡ full.entry = (let p : slice_get b.entries c.args.id ≡ Some way.0 = way.1 in let q : slice_get b.entries c.args.id ≡ Some full.entry = full.at in cc) in
-    let expansion = expansion_in g.M.Machine.rules b x full.entry.state machine program (source ∙ ap (λ (r : Entry (State g.row.M.Denot g.row.M-Mem.Denot g.row.M-Loc.Denot g.row.M-Form.Denot)). r.state) same_entry) c.law-2.ensures in
+    let source = c.in_ok-expansion.ensures.source ∙ is ∙ ap (λ (r : Entry (State g.row.M.Denot g.row.M-Mem.Denot g.row.M-Loc.Denot g.row.M-Form.Denot)). r.state) same_entry in
+    let expansion = expansion_in g.M.Machine.rules b x full.entry.state (c.in_ok-expansion.ensures.machine ∙ c.machine-2.ensures) (c.in_ok-expansion.ensures.program ∙ c.requires.program) source c.law-2.ensures in
     let as_many : length (unknown same (states b.entries) x.successors) ≡ length (unknown same (states b.entries) full.successors) =
-    same_unknown m full.entry.state same right (states b.entries) x.successors full.successors expansion full.expansion in
+    same_unknown (machine_in g.M.Machine.rules b) full.entry.state same (right_in g.M.Machine.rules b) (states b.entries) x.successors full.successors expansion full.expansion in
     let over : b.limit < length b.entries + length (unknown same (states b.entries) full.successors) = full.full in
     omega arith)
