@@ -73,13 +73,13 @@ fn status_of(answer: &Answer) -> u8
     }
 }
 
-/// Values of such a type test equal exactly if they are equal.
+/// Values of such a type test equal exactly if they are equal. It is there for proofs alone, and does nothing.
 fn tests_equality<T: Exact>()
     ensures exact { IsExact T.PartialEq.eq }
     ensures laws { IsEquivalence T.PartialEq.eq }
 {}
 
-/// A book counts states as one as the merge says.
+/// A book counts states as one as the merge says. It is there for proofs alone, and does nothing.
 fn counts_as_one<M: Machine>(machine: M, program: &Program, merge: Merge)
     ensures { CountsAsOne M M.Form (M.rules machine) program.now merge
         (counted_as_one M.Loc.PartialEq.eq M.Mem.PartialEq.eq M.Form.PartialEq.eq (M.form_of machine) merge) }
@@ -219,6 +219,13 @@ fn answered<M: Machine, R: Threads + Wait + Sync>(
     }
 }
 
+/// The tree of Ellen and others, or the variant that lacks a mark or an insert flag.
+fn ellen(mark: bool, iflag: bool) -> Ellen
+    ensures { result ≡ record { mark = mark; iflag = iflag } }
+{
+    Ellen { mark, iflag }
+}
+
 /// Answers the request for a program, on the machine that it names.
 fn served<R: Threads + Wait + Sync>(
     rt: &R,
@@ -231,39 +238,9 @@ fn served<R: Threads + Wait + Sync>(
 {
     match program.tree() {
         Tree::Atomic => answered(rt, alloc, Atomic, program, book, request),
-        Tree::Ellen => answered(
-            rt,
-            alloc,
-            Ellen {
-                mark: true,
-                iflag: true,
-            },
-            program,
-            book,
-            request,
-        ),
-        Tree::EllenNoMark => answered(
-            rt,
-            alloc,
-            Ellen {
-                mark: false,
-                iflag: true,
-            },
-            program,
-            book,
-            request,
-        ),
-        Tree::EllenNoIflag => answered(
-            rt,
-            alloc,
-            Ellen {
-                mark: true,
-                iflag: false,
-            },
-            program,
-            book,
-            request,
-        ),
+        Tree::Ellen => answered(rt, alloc, ellen(true, true), program, book, request),
+        Tree::EllenNoMark => answered(rt, alloc, ellen(false, true), program, book, request),
+        Tree::EllenNoIflag => answered(rt, alloc, ellen(true, false), program, book, request),
         Tree::Nm => answered(rt, alloc, NatMit { tag: true }, program, book, request),
         Tree::NmNoTag => answered(rt, alloc, NatMit { tag: false }, program, book, request),
     }
