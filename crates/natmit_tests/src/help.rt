@@ -1,4 +1,4 @@
-//! An insert and a delete that help another delete.
+//! An insert and a delete that help another delete, and an insert that helps none.
 
 use crate::follow::{Row, Seen, WHOLE, is_followed};
 use natmit::{Mode, NatMitLoc};
@@ -207,6 +207,58 @@ const DELETE_HELPS_ROWS: [Row; 12] = [
     (0, 0, Seen::Word(8, Side::Left, (false, false, 7))),
 ];
 
+/// Over 10 and 20, T1 inserts 25 at leaf 7. T0 inserts 30 there before it (node 10), and deletes 10, which tags the word of node
+/// 10: another node than T1's leaf, so T1 does not help.
+const LOOK_AT_ANOTHER_NODE: &str =
+    r#"{"version":1,"tree":"nm","initial":[10,20],"threads":[[{"op":"insert","key":30},{"op":"delete","key":10}],[{"op":"insert","key":25}]]}"#;
+
+const LOOK_AT_ANOTHER_NODE_ROWS: [Row; 8] = [
+    (
+        1,
+        3,
+        Seen::At(
+            1,
+            NatMitLoc::Put {
+                ancestor: 6,
+                successor: 8,
+                parent: 8,
+                leaf: 7,
+            },
+        ),
+    ),
+    (0, 4, Seen::Word(8, Side::Right, (false, false, 10))),
+    (0, 6, Seen::Word(8, Side::Right, (false, true, 10))),
+    (
+        1,
+        1,
+        Seen::At(
+            1,
+            NatMitLoc::Look {
+                ancestor: 6,
+                successor: 8,
+                parent: 8,
+                leaf: 7,
+            },
+        ),
+    ),
+    (1, 1, Seen::At(1, NatMitLoc::Begin { mode: Mode::Plain })),
+    (
+        1,
+        4,
+        Seen::At(
+            1,
+            NatMitLoc::Put {
+                ancestor: 6,
+                successor: 8,
+                parent: 10,
+                leaf: 7,
+            },
+        ),
+    ),
+    (1, 1, Seen::Word(10, Side::Left, (false, false, 12))),
+    (1, 0, Seen::Replied(1, true)),
+];
+
 #[test]
 fn an_insert_helps(rt: HostRuntime) -> Result<(), Fail> {
     assert!(rt; is_followed(rt.alloc(), WHOLE, INSERT_HELPS, &INSERT_HELPS_ROWS));
@@ -216,5 +268,18 @@ fn an_insert_helps(rt: HostRuntime) -> Result<(), Fail> {
 #[test]
 fn a_delete_helps_and_owns_its_leaf_alone(rt: HostRuntime) -> Result<(), Fail> {
     assert!(rt; is_followed(rt.alloc(), WHOLE, DELETE_HELPS, &DELETE_HELPS_ROWS));
+    Ok(())
+}
+
+#[test]
+fn another_node_is_not_helped(rt: HostRuntime) -> Result<(), Fail> {
+    assert!(rt;
+        is_followed(
+            rt.alloc(),
+            WHOLE,
+            LOOK_AT_ANOTHER_NODE,
+            &LOOK_AT_ANOTHER_NODE_ROWS
+        )
+    );
     Ok(())
 }

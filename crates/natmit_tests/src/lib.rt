@@ -10,6 +10,8 @@ mod help;
 #[cfg(test)]
 mod lone;
 #[cfg(test)]
+mod memories;
+#[cfg(test)]
 mod variant;
 #[cfg(test)]
 mod words;

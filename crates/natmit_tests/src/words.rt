@@ -1,11 +1,9 @@
 //! Exchanges that meet flagged and tagged words.
 
 use crate::follow::{Row, Seen, WHOLE, is_followed};
-use natmit::{Mode, NatMitLoc, NatMitMem, Node, Word};
-use sched_program::{OutOfMemory, Sequence};
-use std::alloc::Global;
+use natmit::{Mode, NatMitLoc};
 use std::test::Fail;
-use tree_machine::{Side, keeps_search_order};
+use tree_machine::Side;
 
 /// Over 10 and 20 (leaves 5 and 7 below node 8, that below node 6), T0 deletes 10 and T1 inserts 25. The insert meets
 /// the tagged word of leaf 7: its sibling is flagged, so leaf 7 itself moves up.
@@ -322,58 +320,6 @@ const SWING_AT_A_TAG_ROWS: [Row; 11] = [
     (0, 2, Seen::Replied(0, true)),
 ];
 
-/// Over 10 and 20, T1 inserts 25 at leaf 7. T0 inserts 30 there before it (node 10), and deletes 10, which tags the word of node
-/// 10: another node than T1's leaf, so T1 does not help.
-const LOOK_AT_ANOTHER_NODE: &str =
-    r#"{"version":1,"tree":"nm","initial":[10,20],"threads":[[{"op":"insert","key":30},{"op":"delete","key":10}],[{"op":"insert","key":25}]]}"#;
-
-const LOOK_AT_ANOTHER_NODE_ROWS: [Row; 8] = [
-    (
-        1,
-        3,
-        Seen::At(
-            1,
-            NatMitLoc::Put {
-                ancestor: 6,
-                successor: 8,
-                parent: 8,
-                leaf: 7,
-            },
-        ),
-    ),
-    (0, 4, Seen::Word(8, Side::Right, (false, false, 10))),
-    (0, 6, Seen::Word(8, Side::Right, (false, true, 10))),
-    (
-        1,
-        1,
-        Seen::At(
-            1,
-            NatMitLoc::Look {
-                ancestor: 6,
-                successor: 8,
-                parent: 8,
-                leaf: 7,
-            },
-        ),
-    ),
-    (1, 1, Seen::At(1, NatMitLoc::Begin { mode: Mode::Plain })),
-    (
-        1,
-        4,
-        Seen::At(
-            1,
-            NatMitLoc::Put {
-                ancestor: 6,
-                successor: 8,
-                parent: 10,
-                leaf: 7,
-            },
-        ),
-    ),
-    (1, 1, Seen::Word(10, Side::Left, (false, false, 12))),
-    (1, 0, Seen::Replied(1, true)),
-];
-
 #[test]
 fn exchanges_compare_whole_words(rt: HostRuntime) -> Result<(), Fail> {
     assert!(rt; is_followed(rt.alloc(), WHOLE, PUT_AT_A_TAG, &PUT_AT_A_TAG_ROWS));
@@ -385,54 +331,5 @@ fn exchanges_compare_whole_words(rt: HostRuntime) -> Result<(), Fail> {
 #[test]
 fn a_tag_keeps_the_flag(rt: HostRuntime) -> Result<(), Fail> {
     assert!(rt; is_followed(rt.alloc(), WHOLE, FLAG_AT_A_TAG, &TAG_AT_A_FLAG_ROWS));
-    Ok(())
-}
-
-#[test]
-fn another_node_is_not_helped(rt: HostRuntime) -> Result<(), Fail> {
-    assert!(rt;
-        is_followed(
-            rt.alloc(),
-            WHOLE,
-            LOOK_AT_ANOTHER_NODE,
-            &LOOK_AT_ANOTHER_NODE_ROWS
-        )
-    );
-    Ok(())
-}
-
-/// The word of a child without flag and tag.
-fn plain(node: u32) -> Word {
-    Word {
-        flag: false,
-        tag: false,
-        node,
-    }
-}
-
-/// A memory whose two nodes lead to each other.
-fn cycle(alloc: Global) -> Result<NatMitMem, OutOfMemory> {
-    let nodes = vec![in alloc;
-        Node::Internal {
-            key: 50,
-            left: plain(1),
-            right: plain(1),
-        },
-        Node::Internal {
-            key: 40,
-            left: plain(0),
-            right: plain(0),
-        },
-    ]?;
-    Ok(NatMitMem {
-        nodes: Sequence::from_vec(nodes),
-    })
-}
-
-#[test]
-fn a_cycle_keeps_no_order(rt: HostRuntime) -> Result<(), Fail> {
-    // Once more where a growth was refused.
-    let memory = cycle(rt.alloc()).or_else(|_| cycle(rt.alloc()))?;
-    assert!(rt; !keeps_search_order(&memory));
     Ok(())
 }
