@@ -5,6 +5,8 @@ usage: bench/run.py [--only WORD] [--repeat N] [--workers W,W,..] BINARY [BINARY
 
 For each program, merge, number of workers and binary: the states that it reports, wall seconds, CPU seconds (user and system), states per
 second of CPU, peak memory in MB and in bytes a state. With N repeats, numbers of workers and binaries take turns, and medians are told.
+A binary may refuse programs (the unverified explorer knows `atomic` and `nm` alone, and no `--workers`): that is told, and the rest runs on.
+Binaries that report different states of a program are told too, and make the status 1.
 """
 import argparse
 import os
@@ -67,6 +69,7 @@ def main():
     print(row.format("program", "binary", "states", "seconds", "cpu", "states/s", "MB", "B/state"))
     crews = [("--workers", count) for count in options.workers.split(",") if count] or [()]
     turns = [(crew, binary) for crew in crews for binary in options.binary]
+    differ = False
     for program, words in RUNS:
         if options.only not in program:
             continue
@@ -75,6 +78,7 @@ def main():
         for _ in range(options.repeat):
             for crew, binary in turns:
                 runs[crew, binary].append(run(os.path.abspath(binary), ["explore", path, *words, *crew]))
+        counts = set()
         for crew, binary in turns:
             name = " ".join([program[: -len(".json")], *(["names"] if "names" in words else []), *(f"by {count}" for count in crew[1:])])
             texts, statuses, walls, cpus, peaks = zip(*runs[crew, binary])
@@ -83,10 +87,15 @@ def main():
                 print(f"{name}: {binary}: status {statuses[0]}, no line 'states N'", file=sys.stderr)
                 continue
             states = int(found.group(1))
+            counts.add(states)
             wall, cpu, memory = median(walls), median(cpus), max(peaks)
             print(row.format(name, os.path.basename(binary), states, f"{wall:.2f}", f"{cpu:.2f}",
                              int(states / max(cpu, 0.001)), f"{memory / 1e6:.0f}", memory // states), flush=True)
+        if len(counts) > 1:
+            differ = True
+            print(f"{program} {' '.join(words)}: different numbers of states: {sorted(counts)}", file=sys.stderr)
+    return 1 if differ else 0
 
 
 if __name__ == "__main__":
-    main()
+    sys.exit(main())
