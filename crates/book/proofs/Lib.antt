@@ -16,11 +16,13 @@ mod Expanding
 mod SlotLemmas
 mod Labels
 mod Cursors
+mod Holding
 pub mod Machines
 mod Loans
 mod Answered
 pub mod Runs
 mod InBook
+pub mod Crossing
 mod Putting
 pub mod Text
 pub mod BookFile

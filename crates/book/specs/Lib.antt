@@ -11,6 +11,7 @@ pub mod Closed
 pub mod Correct
 pub mod Books
 pub mod Replay
+pub mod Shown
 pub mod Slots
 pub mod Text
 pub mod BookFile

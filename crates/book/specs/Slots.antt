@@ -1,10 +1,10 @@
 -- Rows under keys.
-use Rattle.std.specs.Prelude.{◌≡◌, ◌≢◌, ℕ, ◌<◌, ◌≤◌, Bool, not, Option, Some, position, slice_get, List, [], ◌∷◌, ◌++◌, length, map, if◌then◌else◌}
+use Rattle.std.specs.Prelude.{◌≡◌, ◌≢◌, ℕ, ◌<◌, ◌≤◌, Bool, not, Option, Some, position, slice_get, List, [], ◌∷◌, ◌++◌, drop, length, map, take, if◌then◌else◌}
 use Rattle.std.specs.List.{list_any}
 use Rattle.std.specs.declared.sync.Arc.{Arc}
 use Rattle.book.specs.declared.entry.Row.{Row}
 use Rattle.book.specs.declared.entry.Mark.TheVariants.{Open, Expanded}
-use Rattle.book.specs.Entries.{Entry, At}
+use Rattle.book.specs.Entries.{Entry, At, states}
 use Rattle.book.specs.Findings.{is_sound}
 use Rattle.book.specs.Labels.{Labelled}
 
@@ -58,3 +58,19 @@ pub record AreCursors {S : Type 0} (entries : List (Entry S)) (next_open first_l
   pub within : next_open ≤ length entries
   pub left : IsFirstLeft entries first_left
   pub first_fault : fault ≡ position (λ e. not (is_sound e.finding)) entries
+
+-- entry i is there and is not expanded
+abbrev pub IsLeft : {S : Type 0} → List (Entry S) → ℕ → Type 0
+IsLeft {S} entries i = (e : Entry S) × At entries i e × (e.mark ≢ Expanded)
+
+-- what stood in front still does
+abbrev pub IsGrown : {X : Type 0} → List X → List X → Type 0
+IsGrown old new = take (length old) new ≡ old
+
+-- the states that are held are those of the entries from number `first` on
+abbrev pub AreHeld : {S : Type 0} → List (Entry S) → ℕ → List S → Type 0
+AreHeld entries first held = held ≡ drop first (states entries)
+
+-- from whichever entry on the states were held, they are held still
+abbrev pub StayHeld : {S : Type 0} → (old new : List (Entry S)) → (held still : List S) → Type 0
+StayHeld old new held still = (first : ℕ) → first ≤ length old → AreHeld old first held → AreHeld new first still

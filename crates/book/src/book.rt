@@ -6,7 +6,7 @@ ghost use Rattle.tree_machine.specs.Step.{Fits};
 ghost use Rattle.tree_machine.specs.declared.state.State.{State};
 ghost use Rattle.book.specs.Entries.{Entry, At, Enters, IsNext, IsOwn, IsTaken, Refuses, Takes, TakesLayer, is_open, states, unknown, with_successors};
 ghost use Rattle.book.specs.Findings.{IsSound};
-ghost use Rattle.book.specs.Slots.{AllStates, IsOpenFrom};
+ghost use Rattle.book.specs.Slots.{AllStates, IsLeft, IsOpenFrom};
 ghost use Rattle.tree_machine.specs.Alike.{state_form};
 ghost use Rattle.book.specs.Labels.{AreStepsKnownBy, bares, form_by};
 ghost use Rattle.book.specs.Books.{counted_as_one, machine_in, right_in, IsLawfulIn};
@@ -101,9 +101,9 @@ impl<M: Machine> Model for Book<M> {
         × AreKnownBy (form_by b.merge (state_form (M.form_of b.machine))) b.table };
 }
 
-/// How many steps the state of an entry has behind it.
+/// How many steps the state of an entry that is not expanded has behind it.
 fn steps_at<M: Machine>(table: &Table<State<M>, StateForm<M>>, index: usize) -> u64
-    requires { index < length table.now.entries }
+    requires { IsLeft table.now.entries index }
     ensures { (e : Entry (State M M.Mem M.Loc M.Form)) × At table.now.entries index e × (e.state.steps ≡ result) }
 {
     table.state(index).steps()
@@ -130,8 +130,9 @@ impl<M: Machine> Book<M> {
         tests_exactly::<StateForm<M>>();
         let state = State::start(alloc, machine, &program)?;
         let finding = find(alloc, machine, &program, &state)?;
-        let known = label(alloc, machine, &program, Arc::new(alloc, state)?, merge)?;
-        let table = Table::new(alloc, known, finding)?;
+        let state = Arc::new(alloc, state)?;
+        let known = label(alloc, machine, &program, &state, merge)?;
+        let table = Table::new(alloc, state, known, finding)?;
         Ok(Book {
             machine,
             program,
@@ -296,6 +297,20 @@ impl<M: Machine> Book<M> {
         }
     }
 
+    /// How many steps lead to an entry, counted along its origin and those before it.
+    fn steps_to(&self, id: usize) -> u64
+        requires { id < length self.now.entries }
+        ensures { (e : Entry (State M M.Mem M.Loc M.Form)) × At self.now.entries id e × (e.state.steps ≡ result) }
+    {
+        let mut steps = 0;
+        let mut at = id;
+        while let Some(origin) = self.table.origin(at) {
+            steps += 1;
+            at = origin.parent;
+        }
+        steps
+    }
+
     /// The number of the first entry of more than so many steps, or the number of entries. Step counts never fall along the entries.
     fn first_above(&self, steps: u64) -> usize
         ensures below { (i : ℕ) (e : Entry (State M M.Mem M.Loc M.Form)) → At self.now.entries i e → i < result → e.state.steps ≤ steps }
@@ -306,7 +321,7 @@ impl<M: Machine> Book<M> {
         let mut high = self.table.len();
         while low < high {
             let middle = low + (high - low) / 2;
-            if steps_at(&self.table, middle) <= steps {
+            if self.steps_to(middle) <= steps {
                 low = middle + 1;
             } else {
                 high = middle;

@@ -26,29 +26,34 @@ use tree_machine::{Machine, State, StateForm, StepFault};
 #[derive(Drop)]
 pub struct Stepped<S: Hash, F: Hash> {
     thread: u8,
+    state: Arc<S>,
     known: Hashed<Known<S, F>>,
     finding: Finding,
 }
 
 impl<S: Hash, F: Hash> Model for Stepped<S, F> {
+    ghost use Rattle.std.specs.Prelude.{◌≡◌};
     ghost use Rattle.book.specs.Entries.{Successor};
     ghost use Rattle.book.specs.Labels.{Labelled};
 
     ghost Value = { Successor (Labelled S F) };
 
     ghost view = { λ x. record { thread = x.thread; state = x.known; finding = x.finding } };
+
+    ghost invariant = { λ x. x.known.state ≡ x.state.value };
 }
 
 impl<S: Hash, F: Hash> Stepped<S, F> {
-    pub(crate) fn into_parts(self) -> (u8, Hashed<Known<S, F>>, Finding)
-        ensures { (result.0 ≡ self.thread) × (result.1 ≡ self.state) × (result.2 ≡ self.finding) }
+    pub(crate) fn into_parts(self) -> (u8, Arc<S>, Hashed<Known<S, F>>, Finding)
+        ensures { (result.0 ≡ self.thread) × (result.1.value ≡ self.state.state) × (result.2 ≡ self.state) × (result.3 ≡ self.finding) }
     {
         let Stepped {
             thread,
+            state,
             known,
             finding,
         } = self;
-        (thread, known, finding)
+        (thread, state, known, finding)
     }
 }
 
@@ -57,12 +62,12 @@ pub(crate) fn label<M: Machine>(
     alloc: Global,
     machine: M,
     program: &Program,
-    state: Arc<State<M>>,
+    state: &Arc<State<M>>,
     merge: Merge,
 ) -> Result<Hashed<Known<State<M>, StateForm<M>>>, OutOfMemory>
-    requires { Fits (M.rules machine) program.now state.value }
-    ensures state { IfOk result (λ known. known.state ≡ state.value) }
-    ensures form { IfOk result (λ known. known.form ≡ form_by merge (state_form (M.form_of machine)) state.value) }
+    requires { Fits (M.rules machine) program.now state.now.value }
+    ensures state { IfOk result (λ known. known.state ≡ state.now.value) }
+    ensures form { IfOk result (λ known. known.form ≡ form_by merge (state_form (M.form_of machine)) state.now.value) }
 {
     let form = match merge {
         Merge::Exact => None,
@@ -72,7 +77,7 @@ pub(crate) fn label<M: Machine>(
             Some(Box::new(alloc, state.form(alloc, machine)?)?)
         }
     };
-    Ok(Hashed::new(Known::new(state, form)))
+    Ok(Hashed::new(Known::new(state, form)?))
 }
 
 /// The same step, labelled for a book that merges so.
@@ -87,11 +92,11 @@ fn relabelled<M: Machine>(
     ensures same { IfOk result (λ made. bare made ≡ bare step) }
     ensures form { IfOk result (λ made. made.state.form ≡ form_by merge (state_form (M.form_of machine)) made.state.state) }
 {
-    let (thread, known, finding) = step.into_parts();
-    let state = known.into_value().into_state();
-    let known = label(alloc, machine, program, state, merge)?;
+    let (thread, state, _, finding) = step.into_parts();
+    let known = label(alloc, machine, program, &state, merge)?;
     Ok(Stepped {
         thread,
+        state,
         known,
         finding,
     })
@@ -144,9 +149,11 @@ fn step_of<M: Machine>(
         Err(StepFault::OutOfMemory) => return Err(OutOfMemory),
     };
     let finding = find_after(alloc, machine, program, source, &next, thread, loan)?;
-    let known = label(alloc, machine, program, Arc::new(alloc, next)?, merge)?;
+    let state = Arc::new(alloc, next)?;
+    let known = label(alloc, machine, program, &state, merge)?;
     Ok(Some(Stepped {
         thread,
+        state,
         known,
         finding,
     }))

@@ -1,53 +1,50 @@
 //! States as a book knows them.
-ghost use Rattle.std.specs.Prelude.{◌≡◌};
+ghost use Rattle.std.specs.Prelude.{◌≡◌, IfOk};
 ghost use Rattle.std.specs.Option.{option_map};
 ghost use Rattle.std.specs.Cmp.{partial_equiv_from_equiv};
 ghost use Rattle.book.specs.Labels.{input_by, same_input, same_label, same_label_equiv};
 
+use std::alloc::AllocError;
 use std::hash::{Hash, Hasher};
 use std::marker::Model;
+use std::snapshot::Snapshot;
 use std::sync::Arc;
 
-/// A shared state with its label: its form, or the state itself if it has none here. Two are equal if their labels are.
-/// The form lies apart, so that a state that needs none takes no room for it.
+/// A state by its label: its form, or the state itself if it has none here. Two are equal if their labels are. A state that
+/// is known by its form is not held here: it is only proofs that see it. The form lies apart, so that a state that needs
+/// none takes no room for it.
 #[derive(Drop)]
 pub struct Known<S, F> {
-    state: Arc<S>,
+    state: Option<Arc<S>>,
     form: Option<Box<F>>,
+    shown: Snapshot<S>,
 }
 
 impl<S, F> Model for Known<S, F> {
     ghost use Rattle.std.specs.Option.{option_map};
+    ghost use Rattle.book.specs.Shown.{IsLabelOf};
     ghost use Rattle.book.specs.Labels.{Labelled};
 
     ghost Value = { Labelled S F };
 
-    ghost view = { λ k. record { state = k.state.value; form = option_map (λ form. form.value) k.form } };
+    ghost view = { λ k. record { state = k.shown.value; form = option_map (λ form. form.value) k.form } };
+
+    ghost invariant = { λ k. IsLabelOf k.state k.form k.shown.value };
 }
 
 impl<S, F> Known<S, F> {
     /// A state with its form, if it is known by it.
-    pub fn new(state: Arc<S>, form: Option<Box<F>>) -> Known<S, F>
-        ensures { result ≡ record { state = state.value; form = option_map (λ form. form.value) form } }
-    {
-        Known { state, form }
-    }
-
-    /// The state.
-    pub fn state(&self) -> &Arc<S>
-        ensures { result.now.value ≡ self.now.state }
-    {
-        &self.state
-    }
-
-    /// The state without its label.
-    pub fn into_state(self) -> Arc<S>
+    pub fn new(state: &Arc<S>, form: Option<Box<F>>) -> Result<Known<S, F>, AllocError>
     where
         F: Drop,
-        ensures { result.value ≡ self.state }
+        ensures { IfOk result (λ known. known ≡ record { state = state.now.value; form = option_map (λ form. form.value) form }) }
     {
-        let Known { state, form: _ } = self;
-        state
+        let shown = Snapshot::of(&**state);
+        let state = match &form {
+            Some(_) => None,
+            None => Some(Arc::try_clone(state)?),
+        };
+        Ok(Known { state, form, shown })
     }
 }
 
@@ -59,7 +56,10 @@ impl<S: Eq, F: Eq> PartialEq for Known<S, F> {
     fn eq(&self, other: &Self) -> bool {
         match (&self.form, &other.form) {
             (Some(first), Some(second)) => **first == **second,
-            (None, None) => *self.state == *other.state,
+            (None, None) => match (&self.state, &other.state) {
+                (Some(first), Some(second)) => **first == **second,
+                _ => unreachable!(),
+            },
             _ => false,
         }
     }
@@ -75,9 +75,10 @@ impl<S: Hash, F: Hash> Hash for Known<S, F> {
     ghost respects_eq = { same_input S.eq F.eq S.hash_input F.hash_input S.respects_eq F.respects_eq };
 
     fn hash<H: Hasher>(&self, state: &mut H) {
-        match &self.form {
-            Some(form) => (**form).hash(state),
-            None => (*self.state).hash(state),
+        match (&self.form, &self.state) {
+            (Some(form), _) => (**form).hash(state),
+            (None, Some(own)) => (**own).hash(state),
+            (None, None) => unreachable!(),
         }
     }
 }

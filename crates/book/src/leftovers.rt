@@ -9,12 +9,13 @@ use sched_program::OutOfMemory;
 use std::alloc::Global;
 use std::hash::Hash;
 use std::marker::Model;
+use std::sync::Arc;
 
 /// States that a book knew already, with what else the expansions that were entered held of them. Whoever enters under a
 /// lock can drop these after it.
 #[derive(Drop)]
 pub struct Leftovers<S: Hash, F: Hash> {
-    known: Vec<(Hashed<Known<S, F>>, Row)>,
+    known: Vec<(Hashed<Known<S, F>>, Row, Arc<S>)>,
 }
 
 impl<S: Hash, F: Hash> Model for Leftovers<S, F> {
@@ -51,7 +52,7 @@ impl<S: Hash + Drop, F: Hash + Drop> Leftovers<S, F> {
     }
 
     /// Keeps a state, if there is one, where there is room, and else drops it.
-    pub(crate) fn keep(&mut self, state: Option<(Hashed<Known<S, F>>, Row)>)
+    pub(crate) fn keep(&mut self, state: Option<(Hashed<Known<S, F>>, Row, Arc<S>)>)
         ensures { Keeps self.old self.new (if is_some state then 1 else 0) }
     {
         if let Some(state) = state {

@@ -6,14 +6,16 @@ ghost use Rattle.book.specs.Entries.{Entry, At, IsTaken, is_open, is_taken, is_e
 ghost use Rattle.book.specs.Findings.{is_sound};
 ghost use Rattle.book.specs.Labels.{AreKnownBy, AreStepsKnownBy, bares, same_as, same_label};
 ghost use Rattle.book.specs.Leftovers.{KeepsMet};
-ghost use Rattle.book.specs.Slots.{entry_of, entries_of, forms_of, keyed_of, AreStatesOf, IsFirstLeft, IsOpenFrom};
+ghost use Rattle.book.specs.Slots.{entries_of, forms_of, keyed_of, AreStatesOf, IsFirstLeft, IsGrown, IsLeft, IsOpenFrom, StayHeld};
 
 use crate::entry::{Mark, Origin, Row};
 use crate::expansion::Stepped;
 use crate::finding::Finding;
 use crate::hashed::Hashed;
+use crate::held::Held;
 use crate::known::Known;
 use crate::leftovers::Leftovers;
+use crate::placing::put_steps;
 use crate::slots::put_new;
 use indexmap::IndexMap;
 use std::alloc::{AllocError, Global};
@@ -28,10 +30,12 @@ pub enum TableFault {
     OutOfMemory,
 }
 
-/// The entries of a book: states, each with its row. The key of a row is the state's label.
+/// The entries of a book: states, each with its row. The key of a row is the state's label. The states from the first entry
+/// on that is not expanded are held; those of the entries before it are given back.
 #[derive(Drop)]
 pub struct Table<S: Eq + Hash + Drop, F: Eq + Hash + Drop> {
     slots: IndexMap<Hashed<Known<S, F>>, Row>,
+    held: Held<S>,
     next_open: usize,
     first_left: usize,
     fault: Option<usize>,
@@ -39,13 +43,14 @@ pub struct Table<S: Eq + Hash + Drop, F: Eq + Hash + Drop> {
 
 impl<S: Eq + Hash + Drop, F: Eq + Hash + Drop> Model for Table<S, F> {
     ghost use Rattle.book.specs.Labels.{Kept};
-    ghost use Rattle.book.specs.Slots.{entries_of, forms_of, AreCursors};
+    ghost use Rattle.book.specs.Slots.{entries_of, forms_of, AreCursors, AreHeld};
 
     ghost Value = { Kept S F };
 
     ghost view = { λ t. record { entries = entries_of t.slots.entries; forms = forms_of t.slots.entries } };
 
-    ghost invariant = { λ t. AreCursors (entries_of t.slots.entries) t.next_open t.first_left t.fault };
+    ghost invariant = { λ t. AreCursors (entries_of t.slots.entries) t.next_open t.first_left t.fault
+        × AreHeld (entries_of t.slots.entries) t.first_left t.held };
 }
 
 /// Marks the row at an index.
@@ -78,50 +83,6 @@ fn mark_run<S: Eq + Hash, F: Eq + Hash>(
     }
 }
 
-/// The indices from `start` to below `end`, each with its shared state.
-fn shared_run<S: Eq + Hash + Drop, F: Eq + Hash + Drop>(
-    slots: &IndexMap<Hashed<Known<S, F>>, Row>,
-    start: usize,
-    end: usize,
-) -> Result<Vec<(usize, Arc<S>)>, AllocError>
-    requires some { start ≤ end }
-    requires within { end ≤ length slots.now.entries }
-    ensures numbers { IfOk result (λ run. map (λ p. p.0) run.items ≡ range_with_len start (end - start)) }
-    ensures states { IfOk result (λ run. AreStatesOf (entries_of slots.now.entries) run.items) }
-{
-    let mut run = Vec::with_capacity(*slots.allocator(), end - start)?;
-    for index in start..end {
-        let state = Arc::try_clone(state_at(slots, index))?;
-        run.push((index, state))?;
-    }
-    Ok(run)
-}
-
-/// Puts in, in their order, open rows for the steps that lead to new states. The others go to the leftovers.
-fn put_steps<S: Eq + Hash + Drop, F: Eq + Hash + Drop>(
-    slots: &mut IndexMap<Hashed<Known<S, F>>, Row>,
-    parent: usize,
-    successors: Vec<Stepped<S, F>>,
-    leftovers: &mut Leftovers<S, F>,
-) -> Result<(), AllocError>
-    ensures put { OnOk result (map keyed_of slots.new.entries ≡ map keyed_of slots.old.entries
-        ++ map (opened parent) (unknown (same_label S.eq F.eq) (states (map keyed_of slots.old.entries)) successors.items)) }
-    ensures kept { take (length slots.old.entries) slots.new.entries ≡ slots.old.entries }
-    ensures left { OnOk result (KeepsMet leftovers.old leftovers.new (length slots.old.entries) (length slots.new.entries) (length successors.items)) }
-{
-    for step in successors {
-        let (thread, known, finding) = step.into_parts();
-        let row = Row {
-            finding,
-            origin: Some(Origin { parent, thread }),
-            mark: Mark::Open,
-        };
-        let left = put_new(slots, known, row)?;
-        leftovers.keep(left);
-    }
-    Ok(())
-}
-
 /// The row at an index.
 fn row_at<S: Eq + Hash, F: Eq + Hash>(
     slots: &IndexMap<Hashed<Known<S, F>>, Row>,
@@ -134,20 +95,6 @@ fn row_at<S: Eq + Hash, F: Eq + Hash>(
         unreachable!();
     };
     row
-}
-
-/// The shared state at an index.
-fn state_at<S: Eq + Hash, F: Eq + Hash>(
-    slots: &IndexMap<Hashed<Known<S, F>>, Row>,
-    index: usize,
-) -> &Arc<S>
-    requires { index < length slots.now.entries }
-    ensures { (e : Entry S) × At (entries_of slots.now.entries) index e × (e.state ≡ result.now.value) }
-{
-    let Some((known, _)) = slots.get_index(index) else {
-        unreachable!();
-    };
-    known.value().state()
 }
 
 /// The first row that is not sound, where all before `start` are.
@@ -208,9 +155,11 @@ impl<S: Eq + Hash + Drop, F: Eq + Hash + Drop> Table<S, F> {
     /// A table with one open entry, which has no parent.
     pub fn new(
         alloc: Global,
+        state: Arc<S>,
         known: Hashed<Known<S, F>>,
         finding: Finding,
     ) -> Result<Table<S, F>, AllocError>
+        requires { known.state ≡ state.value }
         ensures entries { IfOk result (λ t. t.entries ≡ record { state = known.state; finding = finding; origin = None; mark = Mark.Open } ∷ []) }
         ensures forms { IfOk result (λ t. t.forms ≡ known.form ∷ []) }
     {
@@ -222,8 +171,11 @@ impl<S: Eq + Hash + Drop, F: Eq + Hash + Drop> Table<S, F> {
         };
         let mut slots = IndexMap::new(alloc);
         put_new(&mut slots, known, row)?;
+        let mut held = Held::none(alloc);
+        held.push(state)?;
         Ok(Table {
             slots,
+            held,
             next_open: 0,
             first_left: 0,
             fault,
@@ -254,22 +206,28 @@ impl<S: Eq + Hash + Drop, F: Eq + Hash + Drop> Table<S, F> {
         }
     }
 
-    /// The shared state of an entry.
+    /// The shared state of an entry that is not expanded.
     pub fn state(&self, index: usize) -> &Arc<S>
-        requires { index < length self.now.entries }
+        requires { IsLeft self.now.entries index }
         ensures { (e : Entry S) × At self.now.entries index e × (e.state ≡ result.now.value) }
     {
-        state_at(&self.slots, index)
+        self.held.at(index - self.first_left)
     }
 
-    /// The entries from `start` to below `end`, each by its number and its shared state.
+    /// The entries from `start` to below `end`, which are open, each by its number and its shared state.
     pub fn shared(&self, start: usize, end: usize) -> Result<Vec<(usize, Arc<S>)>, AllocError>
         requires some { start ≤ end }
         requires within { end ≤ length self.now.entries }
+        requires open { IsOpenFrom self.now.entries start }
         ensures numbers { IfOk result (λ run. map (λ p. p.0) run.items ≡ range_with_len start (end - start)) }
         ensures states { IfOk result (λ run. AreStatesOf self.now.entries run.items) }
     {
-        shared_run(&self.slots, start, end)
+        let mut run = Vec::with_capacity(self.allocator(), end - start)?;
+        for index in start..end {
+            let state = Arc::try_clone(self.state(index))?;
+            run.push((index, state))?;
+        }
+        Ok(run)
     }
 
     /// The first open entry. All entries from it on are open.
@@ -329,7 +287,9 @@ impl<S: Eq + Hash + Drop, F: Eq + Hash + Drop> Table<S, F> {
         ensures { self.new ≡ record self.old { entries = with_mark self.old.entries index Mark.Expanded } }
     {
         mark_at(&mut self.slots, index, Mark::Expanded);
-        self.first_left = first_left_from(&self.slots, self.first_left);
+        let left = first_left_from(&self.slots, self.first_left);
+        self.held.give_back(left - self.first_left);
+        self.first_left = left;
     }
 
     /// Appends, in their order, open entries for the steps that lead to new states, or, if they have no room or
@@ -352,12 +312,21 @@ impl<S: Eq + Hash + Drop, F: Eq + Hash + Drop> Table<S, F> {
         ensures err { OnErr result (self.new ≡ self.old) }
     {
         let was = self.slots.len();
-        let Ok(()) = put_steps(&mut self.slots, parent, successors, leftovers) else {
+        let held = self.held.len();
+        let Ok(()) = put_steps(
+            &mut self.slots,
+            &mut self.held,
+            parent,
+            successors,
+            leftovers,
+        ) else {
             self.slots.truncate(was);
+            self.held.truncate(held);
             return Err(TableFault::OutOfMemory);
         };
         if self.slots.len() > limit {
             self.slots.truncate(was);
+            self.held.truncate(held);
             return Err(TableFault::Full);
         }
         match self.fault {

@@ -18,5 +18,6 @@ pub mod Reaching
 pub mod Verdicts
 pub mod Rest
 mod ReadOff
+mod Crossing
 pub mod ClaimSteps
 pub mod ClaimTurns

@@ -4,8 +4,14 @@ use Rattle.book.specs.declared.entry.Mark.TheVariants.{Taken}
 use Rattle.book.specs.Entries.{Contents, is_taken}
 use Rattle.std.proofs.lemmas.Bool.{true≢false}
 use Rattle.book.proofs.Entering.{own_from}
+use Rattle.book.proofs.Holding.{taken_is_left}
 use Rattle.book.proofs.Marks.{taken_from}
 use Rattle.book.proofs.book.Book.admits.Goals as goal
+
+pub state-requires : goal.state-requires
+state-requires g c =
+    let at = c.in-Some.ensures.some in
+    taken_is_left c.self.inside.table.entries c.args.id at.0 at.1 (taken_from at.0.mark (ap is_taken at.4 ∙ sym c.is_taken.ensures ∙ c.if-not-is_taken.false))
 
 pub returns-then-is_of-clause-admitted : goal.returns-then-is_of-clause-admitted
 returns-then-is_of-clause-admitted g c =

@@ -1,7 +1,11 @@
 use Rattle.std.proofs.Common.{sym, ◌∙◌}
 use Rattle.std.proofs.lemmas.Bool.{leb-false, leb-true}
+use Rattle.book.proofs.Holding.{first_is_left}
 use Rattle.book.proofs.InBook.{all_expanded_to, left_to, none_left_to}
 use Rattle.book.proofs.book.Book.is_left_to.Goals as goal
+
+pub steps_at-requires-after_bounds : goal.steps_at-requires-after_bounds
+steps_at-requires-after_bounds g c κs within = first_is_left c.self.inside.table.entries c.in-Some.first (sym c.first_left.ensures ∙ c.in-Some.is)
 
 pub returns-in-None-clause-none : goal.returns-in-None-clause-none
 returns-in-None-clause-none g c = rw (← c.self.view_is) (λ _. all_expanded_to c.self.invariant.0 c.args.steps (sym c.first_left.ensures ∙ c.in-None.is))

@@ -1,6 +1,13 @@
 use Rattle.std.proofs.Common.{sym, ◌∙◌}
+use Rattle.book.proofs.Holding.{first_is_left, open_is_left}
 use Rattle.book.proofs.InBook.{none_of_expanded, none_of_open, open_is_later, open_is_next}
 use Rattle.book.proofs.book.Book.next_open.Goals as goal
+
+pub steps_at-requires-after_bounds : goal.steps_at-requires-after_bounds
+steps_at-requires-after_bounds g c κs within = open_is_left c.self.inside.table.entries c.in_ok-open.open (sym c.first_open.ensures.first ∙ c.in_ok-open.was)
+
+pub steps_at-requires-2-after_bounds : goal.steps_at-requires-2-after_bounds
+steps_at-requires-2-after_bounds g c κs within = first_is_left c.self.inside.table.entries c.in_ok-first.first (sym c.first_left.ensures ∙ c.in_ok-first.was)
 
 pub returns-in_err-first-clause-none : goal.returns-in_err-first-clause-none
 returns-in_err-first-clause-none g c = rw (c.from_residual.ensures, ← c.self.view_is) (none_of_expanded c.self.invariant.0 (sym c.first_left.ensures ∙ c.in_err-first.was))

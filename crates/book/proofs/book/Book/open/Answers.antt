@@ -14,7 +14,7 @@ pub invariant_of-result : goal.invariant_of-result
 invariant_of-result g c =
     let rules = g.M.Machine.rules in
     let bound = g.met.M.Machine g.world.𝓛 g.world.𝓜 g.world.𝓡 ((λ s x. x), (λ x. x), (λ x. x), λ x. x) in
-    let is : c.in_ok-known.known.state ≡ c.in_ok-state.state = c.in_ok-known.ensures.state ∙ c.in_ok-new.ensures.ok in
+    let is : c.in_ok-known.known.state ≡ c.in_ok-state.state = c.in_ok-known.ensures.state ∙ c.in_ok-state-2.ensures.ok in
     let states = c.tests_exactly.ensures in
     let forms = c.tests_exactly-2.ensures in
     let label = form_by c.args.merge (state_form (g.M.Machine.form_of c.args.machine)) in
@@ -32,4 +32,4 @@ pub returns-clause-start : goal.returns-clause-start
 returns-clause-start g c =
     let e : Entry (State g.row.M.Denot g.row.M-Mem.Denot g.row.M-Loc.Denot g.row.M-Form.Denot) =
     record { state = c.in_ok-known.known.state; finding = c.in_ok-finding.finding; origin = None; mark = Open } in
-    (e, c.in_ok-table.ensures.entries, c.in_ok-known.ensures.state ∙ c.in_ok-new.ensures.ok ∙ c.in_ok-state.ensures.start, refl)
+    (e, c.in_ok-table.ensures.entries, c.in_ok-known.ensures.state ∙ c.in_ok-state-2.ensures.ok ∙ c.in_ok-state.ensures.start, refl)

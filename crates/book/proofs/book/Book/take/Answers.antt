@@ -1,9 +1,19 @@
+use Rattle.std.proofs.Common.{ap, position, ◌∙◌}
 use Rattle.tree_machine.specs.Alike.{state_form}
+use Rattle.tree_machine.specs.declared.state.State.{State}
 use Rattle.book.specs.declared.entry.Mark.TheVariants.{Taken}
+use Rattle.book.specs.Entries.{Contents, Entry, is_open}
 use Rattle.book.specs.Labels.{form_by}
+use Rattle.book.proofs.Holding.{open_is_left}
 use Rattle.book.proofs.InBook.{next_taken, taken_one}
 use Rattle.book.proofs.Labels.{known_mark}
 use Rattle.book.proofs.book.Book.take.Goals as goal
+
+pub state-requires : goal.state-requires
+state-requires g c =
+    open_is_left c.self.inside.table.entries c.in-Some.id
+    (ap (λ (b : Contents g.row.M.Denot (State g.row.M.Denot g.row.M-Mem.Denot g.row.M-Loc.Denot g.row.M-Form.Denot)). position (λ (e : Entry (State g.row.M.Denot g.row.M-Mem.Denot g.row.M-Loc.Denot g.row.M-Form.Denot)). is_open e.mark) b.entries) c.self.view_is
+    ∙ c.in-Some.ensures.open)
 
 pub invariant_of-self : goal.invariant_of-self
 invariant_of-self g c =

@@ -18,27 +18,29 @@ first_fault_from-self-inside-requires g c =
     let put = appended_entries s.slots.entries c.put_steps.new.slots.entries c.args.parent us c.in-Ok.ensures.put in
     let l : length es ≡ length s.slots.entries = length-entries s.slots.entries in
     let n : c.len-was.result ≡ length s.slots.entries = c.len-was.ensures.len in
-    let none : position (λ (e : Entry g.row.S.Denot). not (is_sound e.finding)) es ≡ None = sym c.self.invariant.first_fault ∙ c.in-None.is in
+    let none : position (λ (e : Entry g.row.S.Denot). not (is_sound e.finding)) es ≡ None = sym c.self.invariant.0.first_fault ∙ c.in-None.is in
     λ i e at less. all_sound es more none i e (subst (λ (xs : List (Entry g.row.S.Denot)). At xs i e) put at) (omega arith)
 
 pub invariant_of-self-in-None : goal.invariant_of-self-in-None
 invariant_of-self-in-None g c =
     let s = c.self.inside in
     let us : List (Successor (Labelled g.row.S.Denot g.row.F.Denot)) = unknown (same_label g.S.PartialEq.eq g.F.PartialEq.eq) (states (map keyed_of s.slots.entries)) c.args.successors.items in
-    let put = appended_entries s.slots.entries c.put_steps.new.slots.entries c.args.parent us c.in-Ok.ensures.put in
-    rw put
-    (cursors_appended (entries_of s.slots.entries) s.next_open s.first_left s.fault c.self.invariant c.args.parent (bares us) c.first_fault_from-self-inside.result
-    (c.first_fault_from-self-inside.ensures ∙ ap (position (λ (e : Entry g.row.S.Denot). not (is_sound e.finding))) put))
+    let put = appended_entries s.slots.entries c.put_steps.new.slots.entries c.args.parent us c.in-Ok.ensures.put in (
+      rw put (cursors_appended (entries_of s.slots.entries) s.next_open s.first_left s.fault c.self.invariant.0 c.args.parent (bares us) c.first_fault_from-self-inside.result
+          (c.first_fault_from-self-inside.ensures ∙ ap (position (λ (e : Entry g.row.S.Denot). not (is_sound e.finding))) put)),
+      c.in-Ok.ensures.held s.first_left c.self.invariant.0.left.within c.self.invariant.1,
+    )
 
 pub invariant_of-self-in-Some : goal.invariant_of-self-in-Some
 invariant_of-self-in-Some g c =
     let s = c.self.inside in
     let us : List (Successor (Labelled g.row.S.Denot g.row.F.Denot)) = unknown (same_label g.S.PartialEq.eq g.F.PartialEq.eq) (states (map keyed_of s.slots.entries)) c.args.successors.items in
     let put = appended_entries s.slots.entries c.put_steps.new.slots.entries c.args.parent us c.in-Ok.ensures.put in
-    let some : position (λ (e : Entry g.row.S.Denot). not (is_sound e.finding)) (entries_of s.slots.entries) ≡ Some c.in-Some.field-0 = sym c.self.invariant.first_fault ∙ c.in-Some.is in
-    rw put
-    (cursors_appended (entries_of s.slots.entries) s.next_open s.first_left s.fault c.self.invariant c.args.parent (bares us) s.fault
-    (c.in-Some.is ∙ sym (fault-append (entries_of s.slots.entries) (map (opened c.args.parent) (bares us)) c.in-Some.field-0 some)))
+    let some : position (λ (e : Entry g.row.S.Denot). not (is_sound e.finding)) (entries_of s.slots.entries) ≡ Some c.in-Some.field-0 = sym c.self.invariant.0.first_fault ∙ c.in-Some.is in (
+      rw put (cursors_appended (entries_of s.slots.entries) s.next_open s.first_left s.fault c.self.invariant.0 c.args.parent (bares us) s.fault
+          (c.in-Some.is ∙ sym (fault-append (entries_of s.slots.entries) (map (opened c.args.parent) (bares us)) c.in-Some.field-0 some))),
+      c.in-Ok.ensures.held s.first_left c.self.invariant.0.left.within c.self.invariant.1,
+    )
 
 pub returns-then-len-limit-clause-full : goal.returns-then-len-limit-clause-full
 returns-then-len-limit-clause-full g c =

@@ -3,7 +3,10 @@ use Rattle.book.specs.Entries.{Entry, is_open}
 use Rattle.book.specs.Labels.{Kept}
 use Rattle.book.specs.Slots.{entries_of}
 use Rattle.book.proofs.Cursors.{cursor_is}
+use Rattle.book.proofs.Holding.{held_all_marked}
 use Rattle.book.proofs.Runs.{cursors_run}
+use Rattle.book.specs.declared.entry.Mark.TheVariants.{Taken}
+use Rattle.std.specs.List.{range_with_len}
 use Rattle.book.proofs.table.Table.mark_run_taken.Goals as goal
 
 pub invariant_of-self : goal.invariant_of-self
@@ -11,9 +14,11 @@ invariant_of-self g c =
     let s = c.self.inside in
     let first : position (λ (e : Entry g.row.S.Denot). is_open e.mark) (entries_of s.slots.entries) ≡ Some c.args.start =
     ap (λ (k : Kept g.row.S.Denot g.row.F.Denot). position (λ (e : Entry g.row.S.Denot). is_open e.mark) k.entries) c.self.view_is ∙ c.requires.first in
-    let start : c.args.start ≡ s.next_open = cursor_is (entries_of s.slots.entries) s.next_open s.first_left s.fault c.self.invariant c.args.start first in
+    let start : c.args.start ≡ s.next_open = cursor_is (entries_of s.slots.entries) s.next_open s.first_left s.fault c.self.invariant.0 c.args.start first in
     let le : c.args.start ≤ c.args.end = c.requires.some in
     let within : c.args.end ≤ length c.args.self.now.entries = c.requires.within in
     let l : length (entries_of s.slots.entries) ≡ length c.args.self.now.entries = ap (λ (k : Kept g.row.S.Denot g.row.F.Denot). length k.entries) c.self.view_is in
     let ends : s.next_open + (c.args.end - s.next_open) ≡ c.args.end = omega arith in
-    rw (c.mark_run.ensures.entries, start) (rw ends at (cursors_run (c.args.end - s.next_open) (entries_of s.slots.entries) s.next_open s.first_left s.fault c.self.invariant (omega arith)))
+    let cursors = rw ends at (cursors_run (c.args.end - s.next_open) (entries_of s.slots.entries) s.next_open s.first_left s.fault c.self.invariant.0 (omega arith)) in
+    let held = held_all_marked (entries_of s.slots.entries) (range_with_len s.next_open (c.args.end - s.next_open)) Taken s.first_left s.held c.self.invariant.1 in
+    rw (c.mark_run.ensures.entries, start) (cursors, held)

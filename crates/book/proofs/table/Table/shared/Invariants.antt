@@ -1,10 +1,10 @@
 use Rattle.std.proofs.Common.{◌≡◌, ℕ, ◌-◌, map}
 use Rattle.std.specs.List.{range_with_len}
 use Rattle.std.specs.declared.sync.Arc.{Arc}
-use Rattle.book.specs.Slots.{entries_of, AreStatesOf}
-use Rattle.book.proofs.table.shared_run.Given as goal
+use Rattle.book.specs.Slots.{AreStatesOf}
+use Rattle.book.proofs.table.Table.shared.Given as goal
 
 abbrev pub invariant-loop-index : goal.invariant-loop-index
 invariant-loop-index g l =
     (map (λ (p : ℕ × Arc g.row.S.Denot _). p.0) l.run.items ≡ range_with_len l.start (l.index - l.start))
-    × AreStatesOf (entries_of l.slots.entries) l.run.items
+    × AreStatesOf l.self.entries l.run.items

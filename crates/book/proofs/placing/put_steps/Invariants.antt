@@ -1,14 +1,16 @@
-use Rattle.std.proofs.Common.{◌≡◌, ◌++◌, length, map, take}
+use Rattle.std.proofs.Common.{◌≡◌, ◌++◌, length, map}
 use Rattle.book.specs.Entries.{opened, states, unknown}
 use Rattle.book.specs.Labels.{same_label}
 use Rattle.book.specs.Leftovers.{KeepsMet}
-use Rattle.book.specs.Slots.{keyed_of}
-use Rattle.book.proofs.table.put_steps.Given as goal
+use Rattle.book.specs.Slots.{entries_of, keyed_of, IsGrown, StayHeld}
+use Rattle.book.proofs.placing.put_steps.Given as goal
 
 abbrev pub invariant-loop-step : goal.invariant-loop-step
 invariant-loop-step g l = record {
   put : map keyed_of l.slots.entries ≡ map keyed_of l.fn.slots.entries
       ++ map (opened l.parent) (unknown (same_label g.S.PartialEq.eq g.F.PartialEq.eq) (states (map keyed_of l.fn.slots.entries)) l.yielded);
-  kept : take (length l.fn.slots.entries) l.slots.entries ≡ l.fn.slots.entries;
+  kept : IsGrown l.fn.slots.entries l.slots.entries;
+  held : StayHeld (entries_of l.fn.slots.entries) (entries_of l.slots.entries) l.fn.held l.held;
+  held_kept : IsGrown l.fn.held l.held;
   left : KeepsMet l.fn.leftovers l.leftovers (length l.fn.slots.entries) (length l.slots.entries) (length l.yielded);
 }

@@ -1,0 +1,69 @@
+//! Steps put into the entries of a book.
+ghost use Rattle.std.specs.Prelude.{◌≡◌, ◌++◌, ◌∷◌, [], length, map, OnOk};
+ghost use Rattle.book.specs.Entries.{opened, states, unknown};
+ghost use Rattle.book.specs.Labels.{same_label};
+ghost use Rattle.book.specs.Leftovers.{KeepsMet};
+ghost use Rattle.book.specs.Slots.{entries_of, keyed_of, IsGrown, StayHeld};
+
+use crate::entry::{Mark, Origin, Row};
+use crate::expansion::Stepped;
+use crate::hashed::Hashed;
+use crate::held::Held;
+use crate::known::Known;
+use crate::leftovers::Leftovers;
+use crate::slots::put_new;
+use indexmap::IndexMap;
+use std::alloc::AllocError;
+use std::hash::Hash;
+
+/// Puts in an open row for a step that leads to a new state, which is held. Else the step goes to the leftovers.
+fn put_step<S: Eq + Hash + Drop, F: Eq + Hash + Drop>(
+    slots: &mut IndexMap<Hashed<Known<S, F>>, Row>,
+    held: &mut Held<S>,
+    parent: usize,
+    step: Stepped<S, F>,
+    leftovers: &mut Leftovers<S, F>,
+) -> Result<(), AllocError>
+    ensures put { OnOk result (map keyed_of slots.new.entries ≡ map keyed_of slots.old.entries
+        ++ map (opened parent) (unknown (same_label S.eq F.eq) (states (map keyed_of slots.old.entries)) (step ∷ []))) }
+    ensures kept { IsGrown slots.old.entries slots.new.entries }
+    ensures held { OnOk result (StayHeld (entries_of slots.old.entries) (entries_of slots.new.entries) held.old held.new) }
+    ensures held_kept { IsGrown held.old held.new }
+    ensures left { OnOk result (KeepsMet leftovers.old leftovers.new (length slots.old.entries) (length slots.new.entries) 1) }
+{
+    let (thread, state, known, finding) = step.into_parts();
+    let row = Row {
+        finding,
+        origin: Some(Origin { parent, thread }),
+        mark: Mark::Open,
+    };
+    match put_new(slots, known, row)? {
+        None => {
+            held.push(state)?;
+            leftovers.keep(None);
+        }
+        Some((known, row)) => leftovers.keep(Some((known, row, state))),
+    }
+    Ok(())
+}
+
+/// Puts in, in their order, open rows for the steps that lead to new states, which are held. The others go to the leftovers.
+pub(crate) fn put_steps<S: Eq + Hash + Drop, F: Eq + Hash + Drop>(
+    slots: &mut IndexMap<Hashed<Known<S, F>>, Row>,
+    held: &mut Held<S>,
+    parent: usize,
+    successors: Vec<Stepped<S, F>>,
+    leftovers: &mut Leftovers<S, F>,
+) -> Result<(), AllocError>
+    ensures put { OnOk result (map keyed_of slots.new.entries ≡ map keyed_of slots.old.entries
+        ++ map (opened parent) (unknown (same_label S.eq F.eq) (states (map keyed_of slots.old.entries)) successors.items)) }
+    ensures kept { IsGrown slots.old.entries slots.new.entries }
+    ensures held { OnOk result (StayHeld (entries_of slots.old.entries) (entries_of slots.new.entries) held.old held.new) }
+    ensures held_kept { IsGrown held.old held.new }
+    ensures left { OnOk result (KeepsMet leftovers.old leftovers.new (length slots.old.entries) (length slots.new.entries) (length successors.items)) }
+{
+    for step in successors {
+        put_step(slots, held, parent, step, leftovers)?;
+    }
+    Ok(())
+}

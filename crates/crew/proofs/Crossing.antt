@@ -1,0 +1,72 @@
+-- What the workers of a layer share may be shared: each type that it is made of may. A search through all of them at once would not come to its end.
+use mathlib.Core.List.{[], ◌∷◌}
+use mir.Syntax.{named}
+use base.Fml.{Lft}
+use denote.Ref.{NamedLft, ShrRef}
+use denote.Struct.Struct.{Struct}
+use denote.RattleType.{RattleType}
+use denote.Param.Send.{IsSend, IsSync, sendable, shr_sync, struct_sync}
+use Rattle.std.proofs.Crossing.{crosses}
+use Rattle.std.proofs.sync.ledger.Book.TheSendSync as ledger
+use Rattle.std.specs.declared.clone.Clone as clone
+use Rattle.std.specs.declared.cmp.Eq as eq
+use Rattle.atomic_table.proofs.shared.Shared.TheSendSync as shared
+use Rattle.atomic_table.proofs.send_lease.SendLease.TheSendSync as lease
+use Rattle.std.specs.declared.cmp.PartialEq as partial
+use Rattle.std.specs.declared.hash.Hash as hash
+use Rattle.sched_program.specs.contracts.program.Program as Program
+use Rattle.sched_program.specs.declared.exact.Exact as exact
+use Rattle.tree_machine.specs.declared.machine.Machine as machine
+use Rattle.book.specs.contracts.finding.Finding as Finding
+use Rattle.book.proofs.Crossing.{book_send, state_send, state_sync}
+use Rattle.crew.specs.declared.tally.Run as run
+use Rattle.crew.specs.contracts.claims.Claims as Claims
+use Rattle.crew.specs.contracts.leads.Lead as Lead
+use Rattle.crew.specs.contracts.tally.Desk as Desk
+use Rattle.crew.specs.contracts.working.Exploration as Exploration
+use Rattle.crew.specs.contracts.working.Layer as Layer
+
+-- two references that are lent together, as a closure holds them
+pub two_lent : (long short : Lft) (A B : RattleType) → IsSync A → IsSync B
+    → IsSync (Struct record { name = []; args = []; types = []; fields = ShrRef (named 0) long A ∷ ShrRef (named 0) short B ∷ [] })
+two_lent long short A B a b =
+    struct_sync record { name = []; args = []; types = []; fields = ShrRef (named 0) long A ∷ ShrRef (named 0) short B ∷ [] }
+    (shr_sync (named 0) long A a, (shr_sync (named 0) short B b, tt))
+
+program_sync : IsSync Program.the_row
+program_sync = search (sendable, crosses) depth 30
+
+finding_send : IsSend Finding.the_row
+finding_send = search (sendable, crosses) depth 30
+
+finding_sync : IsSync Finding.the_row
+finding_sync = search (sendable, crosses) depth 30
+
+claims_sync : IsSync Claims.the_row
+claims_sync = search (shared.the_sync, lease.the_sync, sendable, crosses) depth 30 fits 10000
+
+module _ (M Mem Loc Form : RattleType) (m : IsSend M) (mem : IsSend Mem) (loc : IsSend Loc) (form : IsSend Form)
+    (m' : IsSync M) (mem' : IsSync Mem) (loc' : IsSync Loc) (form' : IsSync Form) where
+  lead_send : IsSend (Lead.the_row M Mem Loc Form)
+  lead_send = search (finding_send, state_send, state_sync, sendable, crosses) depth 30
+
+  lead_sync : IsSync (Lead.the_row M Mem Loc Form)
+  lead_sync = search (finding_sync, state_send, state_sync, sendable, crosses) depth 30
+
+module _ (a : NamedLft) (M Mem Loc Form : RattleType) (g : machine.Ghosts M.Denot Mem.Denot Loc.Denot Form.Denot) (mp : partial.Ghosts M.Denot)
+    (ap : partial.Ghosts Mem.Denot) (ah : hash.Ghosts Mem.Denot) (lp : partial.Ghosts Loc.Denot) (lh : hash.Ghosts Loc.Denot) (fp : partial.Ghosts Form.Denot) (fh : hash.Ghosts Form.Denot)
+    (m : IsSend M) (mem : IsSend Mem) (loc : IsSend Loc) (form : IsSend Form) (m' : IsSync M) (mem' : IsSync Mem) (loc' : IsSync Loc) (form' : IsSync Form) where
+  pub layer_sync : IsSync (Layer.the_row a M Mem Loc Form g mp ap ah lp lh fp fh)
+  layer_sync = search (program_sync, claims_sync, lead_send, lead_sync, sendable, crosses) depth 30 fits 10000
+
+module _ (J M Mem Loc Form : RattleType) (g : machine.Ghosts M.Denot Mem.Denot Loc.Denot Form.Denot) (mp : partial.Ghosts M.Denot)
+    (ap : partial.Ghosts Mem.Denot) (ah : hash.Ghosts Mem.Denot) (lp : partial.Ghosts Loc.Denot) (lh : hash.Ghosts Loc.Denot) (fp : partial.Ghosts Form.Denot) (fh : hash.Ghosts Form.Denot)
+    (r : run.Ghosts J.Denot) (c : clone.Ghosts M.Denot) (me : exact.Ghosts M.Denot) (mq : eq.Ghosts M.Denot) (ae : exact.Ghosts Mem.Denot) (aq : eq.Ghosts Mem.Denot)
+    (le : exact.Ghosts Loc.Denot) (lq : eq.Ghosts Loc.Denot) (fe : exact.Ghosts Form.Denot) (fq : eq.Ghosts Form.Denot)
+    (j : IsSend J) (m : IsSend M) (mem : IsSend Mem) (loc : IsSend Loc) (form : IsSend Form) (m' : IsSync M) (mem' : IsSync Mem) (loc' : IsSync Loc) (form' : IsSync Form) where
+  desk_send : IsSend (Desk.the_row J M Mem Loc Form g mp ap ah lp lh fp fh r c me mq ae aq le lq fe fq)
+  desk_send = search (book_send, ledger.the_send, sendable, crosses) depth 30 fits 10000
+
+  module _ (a : NamedLft) (G R : RattleType) (gate : IsSync G) (threads : IsSync R) where
+    pub exploration_sync : IsSync (Exploration.the_row a J M G R Mem Loc Form g mp ap ah lp lh fp fh r c me mq ae aq le lq fe fq)
+    exploration_sync = search (program_sync, desk_send, sendable, crosses) depth 30 fits 10000
