@@ -4,7 +4,7 @@ ghost use Rattle.crew.specs.ClaimSeats.{IsSeatOf};
 
 use crate::claims::{Claims, Seat};
 use crate::gate::Gate;
-use crate::leads::Leads;
+use crate::leads::{Leads, give_back};
 use crate::tally::{Desk, Run, Tally};
 use book::{EnterFault, Expansion, Leftovers, Merge};
 use sched_program::{OutOfMemory, Program};
@@ -46,6 +46,12 @@ pub fn run_of(places: usize, workers: usize) -> usize
     (places / (8 * workers)).clamp(1, 8)
 }
 
+/// How many entries of the layer before the first worker gives back for each place that it draws in this one: so many that
+/// it comes to the end of both at about the same time.
+pub fn returns_of(spent: usize, places: usize, workers: usize) -> usize {
+    (spent.saturating_mul(workers) / places.max(1)).saturating_add(1)
+}
+
 /// The last of the rounds in which a worker draws a run of places each before it enters the expansions. In those before it
 /// enters them only where no other worker has the lock, and else makes more of them rather than wait.
 const LAST_ROUND: usize = 7;
@@ -81,8 +87,10 @@ pub struct Layer<'a, M: Machine> {
     pub claims: Claims,
     /// How many places a worker draws in one round.
     pub run: usize,
-    /// The entries of the layer before. The first worker to come gives them back while the others work.
+    /// The entries of the layer before. The first worker to come gives them back as it goes.
     pub spent: Mutex<Option<Leads<M>>>,
+    /// How many of them that worker gives back for each place that it draws.
+    pub returns: usize,
 }
 
 impl<'a, M: Machine> Model for Layer<'a, M> {
@@ -114,13 +122,15 @@ impl<'a, M: Machine> Layer<'a, M> {
         Ok((lead.id, expansion))
     }
 
-    /// Draws so many places as the run is, fewer at the end of the layer, and makes the expansions there.
+    /// Draws so many places as the run is, fewer at the end of the layer, and makes the expansions there. For each, some
+    /// entries of the layer before are given back.
     fn draw<'l>(
         &'l self,
         gate: &impl Gate,
         number: u8,
         seat: &mut Seat,
         made: &mut Vec<(usize, Expansion<'l, M>)>,
+        spent: &mut Option<Leads<M>>,
     ) -> Result<(), OutOfMemory>
         requires seat { IsSeatOf self.now seat.old }
         ensures seat { IsSeatOf self.now seat.new }
@@ -129,6 +139,7 @@ impl<'a, M: Machine> Layer<'a, M> {
             let Some(place) = self.claims.claim(seat) else {
                 return Ok(());
             };
+            give_back(spent, self.returns);
             let one = self.expand(place)?;
             gate.arrive(number, self.number, place);
             made.push(one)?;
@@ -188,13 +199,17 @@ impl<'a, J: Run, M: Machine, G: Gate, R: Wait> Exploration<'a, J, M, G, R> {
         number: u8,
         seat: &mut Seat,
         tally: &mut Tally<J>,
+        spent: &mut Option<Leads<M>>,
     ) -> Result<bool, Stop>
         requires seat { IsSeatOf layer.now seat.old }
         ensures seat { IsSeatOf layer.now seat.new }
     {
         let mut made = Vec::new(self.alloc);
         for round in 0..=LAST_ROUND {
-            if layer.draw(self.gate, number, seat, &mut made).is_err() {
+            if layer
+                .draw(self.gate, number, seat, &mut made, spent)
+                .is_err()
+            {
                 return Err(Stop::OutOfMemory);
             }
             if made.is_empty() {
@@ -224,10 +239,9 @@ impl<'a, J: Run, M: Machine, G: Gate, R: Wait> Exploration<'a, J, M, G, R> {
         let Some(seat) = seat else {
             return;
         };
-        let spent = layer.spent.lock(self.rt).take();
-        drop(spent);
+        let mut spent = layer.spent.lock(self.rt).take();
         for _turn in 0..=layer.leads.len() {
-            match self.turn(layer, *number, seat, tally) {
+            match self.turn(layer, *number, seat, tally, &mut spent) {
                 Ok(true) => {}
                 Ok(false) => return,
                 Err(why) => {

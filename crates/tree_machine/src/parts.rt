@@ -116,5 +116,7 @@ pub fn form_parts<P: Parts>(alloc: Global, fixed: usize, parts: &P) -> Result<By
         .checked_add(parts.record_count())
         .ok_or(OutOfMemory)?;
     let _cells = graph.checked_add(held).ok_or(OutOfMemory)?;
-    Ok(Bytes::from_vec(walk_parts(alloc, fixed, parts, graph, held)?))
+    let mut form = walk_parts(alloc, fixed, parts, graph, held)?;
+    form.shrink_to_fit();
+    Ok(Bytes::from_vec(form))
 }

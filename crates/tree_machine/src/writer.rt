@@ -17,6 +17,10 @@ use std::marker::Model;
 fn put_number(bytes: &mut Vec<u8>, number: u64) -> Result<(), OutOfMemory>
     ensures { OnOk result (bytes.new.items ≡ bytes.old.items ++ number_code number) }
 {
+    if number < 255 {
+        bytes.push(number as u8)?;
+        return Ok(());
+    }
     for _whole in 0..number / 255 {
         bytes.push(255)?;
     }
