@@ -10,6 +10,7 @@ use Rattle.sched_program.specs.contracts.program.Program as Program
 use Rattle.sched_program.specs.declared.exact.Exact as exact
 use Rattle.tree_machine.specs.contracts.form.StateForm as StateForm
 use Rattle.tree_machine.specs.contracts.state.State as State
+use Rattle.tree_machine.specs.declared.coded.Coded as coded
 use Rattle.tree_machine.specs.declared.machine.Machine as machine
 use Rattle.book.specs.contracts.book.Book as Book
 use Rattle.book.specs.contracts.entry.Row as Row
@@ -44,15 +45,18 @@ module _ (M Mem Loc Form : RattleType) (m : IsSend M) (mem : IsSend Mem) (loc : 
   pub state_sync : IsSync (State.the_row M Mem Loc Form)
   state_sync = search (sendable, crosses) depth 30
 
-  form_send : IsSend (StateForm.the_row M Mem Loc Form)
+module _ (M Mem Loc Form : RattleType) (g : machine.Ghosts M.Denot Mem.Denot Loc.Denot Form.Denot)
+    (mp : partial.Ghosts M.Denot) (ap : partial.Ghosts Mem.Denot) (ah : hash.Ghosts Mem.Denot) (lp : partial.Ghosts Loc.Denot) (lh : hash.Ghosts Loc.Denot)
+    (fc : coded.Ghosts Form.Denot) (fp : partial.Ghosts Form.Denot) (fh : hash.Ghosts Form.Denot) where
+  form_send : IsSend (StateForm.the_row M Mem Loc Form g mp ap ah lp lh fc fp fh)
   form_send = search (sendable, crosses) depth 30
 
 module _ (M Mem Loc Form : RattleType) (g : machine.Ghosts M.Denot Mem.Denot Loc.Denot Form.Denot) (c : clone.Ghosts M.Denot)
     (me : exact.Ghosts M.Denot) (mq : eq.Ghosts M.Denot) (mp : partial.Ghosts M.Denot)
     (ae : exact.Ghosts Mem.Denot) (aq : eq.Ghosts Mem.Denot) (ap : partial.Ghosts Mem.Denot) (ah : hash.Ghosts Mem.Denot)
     (le : exact.Ghosts Loc.Denot) (lq : eq.Ghosts Loc.Denot) (lp : partial.Ghosts Loc.Denot) (lh : hash.Ghosts Loc.Denot)
-    (fe : exact.Ghosts Form.Denot) (fq : eq.Ghosts Form.Denot) (fp : partial.Ghosts Form.Denot) (fh : hash.Ghosts Form.Denot)
+    (fc : coded.Ghosts Form.Denot) (fe : exact.Ghosts Form.Denot) (fq : eq.Ghosts Form.Denot) (fp : partial.Ghosts Form.Denot) (fh : hash.Ghosts Form.Denot)
     (m : IsSend M) (mem : IsSend Mem) (loc : IsSend Loc) (form : IsSend Form)
     (m' : IsSync M) (mem' : IsSync Mem) (loc' : IsSync Loc) (form' : IsSync Form) where
-  pub book_send : IsSend (Book.the_row M Mem Loc Form g c me mq mp ae aq ap ah le lq lp lh fe fq fp fh)
+  pub book_send : IsSend (Book.the_row M Mem Loc Form g c me mq mp ae aq ap ah le lq lp lh fc fe fq fp fh)
   book_send = search (table_send, program_send, state_send, state_sync, form_send, sendable, crosses) depth 30

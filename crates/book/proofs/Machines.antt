@@ -5,14 +5,13 @@ use Rattle.std.proofs.lemmas.Option.{option_and_then_some}
 use Rattle.sched_program.specs.Exact.{IsExact}
 use Rattle.sched_program.specs.Program.{Program, IsWithinLimits}
 use Rattle.tree_machine.specs.Rules.{Rules, AreLawful, AreFormsExact}
-use Rattle.tree_machine.specs.Alike.{state_form, AreStatesAlike}
+use Rattle.tree_machine.specs.Alike.{AreStatesAlike, FormContent, state_form}
 use Rattle.tree_machine.specs.Step.{start, step, after_access, Fits}
 use Rattle.tree_machine.specs.StateExact.{state_eq, state_form_eq}
 use Rattle.tree_machine.specs.declared.machine.Outcome.{Outcome}
 use Rattle.tree_machine.specs.declared.machine.Outcome.TheVariants.{Goes, Replies, Astray}
 use Rattle.tree_machine.specs.declared.state.Thread.{Thread}
 use Rattle.tree_machine.specs.declared.state.State.{State}
-use Rattle.tree_machine.specs.declared.form.StateForm.{StateForm}
 use Rattle.tree_machine.proofs.Alike.{alike_step, alike_history, alike_ordered}
 use Rattle.tree_machine.proofs.Forms.{forms_alike, alike_turned}
 use Rattle.tree_machine.proofs.States.{step_parts, start_fits, step_fits}
@@ -69,8 +68,8 @@ module _ {Machine Memory Place Form : Type 0} (place_eq : Place → Place → Bo
 
   module _ (rules : Rules Memory Place) (program : Program) (lawful : AreLawful rules) (forms : AreFormsExact rules form_of)
       (states_exact : IsExact (state_eq place_eq {Machine = Machine} {Form = Form} memory_eq)) (states : IsEquivalence (state_eq place_eq {Machine = Machine} {Form = Form} memory_eq))
-      (forms_exact : IsExact (state_form_eq {Machine = Machine} {Memory = Memory} {Place = Place} form_eq)) (form_tests : IsEquivalence (state_form_eq {Machine = Machine} {Memory = Memory} {Place = Place} form_eq)) where
-    abbrev form : State Machine Memory Place Form → StateForm Machine Memory Place Form
+      (forms_exact : IsExact (state_form_eq form_eq)) (form_tests : IsEquivalence (state_form_eq form_eq)) where
+    abbrev form : State Machine Memory Place Form → FormContent Form
     form = state_form form_of
 
     -- states that fit are alike where their forms test equal
@@ -79,7 +78,7 @@ module _ {Machine Memory Place Form : Type 0} (place_eq : Place → Place → Bo
 
     named_by : (r s : State Machine Memory Place Form) → Fits rules program r → Fits rules program s → AreStatesAlike rules r s → state_form_eq form_eq (form r) (form s) ≡ true
     named_by r s r_fits s_fits alike =
-        subst (λ (f : StateForm Machine Memory Place Form). state_form_eq form_eq (form r) f ≡ true) ((forms_alike rules form_of forms program program r s r_fits s_fits).1 alike) (form_tests.refl (form r))
+        subst (λ (f : FormContent Form). state_form_eq form_eq (form r) f ≡ true) ((forms_alike rules form_of forms program program r s r_fits s_fits).1 alike) (form_tests.refl (form r))
 
     names_merge : IsMachine (machine_of {Machine = Machine} {Form = Form} rules program) → Merges (machine_of {Machine = Machine} {Form = Form} rules program) (λ r s. state_form_eq form_eq (form r) (form s))
     names_merge machine = record {
@@ -126,7 +125,7 @@ module _ {Machine Memory Place Form : Type 0} (place_eq : Place → Place → Bo
 pub first_book : {Machine Memory Place Form : Type 0} (place_eq : Place → Place → Bool) (memory_eq : Memory → Memory → Bool) (form_eq : Form → Form → Bool)
     (form_of : Machine → Memory → List (Option Place) → Form) (rules : Machine → Rules Memory Place)
     → IsExact (state_eq place_eq {Machine = Machine} {Form = Form} memory_eq) → IsEquivalence (state_eq place_eq {Machine = Machine} {Form = Form} memory_eq)
-    → IsExact (state_form_eq {Machine = Machine} {Memory = Memory} {Place = Place} form_eq) → IsEquivalence (state_form_eq {Machine = Machine} {Memory = Memory} {Place = Place} form_eq)
+    → IsExact (state_form_eq form_eq) → IsEquivalence (state_form_eq form_eq)
     → (machine : Machine) (program : Program) (merge : Merge) (limit : ℕ) (state : State Machine Memory Place Form) (finding : Finding)
     → AreLawful (rules machine) → AreFormsExact (rules machine) (form_of machine) → IsWithinLimits program
     → state ≡ start (rules machine) program → Fits (rules machine) program state → IsFindingOf (rules machine) program state finding → 1 ≤ limit → limit ≤ 2000000

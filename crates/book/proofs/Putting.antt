@@ -1,10 +1,9 @@
 -- The steps of a taken entry are put in, and it is marked expanded: what follows for the book that they are put in.
 use Rattle.std.proofs.Common.{◌≡◌, ℕ, ◌+◌, ◌-◌, ◌^◌, ◌<◌, ◌≤◌, ◌++◌, Bool, Option, List, length, map, refl, sym, ap, ◌∙◌, arith, subst}
 use Rattle.std.proofs.Math.ListN.{length-map}
-use Rattle.tree_machine.specs.Alike.{state_form}
+use Rattle.tree_machine.specs.Alike.{FormContent, state_form}
 use Rattle.tree_machine.specs.Rules.{Rules}
 use Rattle.tree_machine.specs.StateExact.{state_eq, state_form_eq}
-use Rattle.tree_machine.specs.declared.form.StateForm.{StateForm}
 use Rattle.tree_machine.specs.declared.state.State.{State}
 use Rattle.book.specs.declared.entry.Mark.TheVariants.{Taken, Expanded}
 use Rattle.book.specs.Books.{machine_in, right_in, counted_as_one, IsBook}
@@ -18,12 +17,12 @@ use Rattle.book.proofs.Machines.{counted_by_label}
 module _ {Machine Memory Place Form : Type 0} {rules : Machine → Rules Memory Place} {place_eq : Place → Place → Bool} {memory_eq : Memory → Memory → Bool}
     {form_eq : Form → Form → Bool} {form_of : Machine → Memory → List (Option Place) → Form} {b : Contents Machine (State Machine Memory Place Form)}
     (book : IsBook rules place_eq memory_eq form_eq form_of b) (now : Contents Machine (State Machine Memory Place Form)) (view : b ≡ now)
-    (xs : List (Successor (Labelled (State Machine Memory Place Form) (StateForm Machine Memory Place Form)))) where
+    (xs : List (Successor (Labelled (State Machine Memory Place Form) (FormContent Form)))) where
   abbrev same : State Machine Memory Place Form → State Machine Memory Place Form → Bool
   same = counted_as_one place_eq memory_eq form_eq (form_of b.machine) b.merge
 
   -- by which form the book knows a state, if it knows it by one
-  abbrev pub label_in : State Machine Memory Place Form → Option (StateForm Machine Memory Place Form)
+  abbrev pub label_in : State Machine Memory Place Form → Option (FormContent Form)
   label_in = form_by b.merge (state_form (form_of b.machine))
 
   module _ (steps_known : AreStepsKnownBy (form_by now.merge (state_form (form_of now.machine))) xs) where
@@ -31,26 +30,26 @@ module _ {Machine Memory Place Form : Type 0} {rules : Machine → Rules Memory 
     steps_here : AreStepsKnownBy label_in xs
     steps_here = subst (λ (q : Contents Machine (State Machine Memory Place Form)). AreStepsKnownBy (form_by q.merge (state_form (form_of q.machine))) xs) (sym view) steps_known
 
-    module _ (forms : List (Option (StateForm Machine Memory Place Form))) (known : AreKnownBy label_in (record { entries = b.entries; forms = forms })) where
+    module _ (forms : List (Option (FormContent Form))) (known : AreKnownBy label_in (record { entries = b.entries; forms = forms })) where
       -- what is put in by labels is put in by what counts as one
       pub put_in : (i : ℕ) (appended : List (Entry (State Machine Memory Place Form)))
-          → ((f : State Machine Memory Place Form → Option (StateForm Machine Memory Place Form)) → AreKnownBy f (record { entries = b.entries; forms = forms }) → AreStepsKnownBy f xs
+          → ((f : State Machine Memory Place Form → Option (FormContent Form)) → AreKnownBy f (record { entries = b.entries; forms = forms }) → AreStepsKnownBy f xs
           → appended ≡ b.entries ++ map (opened i) (unknown (same_as (state_eq place_eq memory_eq) (state_form_eq form_eq) f) (states b.entries) (bares xs)))
           → appended ≡ b.entries ++ map (opened i) (unknown same (states b.entries) (bares xs))
       put_in i appended put = rw (counted_by_label place_eq memory_eq form_eq (form_of b.machine) b.merge) (put label_in known steps_here)
 
       pub no_room : (limit : ℕ)
-          → ((f : State Machine Memory Place Form → Option (StateForm Machine Memory Place Form)) → AreKnownBy f (record { entries = b.entries; forms = forms }) → AreStepsKnownBy f xs
+          → ((f : State Machine Memory Place Form → Option (FormContent Form)) → AreKnownBy f (record { entries = b.entries; forms = forms }) → AreStepsKnownBy f xs
           → limit < length b.entries + length (unknown (same_as (state_eq place_eq memory_eq) (state_form_eq form_eq) f) (states b.entries) (bares xs)))
           → limit < length b.entries + length (unknown same (states b.entries) (bares xs))
       no_room limit full = rw (counted_by_label place_eq memory_eq form_eq (form_of b.machine) b.merge) (full label_in known steps_here)
 
       -- and all are known by their labels
-      pub still_known : (i : ℕ) (kept : Kept (State Machine Memory Place Form) (StateForm Machine Memory Place Form))
-          → ((f : State Machine Memory Place Form → Option (StateForm Machine Memory Place Form)) → AreKnownBy f (record { entries = b.entries; forms = forms }) → AreStepsKnownBy f xs → AreKnownBy f kept)
-          → (new : Kept (State Machine Memory Place Form) (StateForm Machine Memory Place Form)) → new ≡ record { entries = with_mark kept.entries i Expanded; forms = kept.forms } → AreKnownBy label_in new
+      pub still_known : (i : ℕ) (kept : Kept (State Machine Memory Place Form) (FormContent Form))
+          → ((f : State Machine Memory Place Form → Option (FormContent Form)) → AreKnownBy f (record { entries = b.entries; forms = forms }) → AreStepsKnownBy f xs → AreKnownBy f kept)
+          → (new : Kept (State Machine Memory Place Form) (FormContent Form)) → new ≡ record { entries = with_mark kept.entries i Expanded; forms = kept.forms } → AreKnownBy label_in new
       still_known i kept all new is =
-          subst (λ (k : Kept (State Machine Memory Place Form) (StateForm Machine Memory Place Form)). AreKnownBy label_in k) (sym is) (known_mark label_in kept i Expanded (all label_in known steps_here))
+          subst (λ (k : Kept (State Machine Memory Place Form) (FormContent Form)). AreKnownBy label_in k) (sym is) (known_mark label_in kept i Expanded (all label_in known steps_here))
 
   module _ (i : ℕ) (taken : (e : Entry (State Machine Memory Place Form)) × At now.entries i e × (e.mark ≡ Taken) × IsExpansion (machine_in rules now) (right_in rules now) e.state (bares xs))
       (appended : List (Entry (State Machine Memory Place Form))) (put : appended ≡ b.entries ++ map (opened i) (unknown same (states b.entries) (bares xs)))

@@ -24,7 +24,7 @@ use sched_program::{OutOfMemory, Program, same};
 use std::alloc::Global;
 use std::marker::Model;
 use std::sync::Arc;
-use tree_machine::{Machine, State, StateForm};
+use tree_machine::{Machine, Room, State, StateForm};
 
 mod reading;
 
@@ -131,7 +131,8 @@ impl<M: Machine> Book<M> {
         let state = State::start(alloc, machine, &program)?;
         let finding = find(alloc, machine, &program, &state)?;
         let state = Arc::new(alloc, state)?;
-        let known = label(alloc, machine, &program, &state, merge)?;
+        let mut room = Room::new(alloc);
+        let known = label(alloc, machine, &program, &state, merge, &mut room)?;
         let table = Table::new(alloc, state, known, finding)?;
         Ok(Book {
             machine,

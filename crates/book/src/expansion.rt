@@ -4,8 +4,7 @@ ghost use Rattle.tree_machine.specs.Step.{Fits, step};
 ghost use Rattle.book.specs.Books.{HoldsSteps};
 ghost use Rattle.book.specs.Entries.{Successor};
 ghost use Rattle.book.specs.Labels.{AreStepsKnownBy, Labelled, bare, bares, form_by};
-ghost use Rattle.tree_machine.specs.Alike.{state_form};
-ghost use Rattle.tree_machine.specs.declared.form.StateForm.{StateForm};
+ghost use Rattle.tree_machine.specs.Alike.{FormContent, state_form};
 ghost use Rattle.tree_machine.specs.declared.state.State.{State};
 ghost use Rattle.tree_machine.specs.History.{history_of};
 ghost use Rattle.book.specs.Findings.{IsFindingOf, IsLoan};
@@ -20,7 +19,7 @@ use std::alloc::Global;
 use std::hash::Hash;
 use std::marker::Model;
 use std::sync::Arc;
-use tree_machine::{Machine, State, StateForm, StepFault};
+use tree_machine::{Machine, Room, State, StateForm, StepFault};
 
 /// The step of a thread: the state that it leads to, with its label, and what was found of it.
 #[derive(Drop)]
@@ -57,13 +56,14 @@ impl<S: Hash, F: Hash> Stepped<S, F> {
     }
 }
 
-/// A state of a program with its label, for a book that merges so.
+/// A state of a program with its label, for a book that merges so. A form is written in the room.
 pub(crate) fn label<M: Machine>(
     alloc: Global,
     machine: M,
     program: &Program,
     state: &Arc<State<M>>,
     merge: Merge,
+    room: &mut Room,
 ) -> Result<Hashed<Known<State<M>, StateForm<M>>>, OutOfMemory>
     requires { Fits (M.rules machine) program.now state.now.value }
     ensures state { IfOk result (λ known. known.state ≡ state.now.value) }
@@ -74,7 +74,7 @@ pub(crate) fn label<M: Machine>(
         Merge::Names => {
             // Whoever reads a program knows that it meets the limits.
             let _ = program.initial();
-            Some(Box::new(alloc, state.form(alloc, machine)?)?)
+            Some(Box::new(alloc, state.form_in(alloc, machine, room)?)?)
         }
     };
     Ok(Hashed::new(Known::new(state, form)?))
@@ -87,13 +87,14 @@ fn relabelled<M: Machine>(
     program: &Program,
     step: Stepped<State<M>, StateForm<M>>,
     merge: Merge,
+    room: &mut Room,
 ) -> Result<Stepped<State<M>, StateForm<M>>, OutOfMemory>
     requires { Fits (M.rules machine) program.now step.state.state }
     ensures same { IfOk result (λ made. bare made ≡ bare step) }
     ensures form { IfOk result (λ made. made.state.form ≡ form_by merge (state_form (M.form_of machine)) made.state.state) }
 {
     let (thread, state, _, finding) = step.into_parts();
-    let known = label(alloc, machine, program, &state, merge)?;
+    let known = label(alloc, machine, program, &state, merge, room)?;
     Ok(Stepped {
         thread,
         state,
@@ -110,19 +111,20 @@ fn labelled<M: Machine>(
     steps: Vec<Stepped<State<M>, StateForm<M>>>,
     merge: Merge,
 ) -> Result<Vec<Stepped<State<M>, StateForm<M>>>, OutOfMemory>
-    requires { (k : ℕ) (x : Successor (Labelled (State M M.Mem M.Loc M.Form) (StateForm M M.Mem M.Loc M.Form))) → slice_get steps.items k ≡ Some x → Fits (M.rules machine) program.now x.state.state }
+    requires { (k : ℕ) (x : Successor (Labelled (State M M.Mem M.Loc M.Form) (FormContent M.Form))) → slice_get steps.items k ≡ Some x → Fits (M.rules machine) program.now x.state.state }
     ensures same { IfOk result (λ made. bares made.items ≡ bares steps.items) }
     ensures known { IfOk result (λ made. AreStepsKnownBy (form_by merge (state_form (M.form_of machine))) made.items) }
 {
     let mut made = Vec::with_capacity(alloc, steps.len())?;
+    let mut room = Room::new(alloc);
     for step in steps {
-        let one = relabelled(alloc, machine, program, step, merge)?;
+        let one = relabelled(alloc, machine, program, step, merge, &mut room)?;
         made.push(one)?;
     }
     Ok(made)
 }
 
-/// The step of a thread, if it is enabled, with its finding.
+/// The step of a thread, if it is enabled, with its finding. Its form is written in the room.
 fn step_of<M: Machine>(
     alloc: Global,
     machine: M,
@@ -131,6 +133,7 @@ fn step_of<M: Machine>(
     thread: u8,
     merge: Merge,
     loan: &mut Loan,
+    room: &mut Room,
 ) -> Result<Option<Stepped<State<M>, StateForm<M>>>, OutOfMemory>
     requires fits { Fits (M.rules machine) program.now source.now }
     requires room { source.now.steps + 1 < 2 ^ 64 }
@@ -150,7 +153,7 @@ fn step_of<M: Machine>(
     };
     let finding = find_after(alloc, machine, program, source, &next, thread, loan)?;
     let state = Arc::new(alloc, next)?;
-    let known = label(alloc, machine, program, &state, merge)?;
+    let known = label(alloc, machine, program, &state, merge, room)?;
     Ok(Some(Stepped {
         thread,
         state,
@@ -204,7 +207,8 @@ impl<'a, M: Machine> Expansion<'a, M> {
     }
 
     /// Does as `for_merge` does for a state of which it is known what is found. Where that is a linearization, it is lent to
-    /// the steps: the history of the state is not judged once more.
+    /// the steps: the history of the state is not judged once more. Forms are written in a room that is kept from one
+    /// expansion to the next.
     pub fn of_found(
         alloc: Global,
         machine: M,
@@ -212,6 +216,7 @@ impl<'a, M: Machine> Expansion<'a, M> {
         state: &'a State<M>,
         finding: &Finding,
         merge: Merge,
+        room: &mut Room,
     ) -> Result<Expansion<'a, M>, OutOfMemory>
         requires fits { Fits (M.rules machine) program.now state.now }
         requires room { state.now.steps + 1 < 2 ^ 64 }
@@ -224,7 +229,7 @@ impl<'a, M: Machine> Expansion<'a, M> {
             Finding::Sound(order) => Some(Some(*order)),
             _ => None,
         };
-        Expansion::with_loan(alloc, machine, program, state, merge, loan)
+        Expansion::with_loan(alloc, machine, program, state, merge, loan, room)
     }
 
     /// Takes each enabled step of a state, judges where it leads, and makes the labels by which a book that merges so
@@ -242,7 +247,8 @@ impl<'a, M: Machine> Expansion<'a, M> {
         ensures program { IfOk result (λ x. x.program ≡ program.now) }
         ensures source { IfOk result (λ x. x.source ≡ state.now) }
     {
-        Expansion::with_loan(alloc, machine, program, state, merge, None)
+        let mut room = Room::new(alloc);
+        Expansion::with_loan(alloc, machine, program, state, merge, None, &mut room)
     }
 
     /// The same, where this is what was sought of the state's history.
@@ -253,6 +259,7 @@ impl<'a, M: Machine> Expansion<'a, M> {
         state: &'a State<M>,
         merge: Merge,
         mut loan: Loan,
+        room: &mut Room,
     ) -> Result<Expansion<'a, M>, OutOfMemory>
         requires fits { Fits (M.rules machine) program.now state.now }
         requires room { state.now.steps + 1 < 2 ^ 64 }
@@ -263,7 +270,10 @@ impl<'a, M: Machine> Expansion<'a, M> {
     {
         let mut successors = Vec::new(alloc);
         for thread in 0..program.threads().len() as u8 {
-            if let Some(next) = step_of(alloc, machine, program, state, thread, merge, &mut loan)? {
+            let step = step_of(
+                alloc, machine, program, state, thread, merge, &mut loan, room,
+            )?;
+            if let Some(next) = step {
                 successors.push(next)?;
             }
         }

@@ -6,7 +6,7 @@ use book::{Book, Entered, Expansion, Merge, replay};
 use sched_program::OpId;
 use std::alloc::Global;
 use std::test::Fail;
-use tree_machine::Atomic;
+use tree_machine::{Atomic, Room};
 
 /// Takes the next entry, which is the state after this schedule, and enters its steps. What is found of the state is lent
 /// to them.
@@ -17,6 +17,7 @@ fn enter_lent(alloc: Global, book: &mut Book<Atomic>, schedule: &[u8]) -> Result
     if end.state.steps() > 100 {
         return Err(Broken::NoEntry);
     }
+    let mut room = Room::new(alloc);
     let expansion = Expansion::of_found(
         alloc,
         Atomic,
@@ -24,6 +25,7 @@ fn enter_lent(alloc: Global, book: &mut Book<Atomic>, schedule: &[u8]) -> Result
         &end.state,
         &end.finding,
         Merge::Exact,
+        &mut room,
     )?;
     Ok(book.enter(id, expansion)?)
 }

@@ -16,6 +16,7 @@ use Rattle.std.specs.declared.cmp.PartialEq as partial
 use Rattle.std.specs.declared.hash.Hash as hash
 use Rattle.sched_program.specs.contracts.program.Program as Program
 use Rattle.sched_program.specs.declared.exact.Exact as exact
+use Rattle.tree_machine.specs.declared.coded.Coded as coded
 use Rattle.tree_machine.specs.declared.machine.Machine as machine
 use Rattle.book.specs.contracts.finding.Finding as Finding
 use Rattle.book.proofs.Crossing.{book_send, state_send, state_sync}
@@ -54,19 +55,19 @@ module _ (M Mem Loc Form : RattleType) (m : IsSend M) (mem : IsSend Mem) (loc : 
   lead_sync = search (finding_sync, state_send, state_sync, sendable, crosses) depth 30
 
 module _ (a : NamedLft) (M Mem Loc Form : RattleType) (g : machine.Ghosts M.Denot Mem.Denot Loc.Denot Form.Denot) (mp : partial.Ghosts M.Denot)
-    (ap : partial.Ghosts Mem.Denot) (ah : hash.Ghosts Mem.Denot) (lp : partial.Ghosts Loc.Denot) (lh : hash.Ghosts Loc.Denot) (fp : partial.Ghosts Form.Denot) (fh : hash.Ghosts Form.Denot)
+    (ap : partial.Ghosts Mem.Denot) (ah : hash.Ghosts Mem.Denot) (lp : partial.Ghosts Loc.Denot) (lh : hash.Ghosts Loc.Denot) (fc : coded.Ghosts Form.Denot) (fp : partial.Ghosts Form.Denot) (fh : hash.Ghosts Form.Denot)
     (m : IsSend M) (mem : IsSend Mem) (loc : IsSend Loc) (form : IsSend Form) (m' : IsSync M) (mem' : IsSync Mem) (loc' : IsSync Loc) (form' : IsSync Form) where
-  pub layer_sync : IsSync (Layer.the_row a M Mem Loc Form g mp ap ah lp lh fp fh)
+  pub layer_sync : IsSync (Layer.the_row a M Mem Loc Form g mp ap ah lp lh fc fp fh)
   layer_sync = search (program_sync, claims_sync, lead_send, lead_sync, sendable, crosses) depth 30 fits 10000
 
 module _ (J M Mem Loc Form : RattleType) (g : machine.Ghosts M.Denot Mem.Denot Loc.Denot Form.Denot) (mp : partial.Ghosts M.Denot)
-    (ap : partial.Ghosts Mem.Denot) (ah : hash.Ghosts Mem.Denot) (lp : partial.Ghosts Loc.Denot) (lh : hash.Ghosts Loc.Denot) (fp : partial.Ghosts Form.Denot) (fh : hash.Ghosts Form.Denot)
+    (ap : partial.Ghosts Mem.Denot) (ah : hash.Ghosts Mem.Denot) (lp : partial.Ghosts Loc.Denot) (lh : hash.Ghosts Loc.Denot) (fc : coded.Ghosts Form.Denot) (fp : partial.Ghosts Form.Denot) (fh : hash.Ghosts Form.Denot)
     (r : run.Ghosts J.Denot) (c : clone.Ghosts M.Denot) (me : exact.Ghosts M.Denot) (mq : eq.Ghosts M.Denot) (ae : exact.Ghosts Mem.Denot) (aq : eq.Ghosts Mem.Denot)
     (le : exact.Ghosts Loc.Denot) (lq : eq.Ghosts Loc.Denot) (fe : exact.Ghosts Form.Denot) (fq : eq.Ghosts Form.Denot)
     (j : IsSend J) (m : IsSend M) (mem : IsSend Mem) (loc : IsSend Loc) (form : IsSend Form) (m' : IsSync M) (mem' : IsSync Mem) (loc' : IsSync Loc) (form' : IsSync Form) where
-  desk_send : IsSend (Desk.the_row J M Mem Loc Form g mp ap ah lp lh fp fh r c me mq ae aq le lq fe fq)
+  desk_send : IsSend (Desk.the_row J M Mem Loc Form g mp ap ah lp lh fc fp fh r c me mq ae aq le lq fe fq)
   desk_send = search (book_send, ledger.the_send, sendable, crosses) depth 30 fits 10000
 
   module _ (a : NamedLft) (G R : RattleType) (gate : IsSync G) (threads : IsSync R) where
-    pub exploration_sync : IsSync (Exploration.the_row a J M G R Mem Loc Form g mp ap ah lp lh fp fh r c me mq ae aq le lq fe fq)
+    pub exploration_sync : IsSync (Exploration.the_row a J M G R Mem Loc Form g mp ap ah lp lh fc fp fh r c me mq ae aq le lq fe fq)
     exploration_sync = search (program_sync, desk_send, sendable, crosses) depth 30 fits 10000

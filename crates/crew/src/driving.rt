@@ -11,7 +11,7 @@ use crate::leads::found_of;
 use book::{Book, EnterFault, Expansion};
 use sched_program::{OutOfMemory, Program};
 use std::alloc::Global;
-use tree_machine::Machine;
+use tree_machine::{Machine, Room};
 
 /// Takes the next entry of a layer, and enters its steps. Where the book has no room for them, the answer is the entry.
 fn expand_next<M: Machine>(
@@ -38,6 +38,7 @@ fn expand_next<M: Machine>(
     book.law();
     let source = &*state;
     let finding = found_of(book, id, source);
+    let mut room = Room::new(alloc);
     let expansion = Expansion::of_found(
         alloc,
         book.machine(),
@@ -45,6 +46,7 @@ fn expand_next<M: Machine>(
         source,
         &finding,
         book.merge(),
+        &mut room,
     )?;
     expansion.law();
     match book.enter(id, expansion) {

@@ -19,14 +19,6 @@ pub struct Lead<M: Machine> {
 /// Entries of one layer.
 pub type Leads<M: Machine> = Vec<Lead<M>>;
 
-/// Gives back so many entries of a layer before, as far as there are any. One by one, their memory serves the states that are
-/// made meanwhile.
-pub fn give_back<M: Machine>(spent: &mut Option<Leads<M>>, count: usize) {
-    if let Some(leads) = spent {
-        leads.truncate(leads.len().saturating_sub(count));
-    }
-}
-
 /// What a book found of an entry that it gave out.
 pub fn found_of<M: Machine>(book: &Book<M>, id: usize, state: &State<M>) -> Finding
     requires given { IsGiven M.rules book.now id state.now }

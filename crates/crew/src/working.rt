@@ -4,14 +4,14 @@ ghost use Rattle.crew.specs.ClaimSeats.{IsSeatOf};
 
 use crate::claims::{Claims, Seat};
 use crate::gate::Gate;
-use crate::leads::{Leads, give_back};
+use crate::leads::Leads;
 use crate::tally::{Desk, Run, Tally};
 use book::{EnterFault, Expansion, Leftovers, Merge};
 use sched_program::{OutOfMemory, Program};
 use std::alloc::Global;
 use std::marker::Model;
 use std::sync::{Mutex, MutexGuard, Wait};
-use tree_machine::{Machine, State, StateForm};
+use tree_machine::{Machine, Room, State, StateForm};
 
 /// Why a worker draws no more.
 #[derive(Clone, Copy, Debug, PartialEq, Eq)]
@@ -73,6 +73,25 @@ fn room_for<M: Machine>(
     Leftovers::with_room(alloc, steps)
 }
 
+/// What a worker uses up and uses again in one layer.
+#[derive(Drop)]
+struct Stock<M: Machine> {
+    /// Entries of the layer before that are not given back yet.
+    spent: Option<Leads<M>>,
+    /// Where the forms of the steps are written.
+    room: Room,
+}
+
+impl<M: Machine> Stock<M> {
+    /// Gives back so many entries of the layer before, as far as there are any. One by one, their memory serves the states
+    /// that are made meanwhile.
+    fn give_back(&mut self, count: usize) {
+        if let Some(leads) = &mut self.spent {
+            leads.truncate(leads.len().saturating_sub(count));
+        }
+    }
+}
+
 /// The entries of a layer, which are taken and can be expanded, and the counter of their places. Contracts see the counter.
 #[derive(Drop)]
 pub struct Layer<'a, M: Machine> {
@@ -107,7 +126,11 @@ impl<'a, M: Machine> Model for Layer<'a, M> {
 
 impl<'a, M: Machine> Layer<'a, M> {
     /// Makes the expansion of the entry at a place.
-    fn expand(&self, place: usize) -> Result<(usize, Expansion<'_, M>), OutOfMemory>
+    fn expand(
+        &self,
+        place: usize,
+        room: &mut Room,
+    ) -> Result<(usize, Expansion<'_, M>), OutOfMemory>
         requires { place < self.now.size.len }
     {
         let lead = &self.leads[place];
@@ -118,6 +141,7 @@ impl<'a, M: Machine> Layer<'a, M> {
             &*lead.state,
             &lead.finding,
             self.merge,
+            room,
         )?;
         Ok((lead.id, expansion))
     }
@@ -130,7 +154,7 @@ impl<'a, M: Machine> Layer<'a, M> {
         number: u8,
         seat: &mut Seat,
         made: &mut Vec<(usize, Expansion<'l, M>)>,
-        spent: &mut Option<Leads<M>>,
+        stock: &mut Stock<M>,
     ) -> Result<(), OutOfMemory>
         requires seat { IsSeatOf self.now seat.old }
         ensures seat { IsSeatOf self.now seat.new }
@@ -139,8 +163,8 @@ impl<'a, M: Machine> Layer<'a, M> {
             let Some(place) = self.claims.claim(seat) else {
                 return Ok(());
             };
-            give_back(spent, self.returns);
-            let one = self.expand(place)?;
+            stock.give_back(self.returns);
+            let one = self.expand(place, &mut stock.room)?;
             gate.arrive(number, self.number, place);
             made.push(one)?;
         }
@@ -199,7 +223,7 @@ impl<'a, J: Run, M: Machine, G: Gate, R: Wait> Exploration<'a, J, M, G, R> {
         number: u8,
         seat: &mut Seat,
         tally: &mut Tally<J>,
-        spent: &mut Option<Leads<M>>,
+        stock: &mut Stock<M>,
     ) -> Result<bool, Stop>
         requires seat { IsSeatOf layer.now seat.old }
         ensures seat { IsSeatOf layer.now seat.new }
@@ -207,7 +231,7 @@ impl<'a, J: Run, M: Machine, G: Gate, R: Wait> Exploration<'a, J, M, G, R> {
         let mut made = Vec::new(self.alloc);
         for round in 0..=LAST_ROUND {
             if layer
-                .draw(self.gate, number, seat, &mut made, spent)
+                .draw(self.gate, number, seat, &mut made, stock)
                 .is_err()
             {
                 return Err(Stop::OutOfMemory);
@@ -239,9 +263,12 @@ impl<'a, J: Run, M: Machine, G: Gate, R: Wait> Exploration<'a, J, M, G, R> {
         let Some(seat) = seat else {
             return;
         };
-        let mut spent = layer.spent.lock(self.rt).take();
+        let mut stock = Stock {
+            spent: layer.spent.lock(self.rt).take(),
+            room: Room::new(self.alloc),
+        };
         for _turn in 0..=layer.leads.len() {
-            match self.turn(layer, *number, seat, tally, &mut spent) {
+            match self.turn(layer, *number, seat, tally, &mut stock) {
                 Ok(true) => {}
                 Ok(false) => return,
                 Err(why) => {

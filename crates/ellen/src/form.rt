@@ -1,5 +1,5 @@
 //! The machine's form: a memory with the places that threads hold, up to the numbers of nodes and records.
-ghost use Rattle.std.specs.Prelude.{◌≡◌, [], ◌∷◌, Some, IfSome, IfOk, OnOk, All};
+ghost use Rattle.std.specs.Prelude.{◌≡◌, [], ◌∷◌, ◌++◌, Some, IfSome, IfOk, OnOk, All};
 ghost use Rattle.tree_machine.specs.Alike.{places_of};
 ghost use Rattle.tree_machine.specs.Parts.{IsPartBelow};
 ghost use Rattle.tree_machine.specs.Written.{with_part};
@@ -10,7 +10,7 @@ use crate::memory::{EllenMem, Node, Record, UpdateWord};
 use crate::place::{Above, Base, EllenLoc, HelpLoc, SearchLoc};
 use sched_program::OutOfMemory;
 use std::alloc::Global;
-use tree_machine::{Bytes, Parts, Side, Thread, Writer, form_parts};
+use tree_machine::{Bytes, Parts, Room, Side, Thread, Writer, form_parts, write_parts};
 
 /// The number that tells the kind of an update word.
 fn word_number(word: UpdateWord) -> u64
@@ -323,4 +323,21 @@ pub fn form(
     ensures { IfOk result (λ form. form ≡ ellen_form memory.now (places_of threads.now)) }
 {
     form_parts(alloc, 1, &Snapshot { memory, threads })
+}
+
+/// Puts the bytes of that form behind those in a room.
+///
+/// # Errors
+/// `OutOfMemory` where a growth was refused.
+pub fn write_form(
+    alloc: Global,
+    memory: &EllenMem,
+    threads: &[Thread<EllenLoc>],
+    room: &mut Room,
+) -> Result<(), OutOfMemory>
+    requires memory_in_range { IsInRange memory.now }
+    requires places_in_range { All (λ place. IfSome place (IsPlaceInRange memory.now)) (places_of threads.now) }
+    ensures { OnOk result (room.new ≡ room.old ++ ellen_form memory.now (places_of threads.now)) }
+{
+    write_parts(alloc, 1, &Snapshot { memory, threads }, room)
 }

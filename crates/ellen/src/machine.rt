@@ -1,6 +1,6 @@
 //! The machine and its variants.
 
-use crate::form::form;
+use crate::form::{form, write_form};
 use crate::helping::{first_place, help_act};
 use crate::initial::build;
 use crate::memory::{DeleteRecord, EllenMem, InsertRecord, Node, Record, UpdateWord};
@@ -8,7 +8,7 @@ use crate::place::{Above, Base, EllenLoc, HelpLoc, Resume, SearchLoc};
 use crate::searching::search_act;
 use sched_program::{Exact, Op, OutOfMemory};
 use std::alloc::Global;
-use tree_machine::{Bytes, Machine, Outcome, Thread, keeps_search_order};
+use tree_machine::{Bytes, Machine, Outcome, Room, Thread, keeps_search_order};
 
 /// The machine of Ellen, Fatourou, Ruppert and van Breugel (Non-blocking binary search trees, PODC 2010), whole where
 /// both are true. Where one is false, that step is left out.
@@ -76,6 +76,16 @@ impl Machine for Ellen {
         threads: &[Thread<EllenLoc>],
     ) -> Result<Bytes, OutOfMemory> {
         form(alloc, mem, threads)
+    }
+
+    fn write_form(
+        &self,
+        alloc: Global,
+        mem: &EllenMem,
+        threads: &[Thread<EllenLoc>],
+        room: &mut Room,
+    ) -> Result<(), OutOfMemory> {
+        write_form(alloc, mem, threads, room)
     }
 
     ghost lawful = { ellen_lawful };

@@ -11,7 +11,9 @@ use crate::memory::NatMitMem;
 use crate::place::{Mode, NatMitLoc};
 use sched_program::{Exact, Op, OutOfMemory};
 use std::alloc::Global;
-use tree_machine::{Bytes, Machine, Outcome, Thread, form_parts, keeps_search_order};
+use tree_machine::{
+    Bytes, Machine, Outcome, Room, Thread, form_parts, keeps_search_order, write_parts,
+};
 
 /// The machine of Natarajan and Mittal (PPoPP 2014), whole where `tag` is true.
 #[derive(Clone, Copy, Debug, PartialEq, Eq, Hash)]
@@ -81,6 +83,16 @@ impl Machine for NatMit {
     ) -> Result<Bytes, OutOfMemory> {
         // Each search begins at node 1, also where a run of the variant has cut it off from the root, node 0.
         form_parts(alloc, 2, &Snapshot { mem, threads })
+    }
+
+    fn write_form(
+        &self,
+        alloc: Global,
+        mem: &NatMitMem,
+        threads: &[Thread<NatMitLoc>],
+        room: &mut Room,
+    ) -> Result<(), OutOfMemory> {
+        write_parts(alloc, 2, &Snapshot { mem, threads }, room)
     }
 
     ghost lawful = { natmit_lawful };

@@ -213,15 +213,16 @@ code_in cells roots zero = []
 code_in cells roots (suc n) = code_in cells roots n ++ visited_code cells (met_in cells roots (suc n)) (slice_get (met_in cells roots n) n)
 
 -- a visit
-pub code_next : (cells : List Content) (roots order after bytes more : List ℕ) (n x : ℕ) (c : Content) → order ≡ met_in cells roots n → bytes ≡ code_in cells roots n → slice_get order n ≡ Some x → c ≡ content_at cells x → after ≡ met_all order c.refs → more ≡ bytes ++ cell_code (renamed after c) →
-    (after ≡ met_in cells roots (n + 1)) × (more ≡ code_in cells roots (n + 1))
-code_next cells roots order after bytes more n x c e b at is a m =
+pub code_next : (cells : List Content) (roots order after before bytes more : List ℕ) (n x : ℕ) (c : Content) → order ≡ met_in cells roots n → bytes ≡ before ++ code_in cells roots n → slice_get order n ≡ Some x → c ≡ content_at cells x → after ≡ met_all order c.refs → more ≡ bytes ++ cell_code (renamed after c) →
+    (after ≡ met_in cells roots (n + 1)) × (more ≡ before ++ code_in cells roots (n + 1))
+code_next cells roots order after before bytes more n x c e b at is a m =
     let found : slice_get (met_in cells roots n) n ≡ Some x = ap (λ o. slice_get o n) (sym e) ∙ at in
     let then : after ≡ met_in cells roots (suc n) = a ∙ (ap (met_all order) (ap (λ d. d.refs) is) ∙ (ap (λ o. met_all o (content_at cells x).refs) e ∙ ap (visited cells (met_in cells roots n)) (sym found))) in
     let code : cell_code (renamed after c) ≡ visited_code cells (met_in cells roots (suc n)) (slice_get (met_in cells roots n) n) =
     ap (λ d. cell_code (renamed after d)) is ∙ (ap (λ o. cell_code (renamed o (content_at cells x))) then ∙ ap (visited_code cells (met_in cells roots (suc n))) (sym found)) in
-    let whole : more ≡ code_in cells roots (suc n) = m ∙ (ap (λ l. l ++ cell_code (renamed after c)) b ∙ ap (λ l. code_in cells roots n ++ l) code) in
-    (then ∙ ap (met_in cells roots) (sym (add-one n)), whole ∙ ap (code_in cells roots) (sym (add-one n)))
+    let whole : more ≡ before ++ code_in cells roots (suc n) =
+    m ∙ (ap (λ l. l ++ cell_code (renamed after c)) b ∙ (append_assoc before (code_in cells roots n) (cell_code (renamed after c)) ∙ ap (λ l. before ++ (code_in cells roots n ++ l)) code)) in
+    (then ∙ ap (met_in cells roots) (sym (add-one n)), whole ∙ ap (λ k. before ++ code_in cells roots k) (sym (add-one n)))
 
 met_in_later : (cells : List Content) (roots : List ℕ) (n k : ℕ) → Extends (met_in cells roots n) (met_in cells roots (k + n))
 met_in_later cells roots n zero = let e : 0 + n ≡ n = omega arith in subst (λ m. Extends (met_in cells roots n) (met_in cells roots m)) (sym e) (extends_itself (met_in cells roots n))
@@ -281,20 +282,20 @@ module _ (cells : List Content) (roots : List ℕ) where
           ∙ (ap (λ l. front_code cells (order_of cells roots) n ++ l) code ∙ sym (front_next cells (order_of cells roots) n x there))
 
   -- what is written once there is nothing more to visit
-  pub code_done : (n : ℕ) (order bytes : List ℕ) → n ≤ length cells → bytes ≡ code_in cells roots n → order ≡ order_of cells roots → length order ≤ n → bytes ≡ flat (canonical cells roots)
-  code_done n order bytes l b e short =
-      b ∙ (code_is_front n l ∙ ap (λ o. flat (map (λ x. renamed (order_of cells roots) (content_at cells x)) o)) (take_whole (order_of cells roots) n (subst (λ o. length o ≤ n) e short)))
+  pub code_done : (n : ℕ) (order before bytes : List ℕ) → n ≤ length cells → bytes ≡ before ++ code_in cells roots n → order ≡ order_of cells roots → length order ≤ n → bytes ≡ before ++ flat (canonical cells roots)
+  code_done n order before bytes l b e short =
+      b ∙ ap (λ k. before ++ k) (code_is_front n l ∙ ap (λ o. flat (map (λ x. renamed (order_of cells roots) (content_at cells x)) o)) (take_whole (order_of cells roots) n (subst (λ o. length o ≤ n) e short)))
 
   -- what is written when each cell had its visit
-  pub code_at_end : (n : ℕ) (order bytes : List ℕ) → IsRooted cells roots → n ≡ length cells → order ≡ met_in cells roots n → bytes ≡ code_in cells roots n → bytes ≡ flat (canonical cells roots)
-  code_at_end n order bytes h l e b =
+  pub code_at_end : (n : ℕ) (order before bytes : List ℕ) → IsRooted cells roots → n ≡ length cells → order ≡ met_in cells roots n → bytes ≡ before ++ code_in cells roots n → bytes ≡ before ++ flat (canonical cells roots)
+  code_at_end n order before bytes h l e b =
       let done : order ≡ order_of cells roots = e ∙ ap (met_in cells roots) l in
       let short : length order ≤ length cells = subst (λ o. length o ≤ length cells) (sym done) (length-order (length cells) (order_of cells roots) (met_in_order cells roots h (length cells))) in
-      code_done n order bytes (omega arith) b done (omega arith)
+      code_done n order before bytes (omega arith) b done (omega arith)
 
   -- what is written when there is no cell to visit
-  pub code_at_stop : (n : ℕ) (order bytes : List ℕ) → n < length cells → order ≡ met_in cells roots n → bytes ≡ code_in cells roots n → slice_get order n ≡ None → bytes ≡ flat (canonical cells roots)
-  code_at_stop n order bytes l e b none = code_done n order bytes (omega arith) b (met_in_end cells roots order n e l none) (past_none order n none)
+  pub code_at_stop : (n : ℕ) (order before bytes : List ℕ) → n < length cells → order ≡ met_in cells roots n → bytes ≡ before ++ code_in cells roots n → slice_get order n ≡ None → bytes ≡ before ++ flat (canonical cells roots)
+  code_at_stop n order before bytes l e b none = code_done n order before bytes (omega arith) b (met_in_end cells roots order n e l none) (past_none order n none)
 
 -- the fixed cells stand before the others
 pub fixed_below : (fixed graph : ℕ) (before order : List ℕ) → before ≡ [] → order ≡ before ++ numbers_from 0 fixed → fixed ≤ graph → All (λ x. x < graph) order
@@ -342,13 +343,13 @@ part_below n m i j parts x e f h = subst (λ a. IsPartBelow a j (part_at parts x
     go (p ∷ parts) (suc x) h = go parts x h.1
 
 -- where the cell was written, the walk made a visit
-pub cell_visited : (old new : Written) (cells : List Content) (roots : List ℕ) (n x : ℕ) → old.order ≡ met_in cells roots n → old.bytes ≡ code_in cells roots n → slice_get old.order n ≡ Some x → record new { kind = 0 } ≡ with_cell (record old { kind = 0 }) (content_at cells x) →
-    (new.order ≡ met_in cells roots (n + 1)) × (new.bytes ≡ code_in cells roots (n + 1))
-cell_visited old new cells roots n x e b at is =
+pub cell_visited : (old new : Written) (cells : List Content) (roots before : List ℕ) (n x : ℕ) → old.order ≡ met_in cells roots n → old.bytes ≡ before ++ code_in cells roots n → slice_get old.order n ≡ Some x → record new { kind = 0 } ≡ with_cell (record old { kind = 0 }) (content_at cells x) →
+    (new.order ≡ met_in cells roots (n + 1)) × (new.bytes ≡ before ++ code_in cells roots (n + 1))
+cell_visited old new cells roots before n x e b at is =
     let c = content_at cells x in
     let order : new.order ≡ met_all old.order c.refs = ap (λ (w : Written). w.order) is in
     let bytes : new.bytes ≡ old.bytes ++ cell_code (renamed (met_all old.order c.refs) c) = ap (λ (w : Written). w.bytes) is in
-    code_next cells roots old.order new.order old.bytes new.bytes n x c e b at refl order (bytes ∙ ap (λ o. old.bytes ++ cell_code (renamed o c)) (sym order))
+    code_next cells roots old.order new.order before old.bytes new.bytes n x c e b at refl order (bytes ∙ ap (λ o. old.bytes ++ cell_code (renamed o c)) (sym order))
 
 -- what a writer has once it wrote a part
 pub is_written : (w : Written) (n r k : ℕ) (order bytes after more : List ℕ) (p : Part) → record { nodes = n; records = r; kind = k; order = order; bytes = bytes } ≡ w → after ≡ met_all order (part_cell n k p).refs → more ≡ bytes ++ cell_code (renamed after (part_cell n k p)) →

@@ -4,7 +4,13 @@ use Rattle.tree_machine.specs.Pairing.{AreAlike}
 use Rattle.tree_machine.specs.Rules.{Rules}
 use Rattle.tree_machine.specs.declared.state.Thread.{Thread}
 use Rattle.tree_machine.specs.declared.state.State.{State}
-use Rattle.tree_machine.specs.declared.form.StateForm.{StateForm}
+
+-- what the form of a state tells: the machine's form of the memory and of what the threads hold, what the threads did, and who went astray
+pub record FormContent (Form : Type 0) : Type 0 where
+  pub form : Form
+  pub replies : List (List Bool)
+  pub notes : List (List (List ℕ))
+  pub astray : Option ℕ
 
 module _ {Place : Type 0} where
   -- what each thread holds: its place, or none between operations
@@ -27,8 +33,8 @@ module _ {Machine Memory Place Form : Type 0} where
     pub notes : notes_of state.threads ≡ notes_of twin.threads
     pub astray : state.astray ≡ twin.astray
 
-  -- the machine's form of the memory and of what the threads hold, with what the threads did, and who went astray
-  abbrev pub state_form : (Memory → List (Option Place) → Form) → State Machine Memory Place Form → StateForm Machine Memory Place Form
+  -- what the form of this state tells
+  abbrev pub state_form : (Memory → List (Option Place) → Form) → State Machine Memory Place Form → FormContent Form
   state_form form_of state =
       record {
         form = form_of state.memory (places_of state.threads);

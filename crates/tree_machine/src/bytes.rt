@@ -7,6 +7,7 @@ ghost use Rattle.sched_program.specs.Exact.{nat_exact, list_exact};
 ghost use Rattle.tree_machine.specs.CellOrder.{nat_equivalence};
 ghost use Rattle.tree_machine.specs.ByteLists.{bytes_input, bytes_fed};
 
+use crate::coded::Coded;
 use sched_program::Exact;
 use std::hash::{Hash, Hasher};
 use std::marker::Model;
@@ -58,6 +59,12 @@ impl Eq for Bytes {
 
 impl Exact for Bytes {
     ghost exact = { list_exact nat_exact };
+}
+
+impl Coded for Bytes {
+    ghost code = { λ bytes. bytes };
+
+    ghost codes = { λ a b same. same };
 }
 
 impl Hash for Bytes {

@@ -51,6 +51,29 @@ impl Numbering {
         })
     }
 
+    /// No cell is met, of none. It takes no memory.
+    pub(crate) fn none(alloc: Global) -> Self {
+        Numbering {
+            order: Vec::new(alloc),
+            numbers: Vec::new(alloc),
+        }
+    }
+
+    /// No cell of so many is met yet, in the same memory as far as that is enough.
+    pub(crate) fn restarted(self, cells: usize) -> Result<Self, OutOfMemory>
+        ensures nothing { IfOk result (λ n. n.order.items ≡ []) }
+        ensures range { IfOk result (λ n. length n.numbers.items ≡ cells) }
+    {
+        let Numbering {
+            mut order,
+            mut numbers,
+        } = self;
+        order.clear();
+        numbers.clear();
+        numbers.resize(cells, None)?;
+        Ok(Numbering { order, numbers })
+    }
+
     /// Meets a cell, and tells its place.
     pub(crate) fn meet(&mut self, cell: usize) -> Result<usize, OutOfMemory>
         requires { cell < length self.old.numbers.items }

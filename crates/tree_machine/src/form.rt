@@ -1,28 +1,47 @@
 //! Forms of states: what is left of a state without the numbers of its nodes and records, and of its steps.
 ghost use Rattle.std.specs.Prelude.{◌≡◌, ◌↔◌, ◌≤◌, length, IfOk};
+ghost use Rattle.std.proofs.Common.{ap};
+ghost use Rattle.std.specs.Cmp.{partial_equiv_from_equiv};
 ghost use Rattle.sched_program.specs.Program.{Program, IsWithinLimits};
 ghost use Rattle.tree_machine.specs.Step.{Fits};
-ghost use Rattle.tree_machine.specs.Alike.{replies_of, notes_of, state_form, AreStatesAlike};
+ghost use Rattle.tree_machine.specs.Alike.{FormContent, replies_of, notes_of, state_form, AreStatesAlike};
+ghost use Rattle.tree_machine.specs.FormCode.{content_code};
+ghost use Rattle.tree_machine.specs.StateExact.{state_form_eq, state_form_equiv, state_form_exact};
 ghost use Rattle.tree_machine.specs.declared.state.State.{State};
 
+use crate::bytes::Bytes;
 use crate::machine::Machine;
+use crate::room::Room;
 use crate::state::{State, Thread};
 use sched_program::{Exact, Note, OutOfMemory, ShortList};
 use std::alloc::Global;
+use std::hash::{Hash, Hasher};
+use std::marker::Model;
+use std::snapshot::Snapshot;
 
 /// The form of a state: the same for all states that differ in nothing but the numbers of their nodes and records, and
 /// in how many steps led to them.
+///
+/// It is one list of bytes. Contracts see what these tell: the machine's form of the memory with the places that the
+/// threads hold, the replies of each thread, the notes of each thread's operations, and the thread by which the run went
+/// astray.
 #[derive(Drop)]
-#[derive_where(PartialEq, Eq, Hash; M::Form)]
 pub struct StateForm<M: Machine> {
-    /// The machine's form of the memory with the places that the threads hold.
-    form: M::Form,
-    /// The replies of each thread.
-    replies: ShortList<ShortList<bool, 6>, 4>,
-    /// The notes of each thread's operations.
-    notes: ShortList<ShortList<Note, 6>, 4>,
-    /// The thread by which the run went astray.
-    astray: Option<u8>,
+    bytes: Bytes,
+    machine: Snapshot<M>,
+    state: Snapshot<State<M>>,
+}
+
+impl<M: Machine> Model for StateForm<M> {
+    ghost use Rattle.std.specs.Prelude.{◌≡◌};
+    ghost use Rattle.tree_machine.specs.Alike.{FormContent, state_form};
+    ghost use Rattle.tree_machine.specs.FormCode.{content_code};
+
+    ghost Value = { FormContent M.Form };
+
+    ghost view = { λ f. state_form (M.form_of f.machine.value) f.state.value };
+
+    ghost invariant = { λ f. f.bytes ≡ content_code M.Form.code (state_form (M.form_of f.machine.value) f.state.value) };
 }
 
 fn all_replies<L>(threads: &[Thread<L>]) -> ShortList<ShortList<bool, 6>, 4>
@@ -55,18 +74,59 @@ impl<M: Machine> State<M> {
         ensures form { IfOk result (λ form. form ≡ state_form (M.form_of machine) self.now) }
         ensures exact { IfOk result (λ form. (program : Program) (other : State M M.Mem M.Loc M.Form) → Fits (M.rules machine) program other → (form ≡ state_form (M.form_of machine) other) ↔ AreStatesAlike (M.rules machine) self.now other) }
     {
-        let form = machine.form(alloc, &self.memory, self.threads.as_slice())?;
+        let form = self.form_in(alloc, machine, &mut Room::new(alloc))?;
+        Ok(form)
+    }
+
+    /// The same, written in a room that is kept from one form to the next: of memory it asks for no more than the form
+    /// itself has.
+    pub fn form_in(
+        &self,
+        alloc: Global,
+        machine: M,
+        room: &mut Room,
+    ) -> Result<StateForm<M>, OutOfMemory>
+        requires { (program : Program) × IsWithinLimits program × Fits (M.rules machine) program self.now }
+        ensures { IfOk result (λ form. form ≡ state_form (M.form_of machine) self.now) }
+    {
+        let threads = self.threads.as_slice();
+        room.clear();
+        room.put_deeds(&all_replies(threads), &all_notes(threads), self.astray)?;
+        machine.write_form(alloc, &self.memory, threads, room)?;
         Ok(StateForm {
-            form,
-            replies: all_replies(self.threads.as_slice()),
-            notes: all_notes(self.threads.as_slice()),
-            astray: self.astray,
+            bytes: Bytes::from_vec(Vec::from_slice(alloc, room.as_slice())?),
+            machine: Snapshot::of(&machine),
+            state: Snapshot::of(self),
         })
     }
 }
 
-impl<M: Machine> Exact for StateForm<M> {
-    ghost use Rattle.tree_machine.specs.StateExact.{state_form_exact};
+impl<M: Machine> PartialEq for StateForm<M> {
+    ghost eq = { state_form_eq M.Form.eq };
 
-    ghost exact = { state_form_exact M.Form.PartialEq.eq M.Form.exact };
+    ghost laws = { partial_equiv_from_equiv (state_form_equiv M.Form.eq M.Form.exact M.Form.Eq.laws) };
+
+    fn eq(&self, other: &StateForm<M>) -> bool {
+        self.bytes == other.bytes
+    }
+}
+
+impl<M: Machine> Eq for StateForm<M> {
+    ghost laws = { state_form_equiv M.Form.eq M.Form.exact M.Form.Eq.laws };
+}
+
+impl<M: Machine> Exact for StateForm<M> {
+    ghost exact = { state_form_exact M.Form.eq M.Form.exact };
+}
+
+impl<M: Machine> Hash for StateForm<M> {
+    ghost use Rattle.tree_machine.specs.ByteLists.{bytes_input};
+
+    ghost hash_input = { λ f. bytes_input (content_code M.Form.code f) };
+
+    ghost respects_eq = { λ a b same. ap (λ f. bytes_input (content_code M.Form.code f)) (state_form_exact M.Form.eq M.Form.exact a b same) };
+
+    fn hash<H: Hasher>(&self, state: &mut H) {
+        self.bytes.hash(state);
+    }
 }

@@ -6,9 +6,11 @@ ghost use Rattle.tree_machine.specs.Flat.{flat_form};
 ghost use Rattle.tree_machine.specs.Written.{with_cell, with_part};
 
 use crate::bytes::Bytes;
-use crate::writer::Writer;
+use crate::room::Room;
+use crate::writer::{Pass, Writer};
 use sched_program::OutOfMemory;
 use std::alloc::Global;
+use std::mem;
 
 /// Nodes, records and what the threads hold, each written as a part when it is asked for.
 pub trait Parts {
@@ -69,30 +71,55 @@ fn write_cell<P: Parts>(parts: &P, cell: usize, writer: &mut Writer) -> Result<(
     }
 }
 
-/// Meets the roots, and then visits the cells met, in the order met: the form in bytes.
+/// Meets the roots, and then visits the cells met, in the order met: the form, behind the bytes.
 fn walk_parts<P: Parts>(
-    alloc: Global,
+    pass: Pass,
     fixed: usize,
     parts: &P,
     graph: usize,
     held: usize,
-) -> Result<Vec<u8>, OutOfMemory>
+) -> Result<Pass, OutOfMemory>
     requires in_range { ArePartsInRange fixed (P.parts parts.now) }
     requires graph { graph ≡ length (parts_graph (P.parts parts.now)) }
     requires held { held ≡ length (parts_held (P.parts parts.now)) }
     requires fits { graph + held < 2 ^ 64 }
-    ensures { IfOk result (λ form. form.items ≡ flat_form fixed (P.parts parts.now)) }
+    ensures { IfOk result (λ after. after.bytes.items ≡ pass.bytes.items ++ flat_form fixed (P.parts parts.now)) }
 {
     let nodes = parts.node_count();
     let records = parts.record_count();
-    let mut writer = Writer::new(alloc, fixed, nodes, records, held)?;
+    let mut writer = Writer::behind(pass, fixed, nodes, records, held)?;
     for visits in 0..graph + held {
         match writer.cell_at(visits) {
             Some(cell) => write_cell(parts, cell, &mut writer)?,
             None => break,
         }
     }
-    Ok(writer.into_bytes())
+    Ok(writer.into_pass())
+}
+
+/// Writes the form of nodes, records and what the threads hold behind the bytes in a room.
+///
+/// # Errors
+/// `OutOfMemory` where a growth was refused, or the parts are more than a `usize` counts. What stands in the room is then
+/// of no use.
+pub fn write_parts<P: Parts>(
+    alloc: Global,
+    fixed: usize,
+    parts: &P,
+    room: &mut Room,
+) -> Result<(), OutOfMemory>
+    requires { ArePartsInRange fixed (P.parts parts.now) }
+    ensures { OnOk result (room.new ≡ room.old ++ flat_form fixed (P.parts parts.now)) }
+{
+    let held = parts.held_count();
+    let graph = parts
+        .node_count()
+        .checked_add(parts.record_count())
+        .ok_or(OutOfMemory)?;
+    let _cells = graph.checked_add(held).ok_or(OutOfMemory)?;
+    let pass = mem::replace(&mut room.pass, Pass::none(alloc));
+    room.pass = walk_parts(pass, fixed, parts, graph, held)?;
+    Ok(())
 }
 
 /// The form of nodes, records and what the threads hold, where the first nodes are fixed: all that they are but for
@@ -110,13 +137,7 @@ pub fn form_parts<P: Parts>(alloc: Global, fixed: usize, parts: &P) -> Result<By
     ensures form { IfOk result (λ form. form ≡ flat_form fixed (P.parts parts.now)) }
     ensures exact { IfOk result (λ form. (other : Contents) → ArePartsInRange fixed other → length (P.parts parts.now).held ≡ length other.held → (form ≡ flat_form fixed other) ↔ CanPartsBePaired fixed (P.parts parts.now) other) }
 {
-    let held = parts.held_count();
-    let graph = parts
-        .node_count()
-        .checked_add(parts.record_count())
-        .ok_or(OutOfMemory)?;
-    let _cells = graph.checked_add(held).ok_or(OutOfMemory)?;
-    let mut form = walk_parts(alloc, fixed, parts, graph, held)?;
-    form.shrink_to_fit();
-    Ok(Bytes::from_vec(form))
+    let mut room = Room::new(alloc);
+    write_parts(alloc, fixed, parts, &mut room)?;
+    Ok(room.into_bytes())
 }

@@ -51,21 +51,32 @@ fn put_facts(bytes: &mut Vec<u8>, kind: u64, nodes: usize, facts: &[u64]) -> Res
 
 /// The cells met, and the cells visited, in bytes.
 #[derive(Drop)]
-struct Pass {
+pub(crate) struct Pass {
     numbering: Numbering,
-    bytes: Vec<u8>,
+    pub(crate) bytes: Vec<u8>,
 }
 
 impl Pass {
-    /// Nothing of so many cells is met yet. There is room for twelve bytes a cell, about as many as a node takes.
-    fn new(alloc: Global, cells: usize) -> Result<Self, OutOfMemory>
+    /// Nothing is met or visited. It takes no memory.
+    pub(crate) fn none(alloc: Global) -> Self
+        ensures { result.bytes.items ≡ [] }
+    {
+        Pass {
+            numbering: Numbering::none(alloc),
+            bytes: Vec::new(alloc),
+        }
+    }
+
+    /// Nothing of so many cells is met yet. The bytes stay, and the memory serves again.
+    fn restarted(self, cells: usize) -> Result<Self, OutOfMemory>
         ensures nothing { IfOk result (λ pass. pass.numbering.order.items ≡ []) }
-        ensures empty { IfOk result (λ pass. pass.bytes.items ≡ []) }
+        ensures bytes { IfOk result (λ pass. pass.bytes.items ≡ self.bytes.items) }
         ensures range { IfOk result (λ pass. length pass.numbering.numbers.items ≡ cells) }
     {
+        let Pass { numbering, bytes } = self;
         Ok(Pass {
-            numbering: Numbering::new(alloc, cells)?,
-            bytes: Vec::with_capacity(alloc, cells.saturating_mul(12))?,
+            numbering: numbering.restarted(cells)?,
+            bytes,
         })
     }
 
@@ -155,9 +166,10 @@ impl Model for Writer {
 }
 
 impl Writer {
-    /// Nothing is written, and the roots are met: the first nodes, as many as are fixed, and what the threads hold.
-    pub(crate) fn new(
-        alloc: Global,
+    /// Nothing is written behind these bytes, and the roots are met: the first nodes, as many as are fixed, and what the
+    /// threads hold.
+    pub(crate) fn behind(
+        pass: Pass,
         fixed: usize,
         nodes: usize,
         records: usize,
@@ -168,10 +180,10 @@ impl Writer {
         ensures nodes { IfOk result (λ writer. writer.nodes ≡ nodes) }
         ensures records { IfOk result (λ writer. writer.records ≡ records) }
         ensures order { IfOk result (λ writer. writer.order ≡ numbers_from 0 fixed ++ numbers_from (nodes + records) held) }
-        ensures bytes { IfOk result (λ writer. writer.bytes ≡ []) }
+        ensures bytes { IfOk result (λ writer. writer.bytes ≡ pass.bytes.items) }
     {
         let graph = nodes + records;
-        let mut pass = Pass::new(alloc, graph + held)?;
+        let mut pass = pass.restarted(graph + held)?;
         pass.meet_run(0, fixed)?;
         pass.meet_run(graph, held)?;
         Ok(Writer {
@@ -196,11 +208,11 @@ impl Writer {
         self.pass.numbering.cell_at(place)
     }
 
-    /// The bytes written.
-    pub(crate) fn into_bytes(self) -> Vec<u8>
-        ensures { result.items ≡ self.bytes }
+    /// The cells met and the bytes.
+    pub(crate) fn into_pass(self) -> Pass
+        ensures { result.bytes.items ≡ self.bytes }
     {
-        self.pass.bytes
+        self.pass
     }
 
     /// Writes the part of these facts, nodes and records.

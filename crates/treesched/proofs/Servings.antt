@@ -34,7 +34,7 @@ equality_of {S} same exact laws r s = (exact r s, λ e. subst (λ (x : S). same 
 module _ {Machine Memory Place Form : Type 0} (place_eq : Place → Place → Bool) (memory_eq : Memory → Memory → Bool) (form_eq : Form → Form → Bool)
     (rules : Rules Memory Place) (form_of : Memory → List (Option Place) → Form) (forms : AreFormsExact rules form_of) (program : Program) where
   pub counted : IsEquality (state_eq {Place = Place} place_eq {Machine = Machine} {Form = Form} memory_eq)
-      → IsEquality (state_form_eq {Machine = Machine} {Memory = Memory} {Place = Place} form_eq) → (merge : Merge)
+      → IsEquality (state_form_eq form_eq) → (merge : Merge)
       → CountsAsOne Machine Form rules program merge (counted_as_one place_eq memory_eq form_eq form_of merge)
   counted states tests Exact = states
   counted states tests Names = λ state twin fits twin_fits.

@@ -7,10 +7,9 @@ use Rattle.std.proofs.Math.Seq.{take-suc}
 use Rattle.sched_program.specs.Exact.{IsExact}
 use Rattle.sched_program.specs.Program.{Program, IsWithinLimits}
 use Rattle.tree_machine.specs.Rules.{Rules, AreLawful, AreFormsExact}
-use Rattle.tree_machine.specs.Alike.{AreStatesAlike, state_form}
+use Rattle.tree_machine.specs.Alike.{AreStatesAlike, FormContent, state_form}
 use Rattle.tree_machine.specs.Step.{start, step, Fits}
 use Rattle.tree_machine.specs.declared.state.State.{State}
-use Rattle.tree_machine.specs.declared.form.StateForm.{StateForm}
 use Rattle.tree_machine.proofs.Forms.{forms_alike, alike_turned}
 use Rattle.book.specs.Closed.{AreClosed, IsAlikeToOneOf}
 use Rattle.book.specs.Schedule.{IsMachine}
@@ -51,13 +50,13 @@ module _ {F : Type 0} (eq : F → F → Bool) where
 
 -- the steps of the first states lead to states with known forms
 abbrev pub AreKnownBelow : {Machine Memory Place Form : Type 0} (rules : Rules Memory Place) (program : Program) (form_of : Memory → List (Option Place) → Form)
-    (states : List (State Machine Memory Place Form)) (known : StateForm Machine Memory Place Form → Bool) → ℕ → Type 0
+    (states : List (State Machine Memory Place Form)) (known : FormContent Form → Bool) → ℕ → Type 0
 AreKnownBelow {Machine} {Memory} {Place} {Form} rules program form_of states known n =
     (i : ℕ) (s : State Machine Memory Place Form) → i < n → slice_get states i ≡ Some s → AreStepsKnown rules program (state_form form_of) known s
 
 -- .. and those of the next one too
 pub known_next : {Machine Memory Place Form : Type 0} (rules : Rules Memory Place) (program : Program) (form_of : Memory → List (Option Place) → Form)
-    (states : List (State Machine Memory Place Form)) (known : StateForm Machine Memory Place Form → Bool) (i : ℕ) (s : State Machine Memory Place Form) → i < length states → s ≡ get_or states i s
+    (states : List (State Machine Memory Place Form)) (known : FormContent Form → Bool) (i : ℕ) (s : State Machine Memory Place Form) → i < length states → s ≡ get_or states i s
     → AreStepsKnown rules program (state_form form_of) known s → AreKnownBelow rules program form_of states known i → AreKnownBelow rules program form_of states known (i + 1)
 known_next {Machine} {Memory} {Place} {Form} rules program form_of states known i s less is steps so j r below at =
     elim (cases_lt j i) [
@@ -72,9 +71,9 @@ known_next {Machine} {Memory} {Place} {Form} rules program form_of states known 
 
 module _ {Machine Memory Place Form : Type 0} (rules : Rules Memory Place) (program : Program) (lawful : AreLawful rules) (limits : IsWithinLimits program)
     (form_of : Memory → List (Option Place) → Form) (forms : AreFormsExact rules form_of)
-    (eq : StateForm Machine Memory Place Form → StateForm Machine Memory Place Form → Bool) (exact : IsExact eq)
+    (eq : FormContent Form → FormContent Form → Bool) (exact : IsExact eq)
     (states : List (State Machine Memory Place Form)) (fit : (i : ℕ) (s : State Machine Memory Place Form) → slice_get states i ≡ Some s → Fits rules program s)
-    (known : StateForm Machine Memory Place Form → Bool) (has : AreFormsOf eq (state_form form_of) states known) where
+    (known : FormContent Form → Bool) (has : AreFormsOf eq (state_form form_of) states known) where
   machine : IsMachine (machine_of {Machine = Machine} {Form = Form} rules program)
   machine = is_machine rules program lawful limits
 
@@ -88,7 +87,7 @@ module _ {Machine Memory Place Form : Type 0} (rules : Rules Memory Place) (prog
   alike_known : (s : State Machine Memory Place Form) → Fits rules program s → IsAlikeToOneOf (AreStatesAlike rules) states s → known (state_form form_of s) ≡ true
   alike_known s fits among =
       let same : state_form form_of among.1 ≡ state_form form_of s = (forms_alike rules form_of forms program program among.1 s (fit among.0 among.1 among.2) fits).1 among.3 in
-      subst (λ (f : StateForm Machine Memory Place Form). known f ≡ true) same (has.each among.0 among.1 among.2)
+      subst (λ (f : FormContent Form). known f ≡ true) same (has.each among.0 among.1 among.2)
 
   pub open_next : (i : ℕ) (s : State Machine Memory Place Form) → i < length states → s ≡ get_or states i s → IsStepUnknown rules program (state_form form_of) known s → AreKnownBelow rules program form_of states known i
       → IsFirstOpen rules program states (Open (i + 2))

@@ -147,7 +147,7 @@ module _ {Machine Memory Place Form : Type 0} (rules : Rules Memory Place) (prog
 -- the lines of a closed and sound book of a machine and a program pass
 pub written_pass : {Machine Memory Place Form : Type 0} (place_eq : Place → Place → Bool) (memory_eq : Memory → Memory → Bool) (form_eq : Form → Form → Bool)
     (form_of : Machine → Memory → List (Option Place) → Form) (rules : Machine → Rules Memory Place) (book : Contents Machine (State Machine Memory Place Form))
-    → AreFormsExact (rules book.machine) (form_of book.machine) → IsExact (state_form_eq {Machine = Machine} {Memory = Memory} {Place = Place} form_eq)
+    → AreFormsExact (rules book.machine) (form_of book.machine) → IsExact (state_form_eq form_eq)
     → IsLawfulIn rules place_eq memory_eq form_eq form_of book → IsMachine (machine_in rules book)
     → Merges (machine_in rules book) (counted_as_one place_eq memory_eq form_eq (form_of book.machine) book.merge)
     → ((r s : State Machine Memory Place Form) → Fits (rules book.machine) book.program r → Fits (rules book.machine) book.program s

@@ -17,7 +17,7 @@ write_cell-requires-clause-cell_in_range g c =
 pub loop-visits-preserved : goal.loop-visits-preserved
 loop-visits-preserved g c =
     let s = g.P.Parts.parts c.args.parts.now in
-    let next = cell_visited c.loop-visits.writer c.write_cell.new.writer (parts_graph s ++ parts_held s) (roots_of c.args.fixed (parts_graph s) (parts_held s)) c.loop-visits.visits c.in-Some.cell
+    let next = cell_visited c.loop-visits.writer c.write_cell.new.writer (parts_graph s ++ parts_held s) (roots_of c.args.fixed (parts_graph s) (parts_held s)) c.args.pass.bytes.items c.loop-visits.visits c.in-Some.cell
     c.loop-visits.invariant.order c.loop-visits.invariant.bytes (sym c.in-Some.ensures) c.in_ok-write_cell-in-Some.ensures in
     record {
       order = next.0;
@@ -30,13 +30,13 @@ pub returns : goal.returns
 returns g c =
     let s = g.P.Parts.parts c.args.parts.now in
     let cells : length (parts_graph s ++ parts_held s) ≡ c.args.graph + c.args.held = omega (arith, length-append (parts_graph s) (parts_held s), c.requires.graph, c.requires.held) in
-    let form : c.loop-visits.writer.bytes ≡ flat_form c.args.fixed s = elim c.loop-visits-test.branch [
+    let form : c.loop-visits.writer.bytes ≡ c.args.pass.bytes.items ++ flat_form c.args.fixed s = elim c.loop-visits-test.branch [
       | else-loop-visits-test w ↦
           (let end : c.loop-visits.visits ≡ length (parts_graph s ++ parts_held s) = omega (arith, cells) in
-          code_at_end (parts_graph s ++ parts_held s) (roots_of c.args.fixed (parts_graph s) (parts_held s)) c.loop-visits.visits c.loop-visits.writer.order c.loop-visits.writer.bytes
+          code_at_end (parts_graph s ++ parts_held s) (roots_of c.args.fixed (parts_graph s) (parts_held s)) c.loop-visits.visits c.loop-visits.writer.order c.args.pass.bytes.items c.loop-visits.writer.bytes
           (parts_rooted c.args.fixed s c.requires.in_range) end c.loop-visits.invariant.order c.loop-visits.invariant.bytes)
       | then-loop-visits-test+in-None w ↦
-          code_at_stop (parts_graph s ++ parts_held s) (roots_of c.args.fixed (parts_graph s) (parts_held s)) c.loop-visits.visits c.loop-visits.writer.order c.loop-visits.writer.bytes
+          code_at_stop (parts_graph s ++ parts_held s) (roots_of c.args.fixed (parts_graph s) (parts_held s)) c.loop-visits.visits c.loop-visits.writer.order c.args.pass.bytes.items c.loop-visits.writer.bytes
           (omega (arith, cells, w.loop-visits-test.true)) c.loop-visits.invariant.order c.loop-visits.invariant.bytes (sym w.in-None.ensures)
     ] in
-    c.into_bytes.ensures ∙ form
+    c.into_pass.ensures ∙ form

@@ -13,7 +13,7 @@ invariant-loop-visits g l =
     let roots = roots_of l.fixed (parts_graph s) (parts_held s) in
     record {
       order : l.writer.order ≡ met_in cells roots l.visits;
-      bytes : l.writer.bytes ≡ code_in cells roots l.visits;
+      bytes : l.writer.bytes ≡ l.fn.pass.bytes.items ++ code_in cells roots l.visits;
       nodes : l.writer.nodes ≡ length s.nodes;
       records : l.writer.records ≡ length s.records;
     }

@@ -24,18 +24,18 @@ loop-thread-preserved g c =
     let right = IsFindingOf {Machine = g.row.M.Denot} {Form = g.row.M-Form.Denot} rules c.args.program.now in
     let was = c.loop-thread.successors.items in
     record {
-      loan = c.in_ok-next.ensures.loan;
-      front = elim c.match-branch-2.branch [
+      loan = c.in_ok-step.ensures.loan;
+      front = elim c.match-step.branch [
         | in-Some+in_ok-push w ↦
-            front_turn m right c.args.state.now c.loop-thread.thread (bares was) (bares c.match-branch-2.successors.items) (bare w.in-Some.next) c.loop-thread.invariant.front
-            (rw w.in-Some.is at c.in_ok-next.ensures.thread) (rw w.in-Some.is at c.in_ok-next.ensures.step) (rw w.in-Some.is at c.in_ok-next.ensures.finding) (rw w.in-Some.is at c.in_ok-next.ensures.fits)
+            front_turn m right c.args.state.now c.loop-thread.thread (bares was) (bares c.match-step.successors.items) (bare w.in-Some.next) c.loop-thread.invariant.front
+            (rw w.in-Some.is at c.in_ok-step.ensures.thread) (rw w.in-Some.is at c.in_ok-step.ensures.step) (rw w.in-Some.is at c.in_ok-step.ensures.finding) (rw w.in-Some.is at c.in_ok-step.ensures.fits)
             (ap bares (rw w.successors-is w.in_ok-push.ensures.items) ∙ bares_more was w.in-Some.next)
-        | in_default w ↦ rw w.successors-is (front_same m right c.args.state.now c.loop-thread.thread (bares was) c.loop-thread.invariant.front (rw w.in_default.is at c.in_ok-next.ensures.none))
+        | in_default w ↦ rw w.successors-is (front_same m right c.args.state.now c.loop-thread.thread (bares was) c.loop-thread.invariant.front (rw w.in_default.is at c.in_ok-step.ensures.none))
       ];
-      known = elim c.match-branch-2.branch [
+      known = elim c.match-step.branch [
         | in-Some+in_ok-push w ↦
             rw (w.successors-is, w.in_ok-push.ensures.items) (steps_known_more (form_by c.args.merge (state_form (g.M.Machine.form_of c.args.machine))) was w.in-Some.next c.loop-thread.invariant.known
-            (rw w.in-Some.is at c.in_ok-next.ensures.form))
+            (rw w.in-Some.is at c.in_ok-step.ensures.form))
         | in_default w ↦ rw w.successors-is c.loop-thread.invariant.known
       ];
     }

@@ -1,11 +1,10 @@
 use Rattle.std.proofs.Common.{◌≡◌, ◌∙◌, Some, None, Err, true, false, sym, ap, subst}
 use Rattle.std.proofs.lemmas.Option.{same_Some}
 use Rattle.std.specs.HashSet.{contains}
-use Rattle.tree_machine.specs.Alike.{state_form}
+use Rattle.tree_machine.specs.Alike.{FormContent, state_form}
 use Rattle.tree_machine.specs.Step.{step}
 use Rattle.tree_machine.specs.StateExact.{state_form_eq}
 use Rattle.tree_machine.specs.declared.state.State.{State}
-use Rattle.tree_machine.specs.declared.form.StateForm.{StateForm}
 use Rattle.book.proofs.file.closing.knows_step.Goals as goal
 
 pub returns-in-Err-NotEnabled-clause-known : goal.returns-in-Err-NotEnabled-clause-known
@@ -15,12 +14,12 @@ returns-in-Err-NotEnabled-clause-known g c =
 
 pub returns-in_ok-form-in-Ok-clause-known : goal.returns-in_ok-form-in-Ok-clause-known
 returns-in_ok-form-in-Ok-clause-known g c =
-    let known = λ (f : StateForm g.row.M.Denot g.row.M-Mem.Denot g.row.M-Loc.Denot g.row.M-Form.Denot). contains (state_form_eq g.M.Form.PartialEq.eq) c.args.forms.now f in
+    let known = λ (f : FormContent g.row.M-Form.Denot). contains (state_form_eq g.M.Form.PartialEq.eq) c.args.forms.now f in
     let key = λ (yes : c.contains.result ≡ true). subst (λ f. known f ≡ true) c.in_ok-form-in-Ok.ensures.form (sym c.contains.ensures ∙ yes) in
     λ yes next leads. subst (λ (s : State g.row.M.Denot g.row.M-Mem.Denot g.row.M-Loc.Denot g.row.M-Form.Denot). known (state_form (g.M.Machine.form_of c.args.machine) s) ≡ true)
     (same_Some c.in-Ok.next next (sym c.in-Ok.ensures.step ∙ leads)) (key yes)
 
 pub returns-in_ok-form-in-Ok-clause-new : goal.returns-in_ok-form-in-Ok-clause-new
 returns-in_ok-form-in-Ok-clause-new g c =
-    let known = λ (f : StateForm g.row.M.Denot g.row.M-Mem.Denot g.row.M-Loc.Denot g.row.M-Form.Denot). contains (state_form_eq g.M.Form.PartialEq.eq) c.args.forms.now f in
+    let known = λ (f : FormContent g.row.M-Form.Denot). contains (state_form_eq g.M.Form.PartialEq.eq) c.args.forms.now f in
     λ no. (c.in-Ok.next, c.in-Ok.ensures.step, subst (λ f. known f ≡ false) c.in_ok-form-in-Ok.ensures.form (sym c.contains.ensures ∙ no))

@@ -1,6 +1,6 @@
 use Rattle.std.proofs.Common.{◌+◌, arith}
 use Rattle.tree_machine.proofs.Passes.{fixed_below}
-use Rattle.tree_machine.proofs.writer.Writer.new.Goals as goal
+use Rattle.tree_machine.proofs.writer.Writer.behind.Goals as goal
 
 pub meet_run-requires-2-clause-behind : goal.meet_run-requires-2-clause-behind
 meet_run-requires-2-clause-behind c =

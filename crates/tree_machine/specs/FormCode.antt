@@ -1,0 +1,31 @@
+-- What the form of a state tells, in bytes.
+use Rattle.std.specs.Prelude.{◌≡◌, ℕ, suc, Bool, if◌then◌else◌, List, [], ◌∷◌, ◌++◌, length, Option, Some, None}
+use Rattle.std.specs.List.{flat_map}
+use Rattle.tree_machine.specs.Alike.{FormContent}
+
+-- a list: how many there are, and each of them
+abbrev pub list_code : {A : Type 0} → (A → List ℕ) → List A → List ℕ
+list_code code xs = length xs ∷ flat_map code xs
+
+abbrev pub reply_code : Bool → List ℕ
+reply_code reply = (if reply then 1 else 0) ∷ []
+
+-- a note: how many counts there are, and the counts
+abbrev pub note_code : List ℕ → List ℕ
+note_code counts = length counts ∷ counts
+
+abbrev pub astray_code : Option ℕ → List ℕ
+astray_code None = 0 ∷ []
+astray_code (Some t) = 1 ∷ t ∷ []
+
+-- what the threads did, and who went astray
+abbrev pub deeds_code : List (List Bool) → List (List (List ℕ)) → Option ℕ → List ℕ
+deeds_code replies notes astray = list_code (list_code reply_code) replies ++ (list_code (list_code note_code) notes ++ astray_code astray)
+
+-- all of it: the machine's form stands last, since nothing tells where its bytes end
+abbrev pub content_code : {Form : Type 0} → (Form → List ℕ) → FormContent Form → List ℕ
+content_code code content = deeds_code content.replies content.notes content.astray ++ code content.form
+
+-- equal bytes are bytes of equal values
+abbrev pub IsInjective : {A : Type 0} → (A → List ℕ) → Type 0
+IsInjective {A} code = (a b : A) → code a ≡ code b → a ≡ b

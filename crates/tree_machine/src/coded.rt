@@ -1,0 +1,87 @@
+//! Values in bytes, one after the other.
+ghost use Rattle.std.specs.Prelude.{◌≡◌, ◌++◌, List, ℕ, OnOk};
+ghost use Rattle.tree_machine.specs.FormCode.{IsInjective, astray_code, list_code, note_code, reply_code};
+
+use sched_program::{Note, OutOfMemory, ShortList};
+
+/// Values that bytes tell.
+pub trait Coded {
+    /// Its bytes.
+    ghost code: { Self → List ℕ };
+
+    /// Equal bytes are bytes of equal values.
+    ghost codes: { IsInjective code };
+}
+
+/// Puts the replies of a thread behind bytes.
+fn put_replies(bytes: &mut Vec<u8>, replies: &ShortList<bool, 6>) -> Result<(), OutOfMemory>
+    ensures { OnOk result (bytes.new.items ≡ bytes.old.items ++ list_code reply_code replies.now) }
+{
+    bytes.push(replies.len() as u8)?;
+    for reply in replies.as_slice() {
+        bytes.push(if *reply { 1 } else { 0 })?;
+    }
+    Ok(())
+}
+
+/// Puts the replies of each thread behind bytes.
+pub fn put_all_replies(
+    bytes: &mut Vec<u8>,
+    threads: &ShortList<ShortList<bool, 6>, 4>,
+) -> Result<(), OutOfMemory>
+    ensures { OnOk result (bytes.new.items ≡ bytes.old.items ++ list_code (list_code reply_code) threads.now) }
+{
+    bytes.push(threads.len() as u8)?;
+    for replies in threads.as_slice() {
+        put_replies(bytes, replies)?;
+    }
+    Ok(())
+}
+
+/// Puts a note behind bytes.
+fn put_note(bytes: &mut Vec<u8>, note: &Note) -> Result<(), OutOfMemory>
+    ensures { OnOk result (bytes.new.items ≡ bytes.old.items ++ note_code note.now) }
+{
+    bytes.push(note.len() as u8)?;
+    bytes.extend_from_slice(note.as_slice())?;
+    Ok(())
+}
+
+/// Puts the notes of a thread behind bytes.
+fn put_notes(bytes: &mut Vec<u8>, notes: &ShortList<Note, 6>) -> Result<(), OutOfMemory>
+    ensures { OnOk result (bytes.new.items ≡ bytes.old.items ++ list_code note_code notes.now) }
+{
+    bytes.push(notes.len() as u8)?;
+    for note in notes.as_slice() {
+        put_note(bytes, note)?;
+    }
+    Ok(())
+}
+
+/// Puts the notes of each thread behind bytes.
+pub fn put_all_notes(
+    bytes: &mut Vec<u8>,
+    threads: &ShortList<ShortList<Note, 6>, 4>,
+) -> Result<(), OutOfMemory>
+    ensures { OnOk result (bytes.new.items ≡ bytes.old.items ++ list_code (list_code note_code) threads.now) }
+{
+    bytes.push(threads.len() as u8)?;
+    for notes in threads.as_slice() {
+        put_notes(bytes, notes)?;
+    }
+    Ok(())
+}
+
+/// Puts behind bytes which thread went astray, if one did.
+pub fn put_astray(bytes: &mut Vec<u8>, astray: Option<u8>) -> Result<(), OutOfMemory>
+    ensures { OnOk result (bytes.new.items ≡ bytes.old.items ++ astray_code astray) }
+{
+    match astray {
+        None => bytes.push(0)?,
+        Some(thread) => {
+            bytes.push(1)?;
+            bytes.push(thread)?;
+        }
+    }
+    Ok(())
+}

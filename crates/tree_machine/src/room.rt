@@ -1,0 +1,71 @@
+//! Room in which forms are written, one after the other.
+ghost use Rattle.std.specs.Prelude.{◌≡◌, ◌++◌, [], OnOk};
+ghost use Rattle.tree_machine.specs.FormCode.{deeds_code};
+
+use crate::bytes::Bytes;
+use crate::coded::{put_all_notes, put_all_replies, put_astray};
+use crate::writer::Pass;
+use sched_program::{Note, OutOfMemory, ShortList};
+use std::alloc::Global;
+use std::marker::Model;
+
+/// Room in which a form is written. Kept from one form to the next, it asks for memory until it is large enough for the
+/// largest of them, and then no more. Contracts see the bytes that stand in it.
+#[derive(Drop)]
+pub struct Room {
+    pub(crate) pass: Pass,
+}
+
+impl Model for Room {
+    ghost use Rattle.std.specs.Prelude.{List, ℕ};
+
+    ghost Value = { List ℕ };
+
+    ghost view = { λ r. r.pass.bytes.items };
+}
+
+impl Room {
+    /// Room with nothing in it. It takes no memory.
+    pub fn new(alloc: Global) -> Room
+        ensures { result ≡ [] }
+    {
+        Room {
+            pass: Pass::none(alloc),
+        }
+    }
+
+    /// Forgets the bytes.
+    pub(crate) fn clear(&mut self)
+        ensures { self.new ≡ [] }
+    {
+        self.pass.bytes.clear();
+    }
+
+    /// The bytes.
+    pub fn as_slice(&self) -> &[u8]
+        ensures { result.now ≡ self.now }
+    {
+        self.pass.bytes.as_slice()
+    }
+
+    /// The bytes, in memory of their own.
+    pub(crate) fn into_bytes(self) -> Bytes
+        ensures { result ≡ self }
+    {
+        Bytes::from_vec(self.pass.bytes)
+    }
+
+    /// Puts what the threads did, and who went astray, behind the bytes.
+    pub(crate) fn put_deeds(
+        &mut self,
+        replies: &ShortList<ShortList<bool, 6>, 4>,
+        notes: &ShortList<ShortList<Note, 6>, 4>,
+        astray: Option<u8>,
+    ) -> Result<(), OutOfMemory>
+        ensures { OnOk result (self.new ≡ self.old ++ deeds_code replies.now notes.now astray) }
+    {
+        put_all_replies(&mut self.pass.bytes, replies)?;
+        put_all_notes(&mut self.pass.bytes, notes)?;
+        put_astray(&mut self.pass.bytes, astray)
+    }
+}
