@@ -1,9 +1,15 @@
 -- What is held of a state that is known by a label.
 use Rattle.std.specs.Prelude.{◌≡◌, ⊤, Option, Some, None}
-use Rattle.std.specs.declared.sync.Arc.{Arc}
+use Rattle.book.specs.declared.known.Label.{Label}
+use Rattle.book.specs.declared.known.Label.TheVariants.{State, Form}
 
--- a state that is held is the one that is known, and where none is held there is a form
-abbrev pub IsLabelOf : {S F A : Type 0} → Option (Arc S A) → Option F → S → Type 0
-IsLabelOf (Some s) form state = s.value ≡ state
-IsLabelOf None (Some f) state = ⊤
-IsLabelOf None None state = ⊥
+module _ {S F : Type 0} where
+  -- the form, where that is the label
+  abbrev pub form_in : Label S F → Option F
+  form_in (State s) = None
+  form_in (Form f) = Some f
+
+  -- a state that is held is the one that is known
+  abbrev pub IsLabelOf : Label S F → S → Type 0
+  IsLabelOf (State s) state = s.value ≡ state
+  IsLabelOf (Form f) state = ⊤

@@ -14,6 +14,7 @@ use crate::finding::Finding;
 use crate::hashed::Hashed;
 use crate::known::Known;
 use crate::lending::{Loan, find_after};
+use crate::stock::Stock;
 use sched_program::{OutOfMemory, Program, same};
 use std::alloc::Global;
 use std::hash::Hash;
@@ -74,7 +75,7 @@ pub(crate) fn label<M: Machine>(
         Merge::Names => {
             // Whoever reads a program knows that it meets the limits.
             let _ = program.initial();
-            Some(Box::new(alloc, state.form_in(alloc, machine, room)?)?)
+            Some(state.form_in(alloc, machine, room)?)
         }
     };
     Ok(Hashed::new(Known::new(state, form)?))
@@ -124,7 +125,7 @@ fn labelled<M: Machine>(
     Ok(made)
 }
 
-/// The step of a thread, if it is enabled, with its finding. Its form is written in the room.
+/// The step of a thread, if it is enabled, with its finding. It is made in and of what is in stock.
 fn step_of<M: Machine>(
     alloc: Global,
     machine: M,
@@ -133,7 +134,7 @@ fn step_of<M: Machine>(
     thread: u8,
     merge: Merge,
     loan: &mut Loan,
-    room: &mut Room,
+    stock: &mut Stock<M>,
 ) -> Result<Option<Stepped<State<M>, StateForm<M>>>, OutOfMemory>
     requires fits { Fits (M.rules machine) program.now source.now }
     requires room { source.now.steps + 1 < 2 ^ 64 }
@@ -146,14 +147,14 @@ fn step_of<M: Machine>(
     ensures form { IfOk result (λ o. IfSome o (λ x. x.state.form ≡ form_by merge (state_form (M.form_of machine)) x.state.state)) }
     ensures none { IfOk result (λ o. IfNone o (step (M.rules machine) program.now source.now thread ≡ None)) }
 {
-    let next = match source.step(alloc, machine, program, thread) {
+    let next = match source.step_in(alloc, machine, program, thread, &mut stock.spares) {
         Ok(next) => next,
         Err(StepFault::NotEnabled) => return Ok(None),
         Err(StepFault::OutOfMemory) => return Err(OutOfMemory),
     };
     let finding = find_after(alloc, machine, program, source, &next, thread, loan)?;
     let state = Arc::new(alloc, next)?;
-    let known = label(alloc, machine, program, &state, merge, room)?;
+    let known = label(alloc, machine, program, &state, merge, &mut stock.room)?;
     Ok(Some(Stepped {
         thread,
         state,
@@ -207,8 +208,7 @@ impl<'a, M: Machine> Expansion<'a, M> {
     }
 
     /// Does as `for_merge` does for a state of which it is known what is found. Where that is a linearization, it is lent to
-    /// the steps: the history of the state is not judged once more. Forms are written in a room that is kept from one
-    /// expansion to the next.
+    /// the steps: the history of the state is not judged once more. The steps are made in and of what is in stock.
     pub fn of_found(
         alloc: Global,
         machine: M,
@@ -216,7 +216,7 @@ impl<'a, M: Machine> Expansion<'a, M> {
         state: &'a State<M>,
         finding: &Finding,
         merge: Merge,
-        room: &mut Room,
+        stock: &mut Stock<M>,
     ) -> Result<Expansion<'a, M>, OutOfMemory>
         requires fits { Fits (M.rules machine) program.now state.now }
         requires room { state.now.steps + 1 < 2 ^ 64 }
@@ -229,7 +229,7 @@ impl<'a, M: Machine> Expansion<'a, M> {
             Finding::Sound(order) => Some(Some(*order)),
             _ => None,
         };
-        Expansion::with_loan(alloc, machine, program, state, merge, loan, room)
+        Expansion::with_loan(alloc, machine, program, state, merge, loan, stock)
     }
 
     /// Takes each enabled step of a state, judges where it leads, and makes the labels by which a book that merges so
@@ -247,8 +247,8 @@ impl<'a, M: Machine> Expansion<'a, M> {
         ensures program { IfOk result (λ x. x.program ≡ program.now) }
         ensures source { IfOk result (λ x. x.source ≡ state.now) }
     {
-        let mut room = Room::new(alloc);
-        Expansion::with_loan(alloc, machine, program, state, merge, None, &mut room)
+        let mut stock = Stock::new(alloc);
+        Expansion::with_loan(alloc, machine, program, state, merge, None, &mut stock)
     }
 
     /// The same, where this is what was sought of the state's history.
@@ -259,7 +259,7 @@ impl<'a, M: Machine> Expansion<'a, M> {
         state: &'a State<M>,
         merge: Merge,
         mut loan: Loan,
-        room: &mut Room,
+        stock: &mut Stock<M>,
     ) -> Result<Expansion<'a, M>, OutOfMemory>
         requires fits { Fits (M.rules machine) program.now state.now }
         requires room { state.now.steps + 1 < 2 ^ 64 }
@@ -271,7 +271,7 @@ impl<'a, M: Machine> Expansion<'a, M> {
         let mut successors = Vec::new(alloc);
         for thread in 0..program.threads().len() as u8 {
             let step = step_of(
-                alloc, machine, program, state, thread, merge, &mut loan, room,
+                alloc, machine, program, state, thread, merge, &mut loan, stock,
             )?;
             if let Some(next) = step {
                 successors.push(next)?;

@@ -1,6 +1,5 @@
 //! States as a book knows them.
 ghost use Rattle.std.specs.Prelude.{◌≡◌, IfOk};
-ghost use Rattle.std.specs.Option.{option_map};
 ghost use Rattle.std.specs.Cmp.{partial_equiv_from_equiv};
 ghost use Rattle.book.specs.Labels.{input_by, same_input, same_label, same_label_equiv};
 
@@ -10,41 +9,47 @@ use std::marker::Model;
 use std::snapshot::Snapshot;
 use std::sync::Arc;
 
-/// A state by its label: its form, or the state itself if it has none here. Two are equal if their labels are. A state that
-/// is known by its form is not held here: it is only proofs that see it. The form lies apart, so that a state that needs
-/// none takes no room for it.
+/// By what a state is known.
+#[derive(Drop)]
+pub(crate) enum Label<S, F> {
+    /// The state itself.
+    State(Arc<S>),
+    /// Its form.
+    Form(F),
+}
+
+/// A state by its label. Two are equal if their labels are. A state that is known by its form is not held here: it is only
+/// proofs that see it.
 #[derive(Drop)]
 pub struct Known<S, F> {
-    state: Option<Arc<S>>,
-    form: Option<Box<F>>,
+    label: Label<S, F>,
     shown: Snapshot<S>,
 }
 
 impl<S, F> Model for Known<S, F> {
-    ghost use Rattle.std.specs.Option.{option_map};
-    ghost use Rattle.book.specs.Shown.{IsLabelOf};
+    ghost use Rattle.book.specs.Shown.{form_in, IsLabelOf};
     ghost use Rattle.book.specs.Labels.{Labelled};
 
     ghost Value = { Labelled S F };
 
-    ghost view = { λ k. record { state = k.shown.value; form = option_map (λ form. form.value) k.form } };
+    ghost view = { λ k. record { state = k.shown.value; form = form_in k.label } };
 
-    ghost invariant = { λ k. IsLabelOf k.state k.form k.shown.value };
+    ghost invariant = { λ k. IsLabelOf k.label k.shown.value };
 }
 
 impl<S, F> Known<S, F> {
     /// A state with its form, if it is known by it.
-    pub fn new(state: &Arc<S>, form: Option<Box<F>>) -> Result<Known<S, F>, AllocError>
+    pub fn new(state: &Arc<S>, form: Option<F>) -> Result<Known<S, F>, AllocError>
     where
         F: Drop,
-        ensures { IfOk result (λ known. known ≡ record { state = state.now.value; form = option_map (λ form. form.value) form }) }
+        ensures { IfOk result (λ known. known ≡ record { state = state.now.value; form = form }) }
     {
         let shown = Snapshot::of(&**state);
-        let state = match &form {
-            Some(_) => None,
-            None => Some(Arc::try_clone(state)?),
+        let label = match form {
+            Some(form) => Label::Form(form),
+            None => Label::State(Arc::try_clone(state)?),
         };
-        Ok(Known { state, form, shown })
+        Ok(Known { label, shown })
     }
 }
 
@@ -54,12 +59,9 @@ impl<S: Eq, F: Eq> PartialEq for Known<S, F> {
     ghost laws = { partial_equiv_from_equiv (same_label_equiv S.eq F.eq S.Eq.laws F.Eq.laws) };
 
     fn eq(&self, other: &Self) -> bool {
-        match (&self.form, &other.form) {
-            (Some(first), Some(second)) => **first == **second,
-            (None, None) => match (&self.state, &other.state) {
-                (Some(first), Some(second)) => **first == **second,
-                _ => unreachable!(),
-            },
+        match (&self.label, &other.label) {
+            (Label::Form(first), Label::Form(second)) => *first == *second,
+            (Label::State(first), Label::State(second)) => **first == **second,
             _ => false,
         }
     }
@@ -75,10 +77,9 @@ impl<S: Hash, F: Hash> Hash for Known<S, F> {
     ghost respects_eq = { same_input S.eq F.eq S.hash_input F.hash_input S.respects_eq F.respects_eq };
 
     fn hash<H: Hasher>(&self, state: &mut H) {
-        match (&self.form, &self.state) {
-            (Some(form), _) => (**form).hash(state),
-            (None, Some(own)) => (**own).hash(state),
-            (None, None) => unreachable!(),
+        match &self.label {
+            Label::Form(form) => form.hash(state),
+            Label::State(own) => (**own).hash(state),
         }
     }
 }

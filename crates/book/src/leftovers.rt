@@ -51,6 +51,12 @@ impl<S: Hash + Drop, F: Hash + Drop> Leftovers<S, F> {
         self.known.len()
     }
 
+    /// Takes a state out, if one is kept. What else was held of it is dropped.
+    pub(crate) fn pop(&mut self) -> Option<Arc<S>> {
+        let (_known, _row, state) = self.known.pop()?;
+        Some(state)
+    }
+
     /// Keeps a state, if there is one, where there is room, and else drops it.
     pub(crate) fn keep(&mut self, state: Option<(Hashed<Known<S, F>>, Row, Arc<S>)>)
         ensures { Keeps self.old self.new (if is_some state then 1 else 0) }

@@ -17,6 +17,7 @@ mod placing;
 mod replayed;
 mod replaying;
 mod slots;
+mod stock;
 mod table;
 
 pub use crate::book::{Book, EnterFault, Entered, Merge, Totals};
@@ -27,3 +28,4 @@ pub use crate::finding::Finding;
 pub use crate::leftovers::Leftovers;
 pub use crate::replayed::{Replay, ReplayFault};
 pub use crate::replaying::replay;
+pub use crate::stock::Stock;

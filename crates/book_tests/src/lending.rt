@@ -2,11 +2,11 @@
 
 use crate::fixtures::{Broken, TWO_INSERTS, open, settled, take_next};
 use crate::replays::{ONE, ZERO, is_order};
-use book::{Book, Entered, Expansion, Merge, replay};
+use book::{Book, Entered, Expansion, Merge, Stock, replay};
 use sched_program::OpId;
 use std::alloc::Global;
 use std::test::Fail;
-use tree_machine::{Atomic, Room};
+use tree_machine::Atomic;
 
 /// Takes the next entry, which is the state after this schedule, and enters its steps. What is found of the state is lent
 /// to them.
@@ -17,7 +17,7 @@ fn enter_lent(alloc: Global, book: &mut Book<Atomic>, schedule: &[u8]) -> Result
     if end.state.steps() > 100 {
         return Err(Broken::NoEntry);
     }
-    let mut room = Room::new(alloc);
+    let mut stock = Stock::new(alloc);
     let expansion = Expansion::of_found(
         alloc,
         Atomic,
@@ -25,7 +25,7 @@ fn enter_lent(alloc: Global, book: &mut Book<Atomic>, schedule: &[u8]) -> Result
         &end.state,
         &end.finding,
         Merge::Exact,
-        &mut room,
+        &mut stock,
     )?;
     Ok(book.enter(id, expansion)?)
 }

@@ -8,10 +8,10 @@ ghost use Rattle.crew.specs.Reading.{first_fault, IsCutAt, IsWorkedOff, StandsAt
 
 use crate::answer::Share;
 use crate::leads::found_of;
-use book::{Book, EnterFault, Expansion};
+use book::{Book, EnterFault, Expansion, Stock};
 use sched_program::{OutOfMemory, Program};
 use std::alloc::Global;
-use tree_machine::{Machine, Room};
+use tree_machine::Machine;
 
 /// Takes the next entry of a layer, and enters its steps. Where the book has no room for them, the answer is the entry.
 fn expand_next<M: Machine>(
@@ -38,7 +38,7 @@ fn expand_next<M: Machine>(
     book.law();
     let source = &*state;
     let finding = found_of(book, id, source);
-    let mut room = Room::new(alloc);
+    let mut stock = Stock::new(alloc);
     let expansion = Expansion::of_found(
         alloc,
         book.machine(),
@@ -46,7 +46,7 @@ fn expand_next<M: Machine>(
         source,
         &finding,
         book.merge(),
-        &mut room,
+        &mut stock,
     )?;
     expansion.law();
     match book.enter(id, expansion) {

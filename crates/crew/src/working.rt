@@ -6,12 +6,12 @@ use crate::claims::{Claims, Seat};
 use crate::gate::Gate;
 use crate::leads::Leads;
 use crate::tally::{Desk, Run, Tally};
-use book::{EnterFault, Expansion, Leftovers, Merge};
+use book::{EnterFault, Expansion, Leftovers, Merge, Stock};
 use sched_program::{OutOfMemory, Program};
 use std::alloc::Global;
 use std::marker::Model;
 use std::sync::{Mutex, MutexGuard, Wait};
-use tree_machine::{Machine, Room, State, StateForm};
+use tree_machine::{Machine, State, StateForm};
 
 /// Why a worker draws no more.
 #[derive(Clone, Copy, Debug, PartialEq, Eq)]
@@ -75,19 +75,25 @@ fn room_for<M: Machine>(
 
 /// What a worker uses up and uses again in one layer.
 #[derive(Drop)]
-struct Stock<M: Machine> {
+struct Supplies<M: Machine> {
     /// Entries of the layer before that are not given back yet.
     spent: Option<Leads<M>>,
-    /// Where the forms of the steps are written.
-    room: Room,
+    /// What the expansions are made in and of.
+    stock: Stock<M>,
 }
 
-impl<M: Machine> Stock<M> {
-    /// Gives back so many entries of the layer before, as far as there are any. One by one, their memory serves the states
-    /// that are made meanwhile.
+impl<M: Machine> Supplies<M> {
+    /// Gives back so many entries of the layer before, as far as there are any. A state that nobody else shares goes to the
+    /// stock.
     fn give_back(&mut self, count: usize) {
-        if let Some(leads) = &mut self.spent {
-            leads.truncate(leads.len().saturating_sub(count));
+        let Some(leads) = &mut self.spent else {
+            return;
+        };
+        for _each in 0..count {
+            let Some(lead) = leads.pop() else {
+                return;
+            };
+            self.stock.take_in(lead.state);
         }
     }
 }
@@ -129,7 +135,7 @@ impl<'a, M: Machine> Layer<'a, M> {
     fn expand(
         &self,
         place: usize,
-        room: &mut Room,
+        stock: &mut Stock<M>,
     ) -> Result<(usize, Expansion<'_, M>), OutOfMemory>
         requires { place < self.now.size.len }
     {
@@ -141,7 +147,7 @@ impl<'a, M: Machine> Layer<'a, M> {
             &*lead.state,
             &lead.finding,
             self.merge,
-            room,
+            stock,
         )?;
         Ok((lead.id, expansion))
     }
@@ -154,7 +160,7 @@ impl<'a, M: Machine> Layer<'a, M> {
         number: u8,
         seat: &mut Seat,
         made: &mut Vec<(usize, Expansion<'l, M>)>,
-        stock: &mut Stock<M>,
+        supplies: &mut Supplies<M>,
     ) -> Result<(), OutOfMemory>
         requires seat { IsSeatOf self.now seat.old }
         ensures seat { IsSeatOf self.now seat.new }
@@ -163,8 +169,8 @@ impl<'a, M: Machine> Layer<'a, M> {
             let Some(place) = self.claims.claim(seat) else {
                 return Ok(());
             };
-            stock.give_back(self.returns);
-            let one = self.expand(place, &mut stock.room)?;
+            supplies.give_back(self.returns);
+            let one = self.expand(place, &mut supplies.stock)?;
             gate.arrive(number, self.number, place);
             made.push(one)?;
         }
@@ -223,7 +229,7 @@ impl<'a, J: Run, M: Machine, G: Gate, R: Wait> Exploration<'a, J, M, G, R> {
         number: u8,
         seat: &mut Seat,
         tally: &mut Tally<J>,
-        stock: &mut Stock<M>,
+        supplies: &mut Supplies<M>,
     ) -> Result<bool, Stop>
         requires seat { IsSeatOf layer.now seat.old }
         ensures seat { IsSeatOf layer.now seat.new }
@@ -231,7 +237,7 @@ impl<'a, J: Run, M: Machine, G: Gate, R: Wait> Exploration<'a, J, M, G, R> {
         let mut made = Vec::new(self.alloc);
         for round in 0..=LAST_ROUND {
             if layer
-                .draw(self.gate, number, seat, &mut made, stock)
+                .draw(self.gate, number, seat, &mut made, supplies)
                 .is_err()
             {
                 return Err(Stop::OutOfMemory);
@@ -244,6 +250,7 @@ impl<'a, J: Run, M: Machine, G: Gate, R: Wait> Exploration<'a, J, M, G, R> {
             };
             if let Some(desk) = self.desk_in(round) {
                 self.enter_all(desk, made, tally, &mut leftovers)?;
+                supplies.stock.take_leftovers(leftovers);
                 return Ok(true);
             }
         }
@@ -263,12 +270,12 @@ impl<'a, J: Run, M: Machine, G: Gate, R: Wait> Exploration<'a, J, M, G, R> {
         let Some(seat) = seat else {
             return;
         };
-        let mut stock = Stock {
+        let mut supplies = Supplies {
             spent: layer.spent.lock(self.rt).take(),
-            room: Room::new(self.alloc),
+            stock: Stock::new(self.alloc),
         };
         for _turn in 0..=layer.leads.len() {
-            match self.turn(layer, *number, seat, tally, &mut stock) {
+            match self.turn(layer, *number, seat, tally, &mut supplies) {
                 Ok(true) => {}
                 Ok(false) => return,
                 Err(why) => {

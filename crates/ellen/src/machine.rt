@@ -40,6 +40,10 @@ impl Machine for Ellen {
         mem.copy(alloc)
     }
 
+    fn copy_mem_in(&self, mem: &EllenMem, spare: EllenMem) -> Result<EllenMem, OutOfMemory> {
+        mem.copy_in(spare)
+    }
+
     fn copy_loc(&self, alloc: Global, loc: &EllenLoc) -> Result<EllenLoc, OutOfMemory> {
         loc.copy(alloc)
     }

@@ -6,7 +6,7 @@ ghost use Rattle.ellen.specs.Memory.{node_at, record_at, key_at, update_of, chil
 
 use sched_program::{OutOfMemory, Sequence};
 use std::alloc::Global;
-use tree_machine::{Shape, Shapes, Side, extended, side_of};
+use tree_machine::{Shape, Shapes, Side, copied_in, extended, side_of};
 
 /// An update word: its state, with the number of the record that was written there last.
 #[derive(Clone, Copy, Debug, PartialEq, Eq, Hash)]
@@ -333,6 +333,17 @@ impl EllenMem {
         let nodes = Sequence::from_vec(Vec::from_slice(alloc, self.nodes.as_slice())?);
         let records = Sequence::from_vec(Vec::from_slice(alloc, self.records.as_slice())?);
         Ok(EllenMem { nodes, records })
+    }
+
+    /// An equal memory, made of another one.
+    pub(crate) fn copy_in(&self, spare: EllenMem) -> Result<EllenMem, OutOfMemory>
+        ensures { IfOk result (λ copy. copy ≡ self.now) }
+    {
+        let EllenMem { nodes, records } = spare;
+        Ok(EllenMem {
+            nodes: copied_in(self.nodes.as_slice(), nodes)?,
+            records: copied_in(self.records.as_slice(), records)?,
+        })
     }
 }
 

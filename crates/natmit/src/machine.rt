@@ -49,6 +49,10 @@ impl Machine for NatMit {
         mem.copy(alloc)
     }
 
+    fn copy_mem_in(&self, mem: &NatMitMem, spare: NatMitMem) -> Result<NatMitMem, OutOfMemory> {
+        mem.copy_in(spare)
+    }
+
     fn copy_loc(&self, _alloc: Global, loc: &NatMitLoc) -> Result<NatMitLoc, OutOfMemory> {
         Ok(*loc)
     }

@@ -4,7 +4,7 @@ ghost use Rattle.natmit.specs.Memory.{plain, is_plain, key_in, shape_in, shapes,
 
 use sched_program::{OutOfMemory, Sequence};
 use std::alloc::Global;
-use tree_machine::{Shape, Shapes, Side, extended, side_of};
+use tree_machine::{Shape, Shapes, Side, copied_in, extended, side_of};
 
 /// A child word.
 #[derive(Clone, Copy, Debug, PartialEq, Eq, Hash)]
@@ -202,6 +202,16 @@ impl NatMitMem {
         // All at once: `Sequence::copy` goes node by node.
         let nodes = Sequence::from_vec(Vec::from_slice(alloc, self.nodes.as_slice())?);
         Ok(NatMitMem { nodes })
+    }
+
+    /// An equal memory, made of another one.
+    pub(crate) fn copy_in(&self, spare: NatMitMem) -> Result<NatMitMem, OutOfMemory>
+        ensures { IfOk result (λ copy. copy ≡ self.now) }
+    {
+        let NatMitMem { nodes } = spare;
+        Ok(NatMitMem {
+            nodes: copied_in(self.nodes.as_slice(), nodes)?,
+        })
     }
 }
 

@@ -1,5 +1,5 @@
-//! Lists with more values.
-ghost use Rattle.std.specs.Prelude.{◌≡◌, ◌++◌, IfOk};
+//! Lists in other lists' memory, and with more values.
+ghost use Rattle.std.specs.Prelude.{◌≡◌, ◌++◌, [], IfOk};
 
 use sched_program::{OutOfMemory, Sequence};
 use std::alloc::Global;
@@ -15,5 +15,27 @@ pub fn extended<T: Copy>(
     let mut items = Vec::new(alloc);
     items.extend_from_slice(list.as_slice())?;
     items.extend_from_slice(more)?;
+    Ok(Sequence::from_vec(items))
+}
+
+/// The empty list, in the memory of another one.
+pub(crate) fn emptied<T: Drop>(list: Sequence<T>) -> Sequence<T>
+    ensures { result ≡ [] }
+{
+    let mut items = list.into_vec();
+    items.clear();
+    Sequence::from_vec(items)
+}
+
+/// A list of these values, in the memory of another one as far as that is enough.
+pub fn copied_in<T: Copy + Drop>(
+    values: &[T],
+    list: Sequence<T>,
+) -> Result<Sequence<T>, OutOfMemory>
+    ensures { IfOk result (λ copy. copy ≡ values.now) }
+{
+    let mut items = list.into_vec();
+    items.clear();
+    items.extend_from_slice(values)?;
     Ok(Sequence::from_vec(items))
 }

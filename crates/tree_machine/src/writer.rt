@@ -19,8 +19,16 @@ fn put_number(bytes: &mut Vec<u8>, number: u64) -> Result<(), OutOfMemory>
 {
     if number < 255 {
         bytes.push(number as u8)?;
-        return Ok(());
+        Ok(())
+    } else {
+        put_large(bytes, number)
     }
+}
+
+/// The same where the number may be large.
+fn put_large(bytes: &mut Vec<u8>, number: u64) -> Result<(), OutOfMemory>
+    ensures { OnOk result (bytes.new.items ≡ bytes.old.items ++ number_code number) }
+{
     for _whole in 0..number / 255 {
         bytes.push(255)?;
     }

@@ -12,10 +12,11 @@ ghost use Rattle.book.specs.BookFile.Forms.{AreFormsOf, AreStepsKnown, IsStepUnk
 
 use crate::exactly::tests_exactly;
 use crate::file::fault::CheckFault;
+use crate::stock::Stock;
 use sched_program::{OutOfMemory, Program, Sequence};
 use std::alloc::Global;
 use std::collections::HashSet;
-use tree_machine::{Machine, State, StateForm, StepFault};
+use tree_machine::{Machine, Room, State, StateForm, StepFault};
 
 /// The forms of the states.
 fn forms_of<M: Machine>(
@@ -31,14 +32,15 @@ fn forms_of<M: Machine>(
     let _ = program.initial();
     tests_exactly::<StateForm<M>>();
     let mut forms = HashSet::new(alloc);
+    let mut room = Room::new(alloc);
     for state in states.as_slice() {
-        let form = state.form(alloc, machine)?;
+        let form = state.form_in(alloc, machine, &mut room)?;
         forms.insert(form)?;
     }
     Ok(forms)
 }
 
-/// Whether the step of a thread, if it is enabled, has one of the forms.
+/// Whether the step of a thread, if it is enabled, has one of the forms. The step is made in and of what is in stock.
 fn knows_step<M: Machine>(
     alloc: Global,
     machine: M,
@@ -46,6 +48,7 @@ fn knows_step<M: Machine>(
     forms: &HashSet<StateForm<M>>,
     state: &State<M>,
     thread: u8,
+    stock: &mut Stock<M>,
 ) -> Result<bool, OutOfMemory>
     requires fits { Fits (M.rules machine) program.now state.now }
     requires room { state.now.steps + 1 < 2 ^ 64 }
@@ -56,9 +59,10 @@ fn knows_step<M: Machine>(
 {
     // Whoever reads a program knows that it meets the limits.
     let _ = program.initial();
-    match state.step(alloc, machine, program, thread) {
+    match state.step_in(alloc, machine, program, thread, &mut stock.spares) {
         Ok(next) => {
-            let form = next.form(alloc, machine)?;
+            let form = next.form_in(alloc, machine, &mut stock.room)?;
+            stock.keep(next);
             Ok(forms.contains(&form))
         }
         Err(StepFault::NotEnabled) => Ok(true),
@@ -73,6 +77,7 @@ fn leads_out<M: Machine>(
     program: &Program,
     forms: &HashSet<StateForm<M>>,
     state: &State<M>,
+    stock: &mut Stock<M>,
 ) -> Result<bool, OutOfMemory>
     requires fits { Fits (M.rules machine) program.now state.now }
     requires room { state.now.steps + 1 < 2 ^ 64 }
@@ -80,7 +85,7 @@ fn leads_out<M: Machine>(
     ensures none { IfOk result (λ yes. yes ≡ false → AreStepsKnown (M.rules machine) program.now (state_form (M.form_of machine)) (contains (state_form_eq M.Form.PartialEq.eq) forms.now) state.now) }
 {
     for thread in 0..program.threads().len() as u8 {
-        if !knows_step(alloc, machine, program, forms, state, thread)? {
+        if !knows_step(alloc, machine, program, forms, state, thread, stock)? {
             return Ok(true);
         }
     }
@@ -106,8 +111,9 @@ pub fn test_closed<M: Machine>(
     let _ = program.initial();
     tests_exactly::<StateForm<M>>();
     let forms = forms_of(alloc, machine, program, states)?;
+    let mut stock = Stock::new(alloc);
     for (i, state) in states.as_slice().iter().enumerate() {
-        if leads_out(alloc, machine, program, &forms, state)? {
+        if leads_out(alloc, machine, program, &forms, state, &mut stock)? {
             return Err(CheckFault::Open(i + 2));
         }
     }

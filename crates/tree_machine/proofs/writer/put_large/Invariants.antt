@@ -1,5 +1,5 @@
 use Rattle.std.proofs.Common.{◌≡◌, ◌++◌, replicate}
-use Rattle.tree_machine.proofs.writer.put_number.Given as goal
+use Rattle.tree_machine.proofs.writer.put_large.Given as goal
 
 -- so many bytes 255 are put
 abbrev pub invariant-loop-whole : goal.invariant-loop-whole
