@@ -1,5 +1,7 @@
 -- A machine each of whose operations goes astray at its second step, for the tests. A place says whether the first is done.
-use Rattle.std.specs.Prelude.{◌≡◌, ◌↔◌, Bool, true, false, refl, List, ◌∷◌, Option, Some}
+use Rattle.std.specs.Prelude.{◌≡◌, ◌↔◌, ℕ, Bool, true, false, refl, List, [], ◌∷◌, map, Option, Some, None}
+use Rattle.std.proofs.Common.{◌∙◌, ap, arith}
+use Rattle.std.proofs.lemmas.Option.{same_Some}
 use Rattle.sched_program.specs.declared.operation.Op.{Op}
 use Rattle.tree_machine.specs.Rules.{Rules, AreLawful, IsOutcomeInRange}
 use Rattle.tree_machine.specs.Pairing.{AreAlike}
@@ -44,17 +46,44 @@ straying_lawful = record {
   pairs_lawful = equal_pairs_lawful straying_rules.first straying_rules.act straying_rules.IsOrdered;
 }
 
+-- what a thread holds as a number
+abbrev pub held_code : Option Bool → ℕ
+held_code None = 0
+held_code (Some false) = 1
+held_code (Some true) = 2
+
+held_read : (place twin : Option Bool) → held_code place ≡ held_code twin → place ≡ twin
+held_read None None e = refl
+held_read None (Some false) e = absurd (omega (arith, e))
+held_read None (Some true) e = absurd (omega (arith, e))
+held_read (Some false) None e = absurd (omega (arith, e))
+held_read (Some true) None e = absurd (omega (arith, e))
+held_read (Some false) (Some false) e = refl
+held_read (Some false) (Some true) e = absurd (omega (arith, e))
+held_read (Some true) (Some false) e = absurd (omega (arith, e))
+held_read (Some true) (Some true) e = refl
+
+all_read : (held twins : List (Option Bool)) → map held_code held ≡ map held_code twins → held ≡ twins
+all_read [] [] e = refl
+all_read [] (twin ∷ twins) e = cc
+all_read (place ∷ held) [] e = cc
+all_read (place ∷ held) (twin ∷ twins) e =
+    let first : held_code place ≡ held_code twin = cc in
+    let rest : map held_code held ≡ map held_code twins = cc in
+    ap (λ p. p ∷ held) (held_read place twin first) ∙ ap (λ l. twin ∷ l) (all_read held twins rest)
+
 -- the memory, before what the threads hold
-abbrev pub straying_form : Bool → List (Option Bool) → List (Option Bool)
-straying_form memory held = Some memory ∷ held
+abbrev pub straying_form : Bool → List (Option Bool) → List ℕ
+straying_form memory held = held_code (Some memory) ∷ map held_code held
 
 -- forms are equal exactly if the memories and the places are
 pub straying_forms : (memory other : Bool) (held twins : List (Option Bool)) → (straying_form memory held ≡ straying_form other twins) ↔ AreAlike straying_rules.pairs memory held other twins
 straying_forms memory other held twins =
     let alike = equal_alike memory other held twins in (
       (λ same.
-          let first : memory ≡ other = cc in
-          let rest : held ≡ twins = cc in
-          alike.0 (first, rest)),
+          let first : held_code (Some memory) ≡ held_code (Some other) = cc in
+          let rest : map held_code held ≡ map held_code twins = cc in
+          let memories : memory ≡ other = same_Some memory other (held_read (Some memory) (Some other) first) in
+          alike.0 (memories, all_read held twins rest)),
       (λ h. let same = alike.1 h in λ i. straying_form (same.0 i) (same.1 i)),
     )

@@ -1,11 +1,11 @@
 //! A machine that goes astray.
-ghost use Rattle.std.specs.Prelude.{◌≡◌, refl, IfOk};
+ghost use Rattle.std.specs.Prelude.{◌≡◌, ◌++◌, map, refl, OnOk};
 ghost use Rattle.tree_machine.specs.Alike.{places_of};
-ghost use Rattle.book_tests.specs.Straying.{straying_rules, straying_lawful, straying_form, straying_forms};
+ghost use Rattle.book_tests.specs.Straying.{straying_rules, straying_lawful, straying_form, straying_forms, held_code};
 
-use sched_program::{Exact, Op, OutOfMemory, Sequence};
+use sched_program::{Exact, Op, OutOfMemory};
 use std::alloc::Global;
-use tree_machine::{Machine, Outcome, Thread};
+use tree_machine::{Bytes, Machine, Outcome, Room, Thread};
 
 /// Each operation goes astray at its second step. A place says whether the first is done.
 #[derive(Clone, Copy, PartialEq, Eq)]
@@ -15,15 +15,25 @@ impl Exact for Straying {
     ghost exact = { λ a b h. refl };
 }
 
-/// The place that each thread holds.
-fn places_of(alloc: Global, threads: &[Thread<bool>]) -> Result<Sequence<Option<bool>>, OutOfMemory>
-    ensures { IfOk result (λ places. places ≡ places_of threads.now) }
+/// What a thread holds as a byte.
+fn held_byte(place: Option<bool>) -> u8
+    ensures { result ≡ held_code place }
 {
-    let mut places = Sequence::with_capacity(alloc, threads.len())?;
-    for thread in threads {
-        places.push(thread.place)?;
+    match place {
+        None => 0,
+        Some(false) => 1,
+        Some(true) => 2,
     }
-    Ok(places)
+}
+
+/// What each thread holds, behind other bytes.
+fn put_held(bytes: &mut Vec<u8>, threads: &[Thread<bool>]) -> Result<(), OutOfMemory>
+    ensures { OnOk result (bytes.new.items ≡ bytes.old.items ++ map held_code (places_of threads.now)) }
+{
+    for thread in threads {
+        bytes.push(held_byte(thread.place))?;
+    }
+    Ok(())
 }
 
 impl Machine for Straying {
@@ -31,13 +41,17 @@ impl Machine for Straying {
 
     type Loc = bool;
 
-    type Form = Sequence<Option<bool>>;
+    type Form = Bytes;
 
     ghost rules = { λ _. straying_rules };
 
     ghost form_of = { λ _. straying_form };
 
     fn copy_mem(&self, _alloc: Global, mem: &bool) -> Result<bool, OutOfMemory> {
+        Ok(*mem)
+    }
+
+    fn copy_mem_in(&self, mem: &bool, _spare: bool) -> Result<bool, OutOfMemory> {
         Ok(*mem)
     }
 
@@ -76,10 +90,21 @@ impl Machine for Straying {
         alloc: Global,
         mem: &bool,
         threads: &[Thread<bool>],
-    ) -> Result<Sequence<Option<bool>>, OutOfMemory> {
-        let mut form = places_of(alloc, threads)?;
-        form.insert(0, Some(*mem))?;
-        Ok(form)
+    ) -> Result<Bytes, OutOfMemory> {
+        let mut form = Vec::new(alloc);
+        form.push(held_byte(Some(*mem)))?;
+        put_held(&mut form, threads)?;
+        Ok(Bytes::from_vec(form))
+    }
+
+    fn write_form(
+        &self,
+        alloc: Global,
+        mem: &bool,
+        threads: &[Thread<bool>],
+        room: &mut Room,
+    ) -> Result<(), OutOfMemory> {
+        room.put(self.form(alloc, mem, threads)?.as_slice())
     }
 
     ghost lawful = { λ _. straying_lawful };

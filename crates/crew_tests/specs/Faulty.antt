@@ -1,7 +1,9 @@
 -- A machine with a fault for each kind of operation, for the tests: an insert replies true, a delete goes astray at its
 -- second step, and a find leaves the memory out of order. A place says whether the operation's first step is done, the
 -- memory whether it is out of order.
-use Rattle.std.specs.Prelude.{◌≡◌, ◌↔◌, Bool, true, false, refl, List, ◌∷◌, Option, Some}
+use Rattle.std.specs.Prelude.{◌≡◌, ◌↔◌, ℕ, Bool, true, false, refl, List, [], ◌∷◌, map, Option, Some, None}
+use Rattle.std.proofs.Common.{◌∙◌, ap, arith}
+use Rattle.std.proofs.lemmas.Option.{same_Some}
 use Rattle.sched_program.specs.declared.operation.Op.{Op}
 use Rattle.sched_program.specs.declared.operation.Op.TheVariants.{Insert, Delete, Find}
 use Rattle.tree_machine.specs.Rules.{Rules, AreLawful, IsOutcomeInRange}
@@ -51,17 +53,44 @@ faulty_lawful = record {
   pairs_lawful = equal_pairs_lawful faulty_rules.first faulty_rules.act faulty_rules.IsOrdered;
 }
 
+-- what a thread holds as a number
+abbrev pub held_code : Option Bool → ℕ
+held_code None = 0
+held_code (Some false) = 1
+held_code (Some true) = 2
+
+held_read : (place twin : Option Bool) → held_code place ≡ held_code twin → place ≡ twin
+held_read None None e = refl
+held_read None (Some false) e = absurd (omega (arith, e))
+held_read None (Some true) e = absurd (omega (arith, e))
+held_read (Some false) None e = absurd (omega (arith, e))
+held_read (Some true) None e = absurd (omega (arith, e))
+held_read (Some false) (Some false) e = refl
+held_read (Some false) (Some true) e = absurd (omega (arith, e))
+held_read (Some true) (Some false) e = absurd (omega (arith, e))
+held_read (Some true) (Some true) e = refl
+
+all_read : (held twins : List (Option Bool)) → map held_code held ≡ map held_code twins → held ≡ twins
+all_read [] [] e = refl
+all_read [] (twin ∷ twins) e = cc
+all_read (place ∷ held) [] e = cc
+all_read (place ∷ held) (twin ∷ twins) e =
+    let first : held_code place ≡ held_code twin = cc in
+    let rest : map held_code held ≡ map held_code twins = cc in
+    ap (λ p. p ∷ held) (held_read place twin first) ∙ ap (λ l. twin ∷ l) (all_read held twins rest)
+
 -- the memory, before what the threads hold
-abbrev pub faulty_form : Bool → List (Option Bool) → List (Option Bool)
-faulty_form memory held = Some memory ∷ held
+abbrev pub faulty_form : Bool → List (Option Bool) → List ℕ
+faulty_form memory held = held_code (Some memory) ∷ map held_code held
 
 -- forms are equal exactly if the memories and the places are
 pub faulty_forms : (memory other : Bool) (held twins : List (Option Bool)) → (faulty_form memory held ≡ faulty_form other twins) ↔ AreAlike faulty_rules.pairs memory held other twins
 faulty_forms memory other held twins =
     let alike = equal_alike memory other held twins in (
       (λ same.
-          let first : memory ≡ other = cc in
-          let rest : held ≡ twins = cc in
-          alike.0 (first, rest)),
+          let first : held_code (Some memory) ≡ held_code (Some other) = cc in
+          let rest : map held_code held ≡ map held_code twins = cc in
+          let memories : memory ≡ other = same_Some memory other (held_read (Some memory) (Some other) first) in
+          alike.0 (memories, all_read held twins rest)),
       (λ h. let same = alike.1 h in λ i. faulty_form (same.0 i) (same.1 i)),
     )

@@ -1,11 +1,11 @@
 //! A machine with a fault for each kind of operation.
-ghost use Rattle.std.specs.Prelude.{◌≡◌, refl, IfOk};
+ghost use Rattle.std.specs.Prelude.{◌≡◌, ◌++◌, map, refl, OnOk};
 ghost use Rattle.tree_machine.specs.Alike.{places_of};
-ghost use Rattle.crew_tests.specs.Faulty.{faulty_rules, faulty_lawful, faulty_form, faulty_forms};
+ghost use Rattle.crew_tests.specs.Faulty.{faulty_rules, faulty_lawful, faulty_form, faulty_forms, held_code};
 
-use sched_program::{Exact, Op, OutOfMemory, Sequence};
+use sched_program::{Exact, Op, OutOfMemory};
 use std::alloc::Global;
-use tree_machine::{Machine, Outcome, Thread};
+use tree_machine::{Bytes, Machine, Outcome, Room, Thread};
 
 /// An insert replies true, a delete goes astray at its second step, and a find leaves the memory out of order.
 /// A place says whether the operation's first step is done, the memory whether it is out of order.
@@ -16,15 +16,25 @@ impl Exact for Faulty {
     ghost exact = { λ a b h. refl };
 }
 
-/// The place that each thread holds.
-fn places_of(alloc: Global, threads: &[Thread<bool>]) -> Result<Sequence<Option<bool>>, OutOfMemory>
-    ensures { IfOk result (λ places. places ≡ places_of threads.now) }
+/// What a thread holds as a byte.
+fn held_byte(place: Option<bool>) -> u8
+    ensures { result ≡ held_code place }
 {
-    let mut places = Sequence::with_capacity(alloc, threads.len())?;
-    for thread in threads {
-        places.push(thread.place)?;
+    match place {
+        None => 0,
+        Some(false) => 1,
+        Some(true) => 2,
     }
-    Ok(places)
+}
+
+/// What each thread holds, behind other bytes.
+fn put_held(bytes: &mut Vec<u8>, threads: &[Thread<bool>]) -> Result<(), OutOfMemory>
+    ensures { OnOk result (bytes.new.items ≡ bytes.old.items ++ map held_code (places_of threads.now)) }
+{
+    for thread in threads {
+        bytes.push(held_byte(thread.place))?;
+    }
+    Ok(())
 }
 
 impl Machine for Faulty {
@@ -32,13 +42,17 @@ impl Machine for Faulty {
 
     type Loc = bool;
 
-    type Form = Sequence<Option<bool>>;
+    type Form = Bytes;
 
     ghost rules = { λ _. faulty_rules };
 
     ghost form_of = { λ _. faulty_form };
 
     fn copy_mem(&self, _alloc: Global, mem: &bool) -> Result<bool, OutOfMemory> {
+        Ok(*mem)
+    }
+
+    fn copy_mem_in(&self, mem: &bool, _spare: bool) -> Result<bool, OutOfMemory> {
         Ok(*mem)
     }
 
@@ -86,10 +100,21 @@ impl Machine for Faulty {
         alloc: Global,
         mem: &bool,
         threads: &[Thread<bool>],
-    ) -> Result<Sequence<Option<bool>>, OutOfMemory> {
-        let mut form = places_of(alloc, threads)?;
-        form.insert(0, Some(*mem))?;
-        Ok(form)
+    ) -> Result<Bytes, OutOfMemory> {
+        let mut form = Vec::new(alloc);
+        form.push(held_byte(Some(*mem)))?;
+        put_held(&mut form, threads)?;
+        Ok(Bytes::from_vec(form))
+    }
+
+    fn write_form(
+        &self,
+        alloc: Global,
+        mem: &bool,
+        threads: &[Thread<bool>],
+        room: &mut Room,
+    ) -> Result<(), OutOfMemory> {
+        room.put(self.form(alloc, mem, threads)?.as_slice())
     }
 
     ghost lawful = { λ _. faulty_lawful };

@@ -75,6 +75,7 @@ impl Numbering {
     }
 
     /// Meets a cell, and tells its place.
+    #[inline(always)]
     pub(crate) fn meet(&mut self, cell: usize) -> Result<usize, OutOfMemory>
         requires { cell < length self.old.numbers.items }
         ensures order { OnOk result (self.new.order.items ≡ met self.old.order.items cell) }

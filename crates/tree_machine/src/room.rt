@@ -1,5 +1,5 @@
 //! Room in which forms are written, one after the other.
-ghost use Rattle.std.specs.Prelude.{◌≡◌, ◌++◌, [], OnOk};
+ghost use Rattle.std.specs.Prelude.{◌≡◌, ◌++◌, [], OnOk, OnErr};
 ghost use Rattle.tree_machine.specs.FormCode.{deeds_code};
 
 use crate::bytes::Bytes;
@@ -46,6 +46,15 @@ impl Room {
         ensures { result.now ≡ self.now }
     {
         self.pass.bytes.as_slice()
+    }
+
+    /// Puts bytes behind those that stand there. After a refusal these are as they were.
+    pub fn put(&mut self, bytes: &[u8]) -> Result<(), OutOfMemory>
+        ensures ok { OnOk result (self.new ≡ self.old ++ bytes.now) }
+        ensures err { OnErr result (self.new ≡ self.old) }
+    {
+        self.pass.bytes.extend_from_slice(bytes)?;
+        Ok(())
     }
 
     /// The bytes, in memory of their own.

@@ -14,6 +14,7 @@ use std::alloc::Global;
 use std::marker::Model;
 
 /// Puts a number behind bytes: 255 for each 255 in it, and then the rest. Nearly all numbers of a form are small.
+#[inline(always)]
 fn put_number(bytes: &mut Vec<u8>, number: u64) -> Result<(), OutOfMemory>
     ensures { OnOk result (bytes.new.items ≡ bytes.old.items ++ number_code number) }
 {
@@ -26,6 +27,8 @@ fn put_number(bytes: &mut Vec<u8>, number: u64) -> Result<(), OutOfMemory>
 }
 
 /// The same where the number may be large.
+#[cold]
+#[inline(never)]
 fn put_large(bytes: &mut Vec<u8>, number: u64) -> Result<(), OutOfMemory>
     ensures { OnOk result (bytes.new.items ≡ bytes.old.items ++ number_code number) }
 {
@@ -103,6 +106,7 @@ impl Pass {
     }
 
     /// Meets what is referred to, and puts its place behind the bytes.
+    #[inline(always)]
     fn put_reference(&mut self, reference: Option<usize>) -> Result<(), OutOfMemory>
         requires { IfSome reference (λ x. x < length self.old.numbering.numbers.items) }
         ensures order { OnOk result (self.new.numbering.order.items ≡ met_all self.old.numbering.order.items (reference ∷ [])) }

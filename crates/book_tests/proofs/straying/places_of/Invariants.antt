@@ -1,7 +1,0 @@
-use Rattle.std.proofs.Common.{◌≡◌, take}
-use Rattle.tree_machine.specs.Alike.{places_of}
-use Rattle.book_tests.proofs.straying.places_of.Given as goal
-
--- the places of the threads so far are copied
-abbrev pub invariant-loop-thread : goal.invariant-loop-thread
-invariant-loop-thread l = l.places ≡ places_of (take l.thread-index l.threads)
