@@ -40,15 +40,12 @@ pub(crate) struct Numbering {
 }
 
 impl Numbering {
-    /// No cell of so many is met yet. There is room for all.
+    /// No cell of so many is met yet.
     pub(crate) fn new(alloc: Global, cells: usize) -> Result<Self, OutOfMemory>
         ensures nothing { IfOk result (λ n. n.order.items ≡ []) }
         ensures range { IfOk result (λ n. length n.numbers.items ≡ cells) }
     {
-        Ok(Numbering {
-            order: Vec::with_capacity(alloc, cells)?,
-            numbers: vec![in alloc; None; cells]?,
-        })
+        Numbering::none(alloc).restarted(cells)
     }
 
     /// No cell is met, of none. It takes no memory.

@@ -34,8 +34,7 @@ pub fn copied_in<T: Copy + Drop>(
 ) -> Result<Sequence<T>, OutOfMemory>
     ensures { IfOk result (λ copy. copy ≡ values.now) }
 {
-    let mut items = list.into_vec();
-    items.clear();
+    let mut items = emptied(list).into_vec();
     items.extend_from_slice(values)?;
     Ok(Sequence::from_vec(items))
 }
