@@ -13,12 +13,12 @@ use Rattle.tree_machine.specs.contracts.state.State as State
 use Rattle.tree_machine.specs.declared.coded.Coded as coded
 use Rattle.tree_machine.specs.declared.machine.Machine as machine
 use Rattle.book.specs.contracts.book.Book as Book
-use Rattle.book.specs.contracts.entry.Row as Row
+use Rattle.book.specs.contracts.entry.PackedRow as PackedRow
 use Rattle.book.specs.contracts.hashed.Hashed as Hashed
 use Rattle.book.specs.contracts.known.Known as Known
 use Rattle.book.specs.contracts.table.Table as Table
 
-row_send : IsSend Row.the_row
+row_send : IsSend PackedRow.the_row
 row_send = search (sendable, crosses) depth 30
 
 program_send : IsSend Program.the_row

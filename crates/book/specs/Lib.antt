@@ -10,6 +10,7 @@ pub mod Counts
 pub mod Closed
 pub mod Correct
 pub mod Books
+pub mod Packed
 pub mod Replay
 pub mod Shown
 pub mod Slots

@@ -1,9 +1,11 @@
 //! An entry, apart from its state.
-ghost use Rattle.std.specs.Prelude.{◌≡◌};
+ghost use Rattle.std.specs.Prelude.{◌≡◌, ◌<◌, IfOk};
 ghost use Rattle.book.specs.Findings.{is_sound};
 ghost use Rattle.book.specs.Entries.{is_open, is_taken, is_expanded};
 
 use crate::finding::Finding;
+use std::alloc::AllocError;
+use std::marker::Model;
 
 /// How far an entry is worked on.
 #[derive(Clone, Copy, Debug, PartialEq, Eq)]
@@ -33,7 +35,75 @@ pub struct Row {
     pub mark: Mark,
 }
 
-impl Row {
+/// The number of a parent that stands for none.
+const NO_PARENT: u32 = 4294967295;
+
+/// A row in 32 bytes, since a book has one for each state. Contracts see the row itself.
+#[derive(Drop)]
+pub struct PackedRow {
+    parent: u32,
+    finding: Finding,
+    thread: u8,
+    mark: Mark,
+}
+
+impl Model for PackedRow {
+    ghost use Rattle.book.specs.Packed.{origin_of};
+    ghost use Rattle.book.specs.declared.entry.Row.{Row};
+
+    ghost Value = { Row };
+
+    ghost view = { λ r. record { finding = r.finding; origin = origin_of r.parent r.thread; mark = r.mark } };
+}
+
+impl PackedRow {
+    /// A row, packed. Where the parent's number is too large to be, it is refused as memory that there is not.
+    pub fn new(row: Row) -> Result<PackedRow, AllocError>
+        ensures { IfOk result (λ packed. packed ≡ row) }
+    {
+        let Row {
+            finding,
+            origin,
+            mark,
+        } = row;
+        let (parent, thread) = match origin {
+            None => (NO_PARENT, 0),
+            Some(origin) => (parent_number(origin.parent)?, origin.thread),
+        };
+        Ok(PackedRow {
+            parent,
+            finding,
+            thread,
+            mark,
+        })
+    }
+
+    /// What was found of the state.
+    pub fn finding(&self) -> &Finding
+        ensures { result.now ≡ self.now.finding }
+    {
+        &self.finding
+    }
+
+    /// The step that the entry is, if it is one.
+    pub fn origin(&self) -> Option<Origin>
+        ensures { result ≡ self.now.origin }
+    {
+        if self.parent == NO_PARENT {
+            return None;
+        }
+        Some(Origin {
+            parent: self.parent as usize,
+            thread: self.thread,
+        })
+    }
+
+    pub fn set_mark(&mut self, mark: Mark)
+        ensures { self.new ≡ record self.old { mark = mark } }
+    {
+        self.mark = mark;
+    }
+
     pub fn is_open(&self) -> bool
         ensures { result ≡ is_open self.now.mark }
     {
@@ -56,5 +126,16 @@ impl Row {
         ensures { result ≡ is_sound self.now.finding }
     {
         self.finding.is_sound()
+    }
+}
+
+/// A parent's number in four bytes, unless it is too large.
+fn parent_number(parent: usize) -> Result<u32, AllocError>
+    ensures number { IfOk result (λ number. number ≡ parent) }
+    ensures some { IfOk result (λ number. number < 4294967295) }
+{
+    match u32::try_from(parent) {
+        Ok(number) if number < NO_PARENT => Ok(number),
+        _ => Err(AllocError),
     }
 }

@@ -2,7 +2,7 @@
 ghost use Rattle.std.specs.Prelude.{◌≡◌, ◌≤◌, if◌then◌else◌, is_some, IfOk};
 ghost use Rattle.book.specs.Leftovers.{Keeps};
 
-use crate::entry::Row;
+use crate::entry::PackedRow;
 use crate::hashed::Hashed;
 use crate::known::Known;
 use sched_program::OutOfMemory;
@@ -15,7 +15,7 @@ use std::sync::Arc;
 /// lock can drop these after it.
 #[derive(Drop)]
 pub struct Leftovers<S: Hash, F: Hash> {
-    known: Vec<(Hashed<Known<S, F>>, Row, Arc<S>)>,
+    known: Vec<(Hashed<Known<S, F>>, PackedRow, Arc<S>)>,
 }
 
 impl<S: Hash, F: Hash> Model for Leftovers<S, F> {
@@ -58,7 +58,7 @@ impl<S: Hash + Drop, F: Hash + Drop> Leftovers<S, F> {
     }
 
     /// Keeps a state, if there is one, where there is room, and else drops it.
-    pub(crate) fn keep(&mut self, state: Option<(Hashed<Known<S, F>>, Row, Arc<S>)>)
+    pub(crate) fn keep(&mut self, state: Option<(Hashed<Known<S, F>>, PackedRow, Arc<S>)>)
         ensures { Keeps self.old self.new (if is_some state then 1 else 0) }
     {
         if let Some(state) = state {

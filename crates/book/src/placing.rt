@@ -5,7 +5,7 @@ ghost use Rattle.book.specs.Labels.{same_label};
 ghost use Rattle.book.specs.Leftovers.{KeepsMet};
 ghost use Rattle.book.specs.Slots.{entries_of, keyed_of, IsGrown, StayHeld};
 
-use crate::entry::{Mark, Origin, Row};
+use crate::entry::{Mark, Origin, PackedRow, Row};
 use crate::expansion::Stepped;
 use crate::hashed::Hashed;
 use crate::held::Held;
@@ -18,7 +18,7 @@ use std::hash::Hash;
 
 /// Puts in an open row for a step that leads to a new state, which is held. Else the step goes to the leftovers.
 fn put_step<S: Eq + Hash + Drop, F: Eq + Hash + Drop>(
-    slots: &mut IndexMap<Hashed<Known<S, F>>, Row>,
+    slots: &mut IndexMap<Hashed<Known<S, F>>, PackedRow>,
     held: &mut Held<S>,
     parent: usize,
     step: Stepped<S, F>,
@@ -32,11 +32,11 @@ fn put_step<S: Eq + Hash + Drop, F: Eq + Hash + Drop>(
     ensures left { OnOk result (KeepsMet leftovers.old leftovers.new (length slots.old.entries) (length slots.new.entries) 1) }
 {
     let (thread, state, known, finding) = step.into_parts();
-    let row = Row {
+    let row = PackedRow::new(Row {
         finding,
         origin: Some(Origin { parent, thread }),
         mark: Mark::Open,
-    };
+    })?;
     match put_new(slots, known, row)? {
         None => {
             held.push(state)?;
@@ -49,7 +49,7 @@ fn put_step<S: Eq + Hash + Drop, F: Eq + Hash + Drop>(
 
 /// Puts in, in their order, open rows for the steps that lead to new states, which are held. The others go to the leftovers.
 pub(crate) fn put_steps<S: Eq + Hash + Drop, F: Eq + Hash + Drop>(
-    slots: &mut IndexMap<Hashed<Known<S, F>>, Row>,
+    slots: &mut IndexMap<Hashed<Known<S, F>>, PackedRow>,
     held: &mut Held<S>,
     parent: usize,
     successors: Vec<Stepped<S, F>>,

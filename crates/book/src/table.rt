@@ -8,7 +8,7 @@ ghost use Rattle.book.specs.Labels.{AreKnownBy, AreStepsKnownBy, bares, same_as,
 ghost use Rattle.book.specs.Leftovers.{KeepsMet};
 ghost use Rattle.book.specs.Slots.{entries_of, forms_of, keyed_of, AreStatesOf, IsFirstLeft, IsGrown, IsLeft, IsOpenFrom, StayHeld};
 
-use crate::entry::{Mark, Origin, Row};
+use crate::entry::{Mark, Origin, PackedRow, Row};
 use crate::expansion::Stepped;
 use crate::finding::Finding;
 use crate::hashed::Hashed;
@@ -34,7 +34,7 @@ pub enum TableFault {
 /// on that is not expanded are held; those of the entries before it are given back.
 #[derive(Drop)]
 pub struct Table<S: Eq + Hash + Drop, F: Eq + Hash + Drop> {
-    slots: IndexMap<Hashed<Known<S, F>>, Row>,
+    slots: IndexMap<Hashed<Known<S, F>>, PackedRow>,
     held: Held<S>,
     next_open: usize,
     first_left: usize,
@@ -55,7 +55,7 @@ impl<S: Eq + Hash + Drop, F: Eq + Hash + Drop> Model for Table<S, F> {
 
 /// Marks the row at an index.
 fn mark_at<S: Eq + Hash, F: Eq + Hash>(
-    slots: &mut IndexMap<Hashed<Known<S, F>>, Row>,
+    slots: &mut IndexMap<Hashed<Known<S, F>>, PackedRow>,
     index: usize,
     mark: Mark,
 )
@@ -63,13 +63,13 @@ fn mark_at<S: Eq + Hash, F: Eq + Hash>(
     ensures forms { forms_of slots.new.entries ≡ forms_of slots.old.entries }
 {
     if let Some(row) = slots.get_index_mut(index) {
-        row.mark = mark;
+        row.set_mark(mark);
     }
 }
 
 /// Marks the rows at the indices from `start` to below `end`.
 fn mark_run<S: Eq + Hash, F: Eq + Hash>(
-    slots: &mut IndexMap<Hashed<Known<S, F>>, Row>,
+    slots: &mut IndexMap<Hashed<Known<S, F>>, PackedRow>,
     start: usize,
     end: usize,
     mark: Mark,
@@ -85,9 +85,9 @@ fn mark_run<S: Eq + Hash, F: Eq + Hash>(
 
 /// The row at an index.
 fn row_at<S: Eq + Hash, F: Eq + Hash>(
-    slots: &IndexMap<Hashed<Known<S, F>>, Row>,
+    slots: &IndexMap<Hashed<Known<S, F>>, PackedRow>,
     index: usize,
-) -> &Row
+) -> &PackedRow
     requires { index < length slots.now.entries }
     ensures { (e : Entry S) × At (entries_of slots.now.entries) index e × (e.finding ≡ result.now.finding) × (e.origin ≡ result.now.origin) × (e.mark ≡ result.now.mark) }
 {
@@ -99,7 +99,7 @@ fn row_at<S: Eq + Hash, F: Eq + Hash>(
 
 /// The first row that is not sound, where all before `start` are.
 fn first_fault_from<S: Eq + Hash, F: Eq + Hash>(
-    slots: &IndexMap<Hashed<Known<S, F>>, Row>,
+    slots: &IndexMap<Hashed<Known<S, F>>, PackedRow>,
     start: usize,
 ) -> Option<usize>
     requires { (i : ℕ) (e : Entry S) → At (entries_of slots.now.entries) i e → i < start → is_sound e.finding ≡ true }
@@ -115,7 +115,7 @@ fn first_fault_from<S: Eq + Hash, F: Eq + Hash>(
 
 /// The first row that is not expanded, where all before `start` are, or the number of rows.
 fn first_left_from<S: Eq + Hash, F: Eq + Hash>(
-    slots: &IndexMap<Hashed<Known<S, F>>, Row>,
+    slots: &IndexMap<Hashed<Known<S, F>>, PackedRow>,
     start: usize,
 ) -> usize
     requires before { (i : ℕ) (e : Entry S) → At (entries_of slots.now.entries) i e → i < start → e.mark ≡ Mark.Expanded }
@@ -131,21 +131,21 @@ fn first_left_from<S: Eq + Hash, F: Eq + Hash>(
 }
 
 /// The number of open rows.
-fn open_rows<S: Eq + Hash, F: Eq + Hash>(slots: &IndexMap<Hashed<Known<S, F>>, Row>) -> usize
+fn open_rows<S: Eq + Hash, F: Eq + Hash>(slots: &IndexMap<Hashed<Known<S, F>>, PackedRow>) -> usize
     ensures { result ≡ count_by (λ row. is_open row.mark) (values slots.now) }
 {
     slots.values().filter(|row| row.is_open()).count()
 }
 
 /// The number of taken rows.
-fn taken_rows<S: Eq + Hash, F: Eq + Hash>(slots: &IndexMap<Hashed<Known<S, F>>, Row>) -> usize
+fn taken_rows<S: Eq + Hash, F: Eq + Hash>(slots: &IndexMap<Hashed<Known<S, F>>, PackedRow>) -> usize
     ensures { result ≡ count_by (λ row. is_taken row.mark) (values slots.now) }
 {
     slots.values().filter(|row| row.is_taken()).count()
 }
 
 /// The number of expanded rows.
-fn expanded_rows<S: Eq + Hash, F: Eq + Hash>(slots: &IndexMap<Hashed<Known<S, F>>, Row>) -> usize
+fn expanded_rows<S: Eq + Hash, F: Eq + Hash>(slots: &IndexMap<Hashed<Known<S, F>>, PackedRow>) -> usize
     ensures { result ≡ count_by (λ row. is_expanded row.mark) (values slots.now) }
 {
     slots.values().filter(|row| row.is_expanded()).count()
@@ -164,11 +164,11 @@ impl<S: Eq + Hash + Drop, F: Eq + Hash + Drop> Table<S, F> {
         ensures forms { IfOk result (λ t. t.forms ≡ known.form ∷ []) }
     {
         let fault = if finding.is_sound() { None } else { Some(0) };
-        let row = Row {
+        let row = PackedRow::new(Row {
             finding,
             origin: None,
             mark: Mark::Open,
-        };
+        })?;
         let mut slots = IndexMap::new(alloc);
         put_new(&mut slots, known, row)?;
         let mut held = Held::none(alloc);
@@ -195,7 +195,7 @@ impl<S: Eq + Hash + Drop, F: Eq + Hash + Drop> Table<S, F> {
     }
 
     /// The row of an entry.
-    pub fn row(&self, index: usize) -> Option<&Row>
+    pub fn row(&self, index: usize) -> Option<&PackedRow>
         ensures some { IfSome result (λ row. (e : Entry S) × At self.now.entries index e × (e.finding ≡ row.now.finding) × (e.origin ≡ row.now.origin) × (e.mark ≡ row.now.mark)) }
         ensures none { IfNone result (slice_get self.now.entries index ≡ None) }
     {
@@ -343,7 +343,7 @@ impl<S: Eq + Hash + Drop, F: Eq + Hash + Drop> Table<S, F> {
         requires { index < length self.now.entries }
         ensures { (e : Entry S) × At self.now.entries index e × (e.origin ≡ result) }
     {
-        row_at(&self.slots, index).origin
+        row_at(&self.slots, index).origin()
     }
 
     /// The number of open entries.

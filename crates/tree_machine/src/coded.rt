@@ -1,7 +1,9 @@
 //! Values in bytes, one after the other.
-ghost use Rattle.std.specs.Prelude.{◌≡◌, ◌++◌, List, ℕ, OnOk};
+ghost use Rattle.std.specs.Prelude.{◌≡◌, ◌≤◌, ◌++◌, List, ℕ, OnOk, length};
+ghost use Rattle.tree_machine.specs.Alike.{notes_of, replies_of};
 ghost use Rattle.tree_machine.specs.FormCode.{IsInjective, astray_code, list_code, note_code, reply_code};
 
+use crate::state::Thread;
 use sched_program::{Note, OutOfMemory, ShortList};
 
 /// Values that bytes tell.
@@ -25,15 +27,16 @@ fn put_replies(bytes: &mut Vec<u8>, replies: &ShortList<bool, 6>) -> Result<(), 
 }
 
 /// Puts the replies of each thread behind bytes.
-pub fn put_all_replies(
+pub(crate) fn put_all_replies<L>(
     bytes: &mut Vec<u8>,
-    threads: &ShortList<ShortList<bool, 6>, 4>,
+    threads: &[Thread<L>],
 ) -> Result<(), OutOfMemory>
-    ensures { OnOk result (bytes.new.items ≡ bytes.old.items ++ list_code (list_code reply_code) threads.now) }
+    requires { length threads.now ≤ 4 }
+    ensures { OnOk result (bytes.new.items ≡ bytes.old.items ++ list_code (list_code reply_code) (replies_of threads.now)) }
 {
     bytes.push(threads.len() as u8)?;
-    for replies in threads.as_slice() {
-        put_replies(bytes, replies)?;
+    for thread in threads {
+        put_replies(bytes, &thread.replies)?;
     }
     Ok(())
 }
@@ -59,21 +62,22 @@ fn put_notes(bytes: &mut Vec<u8>, notes: &ShortList<Note, 6>) -> Result<(), OutO
 }
 
 /// Puts the notes of each thread behind bytes.
-pub fn put_all_notes(
+pub(crate) fn put_all_notes<L>(
     bytes: &mut Vec<u8>,
-    threads: &ShortList<ShortList<Note, 6>, 4>,
+    threads: &[Thread<L>],
 ) -> Result<(), OutOfMemory>
-    ensures { OnOk result (bytes.new.items ≡ bytes.old.items ++ list_code (list_code note_code) threads.now) }
+    requires { length threads.now ≤ 4 }
+    ensures { OnOk result (bytes.new.items ≡ bytes.old.items ++ list_code (list_code note_code) (notes_of threads.now)) }
 {
     bytes.push(threads.len() as u8)?;
-    for notes in threads.as_slice() {
-        put_notes(bytes, notes)?;
+    for thread in threads {
+        put_notes(bytes, &thread.notes)?;
     }
     Ok(())
 }
 
 /// Puts behind bytes which thread went astray, if one did.
-pub fn put_astray(bytes: &mut Vec<u8>, astray: Option<u8>) -> Result<(), OutOfMemory>
+pub(crate) fn put_astray(bytes: &mut Vec<u8>, astray: Option<u8>) -> Result<(), OutOfMemory>
     ensures { OnOk result (bytes.new.items ≡ bytes.old.items ++ astray_code astray) }
 {
     match astray {

@@ -1,10 +1,10 @@
 //! Forms of states: what is left of a state without the numbers of its nodes and records, and of its steps.
-ghost use Rattle.std.specs.Prelude.{◌≡◌, ◌↔◌, ◌≤◌, length, IfOk};
+ghost use Rattle.std.specs.Prelude.{◌≡◌, ◌↔◌, IfOk};
 ghost use Rattle.std.proofs.Common.{ap};
 ghost use Rattle.std.specs.Cmp.{partial_equiv_from_equiv};
 ghost use Rattle.sched_program.specs.Program.{Program, IsWithinLimits};
 ghost use Rattle.tree_machine.specs.Step.{Fits};
-ghost use Rattle.tree_machine.specs.Alike.{FormContent, replies_of, notes_of, state_form, AreStatesAlike};
+ghost use Rattle.tree_machine.specs.Alike.{FormContent, state_form, AreStatesAlike};
 ghost use Rattle.tree_machine.specs.FormCode.{content_code};
 ghost use Rattle.tree_machine.specs.StateExact.{state_form_eq, state_form_equiv, state_form_exact};
 ghost use Rattle.tree_machine.specs.declared.state.State.{State};
@@ -12,8 +12,8 @@ ghost use Rattle.tree_machine.specs.declared.state.State.{State};
 use crate::bytes::Bytes;
 use crate::machine::Machine;
 use crate::room::Room;
-use crate::state::{State, Thread};
-use sched_program::{Exact, Note, OutOfMemory, ShortList};
+use crate::state::State;
+use sched_program::{Exact, OutOfMemory};
 use std::alloc::Global;
 use std::hash::{Hash, Hasher};
 use std::marker::Model;
@@ -44,28 +44,6 @@ impl<M: Machine> Model for StateForm<M> {
     ghost invariant = { λ f. f.bytes ≡ content_code M.Form.code (state_form (M.form_of f.machine.value) f.state.value) };
 }
 
-fn all_replies<L>(threads: &[Thread<L>]) -> ShortList<ShortList<bool, 6>, 4>
-    requires { length threads.now ≤ 4 }
-    ensures { result ≡ replies_of threads.now }
-{
-    let mut replies = ShortList::new();
-    for thread in threads {
-        replies.push(thread.replies);
-    }
-    replies
-}
-
-fn all_notes<L>(threads: &[Thread<L>]) -> ShortList<ShortList<Note, 6>, 4>
-    requires { length threads.now ≤ 4 }
-    ensures { result ≡ notes_of threads.now }
-{
-    let mut notes = ShortList::new();
-    for thread in threads {
-        notes.push(thread.notes);
-    }
-    notes
-}
-
 impl<M: Machine> State<M> {
     /// The machine's form of the state, with the replies, the notes and the thread by which it went astray, and without
     /// the number of steps. Two states have equal forms exactly if they are alike.
@@ -91,7 +69,7 @@ impl<M: Machine> State<M> {
     {
         let threads = self.threads.as_slice();
         room.clear();
-        room.put_deeds(&all_replies(threads), &all_notes(threads), self.astray)?;
+        room.put_deeds(threads, self.astray)?;
         machine.write_form(alloc, &self.memory, threads, room)?;
         Ok(StateForm {
             bytes: Bytes::from_vec(Vec::from_slice(alloc, room.as_slice())?),

@@ -1,11 +1,13 @@
 //! Room in which forms are written, one after the other.
-ghost use Rattle.std.specs.Prelude.{◌≡◌, ◌++◌, [], OnOk, OnErr};
+ghost use Rattle.std.specs.Prelude.{◌≡◌, ◌≤◌, ◌++◌, [], length, OnOk, OnErr};
+ghost use Rattle.tree_machine.specs.Alike.{notes_of, replies_of};
 ghost use Rattle.tree_machine.specs.FormCode.{deeds_code};
 
 use crate::bytes::Bytes;
 use crate::coded::{put_all_notes, put_all_replies, put_astray};
+use crate::state::Thread;
 use crate::writer::Pass;
-use sched_program::{Note, OutOfMemory, ShortList};
+use sched_program::OutOfMemory;
 use std::alloc::Global;
 use std::marker::Model;
 
@@ -65,16 +67,16 @@ impl Room {
     }
 
     /// Puts what the threads did, and who went astray, behind the bytes.
-    pub(crate) fn put_deeds(
+    pub(crate) fn put_deeds<L>(
         &mut self,
-        replies: &ShortList<ShortList<bool, 6>, 4>,
-        notes: &ShortList<ShortList<Note, 6>, 4>,
+        threads: &[Thread<L>],
         astray: Option<u8>,
     ) -> Result<(), OutOfMemory>
-        ensures { OnOk result (self.new ≡ self.old ++ deeds_code replies.now notes.now astray) }
+        requires { length threads.now ≤ 4 }
+        ensures { OnOk result (self.new ≡ self.old ++ deeds_code (replies_of threads.now) (notes_of threads.now) astray) }
     {
-        put_all_replies(&mut self.pass.bytes, replies)?;
-        put_all_notes(&mut self.pass.bytes, notes)?;
+        put_all_replies(&mut self.pass.bytes, threads)?;
+        put_all_notes(&mut self.pass.bytes, threads)?;
         put_astray(&mut self.pass.bytes, astray)
     }
 }

@@ -40,6 +40,7 @@ fn put_large(bytes: &mut Vec<u8>, number: u64) -> Result<(), OutOfMemory>
 }
 
 /// Puts numbers behind bytes.
+#[inline(always)]
 fn put_numbers(bytes: &mut Vec<u8>, numbers: &[u64]) -> Result<(), OutOfMemory>
     ensures { OnOk result (bytes.new.items ≡ bytes.old.items ++ flat_map number_code numbers.now) }
 {
@@ -50,6 +51,7 @@ fn put_numbers(bytes: &mut Vec<u8>, numbers: &[u64]) -> Result<(), OutOfMemory>
 }
 
 /// Puts facts behind bytes, as a cell of this kind that names so many nodes has them.
+#[inline(always)]
 fn put_facts(bytes: &mut Vec<u8>, kind: u64, nodes: usize, facts: &[u64]) -> Result<(), OutOfMemory>
     ensures { OnOk result (bytes.new.items ≡ bytes.old.items ++ counted_codes (kind ∷ nodes ∷ facts.now)) }
 {
@@ -123,6 +125,7 @@ impl Pass {
     }
 
     /// The same for references one after the other, that name cells from one on.
+    #[inline(always)]
     fn put_references(
         &mut self,
         first: usize,
@@ -143,6 +146,7 @@ impl Pass {
     }
 
     /// The same for cells that are told by their numbers.
+    #[inline(always)]
     fn put_cells(&mut self, first: usize, cells: &[u32]) -> Result<(), OutOfMemory>
         requires { All (λ x. first + x < length self.old.numbering.numbers.items) cells.now }
         ensures order { OnOk result (self.new.numbering.order.items ≡ met_all self.old.numbering.order.items (map (option_map (λ x. first + x)) (map Some cells.now))) }
@@ -231,6 +235,7 @@ impl Writer {
     ///
     /// # Errors
     /// `OutOfMemory` where a growth was refused. Some of the part may then be written.
+    #[inline(always)]
     pub fn put(
         &mut self,
         facts: &[u64],
@@ -247,6 +252,7 @@ impl Writer {
     ///
     /// # Errors
     /// `OutOfMemory` where a growth was refused. Some of the part may then be written.
+    #[inline(always)]
     pub fn put_with_stack(
         &mut self,
         facts: &[u64],

@@ -34,7 +34,7 @@ impl<M: Machine> Book<M> {
         ensures { option_copied result ≡ option_map (λ e. e.finding) (slice_get self.now.entries id) }
     {
         match self.table.row(id) {
-            Some(row) => Some(&row.finding),
+            Some(row) => Some(row.finding()),
             None => None,
         }
     }

@@ -1,0 +1,26 @@
+-- A field of each of several values in bytes.
+use Rattle.std.proofs.Common.{◌≡◌, ◌≤◌, ℕ, zero, suc, List, [], ◌∷◌, ◌++◌, length, map, take, refl, sym, ◌∙◌, ap, arith}
+use Rattle.std.specs.List.{flat_map}
+use Rattle.std.proofs.lemmas.List.{length-map}
+use Rattle.std.proofs.lemmas.List.Concat.{flat_map-cons}
+use Rattle.tree_machine.specs.FormCode.{list_code}
+
+take_whole : {A : Type 0} (xs : List A) (i : ℕ) → length xs ≤ i → take i xs ≡ xs
+take_whole [] zero l = refl
+take_whole [] (suc i) l = refl
+take_whole (x ∷ xs) zero l = absurd (omega arith)
+take_whole (x ∷ xs) (suc i) l = ap (λ ys. x ∷ ys) (take_whole xs i (omega arith))
+
+module _ {A B : Type 0} (code : B → List ℕ) (of : A → B) where
+  flat_map-map : (xs : List A) → flat_map code (map of xs) ≡ flat_map (λ x. code (of x)) xs
+  flat_map-map [] = refl
+  flat_map-map (x ∷ xs) =
+      flat_map-cons code (of x) (map of xs)
+      ∙ (ap (λ l. code (of x) ++ l) (flat_map-map xs) ∙ sym (flat_map-cons (λ y. code (of y)) x xs))
+
+  -- how many values there are, and the field of each, are the list of the fields
+  pub fields_coded : (xs : List A) (i : ℕ) (before after : List ℕ) → length xs ≤ i → after ≡ before ++ length xs ∷ flat_map (λ x. code (of x)) (take i xs) → after ≡ before ++ list_code code (map of xs)
+  fields_coded xs i before after within put =
+      put ∙ (ap (λ ys. before ++ length xs ∷ flat_map (λ x. code (of x)) ys) (take_whole xs i within)
+      ∙ (ap (λ n. before ++ n ∷ flat_map (λ x. code (of x)) xs) (sym (length-map xs of))
+      ∙ ap (λ l. before ++ length (map of xs) ∷ l) (sym (flat_map-map xs))))
