@@ -1,7 +1,8 @@
 //! States as a book knows them.
 ghost use Rattle.std.specs.Prelude.{◌≡◌, IfOk};
 ghost use Rattle.std.specs.Cmp.{partial_equiv_from_equiv};
-ghost use Rattle.book.specs.Labels.{input_by, same_input, same_label, same_label_equiv};
+ghost use Rattle.book.specs.Labels.{input_by, same_label};
+ghost use Rattle.book.specs.Laws.Labels.{same_input, same_label_equiv};
 
 use std::alloc::AllocError;
 use std::hash::{Hash, Hasher};

@@ -1,7 +1,8 @@
 use Rattle.std.proofs.Common.{◌∷◌, [], Bool, Some, sym}
 use Rattle.book.specs.declared.entry.Mark.TheVariants.{Open}
 use Rattle.book.specs.declared.entry.Row.{Row}
-use Rattle.book.specs.Labels.{Labelled, same_label, same_label_equiv}
+use Rattle.book.specs.Labels.{Labelled, same_label}
+use Rattle.book.specs.Laws.Labels.{same_label_equiv}
 use Rattle.book.proofs.SlotLemmas.{put_step, step_row}
 use Rattle.book.proofs.placing.put_step.Goals as goal
 
