@@ -211,8 +211,8 @@ impl<M: Machine> Book<M> {
             return Ok(Vec::new(self.table.allocator()));
         };
         let end = self.first_above(steps_at(&self.table, start));
-        let layer = self.table.shared(start, end)?;
-        self.table.mark_run_taken(start, end);
+        let layer = self.table.handed_out(start, end)?;
+        self.table.mark_range_taken(start, end);
         Ok(layer)
     }
 

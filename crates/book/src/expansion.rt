@@ -44,7 +44,7 @@ impl<S: Hash, F: Hash> Model for Stepped<S, F> {
 }
 
 impl<S: Hash, F: Hash> Stepped<S, F> {
-    pub(crate) fn into_parts(self) -> (u8, Arc<S>, Hashed<Known<S, F>>, Finding)
+    pub(crate) fn into_fields(self) -> (u8, Arc<S>, Hashed<Known<S, F>>, Finding)
         ensures { (result.0 ≡ self.thread) × (result.1.value ≡ self.state.state) × (result.2 ≡ self.state) × (result.3 ≡ self.finding) }
     {
         let Stepped {
@@ -94,7 +94,7 @@ fn relabelled<M: Machine>(
     ensures same { IfOk result (λ made. bare made ≡ bare step) }
     ensures form { IfOk result (λ made. made.state.form ≡ form_by merge (state_form (M.form_of machine)) made.state.state) }
 {
-    let (thread, state, _, finding) = step.into_parts();
+    let (thread, state, _, finding) = step.into_fields();
     let known = label(alloc, machine, program, &state, merge, room)?;
     Ok(Stepped {
         thread,

@@ -68,7 +68,7 @@ fn mark_at<S: Eq + Hash, F: Eq + Hash>(
 }
 
 /// Marks the rows at the indices from `start` to below `end`.
-fn mark_run<S: Eq + Hash, F: Eq + Hash>(
+fn mark_range<S: Eq + Hash, F: Eq + Hash>(
     slots: &mut IndexMap<Hashed<Known<S, F>>, Row>,
     start: usize,
     end: usize,
@@ -206,7 +206,7 @@ impl<S: Eq + Hash + Drop, F: Eq + Hash + Drop> Table<S, F> {
         }
     }
 
-    /// The shared state of an entry that is not expanded.
+    /// The state of an entry that is not expanded, which others may hold too.
     pub fn state(&self, index: usize) -> &Arc<S>
         requires { IsLeft self.now.entries index }
         ensures { (e : Entry S) × At self.now.entries index e × (e.state ≡ result.now.value) }
@@ -214,20 +214,20 @@ impl<S: Eq + Hash + Drop, F: Eq + Hash + Drop> Table<S, F> {
         self.held.at(index - self.first_left)
     }
 
-    /// The entries from `start` to below `end`, which are open, each by its number and its shared state.
-    pub fn shared(&self, start: usize, end: usize) -> Result<Vec<(usize, Arc<S>)>, AllocError>
+    /// The entries from `start` to below `end`, which are open, each by its number and its state, which stays in the table too.
+    pub fn handed_out(&self, start: usize, end: usize) -> Result<Vec<(usize, Arc<S>)>, AllocError>
         requires some { start ≤ end }
         requires within { end ≤ length self.now.entries }
         requires open { IsOpenFrom self.now.entries start }
-        ensures numbers { IfOk result (λ run. map (λ p. p.0) run.items ≡ range_with_len start (end - start)) }
-        ensures states { IfOk result (λ run. AreStatesOf self.now.entries run.items) }
+        ensures numbers { IfOk result (λ range. map (λ p. p.0) range.items ≡ range_with_len start (end - start)) }
+        ensures states { IfOk result (λ range. AreStatesOf self.now.entries range.items) }
     {
-        let mut run = Vec::with_capacity(self.allocator(), end - start)?;
+        let mut range = Vec::with_capacity(self.allocator(), end - start)?;
         for index in start..end {
             let state = Arc::try_clone(self.state(index))?;
-            run.push((index, state))?;
+            range.push((index, state))?;
         }
-        Ok(run)
+        Ok(range)
     }
 
     /// The first open entry. All entries from it on are open.
@@ -271,13 +271,13 @@ impl<S: Eq + Hash + Drop, F: Eq + Hash + Drop> Table<S, F> {
     }
 
     /// Marks the entries from the first open one, `start`, to below `end` taken.
-    pub fn mark_run_taken(&mut self, start: usize, end: usize)
+    pub fn mark_range_taken(&mut self, start: usize, end: usize)
         requires first { position (λ e. is_open e.mark) self.old.entries ≡ Some start }
         requires some { start ≤ end }
         requires within { end ≤ length self.old.entries }
         ensures { self.new ≡ record self.old { entries = with_marks self.old.entries (range_with_len start (end - start)) Mark.Taken } }
     {
-        mark_run(&mut self.slots, start, end, Mark::Taken);
+        mark_range(&mut self.slots, start, end, Mark::Taken);
         self.next_open = end;
     }
 

@@ -7,7 +7,7 @@ use crate::gate::Gate;
 use crate::leads::Leads;
 use crate::starting::call_at_once;
 use crate::tally::{Parts, Run, Tally};
-use crate::working::{Exploration, Layer, Stop, Worker, returns_of, run_of};
+use crate::working::{Exploration, Layer, Stop, Worker, returns_of, round_of};
 use sched_program::OutOfMemory;
 use std::alloc::Global;
 use std::sync::{Mutex, Wait};
@@ -89,7 +89,7 @@ impl<'a, J: Run + Send + Sync, M: Machine, G: Gate, R: Threads + Wait + Sync> Ex
         }
         let (claims, seats) = Claims::new(self.alloc, leads.len(), workers.len())?;
         seat_all(&claims, workers, seats);
-        let run = run_of(leads.len(), workers.len());
+        let round = round_of(leads.len(), workers.len());
         let before = spent.as_ref().map_or(0, |leads| leads.len());
         let returns = returns_of(before, leads.len(), workers.len());
         let layer = Layer {
@@ -100,7 +100,7 @@ impl<'a, J: Run + Send + Sync, M: Machine, G: Gate, R: Threads + Wait + Sync> Ex
             number,
             leads,
             claims,
-            run,
+            round,
             spent: Mutex::new(spent.take()),
             returns,
         };

@@ -28,7 +28,7 @@ impl Model for Options {
 }
 
 impl Options {
-    /// The options of these parts; none if one of them is out of its range.
+    /// The options of these fields; none if one of them is out of its range.
     pub fn new(steps: u16, limit: u32, merge: Merge, workers: u8) -> Option<Options>
         ensures value { IfSome result (λ options. options ≡ record { steps = steps; limit = limit; merge = merge; workers = workers }) }
         ensures range { IsSome result ↔ AreInRange (record { steps = steps; limit = limit; merge = merge; workers = workers }) }

@@ -39,7 +39,7 @@ pub struct Worker<J: Run> {
 
 /// How many places a worker draws in one round: several, so that it asks for the lock less often than once for each
 /// entry, but few beside its part of the layer, so that all workers come to the layer's end at about the same time.
-pub fn run_of(places: usize, workers: usize) -> usize
+pub fn round_of(places: usize, workers: usize) -> usize
     requires some { 0 < workers }
     requires few { workers < 2 ^ 8 }
 {
@@ -52,7 +52,7 @@ pub fn returns_of(spent: usize, places: usize, workers: usize) -> usize {
     (spent.saturating_mul(workers) / places.max(1)).saturating_add(1)
 }
 
-/// The last of the rounds in which a worker draws a run of places each before it enters the expansions. In those before it
+/// The last of the rounds in which a worker draws places before it enters the expansions. In those before it
 /// enters them only where no other worker has the lock, and else makes more of them rather than wait.
 const LAST_ROUND: usize = 7;
 
@@ -83,7 +83,7 @@ struct Supplies<M: Machine> {
 }
 
 impl<M: Machine> Supplies<M> {
-    /// Gives back so many entries of the layer before, as far as there are any. A state that nobody else shares goes to the
+    /// Gives back so many entries of the layer before, as far as there are any. A state that nobody else holds goes to the
     /// stock.
     fn give_back(&mut self, count: usize) {
         let Some(leads) = &mut self.spent else {
@@ -111,7 +111,7 @@ pub struct Layer<'a, M: Machine> {
     pub leads: Leads<M>,
     pub claims: Claims,
     /// How many places a worker draws in one round.
-    pub run: usize,
+    pub round: usize,
     /// The entries of the layer before. The first worker to come gives them back as it goes.
     pub spent: Mutex<Option<Leads<M>>>,
     /// How many of them that worker gives back for each place that it draws.
@@ -152,7 +152,7 @@ impl<'a, M: Machine> Layer<'a, M> {
         Ok((lead.id, expansion))
     }
 
-    /// Draws so many places as the run is, fewer at the end of the layer, and makes the expansions there. For each, some
+    /// Draws the places of one round, fewer at the end of the layer, and makes the expansions there. For each, some
     /// entries of the layer before are given back.
     fn draw<'l>(
         &'l self,
@@ -165,7 +165,7 @@ impl<'a, M: Machine> Layer<'a, M> {
         requires seat { IsSeatOf self.now seat.old }
         ensures seat { IsSeatOf self.now seat.new }
     {
-        for _place in 0..self.run {
+        for _place in 0..self.round {
             let Some(place) = self.claims.claim(seat) else {
                 return Ok(());
             };
@@ -178,7 +178,7 @@ impl<'a, M: Machine> Layer<'a, M> {
     }
 }
 
-/// What all workers of an exploration share.
+/// What all workers of an exploration have in common.
 #[derive(Drop)]
 pub struct Exploration<'a, J: Run, M: Machine, G: Gate, R: Wait> {
     pub rt: &'a R,

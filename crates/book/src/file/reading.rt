@@ -13,8 +13,8 @@ use std::alloc::Global;
 
 /// What stands before the first byte that is `at`, and what follows it.
 fn cut(bytes: &[u8], at: u8) -> Option<(&[u8], &[u8])>
-    ensures found { IfSome result (λ parts. (bytes.now ≡ parts.0.now ++ at ∷ parts.1.now)
-        × AllByRecursion (λ b. b ≢ at) parts.0.now) }
+    ensures found { IfSome result (λ pieces. (bytes.now ≡ pieces.0.now ++ at ∷ pieces.1.now)
+        × AllByRecursion (λ b. b ≢ at) pieces.0.now) }
     ensures none { IfNone result (AllByRecursion (λ b. b ≢ at) bytes.now) }
 {
     for i in 0..bytes.len() {

@@ -1,4 +1,4 @@
-//! Explorations of which the outcome is known. The numbers of states agree with two explorers that share no code with
+//! Explorations of which the outcome is known. The numbers of states agree with two explorers that have no code in common with
 //! this one.
 use crate::tests::sources::{
     DELETE_5, DELETE_10, DELETE_20, ELLEN, ELLEN_IN_TURN, ELLEN_INSERT, ELLEN_NO_IFLAG,
