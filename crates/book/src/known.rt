@@ -19,8 +19,8 @@ pub(crate) enum Label<S, F> {
     Form(F),
 }
 
-/// A state by its label. Two are equal if their labels are. A state that is known by its form is not held here: it is only
-/// proofs that see it.
+/// A state by its label. Two are equal if their labels are. A state that is known by its form is not held here: it is
+/// only proofs that see it.
 #[derive(Drop)]
 pub struct Known<S, F> {
     label: Label<S, F>,

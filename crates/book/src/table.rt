@@ -75,7 +75,8 @@ fn mark_range<S: Eq + Hash, F: Eq + Hash>(
     mark: Mark,
 )
     requires { start ≤ end }
-    ensures entries { entries_of slots.new.entries ≡ with_marks (entries_of slots.old.entries) (range_with_len start (end - start)) mark }
+    ensures entries { entries_of slots.new.entries
+        ≡ with_marks (entries_of slots.old.entries) (range_with_len start (end - start)) mark }
     ensures forms { forms_of slots.new.entries ≡ forms_of slots.old.entries }
 {
     for index in start..end {
@@ -89,7 +90,8 @@ fn row_at<S: Eq + Hash, F: Eq + Hash>(
     index: usize,
 ) -> &Row
     requires { index < length slots.now.entries }
-    ensures { (e : Entry S) × At (entries_of slots.now.entries) index e × (e.finding ≡ result.now.finding) × (e.origin ≡ result.now.origin) × (e.mark ≡ result.now.mark) }
+    ensures { (e : Entry S) × At (entries_of slots.now.entries) index e × (e.finding ≡ result.now.finding)
+        × (e.origin ≡ result.now.origin) × (e.mark ≡ result.now.mark) }
 {
     let Some((_, row)) = slots.get_index(index) else {
         unreachable!();
@@ -118,7 +120,8 @@ fn first_left_from<S: Eq + Hash, F: Eq + Hash>(
     slots: &IndexMap<Hashed<Known<S, F>>, Row>,
     start: usize,
 ) -> usize
-    requires before { (i : ℕ) (e : Entry S) → At (entries_of slots.now.entries) i e → i < start → e.mark ≡ Mark.Expanded }
+    requires before { (i : ℕ) (e : Entry S) → At (entries_of slots.now.entries) i e → i < start
+        → e.mark ≡ Mark.Expanded }
     requires within { start ≤ length slots.now.entries }
     ensures { IsFirstLeft (entries_of slots.now.entries) result }
 {
@@ -160,7 +163,8 @@ impl<S: Eq + Hash + Drop, F: Eq + Hash + Drop> Table<S, F> {
         finding: Finding,
     ) -> Result<Table<S, F>, AllocError>
         requires { known.state ≡ state.value }
-        ensures entries { IfOk result (λ t. t.entries ≡ record { state = known.state; finding = finding; origin = None; mark = Mark.Open } ∷ []) }
+        ensures entries { IfOk result (λ t. t.entries
+            ≡ record { state = known.state; finding = finding; origin = None; mark = Mark.Open } ∷ []) }
         ensures forms { IfOk result (λ t. t.forms ≡ known.form ∷ []) }
     {
         let fault = if finding.is_sound() { None } else { Some(0) };
@@ -196,7 +200,8 @@ impl<S: Eq + Hash + Drop, F: Eq + Hash + Drop> Table<S, F> {
 
     /// The row of an entry.
     pub fn row(&self, index: usize) -> Option<&Row>
-        ensures some { IfSome result (λ row. (e : Entry S) × At self.now.entries index e × (e.finding ≡ row.now.finding) × (e.origin ≡ row.now.origin) × (e.mark ≡ row.now.mark)) }
+        ensures some { IfSome result (λ row. (e : Entry S) × At self.now.entries index e × (e.finding ≡ row.now.finding)
+            × (e.origin ≡ row.now.origin) × (e.mark ≡ row.now.mark)) }
         ensures none { IfNone result (slice_get self.now.entries index ≡ None) }
     {
         if index < self.slots.len() {
@@ -214,7 +219,8 @@ impl<S: Eq + Hash + Drop, F: Eq + Hash + Drop> Table<S, F> {
         self.held.at(index - self.first_left)
     }
 
-    /// The entries from `start` to below `end`, which are open, each by its number and its state, which stays in the table too.
+    /// The entries from `start` to below `end`, which are open, each by its number and its state, which the table holds
+    /// too.
     pub fn handed_out(&self, start: usize, end: usize) -> Result<Vec<(usize, Arc<S>)>, AllocError>
         requires some { start ≤ end }
         requires within { end ≤ length self.now.entries }
@@ -275,7 +281,10 @@ impl<S: Eq + Hash + Drop, F: Eq + Hash + Drop> Table<S, F> {
         requires first { position (λ e. is_open e.mark) self.old.entries ≡ Some start }
         requires some { start ≤ end }
         requires within { end ≤ length self.old.entries }
-        ensures { self.new ≡ record self.old { entries = with_marks self.old.entries (range_with_len start (end - start)) Mark.Taken } }
+        ensures { self.new ≡ record self.old {
+          entries = with_marks self.old.entries
+              (range_with_len start (end - start)) Mark.Taken;
+        } }
     {
         mark_range(&mut self.slots, start, end, Mark::Taken);
         self.next_open = end;
@@ -302,13 +311,19 @@ impl<S: Eq + Hash + Drop, F: Eq + Hash + Drop> Table<S, F> {
         leftovers: &mut Leftovers<S, F>,
     ) -> Result<(), TableFault>
         requires { length self.old.entries ≤ limit }
-        ensures put { OnOk result ((form_of : S → Option F) → AreKnownBy form_of self.old → AreStepsKnownBy form_of successors.items
-            → (self.new.entries ≡ self.old.entries ++ map (opened parent) (unknown (same_as S.eq F.eq form_of) (states self.old.entries) (bares successors.items)))) }
-        ensures known { OnOk result ((form_of : S → Option F) → AreKnownBy form_of self.old → AreStepsKnownBy form_of successors.items → AreKnownBy form_of self.new) }
-        ensures full { IfErr result (λ fault. fault ≡ TableFault.Full → (form_of : S → Option F) → AreKnownBy form_of self.old → AreStepsKnownBy form_of successors.items
-            → limit < length self.old.entries + length (unknown (same_as S.eq F.eq form_of) (states self.old.entries) (bares successors.items))) }
+        ensures put { OnOk result ((form_of : S → Option F) → AreKnownBy form_of self.old
+            → AreStepsKnownBy form_of successors.items
+            → (self.new.entries ≡ self.old.entries ++ map (opened parent)
+            (unknown (same_as S.eq F.eq form_of) (states self.old.entries) (bares successors.items)))) }
+        ensures known { OnOk result ((form_of : S → Option F) → AreKnownBy form_of self.old
+            → AreStepsKnownBy form_of successors.items → AreKnownBy form_of self.new) }
+        ensures full { IfErr result (λ fault. fault ≡ TableFault.Full → (form_of : S → Option F)
+            → AreKnownBy form_of self.old → AreStepsKnownBy form_of successors.items
+            → limit < length self.old.entries
+            + length (unknown (same_as S.eq F.eq form_of) (states self.old.entries) (bares successors.items))) }
         ensures room { OnOk result (length self.new.entries ≤ limit) }
-        ensures left { OnOk result (KeepsMet leftovers.old leftovers.new (length self.old.entries) (length self.new.entries) (length successors.items)) }
+        ensures left { OnOk result (KeepsMet leftovers.old leftovers.new (length self.old.entries)
+            (length self.new.entries) (length successors.items)) }
         ensures err { OnErr result (self.new ≡ self.old) }
     {
         let was = self.slots.len();
