@@ -1,5 +1,6 @@
 //! Places of a list, handed out to several threads, each place once.
-ghost use Rattle.std.specs.Prelude.{◌≡◌, ◌+◌, ◌-◌, ◌^◌, ◌<◌, ◌≤◌, [], ◌∷◌, ◌++◌, length, All, IfOk, IfSome, IfNone, vec_len, IsPermutation};
+ghost use Rattle.std.specs.Prelude.{◌≡◌, ◌+◌, ◌-◌, ◌^◌, ◌<◌, ◌≤◌, [], ◌∷◌, ◌++◌};
+ghost use Rattle.std.specs.Prelude.{length, All, IfOk, IfSome, IfNone, vec_len, IsPermutation};
 ghost use Rattle.crew.specs.ClaimRule.{TableHolds, IsDrawStep, below, draws, fresh, no_seat};
 
 mod view;
@@ -39,7 +40,8 @@ impl Split<Draws> for Cut {
 struct Join;
 
 impl atomic_table::Join<Draws> for Join {
-    ghost both = { λ seat other. draws (seat.parts + other.parts) (seat.places ++ other.places) (seat.spent + other.spent) seat.size };
+    ghost both = { λ seat other. draws (seat.parts + other.parts) (seat.places ++ other.places)
+        (seat.spent + other.spent) seat.size };
 
     ghost spent = { no_seat };
 }
@@ -60,7 +62,8 @@ impl Model for Seat {
 
     ghost view = { λ seat. record { counter = seat.token.table_id; drew = seat.token.me.0 } };
 
-    ghost invariant = { λ seat. (seat.token.me.0.spent ≡ (if seat.is_spent then 1 else 0)) × (seat.token.me.0.parts ≡ 1) × (seat.token.me.1 ≡ []) };
+    ghost invariant = { λ seat. (seat.token.me.0.spent ≡ (if seat.is_spent then 1 else 0)) × (seat.token.me.0.parts ≡ 1)
+        × (seat.token.me.1 ≡ []) };
 }
 
 /// A counter of the places of a list, from which threads draw places, each with a seat of its own. Contracts see which
@@ -79,7 +82,9 @@ impl Model for Claims {
 
     ghost view = { λ claims. record { counter = claims.table.shared.table_id; size = claims.size } };
 
-    ghost invariant = { λ claims. (claims.table.shared.key ≡ claims.size) × (claims.table.shared.table_id.words ≡ 1) × (claims.table.shared.table_id.slots ≡ 0) × (0 < claims.size.seats) × (claims.size.len + claims.size.seats < 2 ^ 64) };
+    ghost invariant = { λ claims. (claims.table.shared.key ≡ claims.size) × (claims.table.shared.table_id.words ≡ 1)
+        × (claims.table.shared.table_id.slots ≡ 0) × (0 < claims.size.seats)
+        × (claims.size.len + claims.size.seats < 2 ^ 64) };
 }
 
 /// How many places were drawn, and how many seats were told that none is left.
@@ -130,7 +135,8 @@ impl Claims {
         ensures own { IsSeatOf self.now seat.new }
         ensures within { IfSome result (λ place. place < self.now.size.len) }
         ensures above { IfSome result (λ place. All (λ earlier. earlier < place) seat.old.drew.places) }
-        ensures drawn { IfSome result (λ place. seat.new.drew ≡ draws 1 (seat.old.drew.places ++ place ∷ []) 0 self.now.size) }
+        ensures drawn { IfSome result (λ place. seat.new.drew
+            ≡ draws 1 (seat.old.drew.places ++ place ∷ []) 0 self.now.size) }
         ensures none_left { IfNone result (seat.new.drew ≡ draws 1 seat.old.drew.places 1 self.now.size) }
         ensures spent { 0 < seat.old.drew.spent → (result ≡ None) × (seat.new ≡ seat.old) }
     {

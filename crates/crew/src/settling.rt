@@ -20,8 +20,11 @@ pub fn shares_of<J: Run>(alloc: Global, workers: &Vec<Worker<J>>) -> Result<Vec<
 
 /// The parts of all workers; none where there is no worker.
 pub fn merged<J: Run>(mut workers: Vec<Worker<J>>) -> Option<Parts<J>>
-    ensures parts { IfSome result (λ w. (w.expanded.parts ≡ vec_len workers) × (w.entered.parts ≡ vec_len workers) × (w.met.parts ≡ vec_len workers)) }
-    ensures amounts { IfSome result (λ w. (w.expanded.amount ≡ sum_by (λ x. x.tally.share.expanded) workers.items) × (w.entered.amount ≡ sum_by (λ x. x.tally.share.entered) workers.items) × (w.met.amount ≡ sum_by (λ x. x.tally.share.met) workers.items)) }
+    ensures parts { IfSome result (λ w. (w.expanded.parts ≡ vec_len workers) × (w.entered.parts ≡ vec_len workers)
+        × (w.met.parts ≡ vec_len workers)) }
+    ensures amounts { IfSome result (λ w. (w.expanded.amount ≡ sum_by (λ x. x.tally.share.expanded) workers.items)
+        × (w.entered.amount ≡ sum_by (λ x. x.tally.share.entered) workers.items)
+        × (w.met.amount ≡ sum_by (λ x. x.tally.share.met) workers.items)) }
 {
     let mut whole = workers.pop()?.tally.parts;
     while let Some(worker) = workers.pop() {

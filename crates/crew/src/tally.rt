@@ -112,8 +112,12 @@ impl<J: Run> Parts<J> {
 
     /// Adds other parts, with what is counted on them.
     pub fn merge(&mut self, other: Parts<J>)
-        ensures parts { (self.new.expanded.parts ≡ self.old.expanded.parts + other.expanded.parts) × (self.new.entered.parts ≡ self.old.entered.parts + other.entered.parts) × (self.new.met.parts ≡ self.old.met.parts + other.met.parts) }
-        ensures amounts { (self.new.expanded.amount ≡ self.old.expanded.amount + other.expanded.amount) × (self.new.entered.amount ≡ self.old.entered.amount + other.entered.amount) × (self.new.met.amount ≡ self.old.met.amount + other.met.amount) }
+        ensures parts { (self.new.expanded.parts ≡ self.old.expanded.parts + other.expanded.parts)
+            × (self.new.entered.parts ≡ self.old.entered.parts + other.entered.parts)
+            × (self.new.met.parts ≡ self.old.met.parts + other.met.parts) }
+        ensures amounts { (self.new.expanded.amount ≡ self.old.expanded.amount + other.expanded.amount)
+            × (self.new.entered.amount ≡ self.old.entered.amount + other.entered.amount)
+            × (self.new.met.amount ≡ self.old.met.amount + other.met.amount) }
     {
         self.expanded.merge(other.expanded);
         self.entered.merge(other.entered);
@@ -171,7 +175,8 @@ impl<J: Run, M: Machine> Desk<J, M> {
         requires expanded { (blanks.expanded.name ≡ J.expanded_name) × (blanks.expanded.parts ≡ J.parts) }
         requires entered { (blanks.entered.name ≡ J.entered_name) × (blanks.entered.parts ≡ J.parts) }
         requires met { (blanks.met.name ≡ J.met_name) × (blanks.met.parts ≡ J.parts) }
-        ensures parts { (result.1.expanded.parts ≡ J.parts) × (result.1.entered.parts ≡ J.parts) × (result.1.met.parts ≡ J.parts) }
+        ensures parts { (result.1.expanded.parts ≡ J.parts) × (result.1.entered.parts ≡ J.parts)
+            × (result.1.met.parts ≡ J.parts) }
         ensures amounts { (result.1.expanded.amount ≡ 0) × (result.1.entered.amount ≡ 0) × (result.1.met.amount ≡ 0) }
     {
         let (expanded, all_expanded) = blanks.expanded.open::<Expanding<J>>();
@@ -199,7 +204,8 @@ impl<J: Run, M: Machine> Desk<J, M> {
         machine: M,
         program: &Program,
     ) -> Result<Leads<M>, OutOfMemory>
-        ensures ready { IfOk result (λ v. All (λ lead. IsReady (M.rules machine) program.now lead.state.value lead.finding) v.items) }
+        ensures ready { IfOk result
+            (λ v. All (λ lead. IsReady (M.rules machine) program.now lead.state.value lead.finding) v.items) }
     {
         let Desk { book, .. } = self;
         if !is_of(book, machine, program) || book.first_fault().is_some() {
@@ -220,7 +226,8 @@ impl<J: Run, M: Machine> Desk<J, M> {
     ) -> Result<(), EnterFault>
         requires room { length expansion.successors ≤ leftovers.old.room }
         ensures room { IfOk result (λ _. leftovers.old.room ≤ leftovers.new.room + length expansion.entry.successors) }
-        ensures kept { IfOk result (λ _. leftovers.new.kept + tally.old.share.met ≡ leftovers.old.kept + tally.new.share.met) }
+        ensures kept { IfOk result (λ _. leftovers.new.kept + tally.old.share.met
+            ≡ leftovers.old.kept + tally.new.share.met) }
     {
         let Desk {
             book,
@@ -245,7 +252,8 @@ impl<J: Run, M: Machine> Desk<J, M> {
     /// The book. Whoever has all parts knows what it counts.
     pub fn settle(self, mut whole: Parts<J>) -> Book<M>
         requires { (whole.expanded.parts ≡ J.parts) × (whole.entered.parts ≡ J.parts) × (whole.met.parts ≡ J.parts) }
-        ensures { IsLedgerOf result (record { expanded = whole.expanded.amount; entered = whole.entered.amount; met = whole.met.amount }) }
+        ensures { IsLedgerOf result
+            (record { expanded = whole.expanded.amount; entered = whole.entered.amount; met = whole.met.amount }) }
     {
         let Desk {
             book,

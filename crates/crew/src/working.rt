@@ -46,8 +46,8 @@ pub fn round_of(places: usize, workers: usize) -> usize
     (places / (8 * workers)).clamp(1, 8)
 }
 
-/// How many entries of the layer before the first worker gives back for each place that it draws in this one: so many that
-/// it comes to the end of both at about the same time.
+/// How many entries of the layer before the first worker gives back for each place that it draws in this one: so many
+/// that it comes to the end of both at about the same time.
 pub fn returns_of(spent: usize, places: usize, workers: usize) -> usize {
     (spent.saturating_mul(workers) / places.max(1)).saturating_add(1)
 }
@@ -83,8 +83,8 @@ struct Supplies<M: Machine> {
 }
 
 impl<M: Machine> Supplies<M> {
-    /// Gives back so many entries of the layer before, as far as there are any. A state that nobody else holds goes to the
-    /// stock.
+    /// Gives back so many entries of the layer before, as far as there are any. A state that nobody else holds goes to
+    /// the stock.
     fn give_back(&mut self, count: usize) {
         let Some(leads) = &mut self.spent else {
             return;
@@ -98,7 +98,8 @@ impl<M: Machine> Supplies<M> {
     }
 }
 
-/// The entries of a layer, which are taken and can be expanded, and the counter of their places. Contracts see the counter.
+/// The entries of a layer, which are taken and can be expanded, and the counter of their places. Contracts see the
+/// counter.
 #[derive(Drop)]
 pub struct Layer<'a, M: Machine> {
     pub alloc: Global,
@@ -127,7 +128,8 @@ impl<'a, M: Machine> Model for Layer<'a, M> {
 
     ghost view = { λ layer. layer.claims };
 
-    ghost invariant = { λ layer. (layer.claims.size.len ≡ length layer.leads.items) × All (λ lead. IsReady (M.rules layer.machine) layer.program.now lead.state.value lead.finding) layer.leads.items };
+    ghost invariant = { λ layer. (layer.claims.size.len ≡ length layer.leads.items) × All
+        (λ lead. IsReady (M.rules layer.machine) layer.program.now lead.state.value lead.finding) layer.leads.items };
 }
 
 impl<'a, M: Machine> Layer<'a, M> {
@@ -200,7 +202,8 @@ impl<'a, J: Run, M: Machine, G: Gate, R: Wait> Exploration<'a, J, M, G, R> {
         leftovers: &mut Leftovers<State<M>, StateForm<M>>,
     ) -> Result<(), Stop>
         requires room { sum_by (λ one. length one.1.successors) made.items ≤ leftovers.old.room }
-        ensures kept { IfOk result (λ _. leftovers.new.kept + tally.old.share.met ≡ leftovers.old.kept + tally.new.share.met) }
+        ensures kept { IfOk result (λ _. leftovers.new.kept + tally.old.share.met
+            ≡ leftovers.old.kept + tally.new.share.met) }
     {
         for (id, expansion) in made {
             match desk.enter(tally, id, expansion, leftovers) {
