@@ -17,7 +17,7 @@ use crate::layers::{cut_of, workers_of};
 use crate::options::Options;
 use crate::reporting::report_of;
 use crate::settling::{merged, shares_of};
-use crate::tally::{Blanks, Desk, Run};
+use crate::tally::{Blanks, Desk, Ledgers};
 use crate::working::Exploration;
 use book::Book;
 use sched_program::{OutOfMemory, Program};
@@ -45,7 +45,7 @@ fn opened<M: Machine>(
 }
 
 /// Explores by all workers at once. None where the book that they leave under the lock does not tell the answer.
-fn explore_together<J: Run + Send + Sync, M: Machine, G: Gate, R: Threads + Wait + Sync>(
+fn explore_together<J: Ledgers + Send + Sync, M: Machine, G: Gate, R: Threads + Wait + Sync>(
     rt: &R,
     alloc: Global,
     machine: M,
@@ -54,16 +54,17 @@ fn explore_together<J: Run + Send + Sync, M: Machine, G: Gate, R: Threads + Wait
     gate: &G,
     blanks: Blanks,
 ) -> Result<Option<Report<M>>, OutOfMemory>
-    requires expanded { (blanks.expanded.name ≡ J.expanded_name) × (blanks.expanded.parts ≡ J.parts) }
-    requires entered { (blanks.entered.name ≡ J.entered_name) × (blanks.entered.parts ≡ J.parts) }
-    requires met { (blanks.met.name ≡ J.met_name) × (blanks.met.parts ≡ J.parts) }
-    requires parts { J.parts ≡ options.workers }
-    ensures { IfOk result (λ o. IfSome o (λ r. IsReport M.rules M.Loc.PartialEq.eq M.Mem.PartialEq.eq M.Form.PartialEq.eq M.form_of
+    requires expanded { (blanks.expanded.name ≡ J.expanded_name) × (blanks.expanded.parts ≡ J.pieces) }
+    requires entered { (blanks.entered.name ≡ J.entered_name) × (blanks.entered.parts ≡ J.pieces) }
+    requires met { (blanks.met.name ≡ J.met_name) × (blanks.met.parts ≡ J.pieces) }
+    requires pieces { J.pieces ≡ options.workers }
+    ensures { IfOk result
+        (λ o. IfSome o (λ r. IsReport M.rules M.Loc.PartialEq.eq M.Mem.PartialEq.eq M.Form.PartialEq.eq M.form_of
         machine program.now options r.answer r.totals r.shares.items r.book)) }
 {
     let book = opened(alloc, machine, program, options)?;
-    let (desk, parts) = Desk::<J, M>::new(book, blanks);
-    let mut workers = workers_of(alloc, options.workers(), parts)?;
+    let (desk, pieces) = Desk::<J, M>::new(book, blanks);
+    let mut workers = workers_of(alloc, options.workers(), pieces)?;
     let exploration = Exploration {
         rt,
         alloc,

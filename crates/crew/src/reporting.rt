@@ -37,7 +37,8 @@ pub fn report_of<M: Machine>(
 ) -> Result<Option<Report<M>>, OutOfMemory>
     requires shares { length shares.items ≡ options.workers }
     requires ledger { IsLedgerOf book (ledger shares.items) }
-    ensures report { IfOk result (λ o. IfSome o (λ r. IsReport M.rules M.Loc.PartialEq.eq M.Mem.PartialEq.eq M.Form.PartialEq.eq M.form_of
+    ensures report { IfOk result
+        (λ o. IfSome o (λ r. IsReport M.rules M.Loc.PartialEq.eq M.Mem.PartialEq.eq M.Form.PartialEq.eq M.form_of
         machine program.now options r.answer r.totals r.shares.items r.book)) }
     ensures finished { IsBookOf machine program.now options book → cut ≡ None
         → IsWorkedOff (machine_in M.rules book).steps book.entries options.steps → IfOk result (λ o. IsSome o) }

@@ -5,7 +5,7 @@ ghost use Rattle.crew.specs.ClaimSeats.{IsSeatOf};
 use crate::claims::{Claims, Seat};
 use crate::gate::Gate;
 use crate::leads::Leads;
-use crate::tally::{Desk, Run, Tally};
+use crate::tally::{Desk, Ledgers, Tally};
 use book::{EnterFault, Expansion, Leftovers, Merge, Stock};
 use sched_program::{OutOfMemory, Program};
 use std::alloc::Global;
@@ -26,7 +26,7 @@ pub enum Stop {
 
 /// A worker, between two layers or in one.
 #[derive(Drop)]
-pub struct Worker<J: Run> {
+pub struct Worker<J: Ledgers> {
     /// Its number, from 1.
     pub number: u8,
     /// What it did in all layers.
@@ -38,7 +38,7 @@ pub struct Worker<J: Run> {
 }
 
 /// How many places a worker draws in one round: several, so that it asks for the lock less often than once for each
-/// entry, but few beside its part of the layer, so that all workers come to the layer's end at about the same time.
+/// entry, but few beside its portion of the layer, so that all workers come to the layer's end at about the same time.
 pub fn round_of(places: usize, workers: usize) -> usize
     requires some { 0 < workers }
     requires few { workers < 2 ^ 8 }
@@ -182,7 +182,7 @@ impl<'a, M: Machine> Layer<'a, M> {
 
 /// What all workers of an exploration have in common.
 #[derive(Drop)]
-pub struct Exploration<'a, J: Run, M: Machine, G: Gate, R: Wait> {
+pub struct Exploration<'a, J: Ledgers, M: Machine, G: Gate, R: Wait> {
     pub rt: &'a R,
     pub alloc: Global,
     pub machine: M,
@@ -192,7 +192,7 @@ pub struct Exploration<'a, J: Run, M: Machine, G: Gate, R: Wait> {
     pub desk: Mutex<Desk<J, M>>,
 }
 
-impl<'a, J: Run, M: Machine, G: Gate, R: Wait> Exploration<'a, J, M, G, R> {
+impl<'a, J: Ledgers, M: Machine, G: Gate, R: Wait> Exploration<'a, J, M, G, R> {
     /// Enters expansions, all in one holding of the lock. What the book knew is left for after it.
     fn enter_all(
         &self,
