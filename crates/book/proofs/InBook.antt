@@ -20,7 +20,7 @@ use Rattle.book.proofs.EntryLemmas.{get_at}
 use Rattle.book.proofs.Growth.{all_expanded, few_steps, is_left, none_left}
 use Rattle.book.proofs.LawfulBooks.{taken_book}
 use Rattle.book.proofs.Next.{next_from, no_next_expanded, no_next_later, no_next_open}
-use Rattle.book.proofs.Runs.{IsLayerAt, layer_at, run_book, so_of_run, takes_layer}
+use Rattle.book.proofs.Ranges.{IsLayerAt, layer_at, range_book, so_of_range, takes_layer}
 use Rattle.book.proofs.Ways.{one_way, step_of, way_back, way_ends, way_run}
 
 -- what is known of an entry that is taken: it was the next, and its state is lent
@@ -72,11 +72,11 @@ module _ {Machine Memory Place Form : Type 0} {rules : Machine → Rules Memory 
         })
 
   -- what is so of each state of the entries is so of those that are lent
-  pub states_fit : {A : Type 0} (run : List (ℕ × Arc (State Machine Memory Place Form) A)) → AreStatesOf b.entries run → AllStates (Fits (rules b.machine) b.program) run
-  states_fit run states = so_of_run (machine_in rules b) same_in (right_in rules b) (Fits (rules b.machine) b.program) b.entries run book.law.law.fit states
+  pub states_fit : {A : Type 0} (range : List (ℕ × Arc (State Machine Memory Place Form) A)) → AreStatesOf b.entries range → AllStates (Fits (rules b.machine) b.program) range
+  states_fit range states = so_of_range (machine_in rules b) same_in (right_in rules b) (Fits (rules b.machine) b.program) b.entries range book.law.law.fit states
 
-  pub states_few : {A : Type 0} (run : List (ℕ × Arc (State Machine Memory Place Form) A)) → AreStatesOf b.entries run → AllStates (λ state. state.steps < b.limit) run
-  states_few run states = so_of_run (machine_in rules b) same_in (right_in rules b) (λ state. state.steps < b.limit) b.entries run few_at states
+  pub states_few : {A : Type 0} (range : List (ℕ × Arc (State Machine Memory Place Form) A)) → AreStatesOf b.entries range → AllStates (λ state. state.steps < b.limit) range
+  states_few range states = so_of_range (machine_in rules b) same_in (right_in rules b) (λ state. state.steps < b.limit) b.entries range few_at states
 
   -- the layer of the next entry ends before the first entry of more steps
   module _ (now : Contents Machine (State Machine Memory Place Form)) (view : b ≡ now) (start end k : ℕ)
@@ -95,19 +95,19 @@ module _ {Machine Memory Place Form : Type 0} {rules : Machine → Rules Memory 
         (record { machine = b.machine; program = b.program; merge = b.merge; limit = b.limit; entries = with_marks b.entries (range_with_len start (end - start)) Taken; met = b.met })
     layer_taken =
         record {
-          law = run_book (machine_in rules b) same_in (right_in rules b) book.machine book.merges (end - start) start b book.law layer.run;
+          law = range_book (machine_in rules b) same_in (right_in rules b) book.machine book.merges (end - start) start b book.law layer.range;
           limits = book.limits;
           machine = book.machine;
           merges = book.merges;
           findings = book.findings;
         }
 
-    pub layer_given : {A : Type 0} (run : List (ℕ × Arc (State Machine Memory Place Form) A)) → map (λ (p : ℕ × Arc (State Machine Memory Place Form) A). p.0) run ≡ range_with_len start (end - start)
-        → AreStatesOf b.entries run → {F : Type 0} {forms : List (Option F)} (new : Kept (State Machine Memory Place Form) F)
-        → new ≡ record { entries = with_marks b.entries (range_with_len start (end - start)) Taken; forms = forms } → TakesLayer (machine_in rules b).steps b.entries new.entries run
-    layer_given run numbers states {F} new after =
+    pub layer_given : {A : Type 0} (range : List (ℕ × Arc (State Machine Memory Place Form) A)) → map (λ (p : ℕ × Arc (State Machine Memory Place Form) A). p.0) range ≡ range_with_len start (end - start)
+        → AreStatesOf b.entries range → {F : Type 0} {forms : List (Option F)} (new : Kept (State Machine Memory Place Form) F)
+        → new ≡ record { entries = with_marks b.entries (range_with_len start (end - start)) Taken; forms = forms } → TakesLayer (machine_in rules b).steps b.entries new.entries range
+    layer_given range numbers states {F} new after =
         let some : start < end = layer.some in
-        takes_layer (machine_in rules b).steps b.entries new.entries start (end - start) run layer.run (omega arith) layer.entry layer.there layer.later numbers states
+        takes_layer (machine_in rules b).steps b.entries new.entries start (end - start) range layer.range (omega arith) layer.entry layer.there layer.later numbers states
         (ap (λ (kept : Kept (State Machine Memory Place Form) F). kept.entries) after)
 
   -- none is next where all are expanded, or none is open

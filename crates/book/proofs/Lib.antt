@@ -20,7 +20,7 @@ mod Holding
 pub mod Machines
 mod Loans
 mod Answered
-pub mod Runs
+pub mod Ranges
 mod InBook
 pub mod Crossing
 mod Putting

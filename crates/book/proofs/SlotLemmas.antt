@@ -153,7 +153,7 @@ module _ {S : Type 0} (same : S → S → Bool) where
       ∙ ap (λ ks. map (opened i) (us ++ unknown same ks (x ∷ []))) known
       ∙ ap (map (opened i)) (sym (unknown_push (states old) xs x)))
 
--- the row that is made of a step's parts
+-- the row that is made of a step's fields
 pub step_row : {K : Type 0} (i : ℕ) (x : Successor K) (k : K) (t : ℕ) (f : Finding) → t ≡ x.thread → k ≡ x.state → f ≡ x.finding
     → keyed_of (k, record { finding = f; origin = Some (record { parent = i; thread = t }); mark = Open }) ≡ opened i x
 step_row {K} i x k t f p q r =

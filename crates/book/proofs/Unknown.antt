@@ -46,8 +46,8 @@ list_any-append test (x ∷ xs) ys = ap (λ b. test x || b) (list_any-append tes
 module _ {S : Type 0} (m : StepMachine S) (same : S → S → Bool) (merges : Merges m same) where
   not_known : (known : List S) (r s : S) → knows same (known ++ r ∷ []) s ≡ false → (knows same known s ≡ false) × (same r s ≡ false)
   not_known known r s h =
-      let parts = or_parts (knows same known s) (knows same (r ∷ []) s) (sym (list_any-append (λ u. same u s) known (r ∷ [])) ∙ h) in
-      (parts.0, (or_parts (same r s) false parts.1).0)
+      let both = or_parts (knows same known s) (knows same (r ∷ []) s) (sym (list_any-append (λ u. same u s) known (r ∷ [])) ∙ h) in
+      (both.0, (or_parts (same r s) false both.1).0)
 
   -- each is a successor of the list, and its state is not known
   pub unknown_is : (known : List S) (xs : List (Successor S)) (k : ℕ) (y : Successor S) → slice_get (unknown same known xs) k ≡ Some y

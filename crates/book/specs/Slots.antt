@@ -34,11 +34,11 @@ forms_of slots = map (λ slot. slot.0.form) slots
 
 -- each number is that of an entry, whose state stands beside it
 abbrev pub AreStatesOf : {S A : Type 0} → List (Entry S) → List (ℕ × Arc S A) → Type 0
-AreStatesOf {S} {A} entries run = (k : ℕ) (p : ℕ × Arc S A) → slice_get run k ≡ Some p → (e : Entry S) × At entries p.0 e × (e.state ≡ p.1.value)
+AreStatesOf {S} {A} entries range = (k : ℕ) (p : ℕ × Arc S A) → slice_get range k ≡ Some p → (e : Entry S) × At entries p.0 e × (e.state ≡ p.1.value)
 
 -- P is so of each state
 abbrev pub AllStates : {S A : Type 0} → (S → Type 0) → List (ℕ × Arc S A) → Type 0
-AllStates {S} {A} P run = (k : ℕ) (p : ℕ × Arc S A) → slice_get run k ≡ Some p → P p.1.value
+AllStates {S} {A} P range = (k : ℕ) (p : ℕ × Arc S A) → slice_get range k ≡ Some p → P p.1.value
 
 -- every entry from number `start` on is open
 abbrev pub IsOpenFrom : {S : Type 0} → List (Entry S) → ℕ → Type 0

@@ -1,10 +1,12 @@
 //! The book of states: what is put into it and taken.
 
-ghost use Rattle.std.specs.Prelude.{◌≡◌, ℕ, ◌+◌, ◌-◌, ◌<◌, ◌≤◌, [], ◌∷◌, ◌⊎◌, length, IfOk, IfSome, IfNone, OnOk, OnErr, IfErr, Some, None, position, true};
+ghost use Rattle.std.specs.Prelude.{◌≡◌, ℕ, ◌+◌, ◌-◌, ◌<◌, ◌≤◌, [], ◌∷◌, ◌⊎◌};
+ghost use Rattle.std.specs.Prelude.{length, IfOk, IfSome, IfNone, OnOk, OnErr, IfErr, Some, None, position, true};
 ghost use Rattle.sched_program.specs.Program.{IsWithinLimits};
 ghost use Rattle.tree_machine.specs.Step.{Fits};
 ghost use Rattle.tree_machine.specs.declared.state.State.{State};
-ghost use Rattle.book.specs.Entries.{Entry, At, Enters, IsNext, IsOwn, IsTaken, Refuses, Takes, TakesLayer, is_open, states, unknown, with_successors};
+ghost use Rattle.book.specs.Entries.{Entry, At, Enters, IsNext, IsOwn, IsTaken, Refuses, Takes, TakesLayer, is_open};
+ghost use Rattle.book.specs.Entries.{states, unknown, with_successors};
 ghost use Rattle.book.specs.Findings.{IsSound};
 ghost use Rattle.book.specs.Slots.{AllStates, IsLeft, IsOpenFrom};
 ghost use Rattle.tree_machine.specs.Alike.{state_form};
@@ -94,10 +96,24 @@ impl<M: Machine> Model for Book<M> {
 
     ghost Value = { Contents M (State M M.Mem M.Loc M.Form) };
 
-    ghost view = { λ b. record { machine = b.machine; program = b.program; merge = b.merge; limit = b.limit; entries = b.table.entries; met = b.met } };
+    ghost view = { λ b. record {
+      machine = b.machine;
+      program = b.program;
+      merge = b.merge;
+      limit = b.limit;
+      entries = b.table.entries;
+      met = b.met;
+    } };
 
     ghost invariant = { λ b. IsBook M.rules M.Loc.PartialEq.eq M.Mem.PartialEq.eq M.Form.PartialEq.eq M.form_of
-        (record { machine = b.machine; program = b.program; merge = b.merge; limit = b.limit; entries = b.table.entries; met = b.met })
+        (record {
+          machine = b.machine;
+          program = b.program;
+          merge = b.merge;
+          limit = b.limit;
+          entries = b.table.entries;
+          met = b.met;
+        })
         × AreKnownBy (form_by b.merge (state_form (M.form_of b.machine))) b.table };
 }
 
@@ -120,7 +136,8 @@ impl<M: Machine> Book<M> {
     ) -> Result<Book<M>, OutOfMemory>
         requires some { 1 ≤ limit }
         requires few { limit ≤ 2000000 }
-        ensures start { IfOk result (λ b. (e : Entry (State M M.Mem M.Loc M.Form)) × (b.entries ≡ e ∷ []) × (e.state ≡ (machine_in M.rules b).start) × (e.mark ≡ Mark.Open)) }
+        ensures start { IfOk result (λ b. (e : Entry (State M M.Mem M.Loc M.Form)) × (b.entries ≡ e ∷ [])
+            × (e.state ≡ (machine_in M.rules b).start) × (e.mark ≡ Mark.Open)) }
         ensures machine { IfOk result (λ b. b.machine ≡ machine) }
         ensures program { IfOk result (λ b. b.program ≡ program) }
         ensures limit { IfOk result (λ b. b.limit ≡ limit) }
@@ -145,19 +162,25 @@ impl<M: Machine> Book<M> {
     }
 
     /// A book is lawful at every moment, its machine is a step machine, and states of its program that it counts as one
-    /// step alike and have the same findings, so where one of two such states is sound the other is. An entry that stands
-    /// for a state stands for all that this reaches within the steps that are worked out.
+    /// step alike and have the same findings, so where one of two such states is sound the other is. An entry that
+    /// stands for a state stands for all that this reaches within the steps that are worked out.
     pub fn law(&self)
         ensures law { IsLawfulIn M.rules M.Loc.PartialEq.eq M.Mem.PartialEq.eq M.Form.PartialEq.eq M.form_of self.now }
         ensures machine { IsMachine (machine_in M.rules self.now) }
-        ensures merges { Merges (machine_in M.rules self.now) (counted_as_one M.Loc.PartialEq.eq M.Mem.PartialEq.eq M.Form.PartialEq.eq (M.form_of self.now.machine) self.now.merge) }
-        ensures alike { (r s : State M M.Mem M.Loc M.Form) → Fits (M.rules self.now.machine) self.now.program r → Fits (M.rules self.now.machine) self.now.program s
-            → counted_as_one M.Loc.PartialEq.eq M.Mem.PartialEq.eq M.Form.PartialEq.eq (M.form_of self.now.machine) self.now.merge r s ≡ true
+        ensures merges { Merges (machine_in M.rules self.now)
+            (counted_as_one M.Loc.PartialEq.eq M.Mem.PartialEq.eq M.Form.PartialEq.eq
+            (M.form_of self.now.machine) self.now.merge) }
+        ensures alike { (r s : State M M.Mem M.Loc M.Form) → Fits (M.rules self.now.machine) self.now.program r
+            → Fits (M.rules self.now.machine) self.now.program s
+            → counted_as_one M.Loc.PartialEq.eq M.Mem.PartialEq.eq M.Form.PartialEq.eq
+            (M.form_of self.now.machine) self.now.merge r s ≡ true
             → IsSound (right_in M.rules self.now) r → IsSound (right_in M.rules self.now) s }
         ensures findings { FindsAlike (machine_in M.rules self.now)
-            (counted_as_one M.Loc.PartialEq.eq M.Mem.PartialEq.eq M.Form.PartialEq.eq (M.form_of self.now.machine) self.now.merge) (right_in M.rules self.now) }
+            (counted_as_one M.Loc.PartialEq.eq M.Mem.PartialEq.eq M.Form.PartialEq.eq
+            (M.form_of self.now.machine) self.now.merge) (right_in M.rules self.now) }
         ensures reaches { StandsForReached (machine_in M.rules self.now)
-            (counted_as_one M.Loc.PartialEq.eq M.Mem.PartialEq.eq M.Form.PartialEq.eq (M.form_of self.now.machine) self.now.merge) self.now.entries }
+            (counted_as_one M.Loc.PartialEq.eq M.Mem.PartialEq.eq M.Form.PartialEq.eq
+            (M.form_of self.now.machine) self.now.merge) self.now.entries }
         ensures limits { IsWithinLimits self.now.program }
     {
         let _ = &self.table;
@@ -165,10 +188,12 @@ impl<M: Machine> Book<M> {
 
     /// The number of the next entry to take.
     fn next_open(&self) -> Option<usize>
-        ensures next { IfSome result (λ i. (e : Entry (State M M.Mem M.Loc M.Form)) × IsNext (machine_in M.rules self.now).steps self.now.entries i e) }
+        ensures next { IfSome result (λ i. (e : Entry (State M M.Mem M.Loc M.Form))
+            × IsNext (machine_in M.rules self.now).steps self.now.entries i e) }
         ensures open { IfSome result (λ i. position (λ e. is_open e.mark) self.now.entries ≡ Some i) }
         ensures above { IfSome result (IsOpenFrom self.now.entries) }
-        ensures none { IfNone result ((i : ℕ) (e : Entry (State M M.Mem M.Loc M.Form)) → IsNext (machine_in M.rules self.now).steps self.now.entries i e → ⊥) }
+        ensures none { IfNone result ((i : ℕ) (e : Entry (State M M.Mem M.Loc M.Form))
+            → IsNext (machine_in M.rules self.now).steps self.now.entries i e → ⊥) }
     {
         let first = self.table.first_left()?;
         let open = self.table.first_open()?;
@@ -181,8 +206,10 @@ impl<M: Machine> Book<M> {
 
     /// Takes the next entry: the lowest-numbered open one among those of the fewest steps that are not expanded.
     pub fn take(&mut self) -> Result<Option<(usize, Arc<State<M>>)>, OutOfMemory>
-        ensures taken { IfOk result (λ o. IfSome o (λ p. Takes (machine_in M.rules self.old).steps self.old.entries self.new.entries p.0 p.1.value)) }
-        ensures none { IfOk result (λ o. IfNone o ((i : ℕ) (e : Entry (State M M.Mem M.Loc M.Form)) → IsNext (machine_in M.rules self.old).steps self.old.entries i e → ⊥)) }
+        ensures taken { IfOk result (λ o. IfSome o
+            (λ p. Takes (machine_in M.rules self.old).steps self.old.entries self.new.entries p.0 p.1.value)) }
+        ensures none { IfOk result (λ o. IfNone o ((i : ℕ) (e : Entry (State M M.Mem M.Loc M.Form))
+            → IsNext (machine_in M.rules self.old).steps self.old.entries i e → ⊥)) }
         ensures unchanged { IfOk result (λ o. IfNone o (self.new ≡ self.old)) }
         ensures fits { IfOk result (λ o. IfSome o (λ p. Fits (M.rules self.old.machine) self.old.program p.1.value)) }
         ensures few { IfOk result (λ o. IfSome o (λ p. p.1.value.steps < self.old.limit)) }
@@ -201,7 +228,8 @@ impl<M: Machine> Book<M> {
     /// that are not expanded, each by its number and its state, in the order of their numbers. After a refusal none is
     /// taken.
     pub fn take_layer(&mut self) -> Result<Vec<(usize, Arc<State<M>>)>, OutOfMemory>
-        ensures taken { IfOk result (λ layer. TakesLayer (machine_in M.rules self.old).steps self.old.entries self.new.entries layer.items) }
+        ensures taken { IfOk result
+            (λ layer. TakesLayer (machine_in M.rules self.old).steps self.old.entries self.new.entries layer.items) }
         ensures fits { IfOk result (λ layer. AllStates (Fits (M.rules self.old.machine) self.old.program) layer.items) }
         ensures few { IfOk result (λ layer. AllStates (λ state. state.steps < self.old.limit) layer.items) }
         ensures same { self.new ≡ record self.old { entries = self.new.entries } }
@@ -211,15 +239,18 @@ impl<M: Machine> Book<M> {
             return Ok(Vec::new(self.table.allocator()));
         };
         let end = self.first_above(steps_at(&self.table, start));
-        let layer = self.table.shared(start, end)?;
-        self.table.mark_run_taken(start, end);
+        let layer = self.table.handed_out(start, end)?;
+        self.table.mark_range_taken(start, end);
         Ok(layer)
     }
 
     /// Whether an expansion may be entered: its entry is taken, and it is that entry's.
     fn admits(&self, id: usize, expansion: &Expansion<'_, M>) -> Result<(), EnterFault>
-        ensures admitted { OnOk result (IsTaken self.now.entries id × IsOwn self.now id expansion.now.machine expansion.now.program expansion.now.source) }
-        ensures refused { IfErr result (Refuses (counted_as_one M.Loc.PartialEq.eq M.Mem.PartialEq.eq M.Form.PartialEq.eq (M.form_of self.now.machine) self.now.merge) self.now id expansion.now) }
+        ensures admitted { OnOk result (IsTaken self.now.entries id
+            × IsOwn self.now id expansion.now.machine expansion.now.program expansion.now.source) }
+        ensures refused { IfErr result
+            (Refuses (counted_as_one M.Loc.PartialEq.eq M.Mem.PartialEq.eq M.Form.PartialEq.eq
+            (M.form_of self.now.machine) self.now.merge) self.now id expansion.now) }
     {
         let Some(row) = self.table.row(id) else {
             return Err(EnterFault::NotTaken);
@@ -241,14 +272,25 @@ impl<M: Machine> Book<M> {
         successors: Vec<Stepped<State<M>, StateForm<M>>>,
         leftovers: &mut Leftovers<State<M>, StateForm<M>>,
     ) -> Result<Entered, EnterFault>
-        requires taken { (e : Entry (State M M.Mem M.Loc M.Form)) × At self.old.entries id e × (e.mark ≡ Mark.Taken) × IsExpansion (machine_in M.rules self.old) (right_in M.rules self.old) e.state (bares successors.items) }
-        requires known { AreStepsKnownBy (form_by self.old.merge (state_form (M.form_of self.old.machine))) successors.items }
-        ensures entries { OnOk result (self.new.entries ≡ with_successors (counted_as_one M.Loc.PartialEq.eq M.Mem.PartialEq.eq M.Form.PartialEq.eq (M.form_of self.old.machine) self.old.merge) self.old.entries id (bares successors.items)) }
-        ensures counts { IfOk result (λ r. (r.entered ≡ length (unknown (counted_as_one M.Loc.PartialEq.eq M.Mem.PartialEq.eq M.Form.PartialEq.eq (M.form_of self.old.machine) self.old.merge) (states self.old.entries) (bares successors.items))) × (r.entered + r.met ≡ length (bares successors.items)) × (self.new.met ≡ self.old.met + r.met)) }
+        requires taken { (e : Entry (State M M.Mem M.Loc M.Form)) × At self.old.entries id e × (e.mark ≡ Mark.Taken)
+            × IsExpansion (machine_in M.rules self.old) (right_in M.rules self.old) e.state (bares successors.items) }
+        requires known { AreStepsKnownBy
+            (form_by self.old.merge (state_form (M.form_of self.old.machine))) successors.items }
+        ensures entries { OnOk result (self.new.entries
+            ≡ with_successors (counted_as_one M.Loc.PartialEq.eq M.Mem.PartialEq.eq M.Form.PartialEq.eq
+            (M.form_of self.old.machine) self.old.merge) self.old.entries id (bares successors.items)) }
+        ensures counts { IfOk result
+            (λ r. (r.entered ≡ length (unknown (counted_as_one M.Loc.PartialEq.eq M.Mem.PartialEq.eq M.Form.PartialEq.eq
+            (M.form_of self.old.machine) self.old.merge) (states self.old.entries) (bares successors.items)))
+            × (r.entered + r.met ≡ length (bares successors.items)) × (self.new.met ≡ self.old.met + r.met)) }
         ensures room { IfOk result (λ r. length self.old.entries + r.entered ≤ self.old.limit) }
         ensures left { IfOk result (λ r. Keeps leftovers.old leftovers.new r.met) }
-        ensures same { (self.new.machine ≡ self.old.machine) × (self.new.program ≡ self.old.program) × (self.new.merge ≡ self.old.merge) × (self.new.limit ≡ self.old.limit) }
-        ensures full { IfErr result (λ fault. (fault ≡ EnterFault.OutOfMemory) ⊎ ((fault ≡ EnterFault.Full) × (self.old.limit < length self.old.entries + length (unknown (counted_as_one M.Loc.PartialEq.eq M.Mem.PartialEq.eq M.Form.PartialEq.eq (M.form_of self.old.machine) self.old.merge) (states self.old.entries) (bares successors.items))))) }
+        ensures same { (self.new.machine ≡ self.old.machine) × (self.new.program ≡ self.old.program)
+            × (self.new.merge ≡ self.old.merge) × (self.new.limit ≡ self.old.limit) }
+        ensures full { IfErr result (λ fault. (fault ≡ EnterFault.OutOfMemory)
+            ⊎ ((fault ≡ EnterFault.Full) × (self.old.limit < length self.old.entries
+            + length (unknown (counted_as_one M.Loc.PartialEq.eq M.Mem.PartialEq.eq M.Form.PartialEq.eq
+            (M.form_of self.old.machine) self.old.merge) (states self.old.entries) (bares successors.items))))) }
         ensures err { OnErr result (self.new ≡ self.old) }
     {
         let was = self.table.len();
@@ -269,8 +311,12 @@ impl<M: Machine> Book<M> {
     /// Enters the steps of a taken entry, and marks it expanded: appends, in thread order, each state that is not in
     /// the book yet, as an open entry. After a refusal the book is unchanged.
     pub fn enter(&mut self, id: usize, expansion: Expansion<'_, M>) -> Result<Entered, EnterFault>
-        ensures entered { IfOk result (λ r. Enters (counted_as_one M.Loc.PartialEq.eq M.Mem.PartialEq.eq M.Form.PartialEq.eq (M.form_of self.old.machine) self.old.merge) self.old self.new id expansion.entry r.entered r.met) }
-        ensures refused { IfErr result (Refuses (counted_as_one M.Loc.PartialEq.eq M.Mem.PartialEq.eq M.Form.PartialEq.eq (M.form_of self.old.machine) self.old.merge) self.old id expansion.entry) }
+        ensures entered { IfOk result
+            (λ r. Enters (counted_as_one M.Loc.PartialEq.eq M.Mem.PartialEq.eq M.Form.PartialEq.eq
+            (M.form_of self.old.machine) self.old.merge) self.old self.new id expansion.entry r.entered r.met) }
+        ensures refused { IfErr result
+            (Refuses (counted_as_one M.Loc.PartialEq.eq M.Mem.PartialEq.eq M.Form.PartialEq.eq
+            (M.form_of self.old.machine) self.old.merge) self.old id expansion.entry) }
         ensures err { OnErr result (self.new ≡ self.old) }
     {
         let mut leftovers = Leftovers::none(self.table.allocator());
@@ -284,9 +330,13 @@ impl<M: Machine> Book<M> {
         expansion: Expansion<'_, M>,
         leftovers: &mut Leftovers<State<M>, StateForm<M>>,
     ) -> Result<Entered, EnterFault>
-        ensures entered { IfOk result (λ r. Enters (counted_as_one M.Loc.PartialEq.eq M.Mem.PartialEq.eq M.Form.PartialEq.eq (M.form_of self.old.machine) self.old.merge) self.old self.new id expansion.entry r.entered r.met) }
+        ensures entered { IfOk result
+            (λ r. Enters (counted_as_one M.Loc.PartialEq.eq M.Mem.PartialEq.eq M.Form.PartialEq.eq
+            (M.form_of self.old.machine) self.old.merge) self.old self.new id expansion.entry r.entered r.met) }
         ensures left { IfOk result (λ r. Keeps leftovers.old leftovers.new r.met) }
-        ensures refused { IfErr result (Refuses (counted_as_one M.Loc.PartialEq.eq M.Mem.PartialEq.eq M.Form.PartialEq.eq (M.form_of self.old.machine) self.old.merge) self.old id expansion.entry) }
+        ensures refused { IfErr result
+            (Refuses (counted_as_one M.Loc.PartialEq.eq M.Mem.PartialEq.eq M.Form.PartialEq.eq
+            (M.form_of self.old.machine) self.old.merge) self.old id expansion.entry) }
         ensures err { OnErr result (self.new ≡ self.old) }
     {
         match self.admits(id, &expansion) {
@@ -312,10 +362,13 @@ impl<M: Machine> Book<M> {
         steps
     }
 
-    /// The number of the first entry of more than so many steps, or the number of entries. Step counts never fall along the entries.
+    /// The number of the first entry of more than so many steps, or the number of entries. Step counts never fall along
+    /// the entries.
     fn first_above(&self, steps: u64) -> usize
-        ensures below { (i : ℕ) (e : Entry (State M M.Mem M.Loc M.Form)) → At self.now.entries i e → i < result → e.state.steps ≤ steps }
-        ensures above { (i : ℕ) (e : Entry (State M M.Mem M.Loc M.Form)) → At self.now.entries i e → result ≤ i → steps < e.state.steps }
+        ensures below { (i : ℕ) (e : Entry (State M M.Mem M.Loc M.Form)) → At self.now.entries i e → i < result
+            → e.state.steps ≤ steps }
+        ensures above { (i : ℕ) (e : Entry (State M M.Mem M.Loc M.Form)) → At self.now.entries i e → result ≤ i
+            → steps < e.state.steps }
         ensures within { result ≤ length self.now.entries }
     {
         let mut low = 0;

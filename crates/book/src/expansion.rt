@@ -1,5 +1,6 @@
 //! All enabled steps of a state.
-ghost use Rattle.std.specs.Prelude.{◌≡◌, ℕ, ◌+◌, ◌^◌, ◌<◌, ◌↔◌, length, IsTrue, IfOk, IfSome, IfNone, Some, None, slice_get};
+ghost use Rattle.std.specs.Prelude.{◌≡◌, ℕ, ◌+◌, ◌^◌, ◌<◌, ◌↔◌};
+ghost use Rattle.std.specs.Prelude.{length, IsTrue, IfOk, IfSome, IfNone, Some, None, slice_get};
 ghost use Rattle.tree_machine.specs.Step.{Fits, step};
 ghost use Rattle.book.specs.Books.{HoldsSteps};
 ghost use Rattle.book.specs.Entries.{Successor};
@@ -44,8 +45,9 @@ impl<S: Hash, F: Hash> Model for Stepped<S, F> {
 }
 
 impl<S: Hash, F: Hash> Stepped<S, F> {
-    pub(crate) fn into_parts(self) -> (u8, Arc<S>, Hashed<Known<S, F>>, Finding)
-        ensures { (result.0 ≡ self.thread) × (result.1.value ≡ self.state.state) × (result.2 ≡ self.state) × (result.3 ≡ self.finding) }
+    pub(crate) fn into_fields(self) -> (u8, Arc<S>, Hashed<Known<S, F>>, Finding)
+        ensures { (result.0 ≡ self.thread) × (result.1.value ≡ self.state.state) × (result.2 ≡ self.state)
+            × (result.3 ≡ self.finding) }
     {
         let Stepped {
             thread,
@@ -92,9 +94,10 @@ fn relabelled<M: Machine>(
 ) -> Result<Stepped<State<M>, StateForm<M>>, OutOfMemory>
     requires { Fits (M.rules machine) program.now step.state.state }
     ensures same { IfOk result (λ made. bare made ≡ bare step) }
-    ensures form { IfOk result (λ made. made.state.form ≡ form_by merge (state_form (M.form_of machine)) made.state.state) }
+    ensures form { IfOk result (λ made. made.state.form
+        ≡ form_by merge (state_form (M.form_of machine)) made.state.state) }
 {
-    let (thread, state, _, finding) = step.into_parts();
+    let (thread, state, _, finding) = step.into_fields();
     let known = label(alloc, machine, program, &state, merge, room)?;
     Ok(Stepped {
         thread,
@@ -112,7 +115,8 @@ fn labelled<M: Machine>(
     steps: Vec<Stepped<State<M>, StateForm<M>>>,
     merge: Merge,
 ) -> Result<Vec<Stepped<State<M>, StateForm<M>>>, OutOfMemory>
-    requires { (k : ℕ) (x : Successor (Labelled (State M M.Mem M.Loc M.Form) (FormContent M.Form))) → slice_get steps.items k ≡ Some x → Fits (M.rules machine) program.now x.state.state }
+    requires { (k : ℕ) (x : Successor (Labelled (State M M.Mem M.Loc M.Form) (FormContent M.Form)))
+        → slice_get steps.items k ≡ Some x → Fits (M.rules machine) program.now x.state.state }
     ensures same { IfOk result (λ made. bares made.items ≡ bares steps.items) }
     ensures known { IfOk result (λ made. AreStepsKnownBy (form_by merge (state_form (M.form_of machine))) made.items) }
 {
@@ -141,10 +145,13 @@ fn step_of<M: Machine>(
     requires loan { IsLoan program.now (history_of source.now) loan.old }
     ensures loan { IfOk result (λ _. IsLoan program.now (history_of source.now) loan.new) }
     ensures thread { IfOk result (λ o. IfSome o (λ x. x.thread ≡ thread)) }
-    ensures step { IfOk result (λ o. IfSome o (λ x. step (M.rules machine) program.now source.now thread ≡ Some x.state.state)) }
-    ensures finding { IfOk result (λ o. IfSome o (λ x. IsFindingOf (M.rules machine) program.now x.state.state x.finding)) }
+    ensures step { IfOk result
+        (λ o. IfSome o (λ x. step (M.rules machine) program.now source.now thread ≡ Some x.state.state)) }
+    ensures finding { IfOk result
+        (λ o. IfSome o (λ x. IsFindingOf (M.rules machine) program.now x.state.state x.finding)) }
     ensures fits { IfOk result (λ o. IfSome o (λ x. Fits (M.rules machine) program.now x.state.state)) }
-    ensures form { IfOk result (λ o. IfSome o (λ x. x.state.form ≡ form_by merge (state_form (M.form_of machine)) x.state.state)) }
+    ensures form { IfOk result
+        (λ o. IfSome o (λ x. x.state.form ≡ form_by merge (state_form (M.form_of machine)) x.state.state)) }
     ensures none { IfOk result (λ o. IfNone o (step (M.rules machine) program.now source.now thread ≡ None)) }
 {
     let next = match source.step_in(alloc, machine, program, thread, &mut stock.spares) {
@@ -183,15 +190,25 @@ impl<'a, M: Machine> Model for Expansion<'a, M> {
 
     ghost Value = { Steps M (State M M.Mem M.Loc M.Form) };
 
-    ghost view = { λ x. record { machine = x.machine; program = x.program.now; source = x.source.now; successors = bares x.successors.items } };
+    ghost view = { λ x. record {
+      machine = x.machine;
+      program = x.program.now;
+      source = x.source.now;
+      successors = bares x.successors.items;
+    } };
 
-    ghost invariant = { λ x. HoldsSteps M.rules (record { machine = x.machine; program = x.program.now; source = x.source.now; successors = bares x.successors.items })
+    ghost invariant = { λ x. HoldsSteps M.rules (record {
+      machine = x.machine;
+      program = x.program.now;
+      source = x.source.now;
+      successors = bares x.successors.items;
+    })
         × AreStepsKnownBy (form_by x.merge (state_form (M.form_of x.machine))) x.successors.items };
 }
 
 impl<'a, M: Machine> Expansion<'a, M> {
-    /// Takes each enabled step of a state, and judges where it leads. The labels are those of exact merging: a book that
-    /// merges otherwise makes its own when the expansion is entered.
+    /// Takes each enabled step of a state, and judges where it leads. The labels are those of exact merging: a book
+    /// that merges otherwise makes its own when the expansion is entered.
     pub fn of(
         alloc: Global,
         machine: M,
@@ -207,8 +224,9 @@ impl<'a, M: Machine> Expansion<'a, M> {
         Expansion::for_merge(alloc, machine, program, state, Merge::Exact)
     }
 
-    /// Does as `for_merge` does for a state of which it is known what is found. Where that is a linearization, it is lent to
-    /// the steps: the history of the state is not judged once more. The steps are made in and of what is in stock.
+    /// Does as `for_merge` does for a state of which it is known what is found. Where that is a linearization, it is
+    /// lent to the steps: the history of the state is not judged once more. The steps are made in and of what is in
+    /// stock.
     pub fn of_found(
         alloc: Global,
         machine: M,
@@ -288,7 +306,8 @@ impl<'a, M: Machine> Expansion<'a, M> {
 
     /// Whether it is the expansion of this state of this machine and program.
     pub(crate) fn is_of(&self, machine: &M, program: &Program, state: &State<M>) -> bool
-        ensures { IsTrue result ↔ ((self.now.machine ≡ machine.now) × (self.now.program ≡ program.now) × (self.now.source ≡ state.now)) }
+        ensures { IsTrue result
+            ↔ ((self.now.machine ≡ machine.now) × (self.now.program ≡ program.now) × (self.now.source ≡ state.now)) }
     {
         same(&self.machine, machine) && self.program.is_same(program) && same(self.source, state)
     }
@@ -300,7 +319,8 @@ impl<'a, M: Machine> Expansion<'a, M> {
         merge: Merge,
     ) -> Result<Vec<Stepped<State<M>, StateForm<M>>>, OutOfMemory>
         ensures steps { IfOk result (λ steps. bares steps.items ≡ self.entry.successors) }
-        ensures known { IfOk result (λ steps. AreStepsKnownBy (form_by merge (state_form (M.form_of self.entry.machine))) steps.items) }
+        ensures known { IfOk result
+            (λ steps. AreStepsKnownBy (form_by merge (state_form (M.form_of self.entry.machine))) steps.items) }
         ensures law { HoldsSteps M.rules self.entry }
     {
         let Expansion {

@@ -1,5 +1,5 @@
-//! Book files: the text of a closed book, and whether lines, whoever wrote them, show that every schedule leads to a correct
-//! state.
+//! Book files: the text of a closed book, and whether lines, whoever wrote them, show that every schedule leads to a
+//! correct state.
 
 mod check;
 mod closing;

@@ -36,7 +36,8 @@ impl Finding {
 /// The fault that a state shows without its history, if it shows one.
 pub(crate) fn fault_in<M: Machine>(machine: M, state: &State<M>) -> Option<Finding>
     requires { (M.rules machine).IsInRange state.now.memory }
-    ensures some { IfSome result (λ fault. (program : Program) → IsFindingOf (M.rules machine) program state.now fault) }
+    ensures some { IfSome result (λ fault. (program : Program)
+        → IsFindingOf (M.rules machine) program state.now fault) }
     ensures none { IfNone result ((state.now.astray ≡ None) × (M.rules machine).IsOrdered state.now.memory) }
 {
     if state.astray().is_some() {
@@ -55,7 +56,8 @@ pub(crate) fn judge_anew<M: Machine>(
     state: &State<M>,
 ) -> Result<Option<Order>, OutOfMemory>
     requires { (machine : M) × Fits (M.rules machine) program.now state.now }
-    ensures found { IfOk result (λ answer. IfSome answer (λ order. IsLinearization program.now (history_of state.now) order)) }
+    ensures found { IfOk result
+        (λ answer. IfSome answer (λ order. IsLinearization program.now (history_of state.now) order)) }
     ensures none { IfOk result (λ answer. IfNone answer (IsLinearizable program.now (history_of state.now) → ⊥)) }
 {
     let history = state.history(alloc, program)?;

@@ -6,7 +6,7 @@ use std::collections::VecDeque;
 use std::marker::Model;
 use std::sync::Arc;
 
-/// Shared states in a row, of which those in front are given back first.
+/// States in a row, which others may hold too. Those in front are given back first.
 #[derive(Drop)]
 pub struct Held<S> {
     states: VecDeque<Arc<S>>,

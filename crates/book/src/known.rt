@@ -1,7 +1,8 @@
 //! States as a book knows them.
 ghost use Rattle.std.specs.Prelude.{◌≡◌, IfOk};
 ghost use Rattle.std.specs.Cmp.{partial_equiv_from_equiv};
-ghost use Rattle.book.specs.Labels.{input_by, same_input, same_label, same_label_equiv};
+ghost use Rattle.book.specs.Labels.{input_by, same_label};
+ghost use Rattle.book.specs.Laws.Labels.{same_input, same_label_equiv};
 
 use std::alloc::AllocError;
 use std::hash::{Hash, Hasher};
@@ -18,8 +19,8 @@ pub(crate) enum Label<S, F> {
     Form(F),
 }
 
-/// A state by its label. Two are equal if their labels are. A state that is known by its form is not held here: it is only
-/// proofs that see it.
+/// A state by its label. Two are equal if their labels are. A state that is known by its form is not held here: it is
+/// only proofs that see it.
 #[derive(Drop)]
 pub struct Known<S, F> {
     label: Label<S, F>,

@@ -1,5 +1,6 @@
 //! Orders that a state lends to its steps.
-ghost use Rattle.std.specs.Prelude.{◌≡◌, ◌≤◌, ◌↔◌, All, IsTrue, length, IfOk, IfSome, IfNone, MatchOption, Some, None, slice_get, slice_index};
+ghost use Rattle.std.specs.Prelude.{◌≡◌, ◌≤◌, ◌↔◌, All, IsTrue, length, IfOk, IfSome, IfNone, MatchOption, Some, None};
+ghost use Rattle.std.specs.Prelude.{slice_get, slice_index};
 ghost use Rattle.lin.specs.Linearization.{IsLinearization, IsLinearizable};
 ghost use Rattle.tree_machine.specs.History.{history_of};
 ghost use Rattle.tree_machine.specs.Step.{Fits, step};
@@ -18,9 +19,12 @@ pub(crate) type Loan = Option<Option<Order>>;
 /// The operation that a thread's step ended, with its reply, if it ended one.
 fn reply_after<M: Machine>(source: &State<M>, next: &State<M>, thread: u8) -> Option<(OpId, bool)>
     ensures { MatchOption result
-        ((a b : Thread M.Loc) → slice_get source.now.threads thread ≡ Some a → slice_get next.now.threads thread ≡ Some b → slice_get b.replies (length a.replies) ≡ None)
-        (λ p. (a b : Thread M.Loc) × (slice_get source.now.threads thread ≡ Some a) × (slice_get next.now.threads thread ≡ Some b)
-        × (p.0.thread ≡ thread) × (p.0.index ≡ length a.replies) × (slice_get b.replies (length a.replies) ≡ Some p.1)) }
+        ((a b : Thread M.Loc) → slice_get source.now.threads thread ≡ Some a
+        → slice_get next.now.threads thread ≡ Some b → slice_get b.replies (length a.replies) ≡ None)
+        (λ p. (a b : Thread M.Loc) × (slice_get source.now.threads thread ≡ Some a)
+        × (slice_get next.now.threads thread ≡ Some b)
+        × (p.0.thread ≡ thread) × (p.0.index ≡ length a.replies)
+        × (slice_get b.replies (length a.replies) ≡ Some p.1)) }
 {
     let was = source.threads.get(usize::from(thread))?;
     let now = next.threads.get(usize::from(thread))?;
@@ -47,7 +51,8 @@ fn is_in_no_note(notes: &[Note], name: OpId) -> bool
 
 /// Whether no operation of a state began after this one ended.
 fn is_last<M: Machine>(state: &State<M>, name: OpId) -> bool
-    ensures { IsTrue result ↔ All (λ thread. All (λ note. slice_index note name.thread ≤ name.index) thread.notes) state.now.threads }
+    ensures { IsTrue result
+        ↔ All (λ thread. All (λ note. slice_index note name.thread ≤ name.index) thread.notes) state.now.threads }
 {
     for thread in state.threads.as_slice() {
         if !is_in_no_note(thread.notes.as_slice(), name) {
@@ -78,9 +83,10 @@ fn seek<M: Machine>(
     }
 }
 
-/// A linearization of the history of a thread's step, if there is one. A step that ended no operation takes the order that
-/// is lent as it is: its history is its source's, or has one pending operation more. One that did takes it with that
-/// operation, if the operation replied what it replies there. Only where it did not is the history made and judged anew.
+/// A linearization of the history of a thread's step, if there is one. A step that ended no operation takes the order
+/// that is lent as it is: its history is its source's, or has one pending operation more. One that did takes it with
+/// that operation, if the operation replied what it replies there. Only where it did not is the history made and judged
+/// anew.
 fn order_after<M: Machine>(
     alloc: Global,
     program: &Program,
@@ -89,9 +95,11 @@ fn order_after<M: Machine>(
     thread: u8,
     order: &Order,
 ) -> Result<Option<Order>, OutOfMemory>
-    requires step { (machine : M) × Fits (M.rules machine) program.now next.now × (step (M.rules machine) program.now source.now thread ≡ Some next.now) }
+    requires step { (machine : M) × Fits (M.rules machine) program.now next.now
+        × (step (M.rules machine) program.now source.now thread ≡ Some next.now) }
     requires order { IsLinearization program.now (history_of source.now) order.now }
-    ensures found { IfOk result (λ answer. IfSome answer (λ order. IsLinearization program.now (history_of next.now) order)) }
+    ensures found { IfOk result
+        (λ answer. IfSome answer (λ order. IsLinearization program.now (history_of next.now) order)) }
     ensures none { IfOk result (λ answer. IfNone answer (IsLinearizable program.now (history_of next.now) → ⊥)) }
 {
     let Some((name, reply)) = reply_after(source, next, thread) else {

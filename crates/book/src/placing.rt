@@ -31,7 +31,7 @@ fn put_step<S: Eq + Hash + Drop, F: Eq + Hash + Drop>(
     ensures held_kept { IsGrown held.old held.new }
     ensures left { OnOk result (KeepsMet leftovers.old leftovers.new (length slots.old.entries) (length slots.new.entries) 1) }
 {
-    let (thread, state, known, finding) = step.into_parts();
+    let (thread, state, known, finding) = step.into_fields();
     let row = PackedRow::new(Row {
         finding,
         origin: Some(Origin { parent, thread }),

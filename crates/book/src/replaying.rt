@@ -21,7 +21,8 @@ pub fn replay<M: Machine>(
     ensures state { IfOk result (λ r. after (machine_of (M.rules machine) program.now) schedule.now ≡ Some r.state) }
     ensures finding { IfOk result (λ r. IsFindingOf (M.rules machine) program.now r.state r.finding) }
     ensures fits { IfOk result (λ r. Fits (M.rules machine) program.now r.state) }
-    ensures not_enabled { IfErr result (StopsAt (machine_of {Machine = M} {Form = M.Form} (M.rules machine) program.now) schedule.now) }
+    ensures not_enabled { IfErr result
+        (StopsAt (machine_of {Machine = M} {Form = M.Form} (M.rules machine) program.now) schedule.now) }
 {
     let mut state = State::start(alloc, machine, program)?;
     for (i, t) in schedule.iter().enumerate() {

@@ -13,8 +13,10 @@ pub fn put_new<K: Eq + Hash + Drop, V: Drop>(
     key: K,
     value: V,
 ) -> Result<Option<(K, V)>, AllocError>
-    ensures put { OnOk result (slots.new.entries ≡ slots.old.entries ++ unlisted K.eq (keys slots.old) ((key, value) ∷ [])) }
-    ensures len { IfOk result (λ known. length slots.new.entries ≡ length slots.old.entries + (if is_some known then 0 else 1)) }
+    ensures put { OnOk result (slots.new.entries
+        ≡ slots.old.entries ++ unlisted K.eq (keys slots.old) ((key, value) ∷ [])) }
+    ensures len { IfOk result (λ known. length slots.new.entries
+        ≡ length slots.old.entries + (if is_some known then 0 else 1)) }
     ensures err { OnErr result (slots.new.entries ≡ slots.old.entries) }
 {
     if slots.contains_key(&key) {

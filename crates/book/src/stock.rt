@@ -26,7 +26,7 @@ impl<M: Machine> Stock<M> {
         let _ = self.spares.push(state);
     }
 
-    /// Takes a state in, unless somebody else shares it.
+    /// Takes a state in, unless somebody else holds it.
     pub fn take_in(&mut self, state: Arc<State<M>>) {
         if let Some(state) = Arc::into_inner(state) {
             self.keep(state);

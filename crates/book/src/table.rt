@@ -68,14 +68,15 @@ fn mark_at<S: Eq + Hash, F: Eq + Hash>(
 }
 
 /// Marks the rows at the indices from `start` to below `end`.
-fn mark_run<S: Eq + Hash, F: Eq + Hash>(
+fn mark_range<S: Eq + Hash, F: Eq + Hash>(
     slots: &mut IndexMap<Hashed<Known<S, F>>, PackedRow>,
     start: usize,
     end: usize,
     mark: Mark,
 )
     requires { start ≤ end }
-    ensures entries { entries_of slots.new.entries ≡ with_marks (entries_of slots.old.entries) (range_with_len start (end - start)) mark }
+    ensures entries { entries_of slots.new.entries
+        ≡ with_marks (entries_of slots.old.entries) (range_with_len start (end - start)) mark }
     ensures forms { forms_of slots.new.entries ≡ forms_of slots.old.entries }
 {
     for index in start..end {
@@ -89,7 +90,8 @@ fn row_at<S: Eq + Hash, F: Eq + Hash>(
     index: usize,
 ) -> &PackedRow
     requires { index < length slots.now.entries }
-    ensures { (e : Entry S) × At (entries_of slots.now.entries) index e × (e.finding ≡ result.now.finding) × (e.origin ≡ result.now.origin) × (e.mark ≡ result.now.mark) }
+    ensures { (e : Entry S) × At (entries_of slots.now.entries) index e × (e.finding ≡ result.now.finding)
+        × (e.origin ≡ result.now.origin) × (e.mark ≡ result.now.mark) }
 {
     let Some((_, row)) = slots.get_index(index) else {
         unreachable!();
@@ -118,7 +120,8 @@ fn first_left_from<S: Eq + Hash, F: Eq + Hash>(
     slots: &IndexMap<Hashed<Known<S, F>>, PackedRow>,
     start: usize,
 ) -> usize
-    requires before { (i : ℕ) (e : Entry S) → At (entries_of slots.now.entries) i e → i < start → e.mark ≡ Mark.Expanded }
+    requires before { (i : ℕ) (e : Entry S) → At (entries_of slots.now.entries) i e → i < start
+        → e.mark ≡ Mark.Expanded }
     requires within { start ≤ length slots.now.entries }
     ensures { IsFirstLeft (entries_of slots.now.entries) result }
 {
@@ -160,7 +163,8 @@ impl<S: Eq + Hash + Drop, F: Eq + Hash + Drop> Table<S, F> {
         finding: Finding,
     ) -> Result<Table<S, F>, AllocError>
         requires { known.state ≡ state.value }
-        ensures entries { IfOk result (λ t. t.entries ≡ record { state = known.state; finding = finding; origin = None; mark = Mark.Open } ∷ []) }
+        ensures entries { IfOk result (λ t. t.entries
+            ≡ record { state = known.state; finding = finding; origin = None; mark = Mark.Open } ∷ []) }
         ensures forms { IfOk result (λ t. t.forms ≡ known.form ∷ []) }
     {
         let fault = if finding.is_sound() { None } else { Some(0) };
@@ -196,7 +200,8 @@ impl<S: Eq + Hash + Drop, F: Eq + Hash + Drop> Table<S, F> {
 
     /// The row of an entry.
     pub fn row(&self, index: usize) -> Option<&PackedRow>
-        ensures some { IfSome result (λ row. (e : Entry S) × At self.now.entries index e × (e.finding ≡ row.now.finding) × (e.origin ≡ row.now.origin) × (e.mark ≡ row.now.mark)) }
+        ensures some { IfSome result (λ row. (e : Entry S) × At self.now.entries index e × (e.finding ≡ row.now.finding)
+            × (e.origin ≡ row.now.origin) × (e.mark ≡ row.now.mark)) }
         ensures none { IfNone result (slice_get self.now.entries index ≡ None) }
     {
         if index < self.slots.len() {
@@ -206,7 +211,7 @@ impl<S: Eq + Hash + Drop, F: Eq + Hash + Drop> Table<S, F> {
         }
     }
 
-    /// The shared state of an entry that is not expanded.
+    /// The state of an entry that is not expanded, which others may hold too.
     pub fn state(&self, index: usize) -> &Arc<S>
         requires { IsLeft self.now.entries index }
         ensures { (e : Entry S) × At self.now.entries index e × (e.state ≡ result.now.value) }
@@ -214,20 +219,21 @@ impl<S: Eq + Hash + Drop, F: Eq + Hash + Drop> Table<S, F> {
         self.held.at(index - self.first_left)
     }
 
-    /// The entries from `start` to below `end`, which are open, each by its number and its shared state.
-    pub fn shared(&self, start: usize, end: usize) -> Result<Vec<(usize, Arc<S>)>, AllocError>
+    /// The entries from `start` to below `end`, which are open, each by its number and its state, which the table holds
+    /// too.
+    pub fn handed_out(&self, start: usize, end: usize) -> Result<Vec<(usize, Arc<S>)>, AllocError>
         requires some { start ≤ end }
         requires within { end ≤ length self.now.entries }
         requires open { IsOpenFrom self.now.entries start }
-        ensures numbers { IfOk result (λ run. map (λ p. p.0) run.items ≡ range_with_len start (end - start)) }
-        ensures states { IfOk result (λ run. AreStatesOf self.now.entries run.items) }
+        ensures numbers { IfOk result (λ range. map (λ p. p.0) range.items ≡ range_with_len start (end - start)) }
+        ensures states { IfOk result (λ range. AreStatesOf self.now.entries range.items) }
     {
-        let mut run = Vec::with_capacity(self.allocator(), end - start)?;
+        let mut range = Vec::with_capacity(self.allocator(), end - start)?;
         for index in start..end {
             let state = Arc::try_clone(self.state(index))?;
-            run.push((index, state))?;
+            range.push((index, state))?;
         }
-        Ok(run)
+        Ok(range)
     }
 
     /// The first open entry. All entries from it on are open.
@@ -271,13 +277,16 @@ impl<S: Eq + Hash + Drop, F: Eq + Hash + Drop> Table<S, F> {
     }
 
     /// Marks the entries from the first open one, `start`, to below `end` taken.
-    pub fn mark_run_taken(&mut self, start: usize, end: usize)
+    pub fn mark_range_taken(&mut self, start: usize, end: usize)
         requires first { position (λ e. is_open e.mark) self.old.entries ≡ Some start }
         requires some { start ≤ end }
         requires within { end ≤ length self.old.entries }
-        ensures { self.new ≡ record self.old { entries = with_marks self.old.entries (range_with_len start (end - start)) Mark.Taken } }
+        ensures { self.new ≡ record self.old {
+          entries = with_marks self.old.entries
+              (range_with_len start (end - start)) Mark.Taken;
+        } }
     {
-        mark_run(&mut self.slots, start, end, Mark::Taken);
+        mark_range(&mut self.slots, start, end, Mark::Taken);
         self.next_open = end;
     }
 
@@ -302,13 +311,19 @@ impl<S: Eq + Hash + Drop, F: Eq + Hash + Drop> Table<S, F> {
         leftovers: &mut Leftovers<S, F>,
     ) -> Result<(), TableFault>
         requires { length self.old.entries ≤ limit }
-        ensures put { OnOk result ((form_of : S → Option F) → AreKnownBy form_of self.old → AreStepsKnownBy form_of successors.items
-            → (self.new.entries ≡ self.old.entries ++ map (opened parent) (unknown (same_as S.eq F.eq form_of) (states self.old.entries) (bares successors.items)))) }
-        ensures known { OnOk result ((form_of : S → Option F) → AreKnownBy form_of self.old → AreStepsKnownBy form_of successors.items → AreKnownBy form_of self.new) }
-        ensures full { IfErr result (λ fault. fault ≡ TableFault.Full → (form_of : S → Option F) → AreKnownBy form_of self.old → AreStepsKnownBy form_of successors.items
-            → limit < length self.old.entries + length (unknown (same_as S.eq F.eq form_of) (states self.old.entries) (bares successors.items))) }
+        ensures put { OnOk result ((form_of : S → Option F) → AreKnownBy form_of self.old
+            → AreStepsKnownBy form_of successors.items
+            → (self.new.entries ≡ self.old.entries ++ map (opened parent)
+            (unknown (same_as S.eq F.eq form_of) (states self.old.entries) (bares successors.items)))) }
+        ensures known { OnOk result ((form_of : S → Option F) → AreKnownBy form_of self.old
+            → AreStepsKnownBy form_of successors.items → AreKnownBy form_of self.new) }
+        ensures full { IfErr result (λ fault. fault ≡ TableFault.Full → (form_of : S → Option F)
+            → AreKnownBy form_of self.old → AreStepsKnownBy form_of successors.items
+            → limit < length self.old.entries
+            + length (unknown (same_as S.eq F.eq form_of) (states self.old.entries) (bares successors.items))) }
         ensures room { OnOk result (length self.new.entries ≤ limit) }
-        ensures left { OnOk result (KeepsMet leftovers.old leftovers.new (length self.old.entries) (length self.new.entries) (length successors.items)) }
+        ensures left { OnOk result (KeepsMet leftovers.old leftovers.new (length self.old.entries)
+            (length self.new.entries) (length successors.items)) }
         ensures err { OnErr result (self.new ≡ self.old) }
     {
         let was = self.slots.len();

@@ -13,8 +13,8 @@ use tree_machine::{Atomic, Machine};
 /// A text, and how many entries it has if it passes, or what it is refused for.
 type Case = (&'static str, Result<usize, CheckFault>);
 
-/// Files of the two inserts: as a book writes it; with an entry more that is alike to another; with a state that is entered
-/// before one of fewer steps; and with two entries that are alike, each with a step of its own.
+/// Files of the two inserts: as a book writes it; with an entry more that is alike to another; with a state that is
+/// entered before one of fewer steps; and with two entries that are alike, each with a step of its own.
 static PASSING: [Case; 4] = [
     (
         "treesched book 1 entries 5\n- - -\n0 0 0.0\n0 1 1.0\n1 1 0.0,1.0\n2 0 1.0,0.0\n",

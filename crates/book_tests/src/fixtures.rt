@@ -1,6 +1,7 @@
 //! Programs, their books, and steps that are entered into these.
 //!
-//! A book is held in a box: whoever lets it go makes one call, and not one for each of its lists, which keeps the proofs short.
+//! A book is held in a box: whoever lets it go makes one call, and not one for each of its lists, which keeps the
+//! proofs short.
 ghost use Rattle.std.specs.Prelude.{◌≡◌, ◌+◌, ◌^◌, ◌<◌, ◌≤◌, IfOk};
 ghost use Rattle.tree_machine.specs.Step.{Fits};
 

@@ -8,8 +8,8 @@ use std::alloc::Global;
 use std::test::Fail;
 use tree_machine::Atomic;
 
-/// Takes the next entry, which is the state after this schedule, and enters its steps. What is found of the state is lent
-/// to them.
+/// Takes the next entry, which is the state after this schedule, and enters its steps. What is found of the state is
+/// lent to them.
 fn enter_lent(alloc: Global, book: &mut Book<Atomic>, schedule: &[u8]) -> Result<Entered, Broken> {
     let (id, _) = take_next(book)?;
     let program = book.program().copy(alloc)?;

@@ -89,8 +89,8 @@ fn enter_leaving<M: Machine>(
     Ok(book.enter_leaving(id, expansion, leftovers)?)
 }
 
-/// Takes the next entry and enters its steps. Whether it is the entry of this number, they come to these counts, and all
-/// states that the book knew are left.
+/// Takes the next entry and enters its steps. Whether it is the entry of this number, they come to these counts, and
+/// all states that the book knew are left.
 fn enters<M: Machine>(
     alloc: Global,
     book: &mut Book<M>,

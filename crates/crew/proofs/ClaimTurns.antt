@@ -11,7 +11,7 @@ use Rattle.crew.specs.declared.claims.view.Draws.{Draws}
 use Rattle.crew.specs.declared.claims.view.Size.{Size}
 use Rattle.crew.specs.ClaimValues.{Seated, Counter}
 use Rattle.crew.specs.ClaimRule.{draws, fresh}
-use Rattle.crew.specs.ClaimSeats.{IsSeatOf, IsFresh, places_drawn, seats_spent, parts_held}
+use Rattle.crew.specs.ClaimSeats.{IsSeatOf, IsFresh, places_drawn, seats_spent, seats_held}
 use Rattle.std.proofs.lemmas.List.Elements.{All-push, All-same, All-weaker, All-head, All-tail}
 use Rattle.atomic_table.specs.Seated.{TableId}
 
@@ -33,8 +33,8 @@ more_places all left seats rest s is h =
 pub fewer_spent : (seats rest : List Seated) (s : Seated) → seats ≡ rest ++ s ∷ [] → seats_spent seats ≡ seats_spent rest + s.drew.spent
 fewer_spent seats rest s is = ap seats_spent is ∙ sum_by_push (λ (x : Seated). x.drew.spent) rest s
 
-pub fewer_parts : (seats rest : List Seated) (s : Seated) → seats ≡ rest ++ s ∷ [] → parts_held seats ≡ parts_held rest + s.drew.parts
-fewer_parts seats rest s is = ap parts_held is ∙ sum_by_push (λ (x : Seated). x.drew.parts) rest s
+pub fewer_seats : (seats rest : List Seated) (s : Seated) → seats ≡ rest ++ s ∷ [] → seats_held seats ≡ seats_held rest + s.drew.seats
+fewer_seats seats rest s is = ap seats_held is ∙ sum_by_push (λ (x : Seated). x.drew.seats) rest s
 
 -- the word that a closed table reads
 pub first_word : (words items : List ℕ) (r : ℕ) → words ≡ items → get_elem? items 0 ≡ some r → get_or words 0 0 ≡ r
@@ -42,9 +42,9 @@ first_word words [] r is at = absurd (some-ne-none r (sym at))
 first_word words (x ∷ xs) r is at = ap (λ (l : List ℕ). get_or l 0 0) is ∙ some-injective x r at
 
 -- what is left of the seat that the others are cut off
-pub cut_rest : (me me' : Knows) (k k' : ℕ) (size : Size) → me ≡ (fresh k size, []) → me' ≡ (draws (me.0.parts - 1) me.0.places me.0.spent me.0.size, me.1) → k' ≡ k - 1 → me' ≡ (fresh k' size, [])
+pub cut_rest : (me me' : Knows) (k k' : ℕ) (size : Size) → me ≡ (fresh k size, []) → me' ≡ (draws (me.0.seats - 1) me.0.places me.0.spent me.0.size, me.1) → k' ≡ k - 1 → me' ≡ (fresh k' size, [])
 cut_rest me me' k k' size was is less =
-    is ∙ ap (λ (m : Knows). (draws (m.0.parts - 1) m.0.places m.0.spent m.0.size, m.1)) was ∙ ap (λ (n : ℕ). (fresh n size, [])) (sym less)
+    is ∙ ap (λ (m : Knows). (draws (m.0.seats - 1) m.0.places m.0.spent m.0.size, m.1)) was ∙ ap (λ (n : ℕ). (fresh n size, [])) (sym less)
 
 -- a seat that `new` makes
 abbrev pub IsNew : TableId → Size → Seated → Type 0
@@ -58,12 +58,12 @@ pub new_is_fresh : (claims : Counter) (made : List Seated) → All (IsNew claims
 new_is_fresh claims made h =
     All-weaker (IsNew claims.counter claims.size) (λ seat. IsSeatOf claims seat × IsFresh seat)
     (λ seat one. (
-      record { counter = one.0; size = ap (λ (v : Draws). v.size) one.1; part = ap (λ (v : Draws). v.parts) one.1 },
+      record { counter = one.0; size = ap (λ (v : Draws). v.size) one.1; single = ap (λ (v : Draws). v.seats) one.1 },
       (ap (λ (v : Draws). v.places) one.1, ap (λ (v : Draws). v.spent) one.1),
     )) made h
 
--- each seat of a counter is one part
-pub one_part_each : (claims : Counter) (seats : List Seated) → All (IsSeatOf claims) seats → parts_held seats ≡ length seats
-one_part_each claims [] h = refl
-one_part_each claims (seat ∷ seats) h =
-    omega (arith, sum_by-cons (λ (s : Seated). s.drew.parts) seat seats, (All-head (IsSeatOf claims) seat seats h).part, one_part_each claims seats (All-tail (IsSeatOf claims) seat seats h))
+-- each seat of a counter is one
+pub one_each : (claims : Counter) (seats : List Seated) → All (IsSeatOf claims) seats → seats_held seats ≡ length seats
+one_each claims [] h = refl
+one_each claims (seat ∷ seats) h =
+    omega (arith, sum_by-cons (λ (s : Seated). s.drew.seats) seat seats, (All-head (IsSeatOf claims) seat seats h).single, one_each claims seats (All-tail (IsSeatOf claims) seat seats h))

@@ -20,7 +20,7 @@ use Rattle.tree_machine.specs.declared.coded.Coded as coded
 use Rattle.tree_machine.specs.declared.machine.Machine as machine
 use Rattle.book.specs.contracts.finding.Finding as Finding
 use Rattle.book.proofs.Crossing.{book_send, state_send, state_sync}
-use Rattle.crew.specs.declared.tally.Run as run
+use Rattle.crew.specs.declared.tally.Ledgers as ledgers
 use Rattle.crew.specs.contracts.claims.Claims as Claims
 use Rattle.crew.specs.contracts.leads.Lead as Lead
 use Rattle.crew.specs.contracts.tally.Desk as Desk
@@ -62,7 +62,7 @@ module _ (a : NamedLft) (M Mem Loc Form : RattleType) (g : machine.Ghosts M.Deno
 
 module _ (J M Mem Loc Form : RattleType) (g : machine.Ghosts M.Denot Mem.Denot Loc.Denot Form.Denot) (mp : partial.Ghosts M.Denot)
     (ap : partial.Ghosts Mem.Denot) (ah : hash.Ghosts Mem.Denot) (lp : partial.Ghosts Loc.Denot) (lh : hash.Ghosts Loc.Denot) (fc : coded.Ghosts Form.Denot) (fp : partial.Ghosts Form.Denot) (fh : hash.Ghosts Form.Denot)
-    (r : run.Ghosts J.Denot) (c : clone.Ghosts M.Denot) (me : exact.Ghosts M.Denot) (mq : eq.Ghosts M.Denot) (ae : exact.Ghosts Mem.Denot) (aq : eq.Ghosts Mem.Denot)
+    (r : ledgers.Ghosts J.Denot) (c : clone.Ghosts M.Denot) (me : exact.Ghosts M.Denot) (mq : eq.Ghosts M.Denot) (ae : exact.Ghosts Mem.Denot) (aq : eq.Ghosts Mem.Denot)
     (le : exact.Ghosts Loc.Denot) (lq : eq.Ghosts Loc.Denot) (fe : exact.Ghosts Form.Denot) (fq : eq.Ghosts Form.Denot)
     (j : IsSend J) (m : IsSend M) (mem : IsSend Mem) (loc : IsSend Loc) (form : IsSend Form) (m' : IsSync M) (mem' : IsSync Mem) (loc' : IsSync Loc) (form' : IsSync Form) where
   desk_send : IsSend (Desk.the_row J M Mem Loc Form g mp ap ah lp lh fc fp fh r c me mq ae aq le lq fe fq)

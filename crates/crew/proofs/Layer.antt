@@ -6,7 +6,7 @@ use Rattle.book.specs.Schedule.{StepMachine}
 use Rattle.book.specs.Entries.{Entry, At, Contents, TakesLayer, is_expanded, with_mark, with_marks}
 use Rattle.book.proofs.EntryLemmas.{with_mark-at}
 use Rattle.book.proofs.Growth.{taken_count}
-use Rattle.book.proofs.Runs.{length-with_marks}
+use Rattle.book.proofs.Ranges.{length-with_marks}
 
 module _ {S : Type 0} (m : StepMachine S) where
   marked_count : {A : Type 0} (es : List (Entry S)) (layer : List (ℕ × Arc S A))

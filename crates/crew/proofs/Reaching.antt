@@ -213,13 +213,13 @@ module _ {S : Type 0} (m : StepMachine S) (same : S → S → Bool) (machine : I
       all = (λ s r. elim (last_of r.0) [
         | inl e ↦ (let w = count.all s ([], omega arith, ap (after m) (sym e) ∙ r.2) in still_there w.0 w.1 s w.2 w.3)
         | inr l ↦ (
-            let parts = run_last m l.0 l.1 m.start s (ap (after m) (sym l.2) ∙ r.2) in
+            let cut = run_last m l.0 l.1 m.start s (ap (after m) (sym l.2) ∙ r.2) in
             let long : length (l.0 ++ l.1 ∷ []) ≡ length l.0 + 1 = length_push l.0 l.1 in
             let whole : length r.0 ≡ length (l.0 ++ l.1 ∷ []) = ap length l.2 in
             let le : length r.0 ≤ n + 1 = r.1 in
-            let w = count.all parts.0 (l.0, omega arith, parts.1) in
+            let w = count.all cut.0 (l.0, omega arith, cut.1) in
             let way = count.reached w.0 w.1 w.2 in
-            let v = merges.steps_alike w.1 parts.0 s l.1 (fits_after m machine way.0 w.1 way.2) (fits_after m machine l.0 parts.0 parts.1) w.3 parts.2 in
+            let v = merges.steps_alike w.1 cut.0 s l.1 (fits_after m machine way.0 w.1 way.2) (fits_after m machine l.0 cut.0 cut.1) w.3 cut.2 in
             found w.1 v.0 s w.0 l.1 w.2 v.1 v.2)
       ]);
     }

@@ -7,7 +7,7 @@ use Rattle.crew.specs.ClaimValues.{Seated, Counter}
 pub record IsSeatOf (claims : Counter) (seat : Seated) : Type 0 where
   pub counter : seat.counter ≡ claims.counter
   pub size : seat.drew.size ≡ claims.size
-  pub part : seat.drew.parts ≡ 1
+  pub single : seat.drew.seats ≡ 1
 
 -- the seat drew nothing, and was told nothing
 abbrev pub IsFresh : Seated → Type 0
@@ -22,5 +22,5 @@ abbrev pub seats_spent : List Seated → ℕ
 seats_spent seats = sum_by (λ seat. seat.drew.spent) seats
 
 -- how many seats these are
-abbrev pub parts_held : List Seated → ℕ
-parts_held seats = sum_by (λ seat. seat.drew.parts) seats
+abbrev pub seats_held : List Seated → ℕ
+seats_held seats = sum_by (λ seat. seat.drew.seats) seats

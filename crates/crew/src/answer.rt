@@ -12,8 +12,8 @@ pub enum Answer {
         /// The number of steps that was asked for.
         steps: u16,
     },
-    /// Every schedule of any length does: states are merged by names, and the steps that were asked for reach no more of
-    /// them than one step fewer.
+    /// Every schedule of any length does: states are merged by names, and the steps that were asked for reach no more
+    /// of them than one step fewer.
     Every,
     /// A schedule leads to a fault, and no shorter one does.
     Fault {
@@ -59,7 +59,11 @@ impl Share {
         requires expanded { self.old.expanded + 1 < 2 ^ 64 }
         requires entered { self.old.entered + counts.entered < 2 ^ 64 }
         requires met { self.old.met + counts.met < 2 ^ 64 }
-        ensures { self.new ≡ record { expanded = self.old.expanded + 1; entered = self.old.entered + counts.entered; met = self.old.met + counts.met } }
+        ensures { self.new ≡ record {
+          expanded = self.old.expanded + 1;
+          entered = self.old.entered + counts.entered;
+          met = self.old.met + counts.met;
+        } }
     {
         self.expanded += 1;
         self.entered += counts.entered;

@@ -1,5 +1,6 @@
 //! Places of a list, handed out to several threads, each place once.
-ghost use Rattle.std.specs.Prelude.{◌≡◌, ◌+◌, ◌-◌, ◌^◌, ◌<◌, ◌≤◌, [], ◌∷◌, ◌++◌, length, All, IfOk, IfSome, IfNone, vec_len, IsPermutation};
+ghost use Rattle.std.specs.Prelude.{◌≡◌, ◌+◌, ◌-◌, ◌^◌, ◌<◌, ◌≤◌, [], ◌∷◌, ◌++◌};
+ghost use Rattle.std.specs.Prelude.{length, All, IfOk, IfSome, IfNone, vec_len, IsPermutation};
 ghost use Rattle.crew.specs.ClaimRule.{TableHolds, IsDrawStep, below, draws, fresh, no_seat};
 
 mod view;
@@ -30,7 +31,7 @@ impl Play<(), Draws> for Draw {
 struct Cut;
 
 impl Split<Draws> for Cut {
-    ghost left = { λ seat. draws (seat.parts - 1) seat.places seat.spent seat.size };
+    ghost left = { λ seat. draws (seat.seats - 1) seat.places seat.spent seat.size };
 
     ghost right = { λ seat. fresh 1 seat.size };
 }
@@ -39,7 +40,8 @@ impl Split<Draws> for Cut {
 struct Join;
 
 impl atomic_table::Join<Draws> for Join {
-    ghost both = { λ seat other. draws (seat.parts + other.parts) (seat.places ++ other.places) (seat.spent + other.spent) seat.size };
+    ghost both = { λ seat other. draws (seat.seats + other.seats) (seat.places ++ other.places)
+        (seat.spent + other.spent) seat.size };
 
     ghost spent = { no_seat };
 }
@@ -60,7 +62,8 @@ impl Model for Seat {
 
     ghost view = { λ seat. record { counter = seat.token.table_id; drew = seat.token.me.0 } };
 
-    ghost invariant = { λ seat. (seat.token.me.0.spent ≡ (if seat.is_spent then 1 else 0)) × (seat.token.me.0.parts ≡ 1) × (seat.token.me.1 ≡ []) };
+    ghost invariant = { λ seat. (seat.token.me.0.spent ≡ (if seat.is_spent then 1 else 0)) × (seat.token.me.0.seats ≡ 1)
+        × (seat.token.me.1 ≡ []) };
 }
 
 /// A counter of the places of a list, from which threads draw places, each with a seat of its own. Contracts see which
@@ -79,7 +82,9 @@ impl Model for Claims {
 
     ghost view = { λ claims. record { counter = claims.table.shared.table_id; size = claims.size } };
 
-    ghost invariant = { λ claims. (claims.table.shared.key ≡ claims.size) × (claims.table.shared.table_id.words ≡ 1) × (claims.table.shared.table_id.slots ≡ 0) × (0 < claims.size.seats) × (claims.size.len + claims.size.seats < 2 ^ 64) };
+    ghost invariant = { λ claims. (claims.table.shared.key ≡ claims.size) × (claims.table.shared.table_id.words ≡ 1)
+        × (claims.table.shared.table_id.slots ≡ 0) × (0 < claims.size.seats)
+        × (claims.size.len + claims.size.seats < 2 ^ 64) };
 }
 
 /// How many places were drawn, and how many seats were told that none is left.
@@ -91,7 +96,7 @@ pub struct Claimed {
 
 // Made here and not in the loop of `new`, where a loop would lose what is known of its fields.
 fn seated(token: atomic_table::Seat<(), Draws>) -> Seat
-    requires view { (token.me.0.parts ≡ 1) × (token.me.0.spent ≡ 0) }
+    requires view { (token.me.0.seats ≡ 1) × (token.me.0.spent ≡ 0) }
     requires bare { token.me.1 ≡ [] }
     ensures { (result.counter ≡ token.table_id) × (result.drew ≡ token.me.0) }
 {
@@ -102,7 +107,7 @@ fn seated(token: atomic_table::Seat<(), Draws>) -> Seat
 }
 
 impl Claims {
-    ghost use Rattle.crew.specs.ClaimSeats.{IsSeatOf, IsFresh, places_drawn, seats_spent, parts_held};
+    ghost use Rattle.crew.specs.ClaimSeats.{IsSeatOf, IsFresh, places_drawn, seats_spent, seats_held};
 
     /// A counter for a list of `len` places, and its `seats` seats, at least one, none of which drew a place yet.
     /// `len` and `seats` sum to at most the greatest `u64`. A refused growth is answered by `OutOfMemory`.
@@ -130,7 +135,8 @@ impl Claims {
         ensures own { IsSeatOf self.now seat.new }
         ensures within { IfSome result (λ place. place < self.now.size.len) }
         ensures above { IfSome result (λ place. All (λ earlier. earlier < place) seat.old.drew.places) }
-        ensures drawn { IfSome result (λ place. seat.new.drew ≡ draws 1 (seat.old.drew.places ++ place ∷ []) 0 self.now.size) }
+        ensures drawn { IfSome result (λ place. seat.new.drew
+            ≡ draws 1 (seat.old.drew.places ++ place ∷ []) 0 self.now.size) }
         ensures none_left { IfNone result (seat.new.drew ≡ draws 1 seat.old.drew.places 1 self.now.size) }
         ensures spent { 0 < seat.old.drew.spent → (result ≡ None) × (seat.new ≡ seat.old) }
     {
@@ -149,10 +155,10 @@ impl Claims {
     // One seat of the table, which drew what all of these drew.
     fn gather(&self, mut seats: Vec<Seat>) -> atomic_table::Seat<(), Draws>
         requires own { All (λ seat. IsSeatOf self.now seat) seats.items }
-        requires some_seat { 0 < parts_held seats.items }
+        requires some_seat { 0 < seats_held seats.items }
         ensures own { result.table_id ≡ self.now.counter }
         ensures bare { result.me.1 ≡ [] }
-        ensures parts { result.me.0.parts ≡ parts_held seats.items }
+        ensures held { result.me.0.seats ≡ seats_held seats.items }
         ensures spent { result.me.0.spent ≡ seats_spent seats.items }
         ensures places { IsPermutation (places_drawn seats.items) result.me.0.places }
     {
@@ -175,7 +181,7 @@ impl Claims {
     /// place stands in one.
     pub fn close(self, seats: Vec<Seat>) -> Claimed
         requires own { All (λ seat. IsSeatOf self seat) seats.items }
-        requires every { parts_held seats.items ≡ self.size.seats }
+        requires every { seats_held seats.items ≡ self.size.seats }
         ensures once { IsPermutation (below result.drawn) (places_drawn seats.items) }
         ensures drawn { result.drawn ≡ length (places_drawn seats.items) }
         ensures spent { result.spent ≡ seats_spent seats.items }

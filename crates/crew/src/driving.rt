@@ -28,8 +28,11 @@ fn expand_next<M: Machine>(
     ensures kept { OnOk result (IsKept book.old book.new) }
     ensures ledger { OnOk result (IsLedgerOf book.new share.new) }
     ensures next { IfOk result (λ o. IfNone o (IsInLayer (machine_in M.rules book.old).steps book.new.entries depth)) }
-    ensures more { IfOk result (λ o. IfNone o (count_by (λ e. is_expanded e.mark) book.new.entries ≡ count_by (λ e. is_expanded e.mark) book.old.entries + 1)) }
-    ensures cut { IfOk result (λ o. IfSome o (λ i. IsCutAt (machine_in M.rules book.old) (counted_as_one M.Loc.PartialEq.eq M.Mem.PartialEq.eq M.Form.PartialEq.eq (M.form_of book.old.machine) book.old.merge) (right_in M.rules book.old) book.new depth i)) }
+    ensures more { IfOk result (λ o. IfNone o (count_by (λ e. is_expanded e.mark) book.new.entries
+        ≡ count_by (λ e. is_expanded e.mark) book.old.entries + 1)) }
+    ensures cut { IfOk result (λ o. IfSome o (λ i. IsCutAt (machine_in M.rules book.old)
+        (counted_as_one M.Loc.PartialEq.eq M.Mem.PartialEq.eq M.Form.PartialEq.eq
+        (M.form_of book.old.machine) book.old.merge) (right_in M.rules book.old) book.new depth i)) }
 {
     book.law();
     let Some((id, state)) = book.take()? else {
@@ -75,8 +78,11 @@ fn expand_layer<M: Machine>(
     requires ledger { IsLedgerOf book.old share.old }
     ensures kept { OnOk result (IsKept book.old book.new) }
     ensures ledger { OnOk result (IsLedgerOf book.new share.new) }
-    ensures next { IfOk result (λ o. IfNone o (StandsAt (machine_in M.rules book.old).steps book.new.entries (depth + 1))) }
-    ensures cut { IfOk result (λ o. IfSome o (λ i. IsCutAt (machine_in M.rules book.old) (counted_as_one M.Loc.PartialEq.eq M.Mem.PartialEq.eq M.Form.PartialEq.eq (M.form_of book.old.machine) book.old.merge) (right_in M.rules book.old) book.new depth i)) }
+    ensures next { IfOk result
+        (λ o. IfNone o (StandsAt (machine_in M.rules book.old).steps book.new.entries (depth + 1))) }
+    ensures cut { IfOk result (λ o. IfSome o (λ i. IsCutAt (machine_in M.rules book.old)
+        (counted_as_one M.Loc.PartialEq.eq M.Mem.PartialEq.eq M.Form.PartialEq.eq
+        (M.form_of book.old.machine) book.old.merge) (right_in M.rules book.old) book.new depth i)) }
 {
     'layer: while book.is_left_to(depth) {
         if let Some(id) = expand_next(alloc, program, book, depth, share)? {
@@ -101,8 +107,11 @@ pub(crate) fn drive<M: Machine>(
     requires ledger { IsLedgerOf book.old share.old }
     ensures kept { OnOk result (IsKept book.old book.new) }
     ensures ledger { OnOk result (IsLedgerOf book.new share.new) }
-    ensures done { IfOk result (λ o. IfNone o (IsWorkedOff (machine_in M.rules book.old).steps book.new.entries steps)) }
-    ensures cut { IfOk result (λ o. IfSome o (λ i. (d : ℕ) × (d < steps) × IsCutAt (machine_in M.rules book.old) (counted_as_one M.Loc.PartialEq.eq M.Mem.PartialEq.eq M.Form.PartialEq.eq (M.form_of book.old.machine) book.old.merge) (right_in M.rules book.old) book.new d i)) }
+    ensures done { IfOk result
+        (λ o. IfNone o (IsWorkedOff (machine_in M.rules book.old).steps book.new.entries steps)) }
+    ensures cut { IfOk result (λ o. IfSome o (λ i. (d : ℕ) × (d < steps) × IsCutAt (machine_in M.rules book.old)
+        (counted_as_one M.Loc.PartialEq.eq M.Mem.PartialEq.eq M.Form.PartialEq.eq
+        (M.form_of book.old.machine) book.old.merge) (right_in M.rules book.old) book.new d i)) }
 {
     'layers: for depth in 0..steps {
         if book.first_fault().is_some() || !book.is_left_to(u64::from(depth)) {

@@ -17,7 +17,7 @@ use crate::layers::{cut_of, workers_of};
 use crate::options::Options;
 use crate::reporting::report_of;
 use crate::settling::{merged, shares_of};
-use crate::tally::{Blanks, Desk, Run};
+use crate::tally::{Blanks, Desk, Ledgers};
 use crate::working::Exploration;
 use book::Book;
 use sched_program::{OutOfMemory, Program};
@@ -45,7 +45,7 @@ fn opened<M: Machine>(
 }
 
 /// Explores by all workers at once. None where the book that they leave under the lock does not tell the answer.
-fn explore_together<J: Run + Send + Sync, M: Machine, G: Gate, R: Threads + Wait + Sync>(
+fn explore_together<J: Ledgers + Send + Sync, M: Machine, G: Gate, R: Threads + Wait + Sync>(
     rt: &R,
     alloc: Global,
     machine: M,
@@ -54,15 +54,17 @@ fn explore_together<J: Run + Send + Sync, M: Machine, G: Gate, R: Threads + Wait
     gate: &G,
     blanks: Blanks,
 ) -> Result<Option<Report<M>>, OutOfMemory>
-    requires expanded { (blanks.expanded.name ≡ J.expanded_name) × (blanks.expanded.parts ≡ J.parts) }
-    requires entered { (blanks.entered.name ≡ J.entered_name) × (blanks.entered.parts ≡ J.parts) }
-    requires met { (blanks.met.name ≡ J.met_name) × (blanks.met.parts ≡ J.parts) }
-    requires parts { J.parts ≡ options.workers }
-    ensures { IfOk result (λ o. IfSome o (λ r. IsReport M.rules M.Loc.PartialEq.eq M.Mem.PartialEq.eq M.Form.PartialEq.eq M.form_of machine program.now options r.answer r.totals r.shares.items r.book)) }
+    requires expanded { (blanks.expanded.name ≡ J.expanded_name) × (blanks.expanded.parts ≡ J.pieces) }
+    requires entered { (blanks.entered.name ≡ J.entered_name) × (blanks.entered.parts ≡ J.pieces) }
+    requires met { (blanks.met.name ≡ J.met_name) × (blanks.met.parts ≡ J.pieces) }
+    requires pieces { J.pieces ≡ options.workers }
+    ensures { IfOk result
+        (λ o. IfSome o (λ r. IsReport M.rules M.Loc.PartialEq.eq M.Mem.PartialEq.eq M.Form.PartialEq.eq M.form_of
+        machine program.now options r.answer r.totals r.shares.items r.book)) }
 {
     let book = opened(alloc, machine, program, options)?;
-    let (desk, parts) = Desk::<J, M>::new(book, blanks);
-    let mut workers = workers_of(alloc, options.workers(), parts)?;
+    let (desk, pieces) = Desk::<J, M>::new(book, blanks);
+    let mut workers = workers_of(alloc, options.workers(), pieces)?;
     let exploration = Exploration {
         rt,
         alloc,
@@ -104,7 +106,8 @@ fn explore_alone<M: Machine>(
     program: &Program,
     options: Options,
 ) -> Result<Report<M>, OutOfMemory>
-    ensures { IfOk result (λ r. IsReport M.rules M.Loc.PartialEq.eq M.Mem.PartialEq.eq M.Form.PartialEq.eq M.form_of machine program.now options r.answer r.totals r.shares.items r.book) }
+    ensures { IfOk result (λ r. IsReport M.rules M.Loc.PartialEq.eq M.Mem.PartialEq.eq M.Form.PartialEq.eq M.form_of
+        machine program.now options r.answer r.totals r.shares.items r.book) }
 {
     let mut book = opened(alloc, machine, program, options)?;
     let mut share = Share::none();
@@ -120,12 +123,13 @@ fn explore_alone<M: Machine>(
 /// unless more states are reached than the book may have entries.
 ///
 /// The answer is the due one, and true of all schedules; no answer with another verdict or other numbers is due. It is
-/// read off the book of the report, whose recorded schedules lead to its entries' states. The workers' shares sum to the
-/// book's totals. Each worker has a thread of its own and calls the gate at each entry that it expands.
+/// read off the book of the report, whose recorded schedules lead to its entries' states. The workers' shares sum to
+/// the book's totals. Each worker has a thread of its own and calls the gate at each entry that it expands.
 ///
 /// A refused growth is answered by `OutOfMemory`, once all workers are joined. Where the book that the workers leave is
-/// not the one that was opened, a layer of it was left undone for no reason, or one too many was expanded, which no worker
-/// here brings about, one thread explores anew: all the work is in the first worker's share, and no gate is called.
+/// not the one that was opened, a layer of it was left undone for no reason, or one too many was expanded, which no
+/// worker here brings about, one thread explores anew: all the work is in the first worker's share, and no gate is
+/// called.
 pub fn explore<M: Machine, G: Gate, R: Threads + Wait + Sync>(
     rt: &R,
     alloc: Global,
@@ -134,8 +138,16 @@ pub fn explore<M: Machine, G: Gate, R: Threads + Wait + Sync>(
     options: Options,
     gate: &G,
 ) -> Result<Report<M>, OutOfMemory>
-    ensures due { IfOk result (λ r. IsDue (machine_of {Machine = M} {Form = M.Form} (M.rules machine) program.now) (counted_as_one M.Loc.PartialEq.eq M.Mem.PartialEq.eq M.Form.PartialEq.eq (M.form_of machine) options.merge) (IsFindingOf (M.rules machine) program.now) options.merge options.steps options.limit r.totals.entries r.answer) }
-    ensures only { IfOk result (λ r. (count : ℕ) (other : Answer) → IsDue (machine_of {Machine = M} {Form = M.Form} (M.rules machine) program.now) (counted_as_one M.Loc.PartialEq.eq M.Mem.PartialEq.eq M.Form.PartialEq.eq (M.form_of machine) options.merge) (IsFindingOf (M.rules machine) program.now) options.merge options.steps options.limit count other → IsSameVerdict r.totals.entries r.answer count other) }
+    ensures due { IfOk result (λ r. IsDue (machine_of {Machine = M} {Form = M.Form} (M.rules machine) program.now)
+        (counted_as_one M.Loc.PartialEq.eq M.Mem.PartialEq.eq M.Form.PartialEq.eq (M.form_of machine) options.merge)
+        (IsFindingOf (M.rules machine) program.now)
+        options.merge options.steps options.limit r.totals.entries r.answer) }
+    ensures only { IfOk result (λ r. (count : ℕ) (other : Answer)
+        → IsDue (machine_of {Machine = M} {Form = M.Form} (M.rules machine) program.now)
+        (counted_as_one M.Loc.PartialEq.eq M.Mem.PartialEq.eq M.Form.PartialEq.eq (M.form_of machine) options.merge)
+        (IsFindingOf (M.rules machine) program.now)
+        options.merge options.steps options.limit count other
+        → IsSameVerdict r.totals.entries r.answer count other) }
     ensures headline { IfOk result (λ r. IsTrueOf M M.Form (M.rules machine) program.now r.answer) }
     ensures first { IfOk result (λ r. TellsFirst (machine_of (M.rules machine) program.now) r.book.entries r.answer) }
     ensures closed { IfOk result (λ r. TellsClosed r.book r.answer) }
@@ -145,7 +157,8 @@ pub fn explore<M: Machine, G: Gate, R: Threads + Wait + Sync>(
     ensures merge { IfOk result (λ r. r.book.merge ≡ options.merge) }
     ensures totals { IfOk result (λ r. r.totals ≡ totals_of r.book) }
     ensures shares { IfOk result (λ r. length r.shares.items ≡ options.workers) }
-    ensures ledger { IfOk result (λ r. ledger r.shares.items ≡ record { expanded = r.totals.expanded; entered = r.totals.entered; met = r.totals.met }) }
+    ensures ledger { IfOk result (λ r. ledger r.shares.items
+        ≡ record { expanded = r.totals.expanded; entered = r.totals.entered; met = r.totals.met }) }
 {
     let blanks = Blanks::new(u64::from(options.workers()));
     match explore_together::<Brand, M, G, R>(rt, alloc, machine, program, options, gate, blanks)? {

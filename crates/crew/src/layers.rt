@@ -6,29 +6,29 @@ use crate::claims::{Claims, Seat};
 use crate::gate::Gate;
 use crate::leads::Leads;
 use crate::starting::call_at_once;
-use crate::tally::{Parts, Run, Tally};
-use crate::working::{Exploration, Layer, Stop, Worker, returns_of, run_of};
+use crate::tally::{Ledgers, Pieces, Tally};
+use crate::working::{Exploration, Layer, Stop, Worker, returns_of, round_of};
 use sched_program::OutOfMemory;
 use std::alloc::Global;
 use std::sync::{Mutex, Wait};
 use std::thread::Threads;
 use tree_machine::Machine;
 
-/// So many workers, each with a part of each ledger.
-pub fn workers_of<J: Run>(
+/// So many workers, each with a piece of each ledger.
+pub fn workers_of<J: Ledgers>(
     alloc: Global,
     count: u8,
-    mut parts: Parts<J>,
+    mut pieces: Pieces<J>,
 ) -> Result<Vec<Worker<J>>, OutOfMemory>
-    requires parts { (parts.expanded.parts ≡ count) × (parts.entered.parts ≡ count) × (parts.met.parts ≡ count) }
-    requires amounts { (parts.expanded.amount ≡ 0) × (parts.entered.amount ≡ 0) × (parts.met.amount ≡ 0) }
+    requires pieces { (pieces.expanded.parts ≡ count) × (pieces.entered.parts ≡ count) × (pieces.met.parts ≡ count) }
+    requires amounts { (pieces.expanded.amount ≡ 0) × (pieces.entered.amount ≡ 0) × (pieces.met.amount ≡ 0) }
     ensures { IfOk result (λ v. vec_len v ≡ count) }
 {
     let mut workers = Vec::with_capacity(alloc, usize::from(count))?;
     for before in 0..count {
         workers.push_reserved(Worker {
             number: before + 1,
-            tally: Tally::new(parts.split_one()),
+            tally: Tally::new(pieces.split_one()),
             seat: None,
             stop: None,
         });
@@ -37,7 +37,7 @@ pub fn workers_of<J: Run>(
 }
 
 /// Gives each worker a seat.
-fn seat_all<J: Run>(claims: &Claims, workers: &mut [Worker<J>], mut seats: Vec<Seat>)
+fn seat_all<J: Ledgers>(claims: &Claims, workers: &mut [Worker<J>], mut seats: Vec<Seat>)
     requires { All (λ s. IsSeatOf claims.now s) seats.items }
     ensures seated { All (λ w. IfSome w.seat (IsSeatOf claims.now)) workers.new }
     ensures len { length workers.new ≡ length workers.old }
@@ -47,7 +47,7 @@ fn seat_all<J: Run>(claims: &Claims, workers: &mut [Worker<J>], mut seats: Vec<S
     }
 }
 
-impl<'a, J: Run + Send + Sync, M: Machine, G: Gate, R: Threads + Wait + Sync> Exploration<
+impl<'a, J: Ledgers + Send + Sync, M: Machine, G: Gate, R: Threads + Wait + Sync> Exploration<
     'a,
     J,
     M,
@@ -89,7 +89,7 @@ impl<'a, J: Run + Send + Sync, M: Machine, G: Gate, R: Threads + Wait + Sync> Ex
         }
         let (claims, seats) = Claims::new(self.alloc, leads.len(), workers.len())?;
         seat_all(&claims, workers, seats);
-        let run = run_of(leads.len(), workers.len());
+        let round = round_of(leads.len(), workers.len());
         let before = spent.as_ref().map_or(0, |leads| leads.len());
         let returns = returns_of(before, leads.len(), workers.len());
         let layer = Layer {
@@ -100,7 +100,7 @@ impl<'a, J: Run + Send + Sync, M: Machine, G: Gate, R: Threads + Wait + Sync> Ex
             number,
             leads,
             claims,
-            run,
+            round,
             spent: Mutex::new(spent.take()),
             returns,
         };
@@ -135,7 +135,7 @@ impl<'a, J: Run + Send + Sync, M: Machine, G: Gate, R: Threads + Wait + Sync> Ex
 }
 
 /// The entry for whose steps the first of the workers that tell of one found no room.
-pub fn cut_of<J: Run>(workers: &[Worker<J>]) -> Option<usize> {
+pub fn cut_of<J: Ledgers>(workers: &[Worker<J>]) -> Option<usize> {
     for worker in workers {
         if let Some(Stop::Full(id)) = worker.stop {
             return Some(id);

@@ -38,7 +38,8 @@ pub fn leads_of<M: Machine>(
     layer: Vec<(usize, Arc<State<M>>)>,
 ) -> Result<Leads<M>, OutOfMemory>
     requires given { All (λ p. IsGiven M.rules book.now p.0 p.1.value) layer.items }
-    ensures { IfOk result (λ leads. All (λ lead. IsReady (M.rules book.now.machine) book.now.program lead.state.value lead.finding) leads.items) }
+    ensures { IfOk result (λ leads. All
+        (λ lead. IsReady (M.rules book.now.machine) book.now.program lead.state.value lead.finding) leads.items) }
 {
     let mut leads = Vec::with_capacity(alloc, layer.len())?;
     for (id, state) in layer {

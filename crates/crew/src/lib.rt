@@ -1,4 +1,5 @@
-//! The exploration of every schedule of a program, up to a number of steps, by several workers, and the answer that is due.
+//! The exploration of every schedule of a program, up to a number of steps, by several workers, and the answer that is
+//! due.
 #![tactic(auto)]
 
 mod answer;

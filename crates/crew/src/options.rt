@@ -22,16 +22,19 @@ impl Model for Options {
 
     ghost view = { λ o. record { steps = o.steps; limit = o.limit; merge = o.merge; workers = o.workers } };
 
-    ghost invariant = { λ o. AreInRange (record { steps = o.steps; limit = o.limit; merge = o.merge; workers = o.workers }) };
+    ghost invariant = { λ o. AreInRange
+        (record { steps = o.steps; limit = o.limit; merge = o.merge; workers = o.workers }) };
 
     ghost inverse = { λ s. record { steps = s.steps; limit = s.limit; merge = s.merge; workers = s.workers } };
 }
 
 impl Options {
-    /// The options of these parts; none if one of them is out of its range.
+    /// The options of these fields; none if one of them is out of its range.
     pub fn new(steps: u16, limit: u32, merge: Merge, workers: u8) -> Option<Options>
-        ensures value { IfSome result (λ options. options ≡ record { steps = steps; limit = limit; merge = merge; workers = workers }) }
-        ensures range { IsSome result ↔ AreInRange (record { steps = steps; limit = limit; merge = merge; workers = workers }) }
+        ensures value { IfSome result (λ options. options
+            ≡ record { steps = steps; limit = limit; merge = merge; workers = workers }) }
+        ensures range { IsSome result
+            ↔ AreInRange (record { steps = steps; limit = limit; merge = merge; workers = workers }) }
     {
         if steps <= 400 && limit >= 1 && limit <= 2_000_000 && workers >= 1 && workers <= 8 {
             Some(Options {

@@ -1,5 +1,6 @@
 //! The due answer, read off the book in hand.
-ghost use Rattle.std.specs.Prelude.{◌≡◌, ℕ, ◌<◌, ◌≤◌, ◌↔◌, IsTrue, IsSome, IfOk, IfSome, Some, None, length, false, true};
+ghost use Rattle.std.specs.Prelude.{◌≡◌, ℕ, ◌<◌, ◌≤◌, ◌↔◌};
+ghost use Rattle.std.specs.Prelude.{IsTrue, IsSome, IfOk, IfSome, Some, None, length, false, true};
 ghost use Rattle.book.specs.Books.{counted_as_one, machine_in, right_in};
 ghost use Rattle.tree_machine.specs.declared.state.State.{State};
 ghost use Rattle.book.specs.Entries.{At, Entry};
@@ -8,7 +9,8 @@ ghost use Rattle.book.specs.Findings.{is_sound};
 ghost use Rattle.book.specs.Layers.{IsExpandedBelow};
 ghost use Rattle.crew.specs.Due.{IsDue};
 ghost use Rattle.crew.specs.Headline.{IsTrueOf};
-ghost use Rattle.crew.specs.Reading.{first_fault, IsAtRest, IsCutAt, IsFullAt, IsLastLayer, IsWorkedOff, TellsClosed, TellsFirst};
+ghost use Rattle.crew.specs.Reading.{first_fault, IsAtRest, IsCutAt, IsFullAt, IsLastLayer, IsWorkedOff, TellsClosed};
+ghost use Rattle.crew.specs.Reading.{TellsFirst};
 
 use crate::answer::Answer;
 use crate::options::Options;
@@ -61,7 +63,8 @@ fn is_at_rest<M: Machine>(book: &Book<M>, steps: u64) -> bool
 
 /// Whether every entry of at most so many steps is sound.
 fn is_sound_to<M: Machine>(alloc: Global, book: &Book<M>, steps: usize) -> Result<bool, OutOfMemory>
-    ensures { IfOk result (λ yes. IsTrue yes ↔ ((i : ℕ) (e : Entry (State M M.Mem M.Loc M.Form)) → At book.now.entries i e → e.state.steps ≤ steps → is_sound e.finding ≡ true)) }
+    ensures { IfOk result (λ yes. IsTrue yes ↔ ((i : ℕ) (e : Entry (State M M.Mem M.Loc M.Form))
+        → At book.now.entries i e → e.state.steps ≤ steps → is_sound e.finding ≡ true)) }
 {
     book.law();
     match book.first_fault() {
@@ -79,11 +82,15 @@ fn tell_fault<M: Machine>(
     id: usize,
 ) -> Result<Option<Answer>, OutOfMemory>
     requires { first_fault book.now.entries ≡ Some id }
-    ensures due { IfOk result (λ o. IfSome o (IsDue (machine_in M.rules book.now) (counted_as_one M.Loc.PartialEq.eq M.Mem.PartialEq.eq M.Form.PartialEq.eq (M.form_of book.now.machine) book.now.merge) (right_in M.rules book.now) book.now.merge steps book.now.limit (length book.now.entries))) }
+    ensures due { IfOk result (λ o. IfSome o
+        (IsDue (machine_in M.rules book.now) (counted_as_one M.Loc.PartialEq.eq M.Mem.PartialEq.eq M.Form.PartialEq.eq
+        (M.form_of book.now.machine) book.now.merge) (right_in M.rules book.now) book.now.merge steps book.now.limit
+        (length book.now.entries))) }
     ensures headline { IfOk result (λ o. IfSome o (IsTrueOf M M.Form (M.rules book.now.machine) book.now.program)) }
     ensures first { IfOk result (λ o. IfSome o (TellsFirst (machine_in M.rules book.now) book.now.entries)) }
     ensures closed { IfOk result (λ o. IfSome o (TellsClosed book.now)) }
-    ensures some { IsWorkedOff (machine_in M.rules book.now).steps book.now.entries steps → IfOk result (λ o. IsSome o) }
+    ensures some { IsWorkedOff (machine_in M.rules book.now).steps book.now.entries steps
+        → IfOk result (λ o. IsSome o) }
 {
     book.law();
     let schedule = book.schedule_of(alloc, id)?;
@@ -95,18 +102,22 @@ fn tell_fault<M: Machine>(
     Ok(Some(Answer::Fault { finding, schedule }))
 }
 
-/// The answer where the layers are expanded, up to the first with a fault. None where they are not, or where the last one
-/// is expanded too.
+/// The answer where the layers are expanded, up to the first with a fault. None where they are not, or where the last
+/// one is expanded too.
 fn read_finished<M: Machine>(
     alloc: Global,
     book: &Book<M>,
     steps: u16,
 ) -> Result<Option<Answer>, OutOfMemory>
-    ensures due { IfOk result (λ o. IfSome o (IsDue (machine_in M.rules book.now) (counted_as_one M.Loc.PartialEq.eq M.Mem.PartialEq.eq M.Form.PartialEq.eq (M.form_of book.now.machine) book.now.merge) (right_in M.rules book.now) book.now.merge steps book.now.limit (length book.now.entries))) }
+    ensures due { IfOk result (λ o. IfSome o
+        (IsDue (machine_in M.rules book.now) (counted_as_one M.Loc.PartialEq.eq M.Mem.PartialEq.eq M.Form.PartialEq.eq
+        (M.form_of book.now.machine) book.now.merge) (right_in M.rules book.now) book.now.merge steps book.now.limit
+        (length book.now.entries))) }
     ensures headline { IfOk result (λ o. IfSome o (IsTrueOf M M.Form (M.rules book.now.machine) book.now.program)) }
     ensures first { IfOk result (λ o. IfSome o (TellsFirst (machine_in M.rules book.now) book.now.entries)) }
     ensures closed { IfOk result (λ o. IfSome o (TellsClosed book.now)) }
-    ensures some { IsWorkedOff (machine_in M.rules book.now).steps book.now.entries steps → IfOk result (λ o. IsSome o) }
+    ensures some { IsWorkedOff (machine_in M.rules book.now).steps book.now.entries steps
+        → IfOk result (λ o. IsSome o) }
 {
     match book.first_fault() {
         Some(id) => tell_fault(alloc, book, steps, id),
@@ -138,9 +149,15 @@ fn is_full_at<M: Machine>(
     schedule: &[u8],
 ) -> Result<bool, OutOfMemory>
     requires program { program.now ≡ book.old.program }
-    requires way { (e : Entry (State M M.Mem M.Loc M.Form)) × At book.old.entries id e × (after (machine_in M.rules book.old) schedule.now ≡ Some e.state) }
-    ensures full { IfOk result (λ yes. yes ≡ true → IsFullAt (machine_in M.rules book.old) (counted_as_one M.Loc.PartialEq.eq M.Mem.PartialEq.eq M.Form.PartialEq.eq (M.form_of book.old.machine) book.old.merge) (right_in M.rules book.old) book.old id) }
-    ensures yes { IsFullAt (machine_in M.rules book.old) (counted_as_one M.Loc.PartialEq.eq M.Mem.PartialEq.eq M.Form.PartialEq.eq (M.form_of book.old.machine) book.old.merge) (right_in M.rules book.old) book.old id → IfOk result (λ yes. yes ≡ true) }
+    requires way { (e : Entry (State M M.Mem M.Loc M.Form)) × At book.old.entries id e
+        × (after (machine_in M.rules book.old) schedule.now ≡ Some e.state) }
+    ensures full { IfOk result (λ yes. yes ≡ true → IsFullAt (machine_in M.rules book.old)
+        (counted_as_one M.Loc.PartialEq.eq M.Mem.PartialEq.eq M.Form.PartialEq.eq
+        (M.form_of book.old.machine) book.old.merge) (right_in M.rules book.old) book.old id) }
+    ensures yes { IsFullAt (machine_in M.rules book.old)
+        (counted_as_one M.Loc.PartialEq.eq M.Mem.PartialEq.eq M.Form.PartialEq.eq
+        (M.form_of book.old.machine) book.old.merge) (right_in M.rules book.old) book.old id
+        → IfOk result (λ yes. yes ≡ true) }
     ensures same { IfOk result (λ yes. yes ≡ true → book.new ≡ book.old) }
 {
     book.law();
@@ -171,12 +188,18 @@ fn read_stopped<M: Machine>(
 ) -> Result<Option<Answer>, OutOfMemory>
     requires program { program.now ≡ book.old.program }
     requires limit { book.old.limit ≡ options.limit }
-    ensures due { IfOk result (λ o. IfSome o (IsDue (machine_in M.rules book.old) (counted_as_one M.Loc.PartialEq.eq M.Mem.PartialEq.eq M.Form.PartialEq.eq (M.form_of book.old.machine) book.old.merge) (right_in M.rules book.old) book.old.merge options.steps book.old.limit (length book.old.entries))) }
+    ensures due { IfOk result (λ o. IfSome o
+        (IsDue (machine_in M.rules book.old) (counted_as_one M.Loc.PartialEq.eq M.Mem.PartialEq.eq M.Form.PartialEq.eq
+        (M.form_of book.old.machine) book.old.merge)
+        (right_in M.rules book.old) book.old.merge options.steps book.old.limit (length book.old.entries))) }
     ensures headline { IfOk result (λ o. IfSome o (IsTrueOf M M.Form (M.rules book.old.machine) book.old.program)) }
     ensures first { IfOk result (λ o. IfSome o (TellsFirst (machine_in M.rules book.old) book.old.entries)) }
     ensures closed { IfOk result (λ o. IfSome o (TellsClosed book.old)) }
     ensures same { IfOk result (λ o. IfSome o (λ _. book.new ≡ book.old)) }
-    ensures some { (d : ℕ) → d < options.steps → IsCutAt (machine_in M.rules book.old) (counted_as_one M.Loc.PartialEq.eq M.Mem.PartialEq.eq M.Form.PartialEq.eq (M.form_of book.old.machine) book.old.merge) (right_in M.rules book.old) book.old d id → IfOk result (λ o. IsSome o) }
+    ensures some { (d : ℕ) → d < options.steps → IsCutAt (machine_in M.rules book.old)
+        (counted_as_one M.Loc.PartialEq.eq M.Mem.PartialEq.eq M.Form.PartialEq.eq
+        (M.form_of book.old.machine) book.old.merge) (right_in M.rules book.old) book.old d id
+        → IfOk result (λ o. IsSome o) }
 {
     if id >= book.len() {
         return Ok(None);
@@ -207,13 +230,20 @@ pub(crate) fn read_answer<M: Machine>(
 ) -> Result<Option<Answer>, OutOfMemory>
     requires program { program.now ≡ book.old.program }
     requires limit { book.old.limit ≡ options.limit }
-    ensures due { IfOk result (λ o. IfSome o (IsDue (machine_in M.rules book.old) (counted_as_one M.Loc.PartialEq.eq M.Mem.PartialEq.eq M.Form.PartialEq.eq (M.form_of book.old.machine) book.old.merge) (right_in M.rules book.old) book.old.merge options.steps book.old.limit (length book.old.entries))) }
+    ensures due { IfOk result (λ o. IfSome o
+        (IsDue (machine_in M.rules book.old) (counted_as_one M.Loc.PartialEq.eq M.Mem.PartialEq.eq M.Form.PartialEq.eq
+        (M.form_of book.old.machine) book.old.merge)
+        (right_in M.rules book.old) book.old.merge options.steps book.old.limit (length book.old.entries))) }
     ensures headline { IfOk result (λ o. IfSome o (IsTrueOf M M.Form (M.rules book.old.machine) book.old.program)) }
     ensures first { IfOk result (λ o. IfSome o (TellsFirst (machine_in M.rules book.old) book.old.entries)) }
     ensures closed { IfOk result (λ o. IfSome o (TellsClosed book.old)) }
     ensures same { IfOk result (λ o. IfSome o (λ _. book.new ≡ book.old)) }
-    ensures finished { cut ≡ None → IsWorkedOff (machine_in M.rules book.old).steps book.old.entries options.steps → IfOk result (λ o. IsSome o) }
-    ensures stopped { IfSome cut (λ id. (d : ℕ) → d < options.steps → IsCutAt (machine_in M.rules book.old) (counted_as_one M.Loc.PartialEq.eq M.Mem.PartialEq.eq M.Form.PartialEq.eq (M.form_of book.old.machine) book.old.merge) (right_in M.rules book.old) book.old d id → IfOk result (λ o. IsSome o)) }
+    ensures finished { cut ≡ None → IsWorkedOff (machine_in M.rules book.old).steps book.old.entries options.steps
+        → IfOk result (λ o. IsSome o) }
+    ensures stopped { IfSome cut (λ id. (d : ℕ) → d < options.steps → IsCutAt (machine_in M.rules book.old)
+        (counted_as_one M.Loc.PartialEq.eq M.Mem.PartialEq.eq M.Form.PartialEq.eq
+        (M.form_of book.old.machine) book.old.merge) (right_in M.rules book.old) book.old d id
+        → IfOk result (λ o. IsSome o)) }
 {
     match cut {
         None => read_finished(alloc, book, options.steps()),

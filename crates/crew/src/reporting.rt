@@ -24,8 +24,8 @@ fn is_asked<M: Machine>(book: &Book<M>, machine: M, program: &Program, options: 
         && book.merge() == options.merge()
 }
 
-/// The report on a book, where the answer can be read off it. None where it can't, or where the book is not the one that
-/// was asked for. Where an entry is named, the book is to have no room for its steps.
+/// The report on a book, where the answer can be read off it. None where it can't, or where the book is not the one
+/// that was asked for. Where an entry is named, the book is to have no room for its steps.
 pub fn report_of<M: Machine>(
     alloc: Global,
     machine: M,
@@ -37,9 +37,14 @@ pub fn report_of<M: Machine>(
 ) -> Result<Option<Report<M>>, OutOfMemory>
     requires shares { length shares.items ≡ options.workers }
     requires ledger { IsLedgerOf book (ledger shares.items) }
-    ensures report { IfOk result (λ o. IfSome o (λ r. IsReport M.rules M.Loc.PartialEq.eq M.Mem.PartialEq.eq M.Form.PartialEq.eq M.form_of machine program.now options r.answer r.totals r.shares.items r.book)) }
-    ensures finished { IsBookOf machine program.now options book → cut ≡ None → IsWorkedOff (machine_in M.rules book).steps book.entries options.steps → IfOk result (λ o. IsSome o) }
-    ensures stopped { IsBookOf machine program.now options book → IfSome cut (λ id. (d : ℕ) → d < options.steps → IsCutAt (machine_in M.rules book) (counted_as_one M.Loc.PartialEq.eq M.Mem.PartialEq.eq M.Form.PartialEq.eq (M.form_of book.machine) book.merge) (right_in M.rules book) book d id → IfOk result (λ o. IsSome o)) }
+    ensures report { IfOk result
+        (λ o. IfSome o (λ r. IsReport M.rules M.Loc.PartialEq.eq M.Mem.PartialEq.eq M.Form.PartialEq.eq M.form_of
+        machine program.now options r.answer r.totals r.shares.items r.book)) }
+    ensures finished { IsBookOf machine program.now options book → cut ≡ None
+        → IsWorkedOff (machine_in M.rules book).steps book.entries options.steps → IfOk result (λ o. IsSome o) }
+    ensures stopped { IsBookOf machine program.now options book → IfSome cut (λ id. (d : ℕ) → d < options.steps
+        → IsCutAt (machine_in M.rules book) (counted_as_one M.Loc.PartialEq.eq M.Mem.PartialEq.eq M.Form.PartialEq.eq
+        (M.form_of book.machine) book.merge) (right_in M.rules book) book d id → IfOk result (λ o. IsSome o)) }
 {
     if !is_asked(&book, machine, program, options) {
         return Ok(None);

@@ -13,8 +13,8 @@ fn call<T, F: Fn(&mut T)>(f: &F, item: &mut T)
     f(item);
 }
 
-/// Calls `f` with each item, in a thread for each, until all calls have returned. This thread starts all others: a thread
-/// that a new one starts often shares its processor while another is idle.
+/// Calls `f` with each item, in a thread for each, until all calls have returned. This thread starts all others: a
+/// thread that a new one starts often waits for its processor while another is idle.
 #[cycle(starts)]
 pub fn call_at_once<R: Threads + Sync, T: Send, F: Fn(&mut T) + Sync>(
     rt: &R,

@@ -14,9 +14,9 @@ use std::sync::ledger;
 use std::sync::ledger::{Blank, Ledger};
 use tree_machine::{Machine, State, StateForm};
 
-/// The three ledgers of one exploration: into how many parts each is cut, and their names.
-pub trait Run {
-    ghost parts: { ℕ };
+/// The three ledgers of one exploration: into how many pieces each is cut, and their names.
+pub trait Ledgers {
+    ghost pieces: { ℕ };
 
     ghost expanded_name: { ℕ };
 
@@ -25,8 +25,8 @@ pub trait Run {
     ghost met_name: { ℕ };
 }
 
-impl Run for Brand {
-    ghost parts = { 0 };
+impl Ledgers for Brand {
+    ghost pieces = { 0 };
 
     ghost expanded_name = { 0 };
 
@@ -36,30 +36,30 @@ impl Run for Brand {
 }
 
 /// The ledger of the entries expanded.
-pub struct Expanding<J: Run>(PhantomData<J>);
+pub struct Expanding<J: Ledgers>(PhantomData<J>);
 
-impl<J: Run> Ledger for Expanding<J> {
+impl<J: Ledgers> Ledger for Expanding<J> {
     ghost name = { J.expanded_name };
 
-    ghost parts = { J.parts };
+    ghost parts = { J.pieces };
 }
 
 /// The ledger of the steps that led to new entries.
-pub struct Entering<J: Run>(PhantomData<J>);
+pub struct Entering<J: Ledgers>(PhantomData<J>);
 
-impl<J: Run> Ledger for Entering<J> {
+impl<J: Ledgers> Ledger for Entering<J> {
     ghost name = { J.entered_name };
 
-    ghost parts = { J.parts };
+    ghost parts = { J.pieces };
 }
 
 /// The ledger of the steps that led to known states.
-pub struct Meeting<J: Run>(PhantomData<J>);
+pub struct Meeting<J: Ledgers>(PhantomData<J>);
 
-impl<J: Run> Ledger for Meeting<J> {
+impl<J: Ledgers> Ledger for Meeting<J> {
     ghost name = { J.met_name };
 
-    ghost parts = { J.parts };
+    ghost parts = { J.pieces };
 }
 
 /// Three new ledgers, which no exploration keeps yet.
@@ -71,49 +71,53 @@ pub struct Blanks {
 }
 
 impl Blanks {
-    /// Three ledgers that are cut into so many parts each.
-    pub fn new(parts: u64) -> Blanks
-        ensures { (result.expanded.parts ≡ parts) × (result.entered.parts ≡ parts) × (result.met.parts ≡ parts) }
+    /// Three ledgers that are cut into so many pieces each.
+    pub fn new(pieces: u64) -> Blanks
+        ensures { (result.expanded.parts ≡ pieces) × (result.entered.parts ≡ pieces) × (result.met.parts ≡ pieces) }
     {
         Blanks {
-            expanded: Blank::new(parts),
-            entered: Blank::new(parts),
-            met: Blank::new(parts),
+            expanded: Blank::new(pieces),
+            entered: Blank::new(pieces),
+            met: Blank::new(pieces),
         }
     }
 }
 
-/// Some parts of each ledger, and what is counted on them. It takes no bytes.
+/// Some pieces of each ledger, and what is counted on them. It takes no bytes.
 #[derive(Drop)]
-pub struct Parts<J: Run> {
+pub struct Pieces<J: Ledgers> {
     pub expanded: ledger::Share<Expanding<J>>,
     pub entered: ledger::Share<Entering<J>>,
     pub met: ledger::Share<Meeting<J>>,
 }
 
-impl<J: Run> Parts<J> {
-    /// Splits off one part of each ledger, on which nothing is counted.
-    pub fn split_one(&mut self) -> Parts<J>
+impl<J: Ledgers> Pieces<J> {
+    /// Splits off one piece of each ledger, on which nothing is counted.
+    pub fn split_one(&mut self) -> Pieces<J>
         requires expanded { (0 < self.old.expanded.parts) × (self.old.expanded.amount ≡ 0) }
         requires entered { (0 < self.old.entered.parts) × (self.old.entered.amount ≡ 0) }
         requires met { (0 < self.old.met.parts) × (self.old.met.amount ≡ 0) }
-        ensures parts { (result.expanded.parts ≡ 1) × (result.entered.parts ≡ 1) × (result.met.parts ≡ 1) }
+        ensures pieces { (result.expanded.parts ≡ 1) × (result.entered.parts ≡ 1) × (result.met.parts ≡ 1) }
         ensures amounts { (result.expanded.amount ≡ 0) × (result.entered.amount ≡ 0) × (result.met.amount ≡ 0) }
         ensures expanded { (self.new.expanded.parts + 1 ≡ self.old.expanded.parts) × (self.new.expanded.amount ≡ 0) }
         ensures entered { (self.new.entered.parts + 1 ≡ self.old.entered.parts) × (self.new.entered.amount ≡ 0) }
         ensures met { (self.new.met.parts + 1 ≡ self.old.met.parts) × (self.new.met.amount ≡ 0) }
     {
-        Parts {
+        Pieces {
             expanded: self.expanded.split_off(1, 0),
             entered: self.entered.split_off(1, 0),
             met: self.met.split_off(1, 0),
         }
     }
 
-    /// Adds other parts, with what is counted on them.
-    pub fn merge(&mut self, other: Parts<J>)
-        ensures parts { (self.new.expanded.parts ≡ self.old.expanded.parts + other.expanded.parts) × (self.new.entered.parts ≡ self.old.entered.parts + other.entered.parts) × (self.new.met.parts ≡ self.old.met.parts + other.met.parts) }
-        ensures amounts { (self.new.expanded.amount ≡ self.old.expanded.amount + other.expanded.amount) × (self.new.entered.amount ≡ self.old.entered.amount + other.entered.amount) × (self.new.met.amount ≡ self.old.met.amount + other.met.amount) }
+    /// Adds other pieces, with what is counted on them.
+    pub fn merge(&mut self, other: Pieces<J>)
+        ensures pieces { (self.new.expanded.parts ≡ self.old.expanded.parts + other.expanded.parts)
+            × (self.new.entered.parts ≡ self.old.entered.parts + other.entered.parts)
+            × (self.new.met.parts ≡ self.old.met.parts + other.met.parts) }
+        ensures amounts { (self.new.expanded.amount ≡ self.old.expanded.amount + other.expanded.amount)
+            × (self.new.entered.amount ≡ self.old.entered.amount + other.entered.amount)
+            × (self.new.met.amount ≡ self.old.met.amount + other.met.amount) }
     {
         self.expanded.merge(other.expanded);
         self.entered.merge(other.entered);
@@ -121,33 +125,33 @@ impl<J: Run> Parts<J> {
     }
 }
 
-/// What a worker did, with its part of each ledger, on which the same is counted.
+/// What a worker did, with its piece of each ledger, on which the same is counted.
 #[derive(Drop)]
-pub struct Tally<J: Run> {
+pub struct Tally<J: Ledgers> {
     pub share: Share,
-    pub parts: Parts<J>,
-    pub ghost one_part: { (parts.expanded.parts ≡ 1) × (parts.entered.parts ≡ 1) × (parts.met.parts ≡ 1) },
-    pub ghost expanded_is: { parts.expanded.amount ≡ share.expanded },
-    pub ghost entered_is: { parts.entered.amount ≡ share.entered },
-    pub ghost met_is: { parts.met.amount ≡ share.met },
+    pub pieces: Pieces<J>,
+    pub ghost one_piece: { (pieces.expanded.parts ≡ 1) × (pieces.entered.parts ≡ 1) × (pieces.met.parts ≡ 1) },
+    pub ghost expanded_is: { pieces.expanded.amount ≡ share.expanded },
+    pub ghost entered_is: { pieces.entered.amount ≡ share.entered },
+    pub ghost met_is: { pieces.met.amount ≡ share.met },
 }
 
-impl<J: Run> Tally<J> {
+impl<J: Ledgers> Tally<J> {
     /// The tally of a worker that did nothing yet.
-    pub fn new(parts: Parts<J>) -> Tally<J>
-        requires parts { (parts.expanded.parts ≡ 1) × (parts.entered.parts ≡ 1) × (parts.met.parts ≡ 1) }
-        requires amounts { (parts.expanded.amount ≡ 0) × (parts.entered.amount ≡ 0) × (parts.met.amount ≡ 0) }
+    pub fn new(pieces: Pieces<J>) -> Tally<J>
+        requires pieces { (pieces.expanded.parts ≡ 1) × (pieces.entered.parts ≡ 1) × (pieces.met.parts ≡ 1) }
+        requires amounts { (pieces.expanded.amount ≡ 0) × (pieces.entered.amount ≡ 0) × (pieces.met.amount ≡ 0) }
     {
         Tally {
             share: Share::none(),
-            parts,
+            pieces,
         }
     }
 }
 
 /// What lies under the lock: the book, and the three ledgers, whose totals are the book's.
 #[derive(Drop)]
-pub struct Desk<J: Run, M: Machine> {
+pub struct Desk<J: Ledgers, M: Machine> {
     pub book: Book<M>,
     pub expanded: ledger::Book<Expanding<J>>,
     pub entered: ledger::Book<Entering<J>>,
@@ -164,14 +168,15 @@ pub fn is_of<M: Machine>(book: &Book<M>, machine: M, program: &Program) -> bool
     same(&book.machine(), &machine) && book.program().is_same(program)
 }
 
-impl<J: Run, M: Machine> Desk<J, M> {
-    /// Lays a book, no entry of which is expanded, beside three new ledgers. The other answer is all their parts.
-    pub fn new(book: Book<M>, blanks: Blanks) -> (Desk<J, M>, Parts<J>)
+impl<J: Ledgers, M: Machine> Desk<J, M> {
+    /// Lays a book, no entry of which is expanded, beside three new ledgers. The other answer is all their pieces.
+    pub fn new(book: Book<M>, blanks: Blanks) -> (Desk<J, M>, Pieces<J>)
         requires book { IsLedgerOf book (record { expanded = 0; entered = 0; met = 0 }) }
-        requires expanded { (blanks.expanded.name ≡ J.expanded_name) × (blanks.expanded.parts ≡ J.parts) }
-        requires entered { (blanks.entered.name ≡ J.entered_name) × (blanks.entered.parts ≡ J.parts) }
-        requires met { (blanks.met.name ≡ J.met_name) × (blanks.met.parts ≡ J.parts) }
-        ensures parts { (result.1.expanded.parts ≡ J.parts) × (result.1.entered.parts ≡ J.parts) × (result.1.met.parts ≡ J.parts) }
+        requires expanded { (blanks.expanded.name ≡ J.expanded_name) × (blanks.expanded.parts ≡ J.pieces) }
+        requires entered { (blanks.entered.name ≡ J.entered_name) × (blanks.entered.parts ≡ J.pieces) }
+        requires met { (blanks.met.name ≡ J.met_name) × (blanks.met.parts ≡ J.pieces) }
+        ensures pieces { (result.1.expanded.parts ≡ J.pieces) × (result.1.entered.parts ≡ J.pieces)
+            × (result.1.met.parts ≡ J.pieces) }
         ensures amounts { (result.1.expanded.amount ≡ 0) × (result.1.entered.amount ≡ 0) × (result.1.met.amount ≡ 0) }
     {
         let (expanded, all_expanded) = blanks.expanded.open::<Expanding<J>>();
@@ -183,7 +188,7 @@ impl<J: Run, M: Machine> Desk<J, M> {
             entered,
             met,
         };
-        let whole = Parts {
+        let whole = Pieces {
             expanded: all_expanded,
             entered: all_entered,
             met: all_met,
@@ -199,7 +204,8 @@ impl<J: Run, M: Machine> Desk<J, M> {
         machine: M,
         program: &Program,
     ) -> Result<Leads<M>, OutOfMemory>
-        ensures ready { IfOk result (λ v. All (λ lead. IsReady (M.rules machine) program.now lead.state.value lead.finding) v.items) }
+        ensures ready { IfOk result
+            (λ v. All (λ lead. IsReady (M.rules machine) program.now lead.state.value lead.finding) v.items) }
     {
         let Desk { book, .. } = self;
         if !is_of(book, machine, program) || book.first_fault().is_some() {
@@ -220,7 +226,8 @@ impl<J: Run, M: Machine> Desk<J, M> {
     ) -> Result<(), EnterFault>
         requires room { length expansion.successors ≤ leftovers.old.room }
         ensures room { IfOk result (λ _. leftovers.old.room ≤ leftovers.new.room + length expansion.entry.successors) }
-        ensures kept { IfOk result (λ _. leftovers.new.kept + tally.old.share.met ≡ leftovers.old.kept + tally.new.share.met) }
+        ensures kept { IfOk result (λ _. leftovers.new.kept + tally.old.share.met
+            ≡ leftovers.old.kept + tally.new.share.met) }
     {
         let Desk {
             book,
@@ -231,21 +238,22 @@ impl<J: Run, M: Machine> Desk<J, M> {
         book.law();
         expansion.law();
         let counts = book.enter_leaving(id, expansion, leftovers)?;
-        let parts = &mut tally.parts;
-        expanded.audit(&mut parts.expanded);
-        entered.audit(&mut parts.entered);
-        met.audit(&mut parts.met);
-        expanded.add(&mut parts.expanded, 1);
-        entered.add(&mut parts.entered, counts.entered as u64);
-        met.add(&mut parts.met, counts.met as u64);
+        let pieces = &mut tally.pieces;
+        expanded.audit(&mut pieces.expanded);
+        entered.audit(&mut pieces.entered);
+        met.audit(&mut pieces.met);
+        expanded.add(&mut pieces.expanded, 1);
+        entered.add(&mut pieces.entered, counts.entered as u64);
+        met.add(&mut pieces.met, counts.met as u64);
         tally.share.add(counts);
         Ok(())
     }
 
-    /// The book. Whoever has all parts knows what it counts.
-    pub fn settle(self, mut whole: Parts<J>) -> Book<M>
-        requires { (whole.expanded.parts ≡ J.parts) × (whole.entered.parts ≡ J.parts) × (whole.met.parts ≡ J.parts) }
-        ensures { IsLedgerOf result (record { expanded = whole.expanded.amount; entered = whole.entered.amount; met = whole.met.amount }) }
+    /// The book. Whoever has all pieces knows what it counts.
+    pub fn settle(self, mut whole: Pieces<J>) -> Book<M>
+        requires { (whole.expanded.parts ≡ J.pieces) × (whole.entered.parts ≡ J.pieces) × (whole.met.parts ≡ J.pieces) }
+        ensures { IsLedgerOf result
+            (record { expanded = whole.expanded.amount; entered = whole.entered.amount; met = whole.met.amount }) }
     {
         let Desk {
             book,

@@ -5,7 +5,7 @@ ghost use Rattle.crew.specs.ClaimSeats.{IsSeatOf};
 use crate::claims::{Claims, Seat};
 use crate::gate::Gate;
 use crate::leads::Leads;
-use crate::tally::{Desk, Run, Tally};
+use crate::tally::{Desk, Ledgers, Tally};
 use book::{EnterFault, Expansion, Leftovers, Merge, Stock};
 use sched_program::{OutOfMemory, Program};
 use std::alloc::Global;
@@ -26,7 +26,7 @@ pub enum Stop {
 
 /// A worker, between two layers or in one.
 #[derive(Drop)]
-pub struct Worker<J: Run> {
+pub struct Worker<J: Ledgers> {
     /// Its number, from 1.
     pub number: u8,
     /// What it did in all layers.
@@ -38,21 +38,21 @@ pub struct Worker<J: Run> {
 }
 
 /// How many places a worker draws in one round: several, so that it asks for the lock less often than once for each
-/// entry, but few beside its part of the layer, so that all workers come to the layer's end at about the same time.
-pub fn run_of(places: usize, workers: usize) -> usize
+/// entry, but few beside its portion of the layer, so that all workers come to the layer's end at about the same time.
+pub fn round_of(places: usize, workers: usize) -> usize
     requires some { 0 < workers }
     requires few { workers < 2 ^ 8 }
 {
     (places / (8 * workers)).clamp(1, 8)
 }
 
-/// How many entries of the layer before the first worker gives back for each place that it draws in this one: so many that
-/// it comes to the end of both at about the same time.
+/// How many entries of the layer before the first worker gives back for each place that it draws in this one: so many
+/// that it comes to the end of both at about the same time.
 pub fn returns_of(spent: usize, places: usize, workers: usize) -> usize {
     (spent.saturating_mul(workers) / places.max(1)).saturating_add(1)
 }
 
-/// The last of the rounds in which a worker draws a run of places each before it enters the expansions. In those before it
+/// The last of the rounds in which a worker draws places before it enters the expansions. In those before it
 /// enters them only where no other worker has the lock, and else makes more of them rather than wait.
 const LAST_ROUND: usize = 7;
 
@@ -83,8 +83,8 @@ struct Supplies<M: Machine> {
 }
 
 impl<M: Machine> Supplies<M> {
-    /// Gives back so many entries of the layer before, as far as there are any. A state that nobody else shares goes to the
-    /// stock.
+    /// Gives back so many entries of the layer before, as far as there are any. A state that nobody else holds goes to
+    /// the stock.
     fn give_back(&mut self, count: usize) {
         let Some(leads) = &mut self.spent else {
             return;
@@ -98,7 +98,8 @@ impl<M: Machine> Supplies<M> {
     }
 }
 
-/// The entries of a layer, which are taken and can be expanded, and the counter of their places. Contracts see the counter.
+/// The entries of a layer, which are taken and can be expanded, and the counter of their places. Contracts see the
+/// counter.
 #[derive(Drop)]
 pub struct Layer<'a, M: Machine> {
     pub alloc: Global,
@@ -111,7 +112,7 @@ pub struct Layer<'a, M: Machine> {
     pub leads: Leads<M>,
     pub claims: Claims,
     /// How many places a worker draws in one round.
-    pub run: usize,
+    pub round: usize,
     /// The entries of the layer before. The first worker to come gives them back as it goes.
     pub spent: Mutex<Option<Leads<M>>>,
     /// How many of them that worker gives back for each place that it draws.
@@ -127,7 +128,8 @@ impl<'a, M: Machine> Model for Layer<'a, M> {
 
     ghost view = { λ layer. layer.claims };
 
-    ghost invariant = { λ layer. (layer.claims.size.len ≡ length layer.leads.items) × All (λ lead. IsReady (M.rules layer.machine) layer.program.now lead.state.value lead.finding) layer.leads.items };
+    ghost invariant = { λ layer. (layer.claims.size.len ≡ length layer.leads.items) × All
+        (λ lead. IsReady (M.rules layer.machine) layer.program.now lead.state.value lead.finding) layer.leads.items };
 }
 
 impl<'a, M: Machine> Layer<'a, M> {
@@ -152,7 +154,7 @@ impl<'a, M: Machine> Layer<'a, M> {
         Ok((lead.id, expansion))
     }
 
-    /// Draws so many places as the run is, fewer at the end of the layer, and makes the expansions there. For each, some
+    /// Draws the places of one round, fewer at the end of the layer, and makes the expansions there. For each, some
     /// entries of the layer before are given back.
     fn draw<'l>(
         &'l self,
@@ -165,7 +167,7 @@ impl<'a, M: Machine> Layer<'a, M> {
         requires seat { IsSeatOf self.now seat.old }
         ensures seat { IsSeatOf self.now seat.new }
     {
-        for _place in 0..self.run {
+        for _place in 0..self.round {
             let Some(place) = self.claims.claim(seat) else {
                 return Ok(());
             };
@@ -178,9 +180,9 @@ impl<'a, M: Machine> Layer<'a, M> {
     }
 }
 
-/// What all workers of an exploration share.
+/// What all workers of an exploration have in common.
 #[derive(Drop)]
-pub struct Exploration<'a, J: Run, M: Machine, G: Gate, R: Wait> {
+pub struct Exploration<'a, J: Ledgers, M: Machine, G: Gate, R: Wait> {
     pub rt: &'a R,
     pub alloc: Global,
     pub machine: M,
@@ -190,7 +192,7 @@ pub struct Exploration<'a, J: Run, M: Machine, G: Gate, R: Wait> {
     pub desk: Mutex<Desk<J, M>>,
 }
 
-impl<'a, J: Run, M: Machine, G: Gate, R: Wait> Exploration<'a, J, M, G, R> {
+impl<'a, J: Ledgers, M: Machine, G: Gate, R: Wait> Exploration<'a, J, M, G, R> {
     /// Enters expansions, all in one holding of the lock. What the book knew is left for after it.
     fn enter_all(
         &self,
@@ -200,7 +202,8 @@ impl<'a, J: Run, M: Machine, G: Gate, R: Wait> Exploration<'a, J, M, G, R> {
         leftovers: &mut Leftovers<State<M>, StateForm<M>>,
     ) -> Result<(), Stop>
         requires room { sum_by (λ one. length one.1.successors) made.items ≤ leftovers.old.room }
-        ensures kept { IfOk result (λ _. leftovers.new.kept + tally.old.share.met ≡ leftovers.old.kept + tally.new.share.met) }
+        ensures kept { IfOk result (λ _. leftovers.new.kept + tally.old.share.met
+            ≡ leftovers.old.kept + tally.new.share.met) }
     {
         for (id, expansion) in made {
             match desk.enter(tally, id, expansion, leftovers) {

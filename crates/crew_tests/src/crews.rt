@@ -12,10 +12,10 @@ use std::thread::Threads;
 use tree_machine::{Atomic, Machine};
 
 /// The gate holds the first arrival in layer 1 until another worker has arrived at the other place, so a body that does
-/// all the work on one thread, or lets its workers work one after the other, is held to the limit, which the gate tells.
-/// One whose workers arrive and enter nothing, and that then explores anew on one thread, never comes to layer 1, and
-/// tells of three expansions by the first worker, though there was one arrival. One whose worker lays a fresh book under
-/// the lock tells of shares that are not the arrivals, or of an exploration anew.
+/// all the work on one thread, or lets its workers work one after the other, is held to the limit, which the gate
+/// tells. One whose workers arrive and enter nothing, and that then explores anew on one thread, never comes to layer
+/// 1, and tells of three expansions by the first worker, though there was one arrival. One whose worker lays a fresh
+/// book under the lock tells of shares that are not the arrivals, or of an exploration anew.
 fn meet_in_a_layer<R: Abort + Threads + Wait + Sync>(
     rt: &R,
     alloc: Global,

@@ -1,4 +1,5 @@
-//! Tests of `crew`: explorations of small programs, on `Atomic`, on a machine with faults, and beside a plain enumerator.
+//! Tests of `crew`: explorations of small programs, on `Atomic`, on a machine with faults, and beside a plain
+//! enumerator.
 #![tactic(auto)]
 
 /// Runs a case, and once more where a growth was refused, which happens once at most: a second refusal is a failure.

@@ -20,7 +20,7 @@ fn options_have_their_ranges(rt: HostRuntime) {
 }
 
 #[test]
-fn options_give_their_parts_back(rt: HostRuntime) {
+fn options_give_their_fields_back(rt: HostRuntime) {
     let options = Options::new(20, 300, Merge::Exact, 7).expect(&rt, "options in range");
     assert_eq!(rt; options.steps(), 20);
     assert_eq!(rt; options.limit(), 300);

@@ -8,8 +8,8 @@ use std::sync::Wait;
 use std::thread::Threads;
 use tree_machine::Machine;
 
-/// An answer with its numbers: none where every schedule holds, the steps that hold, the length of a fault, the limit and the
-/// steps.
+/// An answer with its numbers: none where every schedule holds, the steps that hold, the length of a fault, the limit
+/// and the steps.
 #[derive(Clone, Copy, Debug, PartialEq, Eq)]
 pub enum Line {
     Every,

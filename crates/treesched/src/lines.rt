@@ -67,7 +67,8 @@ fn put_operation(
     history: &History,
     id: OpId,
 ) -> Result<(), OutOfMemory>
-    ensures { IfOk result (λ _. string_bytes page.new ≡ string_bytes page.old ++ lines.operation_text program.now history.now id) }
+    ensures { IfOk result (λ _. string_bytes page.new
+        ≡ string_bytes page.old ++ lines.operation_text program.now history.now id) }
 {
     let Some(op) = program.op(id) else {
         return Ok(());
@@ -86,7 +87,8 @@ pub fn put_operations(
     program: &Program,
     history: &History,
 ) -> Result<(), OutOfMemory>
-    ensures { IfOk result (λ _. string_bytes page.new ≡ string_bytes page.old ++ lines.operations_text program.now history.now) }
+    ensures { IfOk result (λ _. string_bytes page.new
+        ≡ string_bytes page.old ++ lines.operations_text program.now history.now) }
 {
     for (id, _) in history.begun() {
         put_operation(page, program, history, *id)?;
@@ -197,7 +199,8 @@ fn put_counts(
     entered: usize,
     met: usize,
 ) -> Result<(), OutOfMemory>
-    ensures { IfOk result (λ _. string_bytes page.new ≡ string_bytes page.old ++ lines.counts_text expanded entered met) }
+    ensures { IfOk result (λ _. string_bytes page.new
+        ≡ string_bytes page.old ++ lines.counts_text expanded entered met) }
 {
     writeln!(page, " expanded {expanded} entered {entered} met {met}")
 }
@@ -216,7 +219,8 @@ fn put_workers(page: &mut String, shares: &[Share]) -> Result<(), OutOfMemory>
 
 /// The ledger: a line for each worker and the total.
 fn put_ledger(page: &mut String, shares: &[Share], totals: &Totals) -> Result<(), OutOfMemory>
-    ensures { IfOk result (λ _. string_bytes page.new ≡ string_bytes page.old ++ lines.ledger_text shares.now totals.now) }
+    ensures { IfOk result (λ _. string_bytes page.new
+        ≡ string_bytes page.old ++ lines.ledger_text shares.now totals.now) }
 {
     put_workers(page, shares)?;
     page.push_str("total")?;

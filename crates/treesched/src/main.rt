@@ -95,8 +95,8 @@ fn put_book<W: Write>(
     }
 }
 
-/// Writes the output's book file, if it has one, over what stands in the file that the request names. The output, or the
-/// one that tells where that fails.
+/// Writes the output's book file, if it has one, over what stands in the file that the request names. The output, or
+/// the one that tells where that fails.
 fn kept<R: AllocGlobal + Files>(
     rt: &R,
     request: &Request<'_>,

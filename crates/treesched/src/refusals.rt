@@ -95,7 +95,8 @@ pub fn fault_text(fault: ProgramFault) -> &'static str
 
 /// The refusal of a text that is no program.
 fn no_program(alloc: Global, fault: ProgramFault) -> Result<Output, OutOfMemory>
-    ensures { IfOk result (λ output. (fault ≢ ProgramFault.OutOfMemory) × lines.IsRefusal 3 (lines.fault_text fault) output) }
+    ensures { IfOk result (λ output. (fault ≢ ProgramFault.OutOfMemory)
+        × lines.IsRefusal 3 (lines.fault_text fault) output) }
 {
     match fault {
         ProgramFault::OutOfMemory => Err(OutOfMemory),

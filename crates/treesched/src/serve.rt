@@ -8,7 +8,8 @@ ghost use Rattle.book.specs.Closed.{AreSound, IsClosed};
 ghost use Rattle.book.specs.Findings.{is_sound};
 ghost use Rattle.treesched.specs.Devices.{LeavesBehind};
 ghost use Rattle.treesched.specs.Lines as lines;
-ghost use Rattle.treesched.specs.Serving.{CountsAsOne, IsAnswered, IsAnsweredBy, IsAsked, IsBookDue, IsBookRead, IsChecked};
+ghost use Rattle.treesched.specs.Serving.{CountsAsOne, IsAnswered, IsAnsweredBy, IsAsked, IsBookDue, IsBookRead};
+ghost use Rattle.treesched.specs.Serving.{IsChecked};
 ghost use Rattle.treesched.specs.Serving.{IsExplored, IsReplayed, IsServed, IsServedFrom, IsStuck, IsUnopened};
 
 use crate::lines::{put_operations, put_passed, put_report, put_verdict};
@@ -98,7 +99,9 @@ fn due_book<M: Machine>(
     is_asked: bool,
 ) -> Result<Option<Vec<u8>>, OutOfMemory>
     requires { report.now.answer ≡ Answer.Every → IsClosed report.now.book × AreSound report.now.book.entries }
-    ensures { IfOk result (IsBookDue M M.Form (M.rules report.now.book.machine) report.now.book.program is_asked report.now.answer (length report.now.book.entries)) }
+    ensures { IfOk result
+        (IsBookDue M M.Form (M.rules report.now.book.machine) report.now.book.program is_asked report.now.answer
+        (length report.now.book.entries)) }
 {
     if !is_asked {
         return Ok(None);
@@ -288,7 +291,8 @@ fn served_from<R: Threads + Wait + Sync, F: Read, B: Read>(
 ) -> Result<Output, OutOfMemory>
     requires file { file.old.failures < 2 ^ 64 - 1 }
     requires book { book.old.failures < 2 ^ 64 - 1 }
-    ensures { IfOk result (IsServedFrom F.remaining file.old file.new (IsBookRead B.remaining book.old book.new) request.now) }
+    ensures { IfOk result
+        (IsServedFrom F.remaining file.old file.new (IsBookRead B.remaining book.old book.new) request.now) }
 {
     match Program::from_reader(alloc, file) {
         Ok(program) => {
@@ -315,10 +319,10 @@ fn served_alone<R: Threads + Wait + Sync, F: Read>(
     }
 }
 
-/// Answers the request. That a file can't be read is told exactly where a read failed, as its reader counts it; the book
-/// file is read once FILE gave a program, and only to be checked. A reader that is none stands for a file that could not
-/// be opened, which is told as a failed read where it would be read. The runtime is for the workers of an exploration,
-/// which are joined before the answer. Nothing is written: the output has all text, and the book file's.
+/// Answers the request. That a file can't be read is told exactly where a read failed, as its reader counts it; the
+/// book file is read once FILE gave a program, and only to be checked. A reader that is none stands for a file that
+/// could not be opened, which is told as a failed read where it would be read. The runtime is for the workers of an
+/// exploration, which are joined before the answer. Nothing is written: the output has all text, and the book file's.
 ///
 /// # Errors
 /// Memory ran out.
@@ -332,8 +336,10 @@ pub fn serve<R: Threads + Wait + Sync, F: Read, B: Read>(
     requires file { IfSome file (λ reader. reader.now.failures < 2 ^ 64 - 1) }
     requires book { IfSome book (λ reader. reader.now.failures < 2 ^ 64 - 1) }
     ensures { IfOk result (λ output. MatchOption file.entry (IsServed None BookRead.NotAsked request.now output)
-        (λ reader. LeavesBehind (λ after. MatchOption book.entry (IsServedFrom F.remaining reader.now after IsUnopened request.now output)
-        (λ reading. LeavesBehind (λ read. IsServedFrom F.remaining reader.now after (IsBookRead B.remaining reading.now read) request.now output) book.exit)) file.exit)) }
+        (λ reader. LeavesBehind
+        (λ after. MatchOption book.entry (IsServedFrom F.remaining reader.now after IsUnopened request.now output)
+        (λ reading. LeavesBehind (λ read. IsServedFrom F.remaining reader.now after
+        (IsBookRead B.remaining reading.now read) request.now output) book.exit)) file.exit)) }
 {
     let Some(file) = file else {
         return unreadable(alloc, request.file());

@@ -9,13 +9,13 @@ use Rattle.book.proofs.Text.Cuts.{same_cut, no_cut, next_line, no_line}
 use Rattle.book.proofs.Text.OneReading.{no_space, space_fails, same_lengths, entries_formed}
 
 -- a text without a space is no entry's line
-pub no_parts : (text : List ℕ) → AllByRecursion (λ b. b ≢ 32) text → ¬ IsEntryText text
-no_parts text none (line, is) = no_cut (λ b. b ≢ 32) text is.parent 32 ((48 + line.thread) ∷ 32 ∷ is.order) is.whole none space_fails
+pub no_pieces : (text : List ℕ) → AllByRecursion (λ b. b ≢ 32) text → ¬ IsEntryText text
+no_pieces text none (line, is) = no_cut (λ b. b ≢ 32) text is.parent 32 ((48 + line.thread) ∷ 32 ∷ is.order) is.whole none space_fails
 
 -- what stands before the first space of an entry's line is the parent's number, and what follows are the thread and the order
-entry_parts : (text parent rest : List ℕ) (line : Line) → text ≡ parent ++ 32 ∷ rest → AllByRecursion (λ b. b ≢ 32) parent → (is : IsEntryLine text line)
+entry_pieces : (text parent rest : List ℕ) (line : Line) → text ≡ parent ++ 32 ∷ rest → AllByRecursion (λ b. b ≢ 32) parent → (is : IsEntryLine text line)
     → (is.parent ≡ parent) × (rest ≡ (48 + line.thread) ∷ 32 ∷ is.order)
-entry_parts text parent rest line e none is =
+entry_pieces text parent rest line e none is =
     let same = same_cut (λ b. b ≢ 32) is.parent 32 ((48 + line.thread) ∷ 32 ∷ is.order) parent 32 rest (sym is.whole ∙ e)
     (no_space is.parent is.is_number.digits.1) space_fails none space_fails in
     (same.0, sym same.2)
@@ -23,20 +23,20 @@ entry_parts text parent rest line e none is =
 pub no_parent : (text parent rest : List ℕ) → text ≡ parent ++ 32 ∷ rest → AllByRecursion (λ b. b ≢ 32) parent → ((number : ℕ) → ¬ IsNumber parent number)
     → ¬ IsEntryText text
 no_parent text parent rest e none not (line, is) =
-    let parts = entry_parts text parent rest line e none is in
-    not is.number (subst (λ (p : List ℕ). IsNumber p is.number) parts.0 is.is_number)
+    let pieces = entry_pieces text parent rest line e none is in
+    not is.number (subst (λ (p : List ℕ). IsNumber p is.number) pieces.0 is.is_number)
 
 pub no_thread : (text parent rest : List ℕ) → text ≡ parent ++ 32 ∷ rest → AllByRecursion (λ b. b ≢ 32) parent
     → ((thread : ℕ) (order : List ℕ) → thread < 10 → rest ≢ (48 + thread) ∷ 32 ∷ order) → ¬ IsEntryText text
 no_thread text parent rest e none not (line, is) =
-    let parts = entry_parts text parent rest line e none is in
-    not line.thread is.order is.thread parts.1
+    let pieces = entry_pieces text parent rest line e none is in
+    not line.thread is.order is.thread pieces.1
 
 pub no_order : (text parent rest : List ℕ) (thread : ℕ) (order : List ℕ) → text ≡ parent ++ 32 ∷ rest → AllByRecursion (λ b. b ≢ 32) parent
     → rest ≡ (48 + thread) ∷ 32 ∷ order → ((names : _) → ¬ IsOrder order names) → ¬ IsEntryText text
 no_order text parent rest thread order e none split not (line, is) =
-    let parts = entry_parts text parent rest line e none is in
-    let ends : (48 + thread) ∷ 32 ∷ order ≡ (48 + line.thread) ∷ 32 ∷ is.order = sym split ∙ parts.1 in
+    let pieces = entry_pieces text parent rest line e none is in
+    let ends : (48 + thread) ∷ 32 ∷ order ≡ (48 + line.thread) ∷ 32 ∷ is.order = sym split ∙ pieces.1 in
     let same : is.order ≡ order = cc in
     not line.order (subst (λ (o : List ℕ). IsOrder o line.order) same is.is_order)
 

@@ -24,9 +24,9 @@ has_head bytes head rest entries texts e bare is are count = record {
 }
 
 -- the head stands before the first line feed
-pub head_parts : (bytes head rest : List ℕ) (texts : List (List ℕ)) → bytes ≡ head ++ 10 ∷ rest → AllByRecursion (λ b. b ≢ 10) head → HasHead bytes texts
+pub head_pieces : (bytes head rest : List ℕ) (texts : List (List ℕ)) → bytes ≡ head ++ 10 ∷ rest → AllByRecursion (λ b. b ≢ 10) head → HasHead bytes texts
     → IsHead head (length texts) × AreLines rest texts
-head_parts bytes head rest texts e bare has =
+head_pieces bytes head rest texts e bare has =
     let (later, split, are) = next_line bytes head rest (has.head ∷ texts) has.are_lines e bare in
     let same : has.head ≡ head = cc in
     let others : later ≡ texts = cc in
@@ -38,9 +38,9 @@ no_head bytes texts bare has = let none : has.head ∷ texts ≡ [] = no_line by
 pub other_count : (bytes head rest : List ℕ) (entries count : ℕ) (lines texts : List (List ℕ)) → bytes ≡ head ++ 10 ∷ rest → AllByRecursion (λ b. b ≢ 10) head
     → IsHead head entries → AreLines rest lines → length lines ≡ count → count ≢ entries → ¬ HasHead bytes texts
 other_count bytes head rest entries count lines texts e bare is are counted differs has =
-    let parts = head_parts bytes head rest texts e bare has in
-    let same : entries ≡ length texts = same_head head entries (length texts) is parts.0 in
-    let others : lines ≡ texts = same_lines rest lines texts are parts.1 in
+    let pieces = head_pieces bytes head rest texts e bare has in
+    let same : entries ≡ length texts = same_head head entries (length texts) is pieces.0 in
+    let others : lines ≡ texts = same_lines rest lines texts are pieces.1 in
     differs (sym counted ∙ ap length others ∙ sym same)
 
 pub start_bare : AllByRecursion (λ b. b ≢ 10) start_text

@@ -21,11 +21,11 @@ space_fails differs = differs refl
 pub same_number : (text : List ℕ) (m n : ℕ) → IsNumber text m → IsNumber text n → m ≡ n
 same_number text m n is also = sym is.value ∙ also.value
 
-same_parts : (t u i j : ℕ) → t ≡ u → i ≡ j → (let id : OpId = record { thread = t; index = i } in id) ≡ record { thread = u; index = j }
-same_parts t u i j e f = rw (e, f)
+same_fields : (t u i j : ℕ) → t ≡ u → i ≡ j → (let id : OpId = record { thread = t; index = i } in id) ≡ record { thread = u; index = j }
+same_fields t u i j e f = rw (e, f)
 
 pub same_id : (a b : OpId) → 48 + a.thread ≡ 48 + b.thread → 48 + a.index ≡ 48 + b.index → a ≡ b
-same_id a b e f = same_parts a.thread b.thread a.index b.index (omega arith) (omega arith)
+same_id a b e f = same_fields a.thread b.thread a.index b.index (omega arith) (omega arith)
 
 same_commaed : (ids others : List OpId) → commaed ids ≡ commaed others → ids ≡ others
 same_commaed [] [] e = refl

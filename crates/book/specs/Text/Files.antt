@@ -51,7 +51,7 @@ abbrev pub order_text : List OpId → List ℕ
 order_text [] = codes "-"
 order_text (id ∷ ids) = name_text id ++ commaed ids
 
--- each part of the name is one digit
+-- each number of the name is one digit
 pub record IsName (id : OpId) : Type 0 where
   pub thread : id.thread < 10
   pub index : id.index < 10

@@ -1,5 +1,6 @@
 //! What is read off a book.
-ghost use Rattle.std.specs.Prelude.{◌≡◌, ℕ, ◌+◌, ◌-◌, ◌<◌, ◌≤◌, ◌↔◌, List, length, IsTrue, IfOk, IfSome, IfNone, Some, None, not, position, true, false, count_by, nat_le, slice_get};
+ghost use Rattle.std.specs.Prelude.{◌≡◌, ℕ, ◌+◌, ◌-◌, ◌<◌, ◌≤◌, ◌↔◌, List, length, IsTrue, IfOk, IfSome, IfNone, Some};
+ghost use Rattle.std.specs.Prelude.{None, not, position, true, false, count_by, nat_le, slice_get};
 ghost use Rattle.std.specs.Option.{option_copied, option_map};
 ghost use Rattle.tree_machine.specs.declared.state.State.{State};
 ghost use Rattle.book.specs.Entries.{Entry, At};
@@ -75,12 +76,15 @@ impl<M: Machine> Book<M> {
         }
     }
 
-    /// How many entries have at most so many steps. Once all of fewer steps are expanded, so many states are reached by so many steps.
+    /// How many entries have at most so many steps. Once all of fewer steps are expanded, so many states are reached by
+    /// so many steps.
     pub fn count_to(&self, steps: u64) -> usize
         ensures value { result ≡ count_by (λ e. nat_le e.state.steps steps) self.now.entries }
         ensures within { result ≤ length self.now.entries }
         ensures count { IsExpandedBelow (machine_in M.rules self.now).steps self.now.entries steps
-            → IsCount (machine_in M.rules self.now) (counted_as_one M.Loc.PartialEq.eq M.Mem.PartialEq.eq M.Form.PartialEq.eq (M.form_of self.now.machine) self.now.merge) steps result }
+            → IsCount (machine_in M.rules self.now)
+            (counted_as_one M.Loc.PartialEq.eq M.Mem.PartialEq.eq M.Form.PartialEq.eq
+            (M.form_of self.now.machine) self.now.merge) steps result }
     {
         self.law();
         self.first_above(steps)
@@ -97,11 +101,12 @@ impl<M: Machine> Book<M> {
         }
     }
 
-    /// Whether the book merges by names and has no entry open or taken. Then, if all its entries are sound, every schedule
-    /// of any length leads to a sound state. It takes no memory.
+    /// Whether the book merges by names and has no entry open or taken. Then, if all its entries are sound, every
+    /// schedule of any length leads to a sound state. It takes no memory.
     pub fn closed(&self) -> bool
         ensures closed { IsTrue result ↔ IsClosed self.now }
-        ensures every { result ≡ true → AreSound self.now.entries → HoldsForEvery (machine_in M.rules self.now) (right_in M.rules self.now) }
+        ensures every { result ≡ true → AreSound self.now.entries
+            → HoldsForEvery (machine_in M.rules self.now) (right_in M.rules self.now) }
     {
         self.law();
         match self.table.first_left() {
@@ -110,9 +115,9 @@ impl<M: Machine> Book<M> {
         }
     }
 
-    /// The text of the book's file: the line of each entry has its parent, its thread and the linearization that was found
-    /// of its state. None where the book is not closed, or some entry is not sound. The lines pass with the book's machine
-    /// and program.
+    /// The text of the book's file: the line of each entry has its parent, its thread and the linearization that was
+    /// found of its state. None where the book is not closed, or some entry is not sound. The lines pass with the
+    /// book's machine and program.
     ///
     /// # Errors
     ///
@@ -121,7 +126,8 @@ impl<M: Machine> Book<M> {
         ensures text { IfOk result (λ o. IfSome o (λ text. IsFileOf self.now.entries text.items)) }
         ensures some { IfOk result (λ o. IfSome o (λ _. IsClosed self.now × AreSound self.now.entries)) }
         ensures none { IfOk result (λ o. IfNone o (IsClosed self.now → AreSound self.now.entries → ⊥)) }
-        ensures passes { IfOk result (λ o. IfSome o (λ text. PassAs M M.Form (M.rules self.now.machine) self.now.program text.items (length self.now.entries))) }
+        ensures passes { IfOk result (λ o. IfSome o (λ text. PassAs M M.Form
+            (M.rules self.now.machine) self.now.program text.items (length self.now.entries))) }
     {
         if !self.closed() {
             return Ok(None);

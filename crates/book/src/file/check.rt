@@ -25,10 +25,14 @@ pub fn check_lines<M: Machine>(
     requires { length lines.now < 2000000 }
     ensures pass { IfOk result (λ _. Pass M M.Form (M.rules machine) program.now lines.now) }
     ensures every { IfOk result (λ _. HoldsAlways M M.Form (M.rules machine) program.now) }
-    ensures none { IfOk result (λ _. (fault : CheckFault) → AreRefused M M.Form (M.rules machine) program.now lines.now fault → ⊥) }
-    ensures refused { IfErr result (λ fault. (fault ≡ CheckFault.OutOfMemory) ⊎ AreRefused M M.Form (M.rules machine) program.now lines.now fault) }
-    ensures only { IfErr result (λ fault. fault ≢ CheckFault.OutOfMemory → (other : CheckFault) → AreRefused M M.Form (M.rules machine) program.now lines.now other → other ≡ fault) }
-    ensures passes { IfErr result (λ fault. fault ≢ CheckFault.OutOfMemory → Pass M M.Form (M.rules machine) program.now lines.now → ⊥) }
+    ensures none { IfOk result (λ _. (fault : CheckFault)
+        → AreRefused M M.Form (M.rules machine) program.now lines.now fault → ⊥) }
+    ensures refused { IfErr result (λ fault. (fault ≡ CheckFault.OutOfMemory)
+        ⊎ AreRefused M M.Form (M.rules machine) program.now lines.now fault) }
+    ensures only { IfErr result (λ fault. fault ≢ CheckFault.OutOfMemory → (other : CheckFault)
+        → AreRefused M M.Form (M.rules machine) program.now lines.now other → other ≡ fault) }
+    ensures passes { IfErr result (λ fault. fault ≢ CheckFault.OutOfMemory
+        → Pass M M.Form (M.rules machine) program.now lines.now → ⊥) }
 {
     // Whoever reads a program knows that it meets the limits.
     let _ = program.initial();
@@ -53,10 +57,14 @@ pub fn check_book<M: Machine>(
 ) -> Result<usize, CheckFault>
     ensures pass { IfOk result (PassAs M M.Form (M.rules machine) program.now bytes.now) }
     ensures every { IfOk result (λ _. HoldsAlways M M.Form (M.rules machine) program.now) }
-    ensures none { IfOk result (λ _. (fault : CheckFault) → IsRefusedFor M M.Form (M.rules machine) program.now bytes.now fault → ⊥) }
-    ensures refused { IfErr result (λ fault. (fault ≡ CheckFault.OutOfMemory) ⊎ IsRefusedFor M M.Form (M.rules machine) program.now bytes.now fault) }
-    ensures only { IfErr result (λ fault. fault ≢ CheckFault.OutOfMemory → (other : CheckFault) → IsRefusedFor M M.Form (M.rules machine) program.now bytes.now other → other ≡ fault) }
-    ensures passes { IfErr result (λ fault. fault ≢ CheckFault.OutOfMemory → (entries : ℕ) → PassAs M M.Form (M.rules machine) program.now bytes.now entries → ⊥) }
+    ensures none { IfOk result (λ _. (fault : CheckFault)
+        → IsRefusedFor M M.Form (M.rules machine) program.now bytes.now fault → ⊥) }
+    ensures refused { IfErr result (λ fault. (fault ≡ CheckFault.OutOfMemory)
+        ⊎ IsRefusedFor M M.Form (M.rules machine) program.now bytes.now fault) }
+    ensures only { IfErr result (λ fault. fault ≢ CheckFault.OutOfMemory → (other : CheckFault)
+        → IsRefusedFor M M.Form (M.rules machine) program.now bytes.now other → other ≡ fault) }
+    ensures passes { IfErr result (λ fault. fault ≢ CheckFault.OutOfMemory → (entries : ℕ)
+        → PassAs M M.Form (M.rules machine) program.now bytes.now entries → ⊥) }
 {
     let lines = match read_lines(alloc, bytes) {
         Ok(lines) => lines,

@@ -1,5 +1,6 @@
 //! Whether a step leads out of a list of states.
-ghost use Rattle.std.specs.Prelude.{◌≡◌, ℕ, ◌+◌, ◌^◌, ◌<◌, ◌≤◌, ◌⊎◌, length, true, false, IfOk, IfErr, IfSome, IfNone, Some, slice_get};
+ghost use Rattle.std.specs.Prelude.{◌≡◌, ℕ, ◌+◌, ◌^◌, ◌<◌, ◌≤◌, ◌⊎◌};
+ghost use Rattle.std.specs.Prelude.{length, true, false, IfOk, IfErr, IfSome, IfNone, Some, slice_get};
 ghost use Rattle.std.specs.HashSet.{contains};
 ghost use Rattle.tree_machine.specs.Alike.{AreStatesAlike, state_form};
 ghost use Rattle.tree_machine.specs.Step.{Fits, start, step};
@@ -25,8 +26,10 @@ fn forms_of<M: Machine>(
     program: &Program,
     states: &Sequence<State<M>>,
 ) -> Result<HashSet<StateForm<M>>, OutOfMemory>
-    requires { (i : ℕ) (s : State M M.Mem M.Loc M.Form) → slice_get states.now i ≡ Some s → Fits (M.rules machine) program.now s }
-    ensures { IfOk result (λ forms. AreFormsOf (state_form_eq M.Form.PartialEq.eq) (state_form (M.form_of machine)) states.now (contains (state_form_eq M.Form.PartialEq.eq) forms)) }
+    requires { (i : ℕ) (s : State M M.Mem M.Loc M.Form) → slice_get states.now i ≡ Some s
+        → Fits (M.rules machine) program.now s }
+    ensures { IfOk result (λ forms. AreFormsOf (state_form_eq M.Form.PartialEq.eq)
+        (state_form (M.form_of machine)) states.now (contains (state_form_eq M.Form.PartialEq.eq) forms)) }
 {
     // Whoever reads a program knows that it meets the limits.
     let _ = program.initial();
@@ -52,9 +55,11 @@ fn knows_step<M: Machine>(
 ) -> Result<bool, OutOfMemory>
     requires fits { Fits (M.rules machine) program.now state.now }
     requires room { state.now.steps + 1 < 2 ^ 64 }
-    ensures known { IfOk result (λ yes. yes ≡ true → (next : State M M.Mem M.Loc M.Form) → step (M.rules machine) program.now state.now thread ≡ Some next
+    ensures known { IfOk result (λ yes. yes ≡ true → (next : State M M.Mem M.Loc M.Form)
+        → step (M.rules machine) program.now state.now thread ≡ Some next
         → contains (state_form_eq M.Form.PartialEq.eq) forms.now (state_form (M.form_of machine) next) ≡ true) }
-    ensures new { IfOk result (λ yes. yes ≡ false → (next : State M M.Mem M.Loc M.Form) × (step (M.rules machine) program.now state.now thread ≡ Some next)
+    ensures new { IfOk result (λ yes. yes ≡ false → (next : State M M.Mem M.Loc M.Form)
+        × (step (M.rules machine) program.now state.now thread ≡ Some next)
         × (contains (state_form_eq M.Form.PartialEq.eq) forms.now (state_form (M.form_of machine) next) ≡ false)) }
 {
     // Whoever reads a program knows that it meets the limits.
@@ -81,8 +86,10 @@ fn leads_out<M: Machine>(
 ) -> Result<bool, OutOfMemory>
     requires fits { Fits (M.rules machine) program.now state.now }
     requires room { state.now.steps + 1 < 2 ^ 64 }
-    ensures out { IfOk result (λ yes. yes ≡ true → IsStepUnknown (M.rules machine) program.now (state_form (M.form_of machine)) (contains (state_form_eq M.Form.PartialEq.eq) forms.now) state.now) }
-    ensures none { IfOk result (λ yes. yes ≡ false → AreStepsKnown (M.rules machine) program.now (state_form (M.form_of machine)) (contains (state_form_eq M.Form.PartialEq.eq) forms.now) state.now) }
+    ensures out { IfOk result (λ yes. yes ≡ true → IsStepUnknown (M.rules machine) program.now
+        (state_form (M.form_of machine)) (contains (state_form_eq M.Form.PartialEq.eq) forms.now) state.now) }
+    ensures none { IfOk result (λ yes. yes ≡ false → AreStepsKnown (M.rules machine) program.now
+        (state_form (M.form_of machine)) (contains (state_form_eq M.Form.PartialEq.eq) forms.now) state.now) }
 {
     for thread in 0..program.threads().len() as u8 {
         if !knows_step(alloc, machine, program, forms, state, thread, stock)? {
@@ -100,12 +107,16 @@ pub fn test_closed<M: Machine>(
     program: &Program,
     states: &Sequence<State<M>>,
 ) -> Result<(), CheckFault>
-    requires fit { (i : ℕ) (s : State M M.Mem M.Loc M.Form) → slice_get states.now i ≡ Some s → Fits (M.rules machine) program.now s }
+    requires fit { (i : ℕ) (s : State M M.Mem M.Loc M.Form) → slice_get states.now i ≡ Some s
+        → Fits (M.rules machine) program.now s }
     requires few { (i : ℕ) (s : State M M.Mem M.Loc M.Form) → slice_get states.now i ≡ Some s → s.steps ≤ i }
     requires many { length states.now ≤ 2000000 }
-    requires begins { IsAlikeToOneOf (AreStatesAlike (M.rules machine)) states.now (start (M.rules machine) program.now) }
-    ensures closed { IfOk result (λ _. AreClosed (machine_of (M.rules machine) program.now) (AreStatesAlike (M.rules machine)) states.now) }
-    ensures leads_out { IfErr result (λ fault. (fault ≡ CheckFault.OutOfMemory) ⊎ IsFirstOpen (M.rules machine) program.now states.now fault) }
+    requires begins { IsAlikeToOneOf (AreStatesAlike (M.rules machine)) states.now
+        (start (M.rules machine) program.now) }
+    ensures closed { IfOk result
+        (λ _. AreClosed (machine_of (M.rules machine) program.now) (AreStatesAlike (M.rules machine)) states.now) }
+    ensures leads_out { IfErr result (λ fault. (fault ≡ CheckFault.OutOfMemory)
+        ⊎ IsFirstOpen (M.rules machine) program.now states.now fault) }
 {
     // Whoever reads a program knows that it meets the limits.
     let _ = program.initial();

@@ -4,9 +4,9 @@ ghost use Rattle.std.specs.Prelude.{◌≡◌};
 use sched_program::OutOfMemory;
 use thiserror::Error;
 
-/// Why a book file is refused; each but the last with the number of a line, counted from 1. Shown as its number with the
-/// line. The form is tested over the whole file; then the others for each entry in turn, in this order, but for the open
-/// steps, which are looked for last.
+/// Why a book file is refused; each but the last with the number of a line, counted from 1. Shown as its number with
+/// the line. The form is tested over the whole file; then the others for each entry in turn, in this order, but for the
+/// open steps, which are looked for last.
 #[derive(Clone, Copy, Debug, PartialEq, Eq, Error)]
 pub enum CheckFault {
     /// The line is not in the form.

@@ -1,11 +1,14 @@
 //! The lines of a book file, read from its bytes.
-ghost use Rattle.std.specs.Prelude.{◌≡◌, ◌≢◌, ℕ, ◌+◌, ◌^◌, ◌<◌, List, [], ◌∷◌, ◌++◌, min, length, IfSome, IfNone, IfOk, IfErr};
+ghost use Rattle.std.specs.Prelude.{◌≡◌, ◌≢◌, ℕ, ◌+◌, ◌^◌, ◌<◌, List, [], ◌∷◌, ◌++◌, min, length, IfSome, IfNone, IfOk};
+ghost use Rattle.std.specs.Prelude.{IfErr};
 ghost use Rattle.std.specs.List.{AllByRecursion, AllZip};
 ghost use Rattle.sched_program.specs.declared.operation.OpId.{OpId};
 ghost use Rattle.book.specs.declared.file.line.FormFault.TheVariants as fault;
 ghost use Rattle.book.specs.declared.file.line.Line.{Line};
 ghost use Rattle.book.specs.Text.Written.{AreProper};
-ghost use Rattle.book.specs.Text.Files.{space, comma, digit, AreLines, IsNumber, IsName, name_text, IsOrder, IsEntryLine, IsEntryText, IsHead, HasHead, IsBookText, IsFirstMisformed, IsEntriesFault, IsFormFault};
+ghost use Rattle.book.specs.Text.Files.{space, comma, digit, AreLines, IsNumber, IsName, name_text, IsOrder};
+ghost use Rattle.book.specs.Text.Files.{IsEntryLine, IsEntryText, IsHead, HasHead, IsBookText, IsFirstMisformed};
+ghost use Rattle.book.specs.Text.Files.{IsEntriesFault, IsFormFault};
 
 use crate::file::line::{FormFault, Line, MOST_ENTRIES};
 use sched_program::{OpId, OutOfMemory, Sequence};
@@ -13,8 +16,8 @@ use std::alloc::Global;
 
 /// What stands before the first byte that is `at`, and what follows it.
 fn cut(bytes: &[u8], at: u8) -> Option<(&[u8], &[u8])>
-    ensures found { IfSome result (λ parts. (bytes.now ≡ parts.0.now ++ at ∷ parts.1.now)
-        × AllByRecursion (λ b. b ≢ at) parts.0.now) }
+    ensures found { IfSome result (λ pieces. (bytes.now ≡ pieces.0.now ++ at ∷ pieces.1.now)
+        × AllByRecursion (λ b. b ≢ at) pieces.0.now) }
     ensures none { IfNone result (AllByRecursion (λ b. b ≢ at) bytes.now) }
 {
     for i in 0..bytes.len() {
@@ -151,7 +154,8 @@ fn entries_of(head: &[u8]) -> Option<usize>
 
 /// How many lines the bytes are, if nothing follows the last.
 fn line_count(bytes: &[u8]) -> Option<usize>
-    ensures found { IfSome result (λ count. (texts : List (List ℕ)) × AreLines bytes.now texts × (length texts ≡ count)) }
+    ensures found { IfSome result (λ count. (texts : List (List ℕ)) × AreLines bytes.now texts
+        × (length texts ≡ count)) }
     ensures none { IfNone result ((texts : List (List ℕ)) → ¬ AreLines bytes.now texts) }
 {
     let mut count = 0;
@@ -169,7 +173,8 @@ fn line_count(bytes: &[u8]) -> Option<usize>
 
 /// What follows the first line, if that is in the form.
 fn after_head(bytes: &[u8]) -> Option<&[u8]>
-    ensures found { IfSome result (λ rest. (texts : List (List ℕ)) × HasHead bytes.now texts × AreLines rest.now texts) }
+    ensures found { IfSome result (λ rest. (texts : List (List ℕ)) × HasHead bytes.now texts
+        × AreLines rest.now texts) }
     ensures none { IfNone result ((texts : List (List ℕ)) → ¬ HasHead bytes.now texts) }
 {
     let (head, rest) = cut(bytes, b'\n')?;

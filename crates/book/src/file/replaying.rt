@@ -22,7 +22,8 @@ fn test_state<M: Machine>(
 ) -> Result<(), CheckFault>
     requires { Fits (M.rules machine) program.now state.now }
     ensures shown { IfOk result (λ _. IsShown (M.rules machine) program.now state.now order.now) }
-    ensures unshown { IfErr result (λ fault. (fault ≡ CheckFault.OutOfMemory) ⊎ IsUnshown (M.rules machine) program.now state.now order.now number fault) }
+    ensures unshown { IfErr result (λ fault. (fault ≡ CheckFault.OutOfMemory)
+        ⊎ IsUnshown (M.rules machine) program.now state.now order.now number fault) }
 {
     if state.astray().is_some() {
         return Err(CheckFault::Fault(number));
@@ -46,12 +47,14 @@ fn told<M: Machine>(
     before: &Sequence<State<M>>,
     line: &Line,
 ) -> Result<State<M>, CheckFault>
-    requires fit { (i : ℕ) (s : State M M.Mem M.Loc M.Form) → slice_get before.now i ≡ Some s → Fits (M.rules machine) program.now s }
+    requires fit { (i : ℕ) (s : State M M.Mem M.Loc M.Form) → slice_get before.now i ≡ Some s
+        → Fits (M.rules machine) program.now s }
     requires few { (i : ℕ) (s : State M M.Mem M.Loc M.Form) → slice_get before.now i ≡ Some s → s.steps ≤ i }
     requires many { length before.now ≤ 2000000 }
     ensures told { IfOk result (Tells (M.rules machine) program.now before.now line.now) }
     ensures fits { IfOk result (Fits (M.rules machine) program.now) }
-    ensures amiss { IfErr result (λ fault. (fault ≡ CheckFault.OutOfMemory) ⊎ IsAmiss {Machine = M} {Form = M.Form} (M.rules machine) program.now before.now line.now fault) }
+    ensures amiss { IfErr result (λ fault. (fault ≡ CheckFault.OutOfMemory)
+        ⊎ IsAmiss {Machine = M} {Form = M.Form} (M.rules machine) program.now before.now line.now fault) }
 {
     let number = before.len() + 2;
     let Some(parent) = before.get(line.parent) else {
@@ -84,10 +87,13 @@ pub fn replay_lines<M: Machine>(
 ) -> Result<Sequence<State<M>>, CheckFault>
     requires { length lines.now < 2000000 }
     ensures replayed { IfOk result (AreReplayed (M.rules machine) program.now lines.now) }
-    ensures fit { IfOk result (λ states. (i : ℕ) (s : State M M.Mem M.Loc M.Form) → slice_get states i ≡ Some s → Fits (M.rules machine) program.now s) }
-    ensures few { IfOk result (λ states. (i : ℕ) (s : State M M.Mem M.Loc M.Form) → slice_get states i ≡ Some s → s.steps ≤ i) }
+    ensures fit { IfOk result (λ states. (i : ℕ) (s : State M M.Mem M.Loc M.Form) → slice_get states i ≡ Some s
+        → Fits (M.rules machine) program.now s) }
+    ensures few { IfOk result (λ states. (i : ℕ) (s : State M M.Mem M.Loc M.Form) → slice_get states i ≡ Some s
+        → s.steps ≤ i) }
     ensures many { IfOk result (λ states. length states ≡ length lines.now + 1) }
-    ensures amiss { IfErr result (λ fault. (fault ≡ CheckFault.OutOfMemory) ⊎ IsFirstAmiss M M.Form (M.rules machine) program.now lines.now fault) }
+    ensures amiss { IfErr result (λ fault. (fault ≡ CheckFault.OutOfMemory)
+        ⊎ IsFirstAmiss M M.Form (M.rules machine) program.now lines.now fault) }
 {
     let start = State::start(alloc, machine, program)?;
     if let Err(fault) = test_state(alloc, machine, program, &start, &[], 2) {

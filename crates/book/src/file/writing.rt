@@ -17,7 +17,8 @@ use std::hash::Hash;
 /// Adds the line of an entry after the first, by its row.
 fn push_row(text: &mut Vec<u8>, row: &PackedRow) -> Result<(), OutOfMemory>
     requires { (line : Line) × IsLineOf row.now.origin row.now.finding line × IsProper line }
-    ensures { OnOk result ((line : Line) × IsLineOf row.now.origin row.now.finding line × IsProper line × (text.new.items ≡ text.old.items ++ ended (line_text line.parent line.thread line.order ∷ []))) }
+    ensures { OnOk result ((line : Line) × IsLineOf row.now.origin row.now.finding line × IsProper line
+        × (text.new.items ≡ text.old.items ++ ended (line_text line.parent line.thread line.order ∷ []))) }
 {
     let Some(origin) = row.origin() else {
         unreachable!();

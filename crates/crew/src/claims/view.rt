@@ -8,10 +8,10 @@ pub struct Size {
     pub seats: usize,
 }
 
-/// What is known of a seat: how many seats it is, the places that it drew, how many of its parts were told that none
+/// What is known of a seat: how many seats it is, the places that it drew, how many of them were told that none
 /// is left, and the size of its counter. Contracts alone see it, and no value of it is made.
 pub struct Draws {
-    pub parts: u64,
+    pub seats: u64,
     pub places: LinkedList<usize>,
     pub spent: u64,
     pub size: Size,

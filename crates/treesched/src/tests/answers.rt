@@ -6,7 +6,7 @@ use crate::tests::cases::Runtime;
 use sched_program::{Counted, OutOfMemory};
 use std::alloc::Global;
 
-/// The words of a line, which single spaces part. An empty line has none.
+/// The words of a line, which single spaces separate. An empty line has none.
 pub fn words_of<'a>(alloc: Global, line: &'a str) -> Result<Vec<&'a str>, OutOfMemory> {
     let mut words = Vec::new(alloc);
     if line.is_empty() {

@@ -54,8 +54,8 @@ fn has_failed_read(text: &str, fails_at: usize) -> bool {
     fails_at <= text.len()
 }
 
-/// A file whose read of this number fails, or one that cannot be opened. The program tells of it, but answers if the file
-/// has no such read.
+/// A file whose read of this number fails, or one that cannot be opened. The program tells of it, but answers if the
+/// file has no such read.
 #[derive(Clone, Copy, Debug)]
 struct Serves(Option<usize>);
 
@@ -109,8 +109,8 @@ fn tells_a_file_that_cannot_be_opened(rt: HostRuntime) -> Result<(), Fail> {
     check(&rt, &Serves(None), |case| case.is_met(&rt))
 }
 
-/// A book file whose read of this number fails, or one that cannot be opened. The program tells of it, but checks the book
-/// if the file has no such read.
+/// A book file whose read of this number fails, or one that cannot be opened. The program tells of it, but checks the
+/// book if the file has no such read.
 #[derive(Clone, Copy, Debug)]
 struct Checks(Option<usize>);
 

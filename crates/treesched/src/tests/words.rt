@@ -23,8 +23,8 @@ fn asks<F: Fn(&Request<'_>) -> bool>(
     }
 }
 
-/// The words behind the subcommand that ask to explore the file `f` to 5 steps and at most 200000 states; how states are
-/// merged, by how many workers, whether the ledger is asked for, and where the book goes.
+/// The words behind the subcommand that ask to explore the file `f` to 5 steps and at most 200000 states; how states
+/// are merged, by how many workers, whether the ledger is asked for, and where the book goes.
 #[derive(Clone, Copy, Debug)]
 struct Explores(&'static str, Merge, u8, bool, Option<&'static str>);
 

@@ -1,22 +1,23 @@
 use Rattle.std.proofs.Common.{Bool, ap, ◌∙◌}
 use Rattle.book.specs.declared.entry.Row.{Row}
-use Rattle.book.specs.Labels.{Labelled, same_label, same_label_equiv}
+use Rattle.book.specs.Labels.{Labelled, same_label}
+use Rattle.book.specs.Laws.Labels.{same_label_equiv}
 use Rattle.book.specs.Slots.{keyed_of}
 use Rattle.book.proofs.SlotLemmas.{put_step, step_row}
 use Rattle.book.proofs.placing.put_step.Goals as goal
 
 pub returns-in_ok-push-in-None-clause-put : goal.returns-in_ok-push-in-None-clause-put
 returns-in_ok-push-in-None-clause-put g c =
-    let parts = c.into_parts-thread in
+    let fields = c.into_fields-thread in
     let eq : Labelled g.row.S.Denot g.row.F.Denot → Labelled g.row.S.Denot g.row.F.Denot → Bool = same_label g.S.PartialEq.eq g.F.PartialEq.eq in
     let equivalence = same_label_equiv g.S.PartialEq.eq g.F.PartialEq.eq g.met.S.Eq.laws g.met.F.Eq.laws in
-    put_step eq eq equivalence.symm c.args.slots.now.entries c.put_new.new.slots.entries c.args.parent c.args.step parts.result.2 c.in_ok-row.row
-    c.in_ok-put_new.ensures.put (ap (λ (row : Row). keyed_of (parts.result.2, row)) c.in_ok-row.ensures ∙ step_row c.args.parent c.args.step parts.result.2 parts.result.0 parts.result.3 parts.ensures.0 parts.ensures.2 parts.ensures.3)
+    put_step eq eq equivalence.symm c.args.slots.now.entries c.put_new.new.slots.entries c.args.parent c.args.step fields.result.2 c.in_ok-row.row
+    c.in_ok-put_new.ensures.put (ap (λ (row : Row). keyed_of (fields.result.2, row)) c.in_ok-row.ensures ∙ step_row c.args.parent c.args.step fields.result.2 fields.result.0 fields.result.3 fields.ensures.0 fields.ensures.2 fields.ensures.3)
 
 pub returns-in-Some-clause-put : goal.returns-in-Some-clause-put
 returns-in-Some-clause-put g c =
-    let parts = c.into_parts-thread in
+    let fields = c.into_fields-thread in
     let eq : Labelled g.row.S.Denot g.row.F.Denot → Labelled g.row.S.Denot g.row.F.Denot → Bool = same_label g.S.PartialEq.eq g.F.PartialEq.eq in
     let equivalence = same_label_equiv g.S.PartialEq.eq g.F.PartialEq.eq g.met.S.Eq.laws g.met.F.Eq.laws in
-    put_step eq eq equivalence.symm c.args.slots.now.entries c.put_new.new.slots.entries c.args.parent c.args.step parts.result.2 c.in_ok-row.row
-    c.in_ok-put_new.ensures.put (ap (λ (row : Row). keyed_of (parts.result.2, row)) c.in_ok-row.ensures ∙ step_row c.args.parent c.args.step parts.result.2 parts.result.0 parts.result.3 parts.ensures.0 parts.ensures.2 parts.ensures.3)
+    put_step eq eq equivalence.symm c.args.slots.now.entries c.put_new.new.slots.entries c.args.parent c.args.step fields.result.2 c.in_ok-row.row
+    c.in_ok-put_new.ensures.put (ap (λ (row : Row). keyed_of (fields.result.2, row)) c.in_ok-row.ensures ∙ step_row c.args.parent c.args.step fields.result.2 fields.result.0 fields.result.3 fields.ensures.0 fields.ensures.2 fields.ensures.3)

@@ -4,7 +4,7 @@ use Rattle.crew.proofs.explorer.explore.Given as goal
 abbrev pub ghosts-explore_together : goal.ghosts-explore_together
 ghosts-explore_together g a =
     record {
-      parts = a.blanks.expanded.parts;
+      pieces = a.blanks.expanded.parts;
       expanded_name = a.blanks.expanded.name;
       entered_name = a.blanks.entered.name;
       met_name = a.blanks.met.name;

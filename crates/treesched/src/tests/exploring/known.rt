@@ -1,5 +1,5 @@
-//! Explorations of which the outcome is known. The numbers of states agree with two explorers that share no code with
-//! this one.
+//! Explorations of which the outcome is known. The numbers of states agree with two explorers that have no code in
+//! common with this one.
 use crate::tests::sources::{
     DELETE_5, DELETE_10, DELETE_20, ELLEN, ELLEN_IN_TURN, ELLEN_INSERT, ELLEN_NO_IFLAG,
     ELLEN_NO_IFLAG_IN_TURN, ELLEN_NO_MARK, ELLEN_NO_MARK_IN_TURN, FIND_5, FIND_10, FINDS_IN_TURN,
@@ -210,7 +210,8 @@ pub static WHOLE: [Known; 3] = [
     Known(NM, 400, Schedules::Close(26), 224, 198),
 ];
 
-/// A program, the least number of steps from which by names every schedule is covered, and how many states that reaches.
+/// A program, the least number of steps from which by names every schedule is covered, and how many states that
+/// reaches.
 #[derive(Clone, Copy)]
 pub struct Closing(Source, u16, u32);
 

@@ -108,8 +108,8 @@ impl Told {
 }
 
 /// What so many workers count in all. None where these lines with the ledger do not tell the verdict and the number of
-/// steps of what is known of the exploration, or lack the line of a worker, or where the workers' shares do not sum to the
-/// total.
+/// steps of what is known of the exploration, or lack the line of a worker, or where the workers' shares do not sum to
+/// the total.
 pub fn total_of(
     alloc: Global,
     exploration: &Exploration,

@@ -21,7 +21,7 @@ invariant_of-self g c =
     let s = c.self.inside in
     let next = c.in-Some.ensures in
     let end = c.first_above-end in
-    rw c.mark_run_taken.ensures (
+    rw c.mark_range_taken.ensures (
       layer_taken c.self.invariant.0 c.args.self.now c.self.view_is c.in-Some.start end.result c.steps_at.result next.next next.open next.above c.steps_at.ensures end.ensures.below end.ensures.above end.ensures.within,
       known_marks (form_by s.merge (state_form (g.M.Machine.form_of s.machine))) s.table (range_with_len c.in-Some.start (end.result - c.in-Some.start)) Taken c.self.invariant.1,
     )
@@ -31,7 +31,7 @@ returns-clause-taken g c =
     let next = c.in-Some.ensures in
     let end = c.first_above-end in
     rw (← c.self.view_is) (layer_given c.self.invariant.0 c.args.self.now c.self.view_is c.in-Some.start end.result c.steps_at.result next.next next.open next.above c.steps_at.ensures end.ensures.below end.ensures.above end.ensures.within
-    c.in_ok-layer.layer.items c.in_ok-layer.ensures.numbers c.in_ok-layer.ensures.states _ c.mark_run_taken.ensures)
+    c.in_ok-layer.layer.items c.in_ok-layer.ensures.numbers c.in_ok-layer.ensures.states _ c.mark_range_taken.ensures)
 
 pub returns-clause-fits : goal.returns-clause-fits
 returns-clause-fits g c = rw (← c.self.view_is) (states_fit c.self.invariant.0 c.in_ok-layer.layer.items c.in_ok-layer.ensures.states)

@@ -1,4 +1,4 @@
-use Rattle.book.proofs.Text.Heads.{head_parts, no_head, other_count}
+use Rattle.book.proofs.Text.Heads.{head_pieces, no_head, other_count}
 use Rattle.book.proofs.file.reading.after_head.Goals as goal
 
 pub returns-in_err-head-clause-none : goal.returns-in_err-head-clause-none
@@ -8,15 +8,15 @@ pub returns-in_err-entries-clause-none : goal.returns-in_err-entries-clause-none
 returns-in_err-entries-clause-none c =
     let cut = c.in_ok-head.ensures.found in
     rw c.from_residual-in_err-entries.ensures (λ texts has.
-    let parts = head_parts c.args.bytes.now c.in_ok-head.head.now c.in_ok-head.rest.now texts cut.0 cut.1 has in
-    c.in_err-entries.ensures.none _ parts.0)
+    let pieces = head_pieces c.args.bytes.now c.in_ok-head.head.now c.in_ok-head.rest.now texts cut.0 cut.1 has in
+    c.in_err-entries.ensures.none _ pieces.0)
 
 pub returns-in_err-line_count-clause-none : goal.returns-in_err-line_count-clause-none
 returns-in_err-line_count-clause-none c =
     let cut = c.in_ok-head.ensures.found in
     rw c.from_residual-in_err-line_count.ensures (λ texts has.
-    let parts = head_parts c.args.bytes.now c.in_ok-head.head.now c.in_ok-head.rest.now texts cut.0 cut.1 has in
-    c.in_err-line_count.ensures.none texts parts.1)
+    let pieces = head_pieces c.args.bytes.now c.in_ok-head.head.now c.in_ok-head.rest.now texts cut.0 cut.1 has in
+    c.in_err-line_count.ensures.none texts pieces.1)
 
 pub returns-else-branch-entries-clause-none : goal.returns-else-branch-entries-clause-none
 returns-else-branch-entries-clause-none c =

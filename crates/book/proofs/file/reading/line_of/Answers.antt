@@ -1,8 +1,8 @@
-use Rattle.book.proofs.Text.Entries.{no_parts, no_parent, no_thread, no_order}
+use Rattle.book.proofs.Text.Entries.{no_pieces, no_parent, no_thread, no_order}
 use Rattle.book.proofs.file.reading.line_of.Goals as goal
 
 pub returns-in_default-clause-none : goal.returns-in_default-clause-none
-returns-in_default-clause-none c = no_parts c.args.text.now c.in_default.ensures.none
+returns-in_default-clause-none c = no_pieces c.args.text.now c.in_default.ensures.none
 
 pub returns-in_default-number_of-clause-none : goal.returns-in_default-number_of-clause-none
 returns-in_default-number_of-clause-none c =

@@ -12,7 +12,7 @@ use Rattle.crew.proofs.claims.Claims.close.Goals as goal
 pub returns-clause-once : goal.returns-clause-once
 returns-clause-once c =
     let last = c.close_with-closed.ensures.values.2 in
-    let all = c.gather-whole.ensures.parts ∙ c.requires.every ∙ ap (λ (s : Counter). s.size.seats) (sym c.self.view_is) in
+    let all = c.gather-whole.ensures.held ∙ c.requires.every ∙ ap (λ (s : Counter). s.size.seats) (sym c.self.view_is) in
     let end = ends_at _ _ _ _ last.0 _ last.1 c.self.invariant.0 all (first_word last.0.words _ c.word-word.result last.2 c.word-word.ensures) in
     IsPermutation-trans (below c.min-drawn.result) c.gather-whole.result.me.0.places (places_drawn c.args.seats.items)
     (subst (λ (n : ℕ). IsPermutation (below n) c.gather-whole.result.me.0.places) (sym c.min-drawn.ensures) end.drawn)
@@ -25,6 +25,6 @@ returns-clause-drawn c =
 pub returns-clause-spent : goal.returns-clause-spent
 returns-clause-spent c =
     let last = c.close_with-closed.ensures.values.2 in
-    let all = c.gather-whole.ensures.parts ∙ c.requires.every ∙ ap (λ (s : Counter). s.size.seats) (sym c.self.view_is) in
+    let all = c.gather-whole.ensures.held ∙ c.requires.every ∙ ap (λ (s : Counter). s.size.seats) (sym c.self.view_is) in
     let end = ends_at _ _ _ _ last.0 _ last.1 c.self.invariant.0 all (first_word last.0.words _ c.word-word.result last.2 c.word-word.ensures) in
     omega (arith, end.told, c.gather-whole.ensures.spent, c.min-drawn.ensures)

@@ -1,5 +1,5 @@
 use Rattle.std.proofs.Common.{◌≡◌, ◌+◌, ◌++◌, [], All, IsPermutation}
-use Rattle.crew.specs.ClaimSeats.{IsSeatOf, places_drawn, seats_spent, parts_held}
+use Rattle.crew.specs.ClaimSeats.{IsSeatOf, places_drawn, seats_spent, seats_held}
 use Rattle.crew.proofs.claims.Claims.gather.Given as goal
 
 abbrev pub invariant-loop-seat : goal.invariant-loop-seat
@@ -8,7 +8,7 @@ invariant-loop-seat l = record {
   knows : l.whole.me.0.size ≡ l.self.size;
   bare : l.whole.me.1 ≡ [];
   seats : All (λ s. IsSeatOf l.self s) l.seats.items;
-  parts : l.whole.me.0.parts + parts_held l.seats.items ≡ parts_held l.fn.seats.items;
+  held : l.whole.me.0.seats + seats_held l.seats.items ≡ seats_held l.fn.seats.items;
   spent : l.whole.me.0.spent + seats_spent l.seats.items ≡ seats_spent l.fn.seats.items;
   places : IsPermutation (places_drawn l.fn.seats.items) (places_drawn l.seats.items ++ l.whole.me.0.places);
 }

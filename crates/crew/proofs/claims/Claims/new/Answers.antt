@@ -9,8 +9,8 @@ use Rattle.crew.proofs.claims.Claims.new.Goals as goal
 pub split_seat-requires : goal.split_seat-requires
 split_seat-requires c =
     let rest = c.loop.invariant.rest in
-    let parts = ap (λ (m : Knows). m.0.parts) rest in
-    (search rules, search rules, cut_kept _ _ _ (omega (arith, parts, c.loop.invariant.filled)) (ap (λ (m : Knows). m.0.spent) rest) (ap (λ (m : Knows). m.0.size) rest ∙ sym c.in_ok-table.ensures.5))
+    let seats = ap (λ (m : Knows). m.0.seats) rest in
+    (search rules, search rules, cut_kept _ _ _ (omega (arith, seats, c.loop.invariant.filled)) (ap (λ (m : Knows). m.0.spent) rest) (ap (λ (m : Knows). m.0.size) rest ∙ sym c.in_ok-table.ensures.5))
 
 pub loop-preserved : goal.loop-preserved
 loop-preserved c =

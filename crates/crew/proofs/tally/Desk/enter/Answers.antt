@@ -41,5 +41,5 @@ add-requires-4-clause-met g c =
     small_met m same old new c.args.id x c.in_ok-counts.counts.entered c.in_ok-counts.counts.met enters right law.machine law.merges law.law
     (expansion_in g.M.Machine.rules old x enters.taken.0.state enters.own.machine enters.own.program (enters.own.source enters.taken.0 enters.taken.1) c.law-2.ensures) in
     let was : c.args.self.now.met.total ≡ old.met = c.args.self.now.met_is in
-    let mine : c.args.tally.now.parts.met.amount ≡ c.args.tally.now.share.met = c.args.tally.now.met_is in
+    let mine : c.args.tally.now.pieces.met.amount ≡ c.args.tally.now.share.met = c.args.tally.now.met_is in
     omega (arith, c.audit-3.ensures.bound)

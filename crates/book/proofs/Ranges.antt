@@ -38,11 +38,11 @@ module _ {S : Type 0} where
   length-with_marks es (i ∷ is) k = length-with_marks (with_mark es i k) is k ∙ length-with_mark es i k
 
   -- an entry after those in a row are marked is an old one, but for the mark if it is one of them
-  at-run : (n : ℕ) (es : List (Entry S)) (a : ℕ) (k : Mark) (j : ℕ) (f : Entry S) → At (with_marks es (range_with_len a n) k) j f
+  at-range : (n : ℕ) (es : List (Entry S)) (a : ℕ) (k : Mark) (j : ℕ) (f : Entry S) → At (with_marks es (range_with_len a n) k) j f
       → (e : Entry S) × At es j e × (f.state ≡ e.state) × (((a ≤ j) × (j < a + n) × (f.mark ≡ k)) ⊎ ((a ≤ j → j < a + n → ⊥) × (f ≡ e)))
-  at-run zero es a k j f at = (f, at, refl, inr ((λ p q. omega arith), refl))
-  at-run (suc n) es a k j f at =
-      let r = at-run n (with_mark es a k) (a + 1) k j f at in
+  at-range zero es a k j f at = (f, at, refl, inr ((λ p q. omega arith), refl))
+  at-range (suc n) es a k j f at =
+      let r = at-range n (with_mark es a k) (a + 1) k j f at in
       let o = at-with_mark es a k j r.0 r.1 in (
         o.0,
         o.1,
@@ -58,18 +58,18 @@ module _ {S : Type 0} where
 
 -- ---- what is given out
 module _ {S A : Type 0} where
-  pub numbers_more : (run : List (ℕ × Arc S A)) (p : ℕ × Arc S A) (a i : ℕ) → map (λ (x : ℕ × Arc S A). x.0) run ≡ range_with_len a (i - a) → p.0 ≡ i → a ≤ i
-      → map (λ (x : ℕ × Arc S A). x.0) (run ++ p ∷ []) ≡ range_with_len a (i + 1 - a)
-  numbers_more run p a i so_far number le =
+  pub numbers_more : (range : List (ℕ × Arc S A)) (p : ℕ × Arc S A) (a i : ℕ) → map (λ (x : ℕ × Arc S A). x.0) range ≡ range_with_len a (i - a) → p.0 ≡ i → a ≤ i
+      → map (λ (x : ℕ × Arc S A). x.0) (range ++ p ∷ []) ≡ range_with_len a (i + 1 - a)
+  numbers_more range p a i so_far number le =
       let here : p.0 ≡ a + (i - a) = omega arith in
       let more : i - a + 1 ≡ i + 1 - a = omega arith in
-      map_push (λ (x : ℕ × Arc S A). x.0) run p ∙ ap (λ ns. ns ++ p.0 ∷ []) so_far ∙ ap (λ n. range_with_len a (i - a) ++ n ∷ []) here
+      map_push (λ (x : ℕ × Arc S A). x.0) range p ∙ ap (λ ns. ns ++ p.0 ∷ []) so_far ∙ ap (λ n. range_with_len a (i - a) ++ n ∷ []) here
       ∙ sym (range-more a (i - a)) ∙ ap (range_with_len a) more
 
-  pub states_more : (es : List (Entry S)) (run : List (ℕ × Arc S A)) (i : ℕ) (p : ℕ × Arc S A) (e : Entry S) → AreStatesOf es run → At es i e → p.0 ≡ i → e.state ≡ p.1.value
-      → AreStatesOf es (run ++ p ∷ [])
-  states_more es run i p e so_far at number state k q h =
-      elim (get-append_cases run (p ∷ []) k q h) [
+  pub states_more : (es : List (Entry S)) (range : List (ℕ × Arc S A)) (i : ℕ) (p : ℕ × Arc S A) (e : Entry S) → AreStatesOf es range → At es i e → p.0 ≡ i → e.state ≡ p.1.value
+      → AreStatesOf es (range ++ p ∷ [])
+  states_more es range i p e so_far at number state k q h =
+      elim (get-append_cases range (p ∷ []) k q h) [
         | inl l ↦ so_far k q l
         | inr r ↦ (let same : p ≡ q = single r.0 q r.2 in (e, (let w : q.0 ≡ i = sym (ap (λ (x : ℕ × Arc S A). x.0) same) ∙ number in ap (λ n. slice_get es n) w ∙ at), state ∙ ap (λ (x : ℕ × Arc S A). x.1.value) same))
       ]
@@ -79,91 +79,91 @@ module _ {S A : Type 0} where
       single (suc k) q h = absurd (let z : None ≡ Some q = h in cc)
 
   -- the numbers are those in a row
-  number_is : (run : List (ℕ × Arc S A)) (a n k : ℕ) (p : ℕ × Arc S A) → map (λ (x : ℕ × Arc S A). x.0) run ≡ range_with_len a n → slice_get run k ≡ Some p → (p.0 ≡ a + k) × (k < n)
+  number_is : (range : List (ℕ × Arc S A)) (a n k : ℕ) (p : ℕ × Arc S A) → map (λ (x : ℕ × Arc S A). x.0) range ≡ range_with_len a n → slice_get range k ≡ Some p → (p.0 ≡ a + k) × (k < n)
   number_is [] a n k p numbers at = absurd (let z : None ≡ Some p = at in cc)
-  number_is (q ∷ run) a zero k p numbers at = absurd (let z : q.0 ∷ map (λ (x : ℕ × Arc S A). x.0) run ≡ [] = numbers in cc)
-  number_is (q ∷ run) a (suc n) zero p numbers at =
-      let z : q.0 ∷ map (λ (x : ℕ × Arc S A). x.0) run ≡ a ∷ range_with_len (a + 1) n = numbers in
+  number_is (q ∷ range) a zero k p numbers at = absurd (let z : q.0 ∷ map (λ (x : ℕ × Arc S A). x.0) range ≡ [] = numbers in cc)
+  number_is (q ∷ range) a (suc n) zero p numbers at =
+      let z : q.0 ∷ map (λ (x : ℕ × Arc S A). x.0) range ≡ a ∷ range_with_len (a + 1) n = numbers in
       let head : q.0 ≡ a = cc in
       let same : q ≡ p = cc in
       let number : p.0 ≡ a = sym (ap (λ (x : ℕ × Arc S A). x.0) same) ∙ head in (omega arith, omega arith)
-  number_is (q ∷ run) a (suc n) (suc k) p numbers at =
-      let z : q.0 ∷ map (λ (x : ℕ × Arc S A). x.0) run ≡ a ∷ range_with_len (a + 1) n = numbers in
-      let tail : map (λ (x : ℕ × Arc S A). x.0) run ≡ range_with_len (a + 1) n = cc in
-      let r = number_is run (a + 1) n k p tail at in
+  number_is (q ∷ range) a (suc n) (suc k) p numbers at =
+      let z : q.0 ∷ map (λ (x : ℕ × Arc S A). x.0) range ≡ a ∷ range_with_len (a + 1) n = numbers in
+      let tail : map (λ (x : ℕ × Arc S A). x.0) range ≡ range_with_len (a + 1) n = cc in
+      let r = number_is range (a + 1) n k p tail at in
       let number : p.0 ≡ a + 1 + k = r.0 in
       let less : k < n = r.1 in (omega arith, omega arith)
 
 -- ---- the places that are looked for
-pub cursors_run : {S : Type 0} (n : ℕ) (es : List (Entry S)) (a left : ℕ) (fault : Option ℕ) → AreCursors es a left fault → a + n ≤ length es
+pub cursors_range : {S : Type 0} (n : ℕ) (es : List (Entry S)) (a left : ℕ) (fault : Option ℕ) → AreCursors es a left fault → a + n ≤ length es
     → AreCursors (with_marks es (range_with_len a n) Taken) (a + n) left fault
-cursors_run zero es a left fault cursors within = let e : a + 0 ≡ a = omega arith in rw e cursors
-cursors_run (suc n) es a left fault cursors within =
+cursors_range zero es a left fault cursors within = let e : a + 0 ≡ a = omega arith in rw e cursors
+cursors_range (suc n) es a left fault cursors within =
     let e : a + suc n ≡ a + 1 + n = omega arith in
     let l : length (with_mark es a Taken) ≡ length es = length-with_mark es a Taken in
-    rw e (cursors_run n (with_mark es a Taken) (a + 1) left fault (cursors_taken es a left fault cursors a (open_at es a left fault cursors (omega arith))) (omega arith))
+    rw e (cursors_range n (with_mark es a Taken) (a + 1) left fault (cursors_taken es a left fault cursors a (open_at es a left fault cursors (omega arith))) (omega arith))
 
 -- ---- a layer
 -- n open entries from number a on, each of the fewest steps of those that are not expanded; none below is open
-pub record IsRun {S : Type 0} (steps : S → ℕ) (es : List (Entry S)) (a n : ℕ) : Type 0 where
+pub record IsRange {S : Type 0} (steps : S → ℕ) (es : List (Entry S)) (a n : ℕ) : Type 0 where
   pub below : (i : ℕ) (e : Entry S) → At es i e → i < a → e.mark ≢ Open
   pub are_open : (i : ℕ) (e : Entry S) → At es i e → a ≤ i → i < a + n → e.mark ≡ Open
   pub fewest : (i j : ℕ) (e f : Entry S) → At es i e → a ≤ i → i < a + n → At es j f → f.mark ≢ Expanded → steps e.state ≤ steps f.state
   pub within : a + n ≤ length es
 
 module _ {S : Type 0} (steps : S → ℕ) where
-  run_next : (es : List (Entry S)) (a n : ℕ) → IsRun steps es a (suc n) → (e : Entry S) × IsNext steps es a e
-  run_next es a n run =
-      let at = get_at es a (let w : a + suc n ≤ length es = run.within in omega arith) in (
+  range_next : (es : List (Entry S)) (a n : ℕ) → IsRange steps es a (suc n) → (e : Entry S) × IsNext steps es a e
+  range_next es a n range =
+      let at = get_at es a (let w : a + suc n ≤ length es = range.within in omega arith) in (
         at.0,
         record {
           entry = at.1;
-          is_open = run.are_open a at.0 at.1 (omega arith) (omega arith);
-          fewest = (λ j f there left. run.fewest a j at.0 f at.1 (omega arith) (omega arith) there left);
+          is_open = range.are_open a at.0 at.1 (omega arith) (omega arith);
+          fewest = (λ j f there left. range.fewest a j at.0 f at.1 (omega arith) (omega arith) there left);
           lowest = (λ j f there is_open_too _. elim (cases_lt j a) [
-            | inl l ↦ absurd (run.below j f there l is_open_too)
+            | inl l ↦ absurd (range.below j f there l is_open_too)
             | inr le ↦ le
           ]);
         },
       )
 
-  run_taken : (es : List (Entry S)) (a n : ℕ) → IsRun steps es a (suc n) → IsRun steps (with_mark es a Taken) (a + 1) n
-  run_taken es a n run = record {
+  range_taken : (es : List (Entry S)) (a n : ℕ) → IsRange steps es a (suc n) → IsRange steps (with_mark es a Taken) (a + 1) n
+  range_taken es a n range = record {
     below = (λ i d at less.
         let o = at-with_mark es a Taken i d at in
         elim o.3 [
           | inl l ↦ (λ (q : d.mark ≡ Open). let t : d.mark ≡ Taken = l.1 in cc)
-          | inr r ↦ (λ (q : d.mark ≡ Open). run.below i o.0 o.1 (let ne : a ≡ i → ⊥ = r.0 in elim (cases_lt i a) [ inl l ↦ l | inr ge ↦ absurd (ne (omega arith)) ])
+          | inr r ↦ (λ (q : d.mark ≡ Open). range.below i o.0 o.1 (let ne : a ≡ i → ⊥ = r.0 in elim (cases_lt i a) [ inl l ↦ l | inr ge ↦ absurd (ne (omega arith)) ])
               (sym (ap (λ (x : Entry S). x.mark) r.1) ∙ q))
         ]);
     are_open = (λ i d at ge less.
         let o = at-with_mark es a Taken i d at in
         elim o.3 [
           | inl l ↦ absurd (let e : a ≡ i = l.0 in omega arith)
-          | inr r ↦ ap (λ (x : Entry S). x.mark) r.1 ∙ run.are_open i o.0 o.1 (omega arith) (omega arith)
+          | inr r ↦ ap (λ (x : Entry S). x.mark) r.1 ∙ range.are_open i o.0 o.1 (omega arith) (omega arith)
         ]);
     fewest = (λ i j d f at ge less there left.
         let o = at-with_mark es a Taken i d at in
         let p = at-with_mark es a Taken j f there in
         let was : p.0.mark ≢ Expanded = (elim p.3 [
-          | inl l ↦ (λ (q : p.0.mark ≡ Expanded). let t : p.0.mark ≡ Open = run.are_open j p.0 p.1 (let e : a ≡ j = l.0 in omega arith) (let e : a ≡ j = l.0 in omega arith) in cc)
+          | inl l ↦ (λ (q : p.0.mark ≡ Expanded). let t : p.0.mark ≡ Open = range.are_open j p.0 p.1 (let e : a ≡ j = l.0 in omega arith) (let e : a ≡ j = l.0 in omega arith) in cc)
           | inr r ↦ (λ (q : p.0.mark ≡ Expanded). left (ap (λ (x : Entry S). x.mark) r.1 ∙ q))
         ]) in
-        rw (o.2.state, p.2.state) (run.fewest i j o.0 p.0 o.1 (omega arith) (omega arith) p.1 was));
-    within = (let l : length (with_mark es a Taken) ≡ length es = length-with_mark es a Taken in let w : a + suc n ≤ length es = run.within in omega arith);
+        rw (o.2.state, p.2.state) (range.fewest i j o.0 p.0 o.1 (omega arith) (omega arith) p.1 was));
+    within = (let l : length (with_mark es a Taken) ≡ length es = length-with_mark es a Taken in let w : a + suc n ≤ length es = range.within in omega arith);
   }
 
   -- once a row is taken after which all have more steps, none is next
-  none_after : (es : List (Entry S)) (a n : ℕ) → IsRun steps es a n → 0 < n → (d : Entry S) → At es a d
+  none_after : (es : List (Entry S)) (a n : ℕ) → IsRange steps es a n → 0 < n → (d : Entry S) → At es a d
       → ((i : ℕ) (e : Entry S) → At es i e → a + n ≤ i → steps d.state < steps e.state)
       → (i : ℕ) (e : Entry S) → IsNext steps (with_marks es (range_with_len a n) Taken) i e → ⊥
-  none_after es a n run some d at_a later i e next =
-      let o = at-run n es a Taken i e next.entry in
+  none_after es a n range some d at_a later i e next =
+      let o = at-range n es a Taken i e next.entry in
       let is_open_one : e.mark ≡ Open = next.is_open in
       let l : length (with_marks es (range_with_len a n) Taken) ≡ length es = length-with_marks es (range_with_len a n) Taken in
-      let w : a + n ≤ length es = run.within in
+      let w : a + n ≤ length es = range.within in
       let here = get_at (with_marks es (range_with_len a n) Taken) a (omega arith) in
-      let was = at-run n es a Taken a here.0 here.1 in
+      let was = at-range n es a Taken a here.0 here.1 in
       let same : was.0 ≡ d = (let u : slice_get es a ≡ Some was.0 = was.1 in let v : slice_get es a ≡ Some d = at_a in cc) in
       let steps_here : steps here.0.state ≡ steps d.state = ap steps (was.2 ∙ ap (λ (x : Entry S). x.state) same) in
       let left : here.0.mark ≢ Expanded = (elim was.3 [
@@ -174,7 +174,7 @@ module _ {S : Type 0} (steps : S → ℕ) where
       elim o.3 [
         | inl r ↦ (let t : e.mark ≡ Taken = r.2 in cc)
         | inr r ↦ elim (cases_lt i a) [
-          | inl less ↦ run.below i o.0 o.1 less (sym (ap (λ (x : Entry S). x.mark) r.1) ∙ is_open_one)
+          | inl less ↦ range.below i o.0 o.1 less (sym (ap (λ (x : Entry S). x.mark) r.1) ∙ is_open_one)
           | inr ge ↦ elim (cases_lt i (a + n)) [
             | inl less ↦ r.0 ge less
             | inr beyond ↦ (let more : steps d.state < steps o.0.state = later i o.0 o.1 beyond in let same_steps : steps e.state ≡ steps o.0.state = ap steps o.2 in omega arith)
@@ -183,10 +183,10 @@ module _ {S : Type 0} (steps : S → ℕ) where
       ]
 
   -- a row that is taken is the layer
-  pub takes_layer : {A : Type 0} (old new : List (Entry S)) (a n : ℕ) (layer : List (ℕ × Arc S A)) → IsRun steps old a n → 0 < n → (d : Entry S) → At old a d
+  pub takes_layer : {A : Type 0} (old new : List (Entry S)) (a n : ℕ) (layer : List (ℕ × Arc S A)) → IsRange steps old a n → 0 < n → (d : Entry S) → At old a d
       → ((i : ℕ) (e : Entry S) → At old i e → a + n ≤ i → steps d.state < steps e.state)
       → map (λ (p : ℕ × Arc S A). p.0) layer ≡ range_with_len a n → AreStatesOf old layer → new ≡ with_marks old (range_with_len a n) Taken → TakesLayer steps old new layer
-  takes_layer {A} old new a n layer run some d at_a later numbers states marked = record {
+  takes_layer {A} old new a n layer range some d at_a later numbers states marked = record {
     each = (λ k p at.
         let s = states k p at in
         let number = number_is layer a n k p numbers at in
@@ -195,16 +195,16 @@ module _ {S : Type 0} (steps : S → ℕ) where
         record {
           entry = s.0;
           there = s.1;
-          is_open = run.are_open p.0 s.0 s.1 (omega arith) (omega arith);
+          is_open = range.are_open p.0 s.0 s.1 (omega arith) (omega arith);
           state = s.2;
-          fewest = (λ j f there left. let few : steps s.0.state ≤ steps f.state = run.fewest p.0 j s.0 f s.1 (omega arith) (omega arith) there left in
+          fewest = (λ j f there left. let few : steps s.0.state ≤ steps f.state = range.fewest p.0 j s.0 f s.1 (omega arith) (omega arith) there left in
               let same : steps s.0.state ≡ steps p.1.value = ap steps s.2 in omega arith);
         });
     ascending = (λ j k p q at_j at_k less.
         let u : p.0 ≡ a + j = (number_is layer a n j p numbers at_j).0 in
         let v : q.0 ≡ a + k = (number_is layer a n k q numbers at_k).0 in omega arith);
     after = marked ∙ ap (λ is. with_marks old is Taken) (sym numbers);
-    none_next = (λ i e next. none_after old a n run some d at_a later i e (rw (← marked) next));
+    none_next = (λ i e next. none_after old a n range some d at_a later i e (rw (← marked) next));
   }
 
 -- the next layer: the entries from number a on to below `end`
@@ -212,7 +212,7 @@ pub record IsLayerAt {S : Type 0} (steps : S → ℕ) (es : List (Entry S)) (a e
   pub entry : Entry S
   pub there : At es a entry
   pub some : a < end
-  pub run : IsRun steps es a (end - a)
+  pub range : IsRange steps es a (end - a)
   pub later : (i : ℕ) (e : Entry S) → At es i e → a + (end - a) ≤ i → steps entry.state < steps e.state
   pub within : end ≤ length es
 
@@ -236,7 +236,7 @@ module _ {S : Type 0} (m : StepMachine S) (same : S → S → Bool) (right : S �
         entry = next'.0;
         there = next'.1.entry;
         some = is_some;
-        run = record {
+        range = record {
           below = (λ i d at less. λ (q : d.mark ≡ Open). true≢false (sym (open_passes d.mark q) ∙ (first_passes (λ (r : Entry S). is_open r.mark) es a first').3 i d less at));
           are_open = (λ i d at ge less. above' i d at ge);
           fewest = (λ i j d f at ge less there left.
@@ -248,16 +248,16 @@ module _ {S : Type 0} (m : StepMachine S) (same : S → S → Bool) (right : S �
         within = omega arith;
       }
 
-  -- what is so of the state of each entry is so of each state in a run of them
-  pub so_of_run : {A : Type 0} (P : S → Type 0) (es : List (Entry S)) (run : List (ℕ × Arc S A)) → ((i : ℕ) (e : Entry S) → At es i e → P e.state) → AreStatesOf es run → AllStates P run
-  so_of_run P es run is states k p at = let e = states k p at in subst P e.2 (is p.0 e.0 e.1)
+  -- what is so of the state of each entry is so of each state in a range of them
+  pub so_of_range : {A : Type 0} (P : S → Type 0) (es : List (Entry S)) (range : List (ℕ × Arc S A)) → ((i : ℕ) (e : Entry S) → At es i e → P e.state) → AreStatesOf es range → AllStates P range
+  so_of_range P es range is states k p at = let e = states k p at in subst P e.2 (is p.0 e.0 e.1)
 
 module _ {X S : Type 0} (m : StepMachine S) (same : S → S → Bool) (right : S → Finding → Type 0) (machine : IsMachine m) (merges : Merges m same) where
   -- a book whose next entries are taken is lawful
-  pub run_book : (n a : ℕ) (b : Contents X S) → IsLawfulBook m same right b → IsRun m.steps b.entries a n
+  pub range_book : (n a : ℕ) (b : Contents X S) → IsLawfulBook m same right b → IsRange m.steps b.entries a n
       → IsLawfulBook m same right (record { machine = b.machine; program = b.program; merge = b.merge; limit = b.limit; entries = with_marks b.entries (range_with_len a n) Taken; met = b.met })
-  run_book zero a b book run = book
-  run_book (suc n) a b book run =
-      let next = run_next m.steps b.entries a n run in
-      run_book n (a + 1) (record { machine = b.machine; program = b.program; merge = b.merge; limit = b.limit; entries = with_mark b.entries a Taken; met = b.met })
-      (taken_book m same right machine merges b book a next.0 next.1) (run_taken m.steps b.entries a n run)
+  range_book zero a b book range = book
+  range_book (suc n) a b book range =
+      let next = range_next m.steps b.entries a n range in
+      range_book n (a + 1) (record { machine = b.machine; program = b.program; merge = b.merge; limit = b.limit; entries = with_mark b.entries a Taken; met = b.met })
+      (taken_book m same right machine merges b book a next.0 next.1) (range_taken m.steps b.entries a n range)

@@ -2,7 +2,7 @@ use Rattle.std.proofs.Common.{◌≡◌, ◌-◌}
 use Rattle.std.specs.List.{range_with_len}
 use Rattle.book.specs.Entries.{with_marks}
 use Rattle.book.specs.Slots.{entries_of, forms_of}
-use Rattle.book.proofs.table.mark_run.Given as goal
+use Rattle.book.proofs.table.mark_range.Given as goal
 
 abbrev pub invariant-loop-index : goal.invariant-loop-index
 invariant-loop-index g l =

@@ -1,7 +1,7 @@
 use Rattle.std.proofs.Common.{refl, ◌∙◌}
 use Rattle.book.specs.Slots.{entries_of}
-use Rattle.book.proofs.Runs.{marks_more}
-use Rattle.book.proofs.table.mark_run.Goals as goal
+use Rattle.book.proofs.Ranges.{marks_more}
+use Rattle.book.proofs.table.mark_range.Goals as goal
 
 pub loop-index-preserved : goal.loop-index-preserved
 loop-index-preserved g c = (

@@ -2,8 +2,8 @@ use Rattle.std.proofs.Common.{◌<◌, ◌≤◌, ℕ, ◌∙◌, arith, length,
 use Rattle.std.specs.declared.sync.Arc.{Arc}
 use Rattle.book.proofs.EntryLemmas.{get_at}
 use Rattle.book.proofs.Holding.{opened_is_left}
-use Rattle.book.proofs.Runs.{numbers_more, states_more}
-use Rattle.book.proofs.table.Table.shared.Goals as goal
+use Rattle.book.proofs.Ranges.{numbers_more, states_more}
+use Rattle.book.proofs.table.Table.handed_out.Goals as goal
 
 pub state-requires : goal.state-requires
 state-requires g c =
@@ -17,6 +17,6 @@ loop-index-preserved g c =
     let at = c.state.ensures in
     let p : ℕ × Arc g.row.S.Denot Global = (c.loop-index.index, c.in_ok-state.state) in
     rw c.in_ok-push.ensures.items (
-      numbers_more c.loop-index.run.items p c.args.start c.loop-index.index c.loop-index.invariant.0 refl c.loop-index.auto.index,
-      states_more c.args.self.now.entries c.loop-index.run.items c.loop-index.index p at.0 c.loop-index.invariant.1 at.1 refl (at.2 ∙ sym c.in_ok-state.ensures),
+      numbers_more c.loop-index.range.items p c.args.start c.loop-index.index c.loop-index.invariant.0 refl c.loop-index.auto.index,
+      states_more c.args.self.now.entries c.loop-index.range.items c.loop-index.index p at.0 c.loop-index.invariant.1 at.1 refl (at.2 ∙ sym c.in_ok-state.ensures),
     )

@@ -4,10 +4,10 @@ use Rattle.book.specs.Labels.{Kept}
 use Rattle.book.specs.Slots.{entries_of}
 use Rattle.book.proofs.Cursors.{cursor_is}
 use Rattle.book.proofs.Holding.{held_all_marked}
-use Rattle.book.proofs.Runs.{cursors_run}
+use Rattle.book.proofs.Ranges.{cursors_range}
 use Rattle.book.specs.declared.entry.Mark.TheVariants.{Taken}
 use Rattle.std.specs.List.{range_with_len}
-use Rattle.book.proofs.table.Table.mark_run_taken.Goals as goal
+use Rattle.book.proofs.table.Table.mark_range_taken.Goals as goal
 
 pub invariant_of-self : goal.invariant_of-self
 invariant_of-self g c =
@@ -19,6 +19,6 @@ invariant_of-self g c =
     let within : c.args.end ≤ length c.args.self.now.entries = c.requires.within in
     let l : length (entries_of s.slots.entries) ≡ length c.args.self.now.entries = ap (λ (k : Kept g.row.S.Denot g.row.F.Denot). length k.entries) c.self.view_is in
     let ends : s.next_open + (c.args.end - s.next_open) ≡ c.args.end = omega arith in
-    let cursors = rw ends at (cursors_run (c.args.end - s.next_open) (entries_of s.slots.entries) s.next_open s.first_left s.fault c.self.invariant.0 (omega arith)) in
+    let cursors = rw ends at (cursors_range (c.args.end - s.next_open) (entries_of s.slots.entries) s.next_open s.first_left s.fault c.self.invariant.0 (omega arith)) in
     let held = held_all_marked (entries_of s.slots.entries) (range_with_len s.next_open (c.args.end - s.next_open)) Taken s.first_left s.held c.self.invariant.1 in
-    rw (c.mark_run.ensures.entries, start) (cursors, held)
+    rw (c.mark_range.ensures.entries, start) (cursors, held)
