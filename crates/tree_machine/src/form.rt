@@ -6,7 +6,8 @@ ghost use Rattle.sched_program.specs.Program.{Program, IsWithinLimits};
 ghost use Rattle.tree_machine.specs.Step.{Fits};
 ghost use Rattle.tree_machine.specs.Alike.{FormContent, replies_of, notes_of, state_form, AreStatesAlike};
 ghost use Rattle.tree_machine.specs.FormCode.{content_code};
-ghost use Rattle.tree_machine.specs.StateExact.{state_form_eq, state_form_equiv, state_form_exact};
+ghost use Rattle.tree_machine.specs.StateEq.{state_form_eq};
+ghost use Rattle.tree_machine.specs.Laws.StateExact.{state_form_equiv, state_form_exact};
 ghost use Rattle.tree_machine.specs.declared.state.State.{State};
 
 use crate::bytes::Bytes;
