@@ -13,8 +13,8 @@ use sched_program::Exact;
 use std::hash::{Hash, Hasher};
 use std::marker::Model;
 
-/// A list of bytes, over a `Vec`, which contracts see as the list itself. It is hashed by one write of all bytes, behind
-/// their number.
+/// A list of bytes, over a `Vec`, which contracts see as the list itself. It is hashed by one write of all bytes,
+/// behind their number.
 #[derive(Drop)]
 pub struct Bytes {
     items: Vec<u8>,
