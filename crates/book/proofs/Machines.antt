@@ -7,7 +7,7 @@ use Rattle.sched_program.specs.Program.{Program, IsWithinLimits}
 use Rattle.tree_machine.specs.Rules.{Rules, AreLawful, AreFormsExact}
 use Rattle.tree_machine.specs.Alike.{AreStatesAlike, FormContent, state_form}
 use Rattle.tree_machine.specs.Step.{start, step, after_access, Fits}
-use Rattle.tree_machine.specs.StateExact.{state_eq, state_form_eq}
+use Rattle.tree_machine.specs.StateEq.{state_eq, state_form_eq}
 use Rattle.tree_machine.specs.declared.machine.Outcome.{Outcome}
 use Rattle.tree_machine.specs.declared.machine.Outcome.TheVariants.{Goes, Replies, Astray}
 use Rattle.tree_machine.specs.declared.state.Thread.{Thread}

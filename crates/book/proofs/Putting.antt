@@ -3,7 +3,7 @@ use Rattle.std.proofs.Common.{◌≡◌, ℕ, ◌+◌, ◌-◌, ◌^◌, ◌<◌
 use Rattle.std.proofs.Math.ListN.{length-map}
 use Rattle.tree_machine.specs.Alike.{FormContent, state_form}
 use Rattle.tree_machine.specs.Rules.{Rules}
-use Rattle.tree_machine.specs.StateExact.{state_eq, state_form_eq}
+use Rattle.tree_machine.specs.StateEq.{state_eq, state_form_eq}
 use Rattle.tree_machine.specs.declared.state.State.{State}
 use Rattle.book.specs.declared.entry.Mark.TheVariants.{Taken, Expanded}
 use Rattle.book.specs.Books.{machine_in, right_in, counted_as_one, IsBook}

@@ -3,7 +3,7 @@ use Rattle.std.specs.Prelude.{◌-◌, Bool, List, Option, length, count_by}
 use Rattle.sched_program.specs.Program.{IsWithinLimits}
 use Rattle.tree_machine.specs.Rules.{Rules}
 use Rattle.tree_machine.specs.Alike.{state_form}
-use Rattle.tree_machine.specs.StateExact.{state_eq, state_form_eq}
+use Rattle.tree_machine.specs.StateEq.{state_eq, state_form_eq}
 use Rattle.tree_machine.specs.declared.state.State.{State}
 use Rattle.book.specs.declared.book.Merge.{Merge}
 use Rattle.book.specs.declared.book.Merge.TheVariants.{Exact, Names}

@@ -5,7 +5,8 @@ use Rattle.std.proofs.lemmas.Option.{same_Some}
 use Rattle.sched_program.specs.declared.operation.Op.{Op}
 use Rattle.tree_machine.specs.Rules.{Rules, AreLawful, IsOutcomeInRange}
 use Rattle.tree_machine.specs.Pairing.{AreAlike}
-use Rattle.tree_machine.specs.Unnumbered.{equal_pairs, equal_pairs_lawful, equal_alike}
+use Rattle.tree_machine.specs.Unnumbered.{equal_pairs}
+use Rattle.tree_machine.specs.Laws.Unnumbered.{equal_pairs_lawful, equal_alike}
 use Rattle.tree_machine.specs.declared.machine.Outcome.{Outcome}
 use Rattle.tree_machine.specs.declared.machine.Outcome.TheVariants.{Goes, Replies, Astray}
 

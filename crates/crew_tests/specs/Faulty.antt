@@ -8,7 +8,8 @@ use Rattle.sched_program.specs.declared.operation.Op.{Op}
 use Rattle.sched_program.specs.declared.operation.Op.TheVariants.{Insert, Delete, Find}
 use Rattle.tree_machine.specs.Rules.{Rules, AreLawful, IsOutcomeInRange}
 use Rattle.tree_machine.specs.Pairing.{AreAlike}
-use Rattle.tree_machine.specs.Unnumbered.{equal_pairs, equal_pairs_lawful, equal_alike}
+use Rattle.tree_machine.specs.Unnumbered.{equal_pairs}
+use Rattle.tree_machine.specs.Laws.Unnumbered.{equal_pairs_lawful, equal_alike}
 use Rattle.tree_machine.specs.declared.machine.Outcome.{Outcome}
 use Rattle.tree_machine.specs.declared.machine.Outcome.TheVariants.{Goes, Replies, Astray}
 

@@ -4,7 +4,9 @@ ghost use Rattle.tree_machine.specs.Alike.{places_of};
 ghost use Rattle.tree_machine.specs.Parts.{IsPartBelow};
 ghost use Rattle.tree_machine.specs.Written.{with_part};
 ghost use Rattle.ellen.specs.Range.{IsInRange, IsPlaceInRange};
-ghost use Rattle.ellen.specs.Parts.{word_number, word_record, node_part, record_part, above_number, above_node, above_record, search_part, help_number, help_side, help_record, help_node, base_number, place_part, ellen_parts, ellen_form};
+ghost use Rattle.ellen.specs.Parts.{word_number, word_record, node_part, record_part, above_number};
+ghost use Rattle.ellen.specs.Parts.{above_node, above_record, search_part, help_number, help_side};
+ghost use Rattle.ellen.specs.Parts.{help_record, help_node, base_number, place_part, ellen_parts, ellen_form};
 
 use crate::memory::{EllenMem, Node, Record, UpdateWord};
 use crate::place::{Above, Base, EllenLoc, HelpLoc, SearchLoc};
@@ -127,7 +129,8 @@ fn write_delete_flag(
     leaf: u32,
     writer: &mut Writer,
 ) -> Result<(), OutOfMemory>
-    requires { IsPartBelow writer.old.nodes writer.old.records (search_part (SearchLoc.DFlag above parent update leaf)) }
+    requires { IsPartBelow writer.old.nodes writer.old.records
+        (search_part (SearchLoc.DFlag above parent update leaf)) }
     ensures { OnOk result (writer.new ≡ with_part writer.old (search_part (SearchLoc.DFlag above parent update leaf))) }
 {
     writer.put(
@@ -308,8 +311,8 @@ impl Parts for Snapshot<'_> {
     }
 }
 
-/// The form of a memory with the place that each thread holds: the same for those that differ in nothing but the numbers
-/// of nodes and records. A node or record that neither the root nor a place leads to plays no part.
+/// The form of a memory with the place that each thread holds: the same for those that differ in nothing but the
+/// numbers of nodes and records. A node or record that neither the root nor a place leads to plays no part.
 ///
 /// # Errors
 /// `OutOfMemory` where a growth was refused.

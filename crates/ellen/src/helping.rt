@@ -1,7 +1,8 @@
 //! The rows of the table at which an operation carries out what a record says.
 ghost use Rattle.std.specs.Prelude.{◌≡◌, IfOk, OnErr};
 ghost use Rattle.ellen.specs.declared.place.HelpLoc.TheVariants as place;
-ghost use Rattle.ellen.specs.Table.{help_act, returned, settled, marking, help, help_first, first_place, awaiting, with_base};
+ghost use Rattle.ellen.specs.Table.{help_act, returned, settled, marking, help};
+ghost use Rattle.ellen.specs.Table.{help_first, first_place, awaiting, with_base};
 
 use crate::machine::Ellen;
 use crate::memory::{EllenMem, Record, UpdateWord, child_on, is_word, key_in, update_of};
@@ -134,7 +135,8 @@ fn insert_child_row(
     number: u32,
     resume: &Resume,
 ) -> Result<Outcome<EllenLoc>, OutOfMemory>
-    ensures ok { IfOk result (λ outcome. help_act machine (place.InsChild number) resume.now mem.old ≡ (mem.new, outcome)) }
+    ensures ok { IfOk result (λ outcome. help_act machine (place.InsChild number) resume.now mem.old
+        ≡ (mem.new, outcome)) }
     ensures err { OnErr result (mem.new ≡ mem.old) }
 {
     let Some(Record::Ins(info)) = mem.record(number) else {
@@ -160,7 +162,8 @@ fn insert_clean_row(
     number: u32,
     resume: &Resume,
 ) -> Result<Outcome<EllenLoc>, OutOfMemory>
-    ensures ok { IfOk result (λ outcome. help_act machine (place.InsClean number) resume.now mem.old ≡ (mem.new, outcome)) }
+    ensures ok { IfOk result (λ outcome. help_act machine (place.InsClean number) resume.now mem.old
+        ≡ (mem.new, outcome)) }
     ensures err { OnErr result (mem.new ≡ mem.old) }
 {
     let Some(Record::Ins(info)) = mem.record(number) else {
@@ -245,7 +248,8 @@ fn other_row(
     side: Side,
     resume: &Resume,
 ) -> Result<Outcome<EllenLoc>, OutOfMemory>
-    ensures { IfOk result (λ outcome. help_act machine (place.Other number side) resume.now mem.now ≡ (mem.now, outcome)) }
+    ensures { IfOk result (λ outcome. help_act machine (place.Other number side) resume.now mem.now
+        ≡ (mem.now, outcome)) }
 {
     let Some(Record::Del(info)) = mem.record(number) else {
         return Ok(Outcome::Astray);
@@ -269,7 +273,8 @@ fn splice_row(
     other: u32,
     resume: &Resume,
 ) -> Result<Outcome<EllenLoc>, OutOfMemory>
-    ensures ok { IfOk result (λ outcome. help_act machine (place.Splice number other) resume.now mem.old ≡ (mem.new, outcome)) }
+    ensures ok { IfOk result (λ outcome. help_act machine (place.Splice number other) resume.now mem.old
+        ≡ (mem.new, outcome)) }
     ensures err { OnErr result (mem.new ≡ mem.old) }
 {
     let Some(Record::Del(info)) = mem.record(number) else {
@@ -295,7 +300,8 @@ fn delete_clean_row(
     number: u32,
     resume: &Resume,
 ) -> Result<Outcome<EllenLoc>, OutOfMemory>
-    ensures ok { IfOk result (λ outcome. help_act machine (place.DelClean number) resume.now mem.old ≡ (mem.new, outcome)) }
+    ensures ok { IfOk result (λ outcome. help_act machine (place.DelClean number) resume.now mem.old
+        ≡ (mem.new, outcome)) }
     ensures err { OnErr result (mem.new ≡ mem.old) }
 {
     let Some(Record::Del(info)) = mem.record(number) else {

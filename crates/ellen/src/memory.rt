@@ -2,7 +2,9 @@
 ghost use Rattle.std.specs.Prelude.{◌≡◌, ◌+◌, ◌^◌, ◌<◌, ◌≤◌, length, IfOk, IfErr, OnErr, Some};
 ghost use Rattle.ellen.specs.declared.memory.Record.TheVariants.{Ins};
 ghost use Rattle.tree_machine.specs.SearchOrder.{side_of};
-ghost use Rattle.ellen.specs.Memory.{node_at, record_at, key_at, update_of, child_on, is_word, key_in, shape_in, shapes, set_update, set_child, with_internal, new_internal, internal_over, add_record};
+ghost use Rattle.ellen.specs.Memory.{node_at, record_at, key_at, update_of, child_on};
+ghost use Rattle.ellen.specs.Memory.{is_word, key_in, shape_in, shapes, set_update, set_child};
+ghost use Rattle.ellen.specs.Memory.{with_internal, new_internal, internal_over, add_record};
 
 use sched_program::{OutOfMemory, Sequence};
 use std::alloc::Global;
@@ -63,8 +65,8 @@ pub enum Record {
     Del(DeleteRecord),
 }
 
-/// The shared memory: nodes and records, by number. The root is node 0. It has at most 2^32 of each: more are refused as
-/// memory that there is not.
+/// The shared memory: nodes and records, by number. The root is node 0. It has at most 2^32 of each: more are refused
+/// as memory that there is not.
 #[derive(Drop, PartialEq, Eq, Hash)]
 pub struct EllenMem {
     pub nodes: Sequence<Node>,
@@ -157,7 +159,8 @@ fn internal_over(key: u8, other: u8, x: u32, y: u32) -> Node
     }
 }
 
-/// A number of a node or record as others hold it. It takes no memory: a number that does not fit is refused as memory is.
+/// A number of a node or record as others hold it. It takes no memory: a number that does not fit is refused as memory
+/// is.
 pub fn number_of(x: usize) -> Result<u32, OutOfMemory>
     ensures number { IfOk result (λ number. number ≡ x) }
     ensures refused { IfErr result (λ _. 2 ^ 32 ≤ x) }
@@ -266,7 +269,8 @@ impl EllenMem {
         Ok(nodes)
     }
 
-    /// Appends a new internal node for a key at a leaf, and tells its number. Where memory is refused nothing is appended.
+    /// Appends a new internal node for a key at a leaf, and tells its number. Where memory is refused nothing is
+    /// appended.
     pub(crate) fn add_internal(
         &mut self,
         alloc: Global,
@@ -294,7 +298,8 @@ impl EllenMem {
 
     /// The side of a node on which a new internal node for a key at a leaf is put.
     pub(crate) fn side_of_new(&self, parent: u32, key: u8, leaf: u32) -> Side
-        ensures { result ≡ side_of (key_at (with_internal self.now key leaf) (new_internal self.now)) (key_at self.now parent) }
+        ensures { result ≡ side_of (key_at (with_internal self.now key leaf) (new_internal self.now))
+            (key_at self.now parent) }
     {
         side_of(self.new_key(key, leaf), key_in(self.node(parent)))
     }
@@ -307,7 +312,8 @@ impl EllenMem {
         self.records.push(new)
     }
 
-    /// Appends a new internal node for a key at a leaf, and a record of that insert. Where memory is refused nothing is appended.
+    /// Appends a new internal node for a key at a leaf, and a record of that insert. Where memory is refused nothing is
+    /// appended.
     pub(crate) fn add_insert(
         &mut self,
         alloc: Global,
@@ -315,7 +321,9 @@ impl EllenMem {
         parent: u32,
         leaf: u32,
     ) -> Result<(), OutOfMemory>
-        ensures ok { IfOk result (λ _. self.new ≡ add_record (with_internal self.old key leaf) (Ins (record { parent = parent; leaf = leaf; new = new_internal self.old }))) }
+        ensures ok { IfOk result (λ _. self.new
+            ≡ add_record (with_internal self.old key leaf)
+            (Ins (record { parent = parent; leaf = leaf; new = new_internal self.old }))) }
         ensures err { OnErr result (self.new ≡ self.old) }
     {
         let nodes = self.with_internal(alloc, key, leaf)?;

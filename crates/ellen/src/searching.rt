@@ -168,7 +168,8 @@ fn child_row(
     parent: u32,
     update: UpdateWord,
 ) -> Result<Outcome<EllenLoc>, OutOfMemory>
-    ensures { IfOk result (λ outcome. search_act machine op (place.Child above parent update) mem.now ≡ (mem.now, outcome)) }
+    ensures { IfOk result (λ outcome. search_act machine op (place.Child above parent update) mem.now
+        ≡ (mem.now, outcome)) }
 {
     let node = mem.node(parent);
     match child_on(side_of(key_of(op), key_in(node)), node) {
@@ -196,7 +197,8 @@ fn insert_flag_row(
     update: UpdateWord,
     leaf: u32,
 ) -> Result<Outcome<EllenLoc>, OutOfMemory>
-    ensures ok { IfOk result (λ outcome. search_act machine op (place.IFlag parent update leaf) mem.old ≡ (mem.new, outcome)) }
+    ensures ok { IfOk result (λ outcome. search_act machine op (place.IFlag parent update leaf) mem.old
+        ≡ (mem.new, outcome)) }
     ensures err { OnErr result (mem.new ≡ mem.old) }
 {
     let Some(found) = update_of(mem.node(parent)) else {
@@ -221,7 +223,8 @@ fn insert_only_row(
     parent: u32,
     leaf: u32,
 ) -> Result<Outcome<EllenLoc>, OutOfMemory>
-    ensures ok { IfOk result (λ outcome. search_act machine op (place.InsOnly parent leaf) mem.old ≡ (mem.new, outcome)) }
+    ensures ok { IfOk result (λ outcome. search_act machine op (place.InsOnly parent leaf) mem.old
+        ≡ (mem.new, outcome)) }
     ensures err { OnErr result (mem.new ≡ mem.old) }
 {
     let key = key_of(op);
@@ -248,7 +251,8 @@ fn delete_flag_row(
     update: UpdateWord,
     leaf: u32,
 ) -> Result<Outcome<EllenLoc>, OutOfMemory>
-    ensures ok { IfOk result (λ outcome. search_act machine op (place.DFlag above parent update leaf) mem.old ≡ (mem.new, outcome)) }
+    ensures ok { IfOk result (λ outcome. search_act machine op (place.DFlag above parent update leaf) mem.old
+        ≡ (mem.new, outcome)) }
     ensures err { OnErr result (mem.new ≡ mem.old) }
 {
     let Some(found) = update_of(mem.node(above.node)) else {

@@ -1,10 +1,10 @@
 //! What a step did, as one line of text.
 //!
-//! A line has the thread; the place where it stands then, or its reply, or `astray`; and behind each `|` a node that the
-//! step wrote or made, or a record that it made. An update word is `U` for (CLEAN, none), or its
-//! state with the number of its record. A place has its locals in the order of the table, `above` as `node:word` or `-`,
-//! and a help place its stack and its base behind them. A node is its number with its key, and its update word and
-//! children if it has them.
+//! A line has the thread; the place where it stands then, or its reply, or `astray`; and behind each `|` a node that
+//! the step wrote or made, or a record that it made. An update word is `U` for (CLEAN, none), or its state with the
+//! number of its record. A place has its locals in the order of the table, `above` as `node:word` or `-`, and a help
+//! place its stack and its base behind them. A node is its number with its key, and its update word and children if it
+//! has them.
 
 use ellen::{
     Above, Base, Ellen, EllenLoc, EllenMem, HelpLoc, Node, Record, Resume, SearchLoc, UpdateWord,

@@ -37,8 +37,10 @@ fn is_due(timeline: &Timeline, from: Progress, name: OpId, before: OpSet) -> boo
     requires before { (a : Name) → HasPlace a → (operations_in before a ≡ true) ↔ EndedBefore timeline.now a name }
     requires place { HasPlace name }
     ensures { MatchBool result
-        ((operations_in from.at.listed name ≡ false) × ((b : Name) → with_name (operations_in from.at.listed) name b ≡ true → EndedBefore timeline.now name b → ⊥))
-        ((program : Programs) (keys : Keys) (rest : List Name) → Completes program timeline.now (operations_in from.at.listed) keys (name ∷ rest) → ⊥) }
+        ((operations_in from.at.listed name ≡ false)
+        × ((b : Name) → with_name (operations_in from.at.listed) name b ≡ true → EndedBefore timeline.now name b → ⊥))
+        ((program : Programs) (keys : Keys) (rest : List Name)
+        → Completes program timeline.now (operations_in from.at.listed) keys (name ∷ rest) → ⊥) }
 {
     !from
         .at
@@ -58,10 +60,14 @@ pub fn step(program: &Program, timeline: &Timeline, from: Progress, name: OpId) 
     requires place { HasPlace name }
     requires barred { AreBarred timeline.now (operations_in from.at.listed) (operations_in from.barred) }
     ensures stands { MatchOption result
-        ((rest : List Name) → Completes program.now timeline.now (operations_in from.at.listed) (keys_in from.at.keys) (name ∷ rest) → ⊥)
-        (λ next. StandsNext program.now timeline.now (operations_in from.at.listed) (keys_in from.at.keys) name (keys_in next.at.keys)) }
-    ensures listed { IfSome result (λ next. operations_in next.at.listed ≡ with_name (operations_in from.at.listed) name) }
-    ensures barred { IfSome result (λ next. AreBarred timeline.now (operations_in next.at.listed) (operations_in next.barred)) }
+        ((rest : List Name)
+        → Completes program.now timeline.now (operations_in from.at.listed) (keys_in from.at.keys) (name ∷ rest) → ⊥)
+        (λ next. StandsNext program.now timeline.now (operations_in from.at.listed) (keys_in from.at.keys) name
+        (keys_in next.at.keys)) }
+    ensures listed { IfSome result (λ next. operations_in next.at.listed
+        ≡ with_name (operations_in from.at.listed) name) }
+    ensures barred { IfSome result
+        (λ next. AreBarred timeline.now (operations_in next.at.listed) (operations_in next.barred)) }
 {
     let before = timeline.before(name);
     if !is_due(timeline, from, name, before) {

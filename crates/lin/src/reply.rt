@@ -20,9 +20,11 @@ use sched_program::{OpId, Program};
 /// and no memory.
 pub fn order_with_reply(program: &Program, order: &Order, name: OpId, reply: bool) -> Option<Order>
     ensures { MatchOption result
-        ((old new : History) → HasReplied old new name reply → IsLinearization program.now old order.now → IsLinearization program.now new (ending_with order.now name) → ⊥)
+        ((old new : History) → HasReplied old new name reply → IsLinearization program.now old order.now
+        → IsLinearization program.now new (ending_with order.now name) → ⊥)
         (λ longer. (longer ≡ ending_with order.now name)
-        × ((old new : History) → HasReplied old new name reply → IsLinearization program.now old order.now → IsLinearization program.now new longer)) }
+        × ((old new : History) → HasReplied old new name reply → IsLinearization program.now old order.now
+        → IsLinearization program.now new longer)) }
 {
     // Whoever reads a program knows that it meets the limits.
     let _ = program.initial();
@@ -32,8 +34,8 @@ pub fn order_with_reply(program: &Program, order: &Order, name: OpId, reply: boo
     }
 }
 
-/// What the operation replies where those of the order are run one after the other: at its own place, or after the last if
-/// it has none.
+/// What the operation replies where those of the order are run one after the other: at its own place, or after the last
+/// if it has none.
 fn reply_in(program: &Program, order: &[OpId], name: OpId) -> Option<bool>
     ensures { result ≡ reply_in program.now (keys_of program.now.initial) order.now name }
 {

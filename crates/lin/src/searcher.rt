@@ -29,7 +29,8 @@ pub fn judge(
     program: &Program,
     history: &History,
 ) -> Result<Option<Vec<OpId>>, OutOfMemory>
-    ensures found { IfOk result (λ answer. IfSome answer (λ order. IsLinearization program.now history.now order.items)) }
+    ensures found { IfOk result
+        (λ answer. IfSome answer (λ order. IsLinearization program.now history.now order.items)) }
     ensures none { IfOk result (λ answer. IfNone answer (¬ IsLinearizable program.now history.now)) }
 {
     let (answer, _) = judge_counted(alloc, program, history)?;

@@ -8,8 +8,8 @@ use crate::searcher::judge;
 use sched_program::{History, OpId, OutOfMemory, Program, ShortList};
 use std::alloc::Global;
 
-/// Operations of a program in some order, each once: there are twelve at most. It takes no memory, and a copy is a plain
-/// copy.
+/// Operations of a program in some order, each once: there are twelve at most. It takes no memory, and a copy is a
+/// plain copy.
 pub type Order = ShortList<OpId, 12>;
 
 /// The answer of `judge` as such an order.
@@ -43,7 +43,8 @@ fn order_of(names: &[OpId]) -> Order
 
 /// The order with an operation at its end, unless it stands there already. None where there is no room.
 pub(crate) fn ending_with(order: &Order, name: OpId) -> Option<Order>
-    ensures { MatchOption result (13 ≤ length (ending_with order.now name)) (λ longer. longer ≡ ending_with order.now name) }
+    ensures { MatchOption result (13 ≤ length (ending_with order.now name))
+        (λ longer. longer ≡ ending_with order.now name) }
 {
     if order.as_slice().contains(&name) {
         return Some(*order);

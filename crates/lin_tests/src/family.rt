@@ -205,7 +205,8 @@ fn found_with(alloc: Global, program: &Program, threads: u32) -> Result<u64, Bro
     Ok(found)
 }
 
-/// With how many histories the searchers find an order: each choice of the threads of six events, with eight of replies.
+/// With how many histories the searchers find an order: each choice of the threads of six events, with eight of
+/// replies.
 fn found_of_all(alloc: Global, program: &Program) -> Result<u64, Broken> {
     let mut found: u64 = 0;
     for threads in 0..729 {

@@ -68,8 +68,10 @@ fn write_four(
     leaf: u32,
     writer: &mut Writer,
 ) -> Result<(), OutOfMemory>
-    requires { IsPartBelow writer.old.nodes writer.old.records (part_of (place ∷ []) (Some ancestor ∷ Some successor ∷ Some parent ∷ Some leaf ∷ [])) }
-    ensures { OnOk result (writer.new ≡ with_part writer.old (part_of (place ∷ []) (Some ancestor ∷ Some successor ∷ Some parent ∷ Some leaf ∷ []))) }
+    requires { IsPartBelow writer.old.nodes writer.old.records
+        (part_of (place ∷ []) (Some ancestor ∷ Some successor ∷ Some parent ∷ Some leaf ∷ [])) }
+    ensures { OnOk result (writer.new
+        ≡ with_part writer.old (part_of (place ∷ []) (Some ancestor ∷ Some successor ∷ Some parent ∷ Some leaf ∷ []))) }
 {
     writer.put(
         &[place],
@@ -92,8 +94,10 @@ fn write_three(
     mode: Mode,
     writer: &mut Writer,
 ) -> Result<(), OutOfMemory>
-    requires { IsPartBelow writer.old.nodes writer.old.records (part_of facts.now (Some ancestor ∷ Some successor ∷ Some node ∷ owned mode ∷ [])) }
-    ensures { OnOk result (writer.new ≡ with_part writer.old (part_of facts.now (Some ancestor ∷ Some successor ∷ Some node ∷ owned mode ∷ []))) }
+    requires { IsPartBelow writer.old.nodes writer.old.records
+        (part_of facts.now (Some ancestor ∷ Some successor ∷ Some node ∷ owned mode ∷ [])) }
+    ensures { OnOk result (writer.new
+        ≡ with_part writer.old (part_of facts.now (Some ancestor ∷ Some successor ∷ Some node ∷ owned mode ∷ []))) }
 {
     writer.put(
         facts,

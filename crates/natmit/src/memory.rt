@@ -1,6 +1,7 @@
 //! The nodes that the threads share.
 ghost use Rattle.std.specs.Prelude.{◌≡◌, ◌+◌, ◌^◌, ◌<◌, ◌≤◌, length, IfOk, IfErr, OnErr};
-ghost use Rattle.natmit.specs.Memory.{plain, is_plain, key_in, shape_in, shapes, word_on, with_word, node_at, key_at, set_word, internal_over, with_internal, new_internal, put_at};
+ghost use Rattle.natmit.specs.Memory.{plain, is_plain, key_in, shape_in, shapes, word_on, with_word, node_at};
+ghost use Rattle.natmit.specs.Memory.{key_at, set_word, internal_over, with_internal, new_internal, put_at};
 
 use sched_program::{OutOfMemory, Sequence};
 use std::alloc::Global;

@@ -37,7 +37,8 @@ fn decide_delete(
     mode: Mode,
     key: u8,
 ) -> Outcome<NatMitLoc>
-    ensures { (tag : Bool) → result ≡ arrived (Op.Delete wanted) ancestor successor parent leaf tag mode (Node.Leaf key) }
+    ensures { (tag : Bool) → result
+        ≡ arrived (Op.Delete wanted) ancestor successor parent leaf tag mode (Node.Leaf key) }
 {
     match mode {
         Mode::Plain => {
@@ -199,7 +200,8 @@ impl NatMit {
         }
     }
 
-    /// An insert puts its key in the place of the leaf, if the word of the parent leads there and no delete is under way.
+    /// An insert puts its key in the place of the leaf, if the word of the parent leads there and no delete is under
+    /// way.
     #[tactic(auto, using(crate::proofs::Present::has_word))]
     fn put_row(
         self,
@@ -211,7 +213,8 @@ impl NatMit {
         parent: u32,
         leaf: u32,
     ) -> Access
-        ensures ok { IfOk result (λ outcome. act self op (place.Put ancestor successor parent leaf) mem.old ≡ (mem.new, outcome)) }
+        ensures ok { IfOk result (λ outcome. act self op (place.Put ancestor successor parent leaf) mem.old
+            ≡ (mem.new, outcome)) }
         ensures err { OnErr result (mem.new ≡ mem.old) }
     {
         let side = side_at(op, mem, parent);

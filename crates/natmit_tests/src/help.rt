@@ -207,8 +207,8 @@ const DELETE_HELPS_ROWS: [Row; 12] = [
     (0, 0, Seen::Word(8, Side::Left, (false, false, 7))),
 ];
 
-/// Over 10 and 20, T1 inserts 25 at leaf 7. T0 inserts 30 there before it (node 10), and deletes 10, which tags the word of node
-/// 10: another node than T1's leaf, so T1 does not help.
+/// Over 10 and 20, T1 inserts 25 at leaf 7. T0 inserts 30 there before it (node 10), and deletes 10, which tags the
+/// word of node 10: another node than T1's leaf, so T1 does not help.
 const LOOK_AT_ANOTHER_NODE: &str =
     r#"{"version":1,"tree":"nm","initial":[10,20],"threads":[[{"op":"insert","key":30},{"op":"delete","key":10}],[{"op":"insert","key":25}]]}"#;
 

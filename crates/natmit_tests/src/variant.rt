@@ -7,7 +7,8 @@ use tree_machine::Side;
 
 const WITHOUT_TAG: NatMit = NatMit { tag: false };
 
-/// Over 10 and 20, T0 deletes 10 and T1 inserts 25 and looks for it. T1 puts the key below node 8, which T0 has cut off.
+/// Over 10 and 20, T0 deletes 10 and T1 inserts 25 and looks for it. T1 puts the key below node 8, which T0 has cut
+/// off.
 const LOST_INSERT: &str =
     r#"{"version":1,"tree":"nm-no-tag","initial":[10,20],"threads":[[{"op":"delete","key":10}],[{"op":"insert","key":25},{"op":"find","key":25}]]}"#;
 
@@ -36,8 +37,8 @@ const LOST_INSERT_ROWS: [Row; 9] = [
     (1, 0, Seen::Ordered(true)),
 ];
 
-/// Over 20, 10, 40 and 30 (leaf 7 and node 10 below node 8, node 12 and leaf 9 below node 10), T0 deletes 40 and inserts 45, T1
-/// deletes 10 and puts node 10 back after T0 has cut it off: 45 stands below it, on the left of 40.
+/// Over 20, 10, 40 and 30 (leaf 7 and node 10 below node 8, node 12 and leaf 9 below node 10), T0 deletes 40 and
+/// inserts 45, T1 deletes 10 and puts node 10 back after T0 has cut it off: 45 stands below it, on the left of 40.
 const LOST_DELETE: &str =
     r#"{"version":1,"tree":"nm-no-tag","initial":[20,10,40,30],"threads":[[{"op":"delete","key":40},{"op":"insert","key":45}],[{"op":"delete","key":10}]]}"#;
 

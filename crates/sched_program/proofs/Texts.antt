@@ -17,7 +17,7 @@ use Rattle.sched_program.specs.declared.reader.OpWord.{OpWord}
 use Rattle.sched_program.specs.declared.reader.OpWord.TheVariants.{Insert, Delete, Find}
 use Rattle.sched_program.specs.declared.fault.ProgramFault.{ProgramFault}
 use Rattle.sched_program.specs.declared.fault.ProgramFault.TheVariants as fault
-use Rattle.sched_program.specs.Operations.{same_turn}
+use Rattle.sched_program.specs.Laws.Operations.{same_turn}
 use Rattle.sched_program.specs.Program.{Program, key_of}
 use Rattle.sched_program.specs.Text.{IsListOf, IsKey, IsOp, IsTurn, HasThreads, HasTurn, HasTurns, HasVersion, version_number, op_of, word_of, word_text, tree_name, IsTextOf, IsJsonOf, IsJsonTextOf}
 use Rattle.sched_program.specs.Faults.{AreOpCounts, Passes, Stands, IsFirstFault}

@@ -1,7 +1,8 @@
 //! Values that are one and the same where they compare as equal.
 ghost use Rattle.std.specs.Prelude.{◌≡◌, ◌↔◌, IsTrue};
-ghost use Rattle.sched_program.specs.Operations.{op_exact, tree_exact, turn_exact};
-ghost use Rattle.sched_program.specs.Exact.{IsExact, nat_exact, bool_exact, option_exact, list_exact};
+ghost use Rattle.sched_program.specs.Laws.Operations.{op_exact, tree_exact, turn_exact};
+ghost use Rattle.sched_program.specs.Exact.{IsExact};
+ghost use Rattle.sched_program.specs.Laws.Exact.{nat_exact, bool_exact, option_exact, list_exact};
 
 use crate::operation::{Op, Tree, Turn};
 use crate::sequence::Sequence;

@@ -41,8 +41,8 @@ pub enum ProgramFault {
     /// A growth was refused. It may come at any point.
     #[error("P11 OutOfMemory")]
     OutOfMemory,
-    /// In version 2, an operation's `after` is no list of two numbers, or names no thread before its own, or not 1 up to
-    /// all of that thread's operations.
+    /// In version 2, an operation's `after` is no list of two numbers, or names no thread before its own, or not 1 up
+    /// to all of that thread's operations.
     #[error("P12 After")]
     After,
 }

@@ -84,7 +84,8 @@ fn are_begun(begun: &[(OpId, Note)], finished: &[(OpId, bool)]) -> bool
 
 /// Whether the lists are a history of the program.
 fn is_history_of(program: &Program, begun: &[(OpId, Note)], finished: &[(OpId, bool)]) -> bool
-    ensures history_of { IsTrue result ↔ IsHistoryOf program.now (record { begun = begun.now; finished = finished.now }) }
+    ensures history_of { IsTrue result
+        ↔ IsHistoryOf program.now (record { begun = begun.now; finished = finished.now }) }
     ensures limits { IsWithinLimits program.now }
 {
     let thread_count = program.threads().len();
@@ -105,8 +106,10 @@ impl History {
         begun: Vec<(OpId, Note)>,
         finished: Vec<(OpId, bool)>,
     ) -> Option<History>
-        ensures some { IfSome result (λ h. (h ≡ record { begun = begun.items; finished = finished.items }) × IsHistoryOf program.now h) }
-        ensures none { IfNone result (IsHistoryOf program.now (record { begun = begun.items; finished = finished.items }) → ⊥) }
+        ensures some { IfSome result (λ h. (h ≡ record { begun = begun.items; finished = finished.items })
+            × IsHistoryOf program.now h) }
+        ensures none { IfNone result
+            (IsHistoryOf program.now (record { begun = begun.items; finished = finished.items }) → ⊥) }
     {
         if is_history_of(program, &begun, &finished) {
             Some(History { begun, finished })

@@ -40,9 +40,9 @@ impl Program {
     ///
     /// # Errors
     ///
-    /// `Device` exactly where a read failed, which the reader counts and which ends the call, whatever the failure: a read
-    /// that was interrupted is not tried again. Else the fault of the bytes, or the fault `OutOfMemory` where a growth
-    /// was refused. What the reader gave is gone.
+    /// `Device` exactly where a read failed, which the reader counts and which ends the call, whatever the failure: a
+    /// read that was interrupted is not tried again. Else the fault of the bytes, or the fault `OutOfMemory` where a
+    /// growth was refused. What the reader gave is gone.
     pub fn from_reader<R: Read>(
         alloc: Global,
         reader: &mut Counted<R>,

@@ -10,8 +10,8 @@ use std::alloc::Global;
 use std::marker::Model;
 
 /// A program that meets the limits: at most twelve distinct initial keys, one to four threads, each of one to six
-/// operations, twelve operations in all, and keys from 0 to 99. An operation may wait until a thread of lower number has
-/// finished at least one and at most all of its operations.
+/// operations, twelve operations in all, and keys from 0 to 99. An operation may wait until a thread of lower number
+/// has finished at least one and at most all of its operations.
 #[derive(Drop)]
 pub struct Program {
     tree: Tree,
@@ -27,7 +27,8 @@ impl Model for Program {
 
     ghost view = { λ p. record { tree = p.tree; initial = p.initial; threads = p.threads; turns = p.turns } };
 
-    ghost invariant = { λ p. IsWithinLimits (record { tree = p.tree; initial = p.initial; threads = p.threads; turns = p.turns }) };
+    ghost invariant = { λ p. IsWithinLimits
+        (record { tree = p.tree; initial = p.initial; threads = p.threads; turns = p.turns }) };
 }
 
 /// An equal list of lists.
@@ -119,7 +120,8 @@ impl Program {
         thread.get(usize::from(id.index)).copied()
     }
 
-    /// What the operation with a name waits for, if it does: a thread, and how many operations that is to have finished.
+    /// What the operation with a name waits for, if it does: a thread, and how many operations that is to have
+    /// finished.
     #[tactic(auto, unfolding(crate::specs::Program::after_at))]
     pub fn after(&self, id: OpId) -> Option<(u8, u8)>
         ensures { result ≡ after_at self.now id.thread id.index }

@@ -84,7 +84,8 @@ pub trait Reader {
     /// The thing that a value stands for, if there is one. Takes memory for lists alone.
     fn read(&self, alloc: Global, value: &Value) -> Result<Option<Self::Thing>, OutOfMemory>
         ensures found { IfOk result (λ found. IfSome found (stands_for (view value.now))) }
-        ensures none { IfOk result (λ found. IfNone found ((thing : Self.Thing) → ¬ stands_for (view value.now) thing)) };
+        ensures none { IfOk result (λ found. IfNone found ((thing : Self.Thing)
+            → ¬ stands_for (view value.now) thing)) };
 }
 
 /// Reads a list of what another reader reads.
@@ -97,7 +98,8 @@ fn read_all<R: Reader>(
     values: &[Value],
 ) -> Result<Option<Sequence<R::Thing>>, OutOfMemory>
     ensures found { IfOk result (λ found. IfSome found (Each R.stands_for (items_view values.now))) }
-    ensures none { IfOk result (λ found. IfNone found ((things : _) → ¬ Each R.stands_for (items_view values.now) things)) }
+    ensures none { IfOk result (λ found. IfNone found ((things : _)
+        → ¬ Each R.stands_for (items_view values.now) things)) }
 {
     let mut things = Sequence::new(alloc);
     for value in values {

@@ -50,9 +50,11 @@ impl<T: Blank, const CAP: usize> Model for ShortList<T, CAP> {
 
     ghost view = { λ a. take a.count a.items };
 
-    ghost invariant = { λ a. (length (take a.count a.items) ≡ a.count) × (a.items ≡ take a.count a.items ++ replicate (CAP - a.count) T.filler) };
+    ghost invariant = { λ a. (length (take a.count a.items) ≡ a.count)
+        × (a.items ≡ take a.count a.items ++ replicate (CAP - a.count) T.filler) };
 
-    ghost inverse = { λ items. record { items = items ++ replicate (CAP - length items) T.filler; count = length items } };
+    ghost inverse = { λ items.
+        record { items = items ++ replicate (CAP - length items) T.filler; count = length items } };
 }
 
 impl<T: Blank, const CAP: usize> Clone for ShortList<T, CAP> {

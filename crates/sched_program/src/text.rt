@@ -1,10 +1,13 @@
 //! The program that a JSON text describes.
-ghost use Rattle.std.specs.Prelude.{◌≡◌, ◌≢◌, ℕ, ◌<◌, ◌≤◌, ◌↔◌, ◌⊎◌, AllPairs, codes, length, map, slice_index, IsTrue, MatchBool, IfSome, IfNone, IfOk, IfErr, Some};
+ghost use Rattle.std.specs.Prelude.{◌≡◌, ◌≢◌, ℕ, ◌<◌, ◌≤◌, ◌↔◌, ◌⊎◌, AllPairs, codes, length, map};
+ghost use Rattle.std.specs.Prelude.{slice_index, IsTrue, MatchBool, IfSome, IfNone, IfOk, IfErr, Some};
 ghost use Rattle.std.specs.List.{AllByRecursion};
 ghost use Rattle.serde_json.specs.Find.{get};
 ghost use Rattle.serde_json.specs.View.{view};
-ghost use Rattle.sched_program.specs.Text.{HasMember, IsListOf, IsKey, tree_name, HasTree, HasThreads, IsTextOf, IsJsonTextOf};
-ghost use Rattle.sched_program.specs.Faults.{IsListWithin, AreOpCounts, HasOpCounts, HasWords, Passes, earlier, IsFirstFault, IsFirstFaultOf};
+ghost use Rattle.sched_program.specs.Text.{HasMember, IsListOf, IsKey, tree_name};
+ghost use Rattle.sched_program.specs.Text.{HasTree, HasThreads, IsTextOf, IsJsonTextOf};
+ghost use Rattle.sched_program.specs.Faults.{IsListWithin, AreOpCounts, HasOpCounts, HasWords};
+ghost use Rattle.sched_program.specs.Faults.{Passes, earlier, IsFirstFault, IsFirstFaultOf};
 ghost use Rattle.sched_program.specs.declared.operation.Tree.{Tree};
 
 use crate::OutOfMemory;
@@ -62,7 +65,8 @@ fn list_member<'a>(value: &'a Value, name: &str, least: usize, most: usize) -> O
 
 /// The keys that a value's tree begins with.
 fn initial_of(alloc: Global, value: &Value) -> Result<Sequence<u8>, ProgramFault>
-    ensures ok { IfOk result (λ keys. HasMember (codes "initial") (λ member. IsListOf IsKey member keys) (view value.now)
+    ensures ok { IfOk result (λ keys.
+        HasMember (codes "initial") (λ member. IsListOf IsKey member keys) (view value.now)
         × (length keys ≤ 12)) }
     ensures err { IfErr result (λ fault. (fault ≡ ProgramFault.OutOfMemory)
         ⊎ ((fault ≡ ProgramFault.Initial) × ¬ Passes (view value.now) ProgramFault.Initial)) }
@@ -120,7 +124,8 @@ fn are_op_counts(counts: &[usize]) -> bool
 
 /// Whether the threads of a list are lists, and have permitted numbers of operations.
 fn has_op_counts(alloc: Global, threads: &Value) -> Result<bool, OutOfMemory>
-    ensures { IfOk result (λ passes. MatchBool passes (HasOpCounts (view threads.now)) (¬ HasOpCounts (view threads.now))) }
+    ensures { IfOk result (λ passes. MatchBool passes (HasOpCounts (view threads.now))
+        (¬ HasOpCounts (view threads.now))) }
 {
     match ListOf(CountReader).read(alloc, threads)? {
         Some(counts) => Ok(are_op_counts(counts.as_slice())),
@@ -191,9 +196,9 @@ impl Program {
 
     /// The program that a JSON text of version 1 or 2 describes.
     ///
-    /// The text is one object with the members `version`, `tree`, `initial` and `threads`, and other members are ignored.
-    /// Keys are written as digits alone, from 0 to 99, and `version` as the digit 1 or 2. In version 2 an operation may
-    /// have a member `after`, which tells what it waits for.
+    /// The text is one object with the members `version`, `tree`, `initial` and `threads`, and other members are
+    /// ignored. Keys are written as digits alone, from 0 to 99, and `version` as the digit 1 or 2. In version 2 an
+    /// operation may have a member `after`, which tells what it waits for.
     ///
     /// # Errors
     ///

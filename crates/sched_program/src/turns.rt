@@ -69,7 +69,8 @@ impl Reader for NoTurnReader {
 /// What the operations of a value of this version wait for, if that is written in its form.
 fn turns_of(alloc: Global, value: &Value, version: Version) -> Result<Option<Turns>, OutOfMemory>
     ensures found { IfOk result (λ found. IfSome found (HasTurns version (view value.now))) }
-    ensures none { IfOk result (λ found. IfNone found ((turns : List (List (Option Turn))) → ¬ HasTurns version (view value.now) turns)) }
+    ensures none { IfOk result (λ found. IfNone found ((turns : List (List (Option Turn)))
+        → ¬ HasTurns version (view value.now) turns)) }
 {
     let Some(threads) = value.get("threads") else {
         return Ok(None);
@@ -129,7 +130,8 @@ pub fn turns_within(
 ) -> Result<Option<Turns>, OutOfMemory>
     requires version { HasVersion (view value.now) version }
     requires threads { HasThreads (view value.now) threads.now }
-    ensures found { IfOk result (λ found. IfSome found (λ turns. HasTurns version (view value.now) turns × AreTurnsWithin threads.now turns)) }
+    ensures found { IfOk result (λ found. IfSome found (λ turns. HasTurns version (view value.now) turns
+        × AreTurnsWithin threads.now turns)) }
     ensures none { IfOk result (λ found. IfNone found (¬ HasTurnsWithin (view value.now))) }
 {
     let Some(turns) = turns_of(alloc, value, version)? else {

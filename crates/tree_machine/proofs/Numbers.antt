@@ -7,8 +7,8 @@ use Rattle.std.proofs.lemmas.Bool.Decides.{eqb_tells}
 use Rattle.std.proofs.lemmas.Option.{slice_get-get_or}
 use Rattle.std.proofs.lemmas.List.{map_more}
 use Rattle.tree_machine.specs.Cells.{met, place_in, HasPlaces}
-use Rattle.tree_machine.specs.CellOrder.{has_itself}
-use Rattle.tree_machine.specs.CellPlaces.{place_from_has, get_place, has_at}
+use Rattle.tree_machine.specs.Laws.CellOrder.{has_itself}
+use Rattle.tree_machine.specs.Laws.CellPlaces.{place_from_has, get_place, has_at}
 
 -- the number of a cell is its place
 pub number_is : (order : List ℕ) (numbers : List (Option ℕ)) (x : ℕ) (r : Option ℕ) → HasPlaces order numbers → x < length numbers → r ≡ get_or numbers x r → r ≡ place_in order x

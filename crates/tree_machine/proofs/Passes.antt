@@ -10,13 +10,13 @@ use Rattle.std.proofs.lemmas.List.Concat.{flat_map-cons}
 use Rattle.std.proofs.lemmas.List.Elements.{All-append, All-weaker, All-nil, All-from_recursion, recursion_from_All}
 use Rattle.std.proofs.lemmas.Option.{slice_get_within}
 use Rattle.tree_machine.specs.Cells.{Content, content_at, met, met_all, met_in, visited, order_of, place_in, renamed, canonical, IsRooted}
-use Rattle.tree_machine.specs.CellOrder.{Has, HasAll, Extends, extends_itself, extends_more, get_extends, met_has, met_all_has, met_all_extends, visited_extends, met_in_order, length-order}
-use Rattle.tree_machine.specs.CellPlaces.{place_from_has, get_place}
+use Rattle.tree_machine.specs.Laws.CellOrder.{Has, HasAll, Extends, extends_itself, extends_more, get_extends, met_has, met_all_has, met_all_extends, visited_extends, met_in_order, length-order}
+use Rattle.tree_machine.specs.Laws.CellPlaces.{place_from_has, get_place}
 use Rattle.tree_machine.specs.Graphs.{numbers_from, roots_of}
-use Rattle.tree_machine.specs.GraphLaws.{numbers_all, numbers_more, content_front, content_back, form_rooted}
+use Rattle.tree_machine.specs.Laws.Graphs.{numbers_all, numbers_more, content_front, content_back, form_rooted}
 use Rattle.tree_machine.specs.Parts.{Part, Parts, IsPartBelow, ArePartsInRange, part_at, part_cell, parts_graph, parts_held}
 use Rattle.tree_machine.specs.Written.{Written, with_cell, with_part}
-use Rattle.tree_machine.specs.PartLaws.{content_map, length-parts_graph, parts_fit}
+use Rattle.tree_machine.specs.Laws.Parts.{content_map, length-parts_graph, parts_fit}
 use Rattle.tree_machine.specs.Flat.{number_code, reference_number, counted_codes, cell_code, flat}
 use Rattle.tree_machine.proofs.Walks.{past_none, met_in_done, met_in_end}
 

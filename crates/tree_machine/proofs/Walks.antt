@@ -6,8 +6,8 @@ use Rattle.std.proofs.lemmas.Option.{slice_get_past, slice_get-get_or}
 use Rattle.std.proofs.lemmas.Map.Keys.{IsDistinct-head, IsDistinct-tail}
 use Rattle.std.proofs.lemmas.List.{take_more, map_more}
 use Rattle.tree_machine.specs.Cells.{Content, content_at, met, met_all, met_in, visited, order_of, renamed, IsRooted}
-use Rattle.tree_machine.specs.CellOrder.{Has, met_in_order, all_has, nat_equivalence}
-use Rattle.tree_machine.specs.CellPlaces.{has_at}
+use Rattle.tree_machine.specs.Laws.CellOrder.{Has, met_in_order, all_has, nat_equivalence}
+use Rattle.tree_machine.specs.Laws.CellPlaces.{has_at}
 
 not_before : (roots : List ℕ) (i d : ℕ) → IsDistinct nat_eq roots → i < length roots → list_any (nat_eq (get_or roots i d)) (take i roots) ≡ false
 not_before [] i d h l = absurd (omega arith)

@@ -3,17 +3,18 @@ ghost use Rattle.std.specs.Prelude.{◌≡◌, ◌++◌, ◌∷◌, [], length, 
 ghost use Rattle.std.specs.Hash as fed;
 ghost use Rattle.std.specs.Cmp.{partial_equiv_from_equiv};
 ghost use Rattle.std.specs.Cmp.Lexicographic.{pointwise, lists_equiv};
-ghost use Rattle.sched_program.specs.Exact.{nat_exact, list_exact};
-ghost use Rattle.tree_machine.specs.CellOrder.{nat_equivalence};
-ghost use Rattle.tree_machine.specs.ByteLists.{bytes_input, bytes_fed};
+ghost use Rattle.sched_program.specs.Laws.Exact.{nat_exact, list_exact};
+ghost use Rattle.tree_machine.specs.Laws.CellOrder.{nat_equivalence};
+ghost use Rattle.tree_machine.specs.ByteLists.{bytes_input};
+ghost use Rattle.tree_machine.specs.Laws.ByteLists.{bytes_fed};
 
 use crate::coded::Coded;
 use sched_program::Exact;
 use std::hash::{Hash, Hasher};
 use std::marker::Model;
 
-/// A list of bytes, over a `Vec`, which contracts see as the list itself. It is hashed by one write of all bytes, behind
-/// their number.
+/// A list of bytes, over a `Vec`, which contracts see as the list itself. It is hashed by one write of all bytes,
+/// behind their number.
 #[derive(Drop)]
 pub struct Bytes {
     items: Vec<u8>,

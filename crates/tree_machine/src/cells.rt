@@ -1,7 +1,8 @@
 //! Cells that refer to each other, renumbered in the order in which a walk from the roots meets them.
 ghost use Rattle.std.specs.Prelude.{◌≡◌, ◌<◌, ◌↔◌, ℕ, List, [], Some, length, map, slice_get, IfOk, OnOk, IfSome};
 ghost use Rattle.std.specs.List.{All};
-ghost use Rattle.tree_machine.specs.Cells.{Content, canonical, content_at, renamed, met, met_all, order_of, place_in, IsRooted, CanBePaired, HasPlaces};
+ghost use Rattle.tree_machine.specs.Cells.{Content, canonical, content_at, renamed, met, met_all};
+ghost use Rattle.tree_machine.specs.Cells.{order_of, place_in, IsRooted, CanBePaired, HasPlaces};
 
 use sched_program::OutOfMemory;
 use std::alloc::Global;
@@ -105,8 +106,10 @@ impl Numbering {
 
     fn visit(&mut self, cells: &[Cell], cell: usize) -> Result<(), OutOfMemory>
         requires cell_in_range { cell < length cells.now }
-        requires refs_in_range { All (λ c. All (λ r. IfSome r (λ x. x < length self.old.numbers.items)) c.refs) cells.now }
-        ensures order { OnOk result (self.new.order.items ≡ met_all self.old.order.items (content_at cells.now cell).refs) }
+        requires refs_in_range { All
+            (λ c. All (λ r. IfSome r (λ x. x < length self.old.numbers.items)) c.refs) cells.now }
+        ensures order { OnOk result (self.new.order.items
+            ≡ met_all self.old.order.items (content_at cells.now cell).refs) }
         ensures range { length self.new.numbers.items ≡ length self.old.numbers.items }
     {
         let visited = &cells[cell];
@@ -141,8 +144,10 @@ impl Numbering {
     /// The cells met, renamed, in the order met.
     fn rename_all(&self, alloc: Global, cells: &[Cell]) -> Result<Vec<Cell>, OutOfMemory>
         requires cells_in_range { All (λ x. x < length cells.now) self.now.order.items }
-        requires refs_in_range { All (λ c. All (λ r. IfSome r (λ x. x < length self.now.numbers.items)) c.refs) cells.now }
-        ensures { IfOk result (λ v. v.items ≡ map (λ x. renamed self.now.order.items (content_at cells.now x)) self.now.order.items) }
+        requires refs_in_range { All
+            (λ c. All (λ r. IfSome r (λ x. x < length self.now.numbers.items)) c.refs) cells.now }
+        ensures { IfOk result (λ v. v.items
+            ≡ map (λ x. renamed self.now.order.items (content_at cells.now x)) self.now.order.items) }
     {
         let mut answer = Vec::with_capacity(alloc, self.order.len())?;
         for cell in &self.order {
@@ -174,15 +179,17 @@ fn walk(alloc: Global, cells: &[Cell], roots: &[usize]) -> Result<Numbering, Out
 /// The cells that the roots reach, in the order in which a walk meets them, with their places in it as references.
 ///
 /// Roots and references are numbers of cells, and the roots are distinct. Two answers, from equally many roots, are
-/// equal exactly if some one-to-one set of pairs of cells pairs the roots place by place, and cells of equal facts whose
-/// references it pairs place by place. The walk is breadth first: the list of the cells met is its queue.
+/// equal exactly if some one-to-one set of pairs of cells pairs the roots place by place, and cells of equal facts
+/// whose references it pairs place by place. The walk is breadth first: the list of the cells met is its queue.
 ///
 /// # Errors
 /// `OutOfMemory` where a growth was refused.
 pub fn canon(alloc: Global, cells: &[Cell], roots: &[usize]) -> Result<Vec<Cell>, OutOfMemory>
     requires { IsRooted cells.now roots.now }
     ensures canonical { IfOk result (λ v. v.items ≡ canonical cells.now roots.now) }
-    ensures exact { IfOk result (λ v. (others : List Content) (targets : List ℕ) → IsRooted others targets → length roots.now ≡ length targets → (v.items ≡ canonical others targets) ↔ CanBePaired cells.now roots.now others targets) }
+    ensures exact { IfOk result (λ v. (others : List Content) (targets : List ℕ) → IsRooted others targets
+        → length roots.now ≡ length targets
+        → (v.items ≡ canonical others targets) ↔ CanBePaired cells.now roots.now others targets) }
 {
     walk(alloc, cells, roots)?.rename_all(alloc, cells)
 }

@@ -6,7 +6,8 @@ ghost use Rattle.sched_program.specs.Program.{Program, IsWithinLimits};
 ghost use Rattle.tree_machine.specs.Step.{Fits};
 ghost use Rattle.tree_machine.specs.Alike.{FormContent, state_form, AreStatesAlike};
 ghost use Rattle.tree_machine.specs.FormCode.{content_code};
-ghost use Rattle.tree_machine.specs.StateExact.{state_form_eq, state_form_equiv, state_form_exact};
+ghost use Rattle.tree_machine.specs.StateEq.{state_form_eq};
+ghost use Rattle.tree_machine.specs.Laws.StateExact.{state_form_equiv, state_form_exact};
 ghost use Rattle.tree_machine.specs.declared.state.State.{State};
 
 use crate::bytes::Bytes;
@@ -23,8 +24,8 @@ use std::snapshot::Snapshot;
 /// in how many steps led to them.
 ///
 /// It is one list of bytes. Contracts see what these tell: the machine's form of the memory with the places that the
-/// threads hold, the replies of each thread, the notes of each thread's operations, and the thread by which the run went
-/// astray.
+/// threads hold, the replies of each thread, the notes of each thread's operations, and the thread by which the run
+/// went astray.
 #[derive(Drop)]
 pub struct StateForm<M: Machine> {
     bytes: Bytes,
@@ -41,7 +42,8 @@ impl<M: Machine> Model for StateForm<M> {
 
     ghost view = { λ f. state_form (M.form_of f.machine.value) f.state.value };
 
-    ghost invariant = { λ f. f.bytes ≡ content_code M.Form.code (state_form (M.form_of f.machine.value) f.state.value) };
+    ghost invariant = { λ f. f.bytes
+        ≡ content_code M.Form.code (state_form (M.form_of f.machine.value) f.state.value) };
 }
 
 impl<M: Machine> State<M> {
@@ -50,7 +52,9 @@ impl<M: Machine> State<M> {
     pub fn form(&self, alloc: Global, machine: M) -> Result<StateForm<M>, OutOfMemory>
         requires { (program : Program) × IsWithinLimits program × Fits (M.rules machine) program self.now }
         ensures form { IfOk result (λ form. form ≡ state_form (M.form_of machine) self.now) }
-        ensures exact { IfOk result (λ form. (program : Program) (other : State M M.Mem M.Loc M.Form) → Fits (M.rules machine) program other → (form ≡ state_form (M.form_of machine) other) ↔ AreStatesAlike (M.rules machine) self.now other) }
+        ensures exact { IfOk result (λ form. (program : Program) (other : State M M.Mem M.Loc M.Form)
+            → Fits (M.rules machine) program other
+            → (form ≡ state_form (M.form_of machine) other) ↔ AreStatesAlike (M.rules machine) self.now other) }
     {
         let form = self.form_in(alloc, machine, &mut Room::new(alloc))?;
         Ok(form)
@@ -102,7 +106,8 @@ impl<M: Machine> Hash for StateForm<M> {
 
     ghost hash_input = { λ f. bytes_input (content_code M.Form.code f) };
 
-    ghost respects_eq = { λ a b same. ap (λ f. bytes_input (content_code M.Form.code f)) (state_form_exact M.Form.eq M.Form.exact a b same) };
+    ghost respects_eq = { λ a b same. ap (λ f. bytes_input (content_code M.Form.code f))
+        (state_form_exact M.Form.eq M.Form.exact a b same) };
 
     fn hash<H: Hasher>(&self, state: &mut H) {
         self.bytes.hash(state);

@@ -1,7 +1,8 @@
 //! Nodes, records and what threads hold, as one list of bytes that tells them apart but for their numbers.
 ghost use Rattle.std.specs.Prelude.{◌≡◌, ◌<◌, ◌+◌, ◌++◌, ◌^◌, ◌↔◌, ℕ, length, IfOk, OnOk};
 ghost use Rattle.tree_machine.specs.Cells.{content_at};
-ghost use Rattle.tree_machine.specs.Parts.{Parts as Contents, part_at, parts_graph, parts_held, IsPartBelow, ArePartsInRange, CanPartsBePaired};
+ghost use Rattle.tree_machine.specs.Parts.{Parts as Contents, part_at, parts_graph, parts_held};
+ghost use Rattle.tree_machine.specs.Parts.{IsPartBelow, ArePartsInRange, CanPartsBePaired};
 ghost use Rattle.tree_machine.specs.Flat.{flat_form};
 ghost use Rattle.tree_machine.specs.Written.{with_cell, with_part};
 
@@ -55,7 +56,9 @@ fn write_cell<P: Parts>(parts: &P, cell: usize, writer: &mut Writer) -> Result<(
     requires parts_in_range { (fixed : ℕ) × ArePartsInRange fixed (P.parts parts.now) }
     requires nodes { writer.old.nodes ≡ length (P.parts parts.now).nodes }
     requires records { writer.old.records ≡ length (P.parts parts.now).records }
-    ensures { OnOk result (record writer.new { kind = 0 } ≡ with_cell (record writer.old { kind = 0 }) (content_at (parts_graph (P.parts parts.now) ++ parts_held (P.parts parts.now)) cell)) }
+    ensures { OnOk result (record writer.new { kind = 0 }
+        ≡ with_cell (record writer.old { kind = 0 })
+        (content_at (parts_graph (P.parts parts.now) ++ parts_held (P.parts parts.now)) cell)) }
 {
     let nodes = parts.node_count();
     let records = parts.record_count();
@@ -100,8 +103,8 @@ fn walk_parts<P: Parts>(
 /// Writes the form of nodes, records and what the threads hold behind the bytes in a room.
 ///
 /// # Errors
-/// `OutOfMemory` where a growth was refused, or the parts are more than a `usize` counts. What stands in the room is then
-/// of no use.
+/// `OutOfMemory` where a growth was refused, or the parts are more than a `usize` counts. What stands in the room is
+/// then of no use.
 pub fn write_parts<P: Parts>(
     alloc: Global,
     fixed: usize,
@@ -125,17 +128,19 @@ pub fn write_parts<P: Parts>(
 /// The form of nodes, records and what the threads hold, where the first nodes are fixed: all that they are but for
 /// their numbers, as one list of bytes.
 ///
-/// Each part names nodes and records that there are. Two forms of equally many threads are equal exactly if nodes can be
-/// paired with nodes and records with records, one to one, so that fixed nodes are paired with themselves, paired parts
-/// and what each thread holds have equal facts, and what they name is paired place by place, or none in both. A part
-/// that neither a fixed node nor a thread leads to plays no part.
+/// Each part names nodes and records that there are. Two forms of equally many threads are equal exactly if nodes can
+/// be paired with nodes and records with records, one to one, so that fixed nodes are paired with themselves, paired
+/// parts and what each thread holds have equal facts, and what they name is paired place by place, or none in both. A
+/// part that neither a fixed node nor a thread leads to plays no part.
 ///
 /// # Errors
 /// `OutOfMemory` where a growth was refused, or the parts are more than a `usize` counts.
 pub fn form_parts<P: Parts>(alloc: Global, fixed: usize, parts: &P) -> Result<Bytes, OutOfMemory>
     requires { ArePartsInRange fixed (P.parts parts.now) }
     ensures form { IfOk result (λ form. form ≡ flat_form fixed (P.parts parts.now)) }
-    ensures exact { IfOk result (λ form. (other : Contents) → ArePartsInRange fixed other → length (P.parts parts.now).held ≡ length other.held → (form ≡ flat_form fixed other) ↔ CanPartsBePaired fixed (P.parts parts.now) other) }
+    ensures exact { IfOk result (λ form. (other : Contents) → ArePartsInRange fixed other
+        → length (P.parts parts.now).held ≡ length other.held
+        → (form ≡ flat_form fixed other) ↔ CanPartsBePaired fixed (P.parts parts.now) other) }
 {
     let mut room = Room::new(alloc);
     write_parts(alloc, fixed, parts, &mut room)?;

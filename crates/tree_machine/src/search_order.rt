@@ -40,7 +40,7 @@ pub trait Shapes {
 }
 
 impl Exact for Side {
-    ghost use Rattle.tree_machine.specs.SideExact.{side_exact};
+    ghost use Rattle.tree_machine.specs.Laws.SideExact.{side_exact};
 
     ghost exact = { side_exact };
 }
@@ -58,7 +58,7 @@ pub fn side_of(wanted: u8, key: u8) -> Side
 
 /// Whether the tree at a node is in order between two keys. Each internal node parts the keys between them in two, so
 /// that the walk ends, and no node is met twice where the answer is yes.
-#[tactic(auto, using(crate::specs::SearchOrderLaws::none_is_ordered, crate::specs::SearchOrderLaws::leaf_is_ordered))]
+#[tactic(auto, using(crate::specs::Laws::SearchOrder::none_is_ordered, crate::specs::Laws::SearchOrder::leaf_is_ordered))]
 fn is_ordered<S: Shapes>(memory: &S, low: u8, high: u8, x: usize) -> bool
     ensures { IsTrue result ↔ IsOrdered (S.shapes memory.now) low high x }
 {

@@ -1,5 +1,6 @@
 //! Steps of states.
-ghost use Rattle.std.specs.Prelude.{◌≡◌, ◌+◌, ◌^◌, ◌<◌, ◌≤◌, ◌↔◌, [], length, IsSomeAnd, Some, None, slice_set, IfOk, IsErrOf};
+ghost use Rattle.std.specs.Prelude.{◌≡◌, ◌+◌, ◌^◌, ◌<◌, ◌≤◌, ◌↔◌, [], length};
+ghost use Rattle.std.specs.Prelude.{IsSomeAnd, Some, None, slice_set, IfOk, IsErrOf};
 ghost use Rattle.tree_machine.specs.Alike.{AreStatesAlike};
 ghost use Rattle.tree_machine.specs.declared.state.State.{State};
 ghost use Rattle.tree_machine.specs.Step.{IsEnabled, step, notes_at_step, after_access, finished_counts, Fits};
@@ -78,7 +79,12 @@ impl<M: Machine> State<M> {
         requires thread_exists { t < length self.now.threads }
         requires room { self.now.steps + 1 < 2 ^ 64 }
         requires empty { base.threads ≡ [] }
-        ensures { IfOk result (λ next. next ≡ record { memory = base.memory; threads = slice_set self.now.threads t thread; steps = self.now.steps + 1; astray = astray }) }
+        ensures { IfOk result (λ next. next ≡ record {
+          memory = base.memory;
+          threads = slice_set self.now.threads t thread;
+          steps = self.now.steps + 1;
+          astray = astray;
+        }) }
     {
         let Base { memory, threads } = base;
         let own = self.threads.as_slice();
@@ -90,8 +96,8 @@ impl<M: Machine> State<M> {
         })
     }
 
-    /// The state after an access by thread `t` at a place that is lent: its own, or the first of its operation. A place is
-    /// copied only where the access goes astray.
+    /// The state after an access by thread `t` at a place that is lent: its own, or the first of its operation. A place
+    /// is copied only where the access goes astray.
     fn access(
         &self,
         alloc: Global,
@@ -112,7 +118,11 @@ impl<M: Machine> State<M> {
         requires well { self.now.astray ≡ None }
         requires memory { base.memory ≡ self.now.memory }
         requires threads { base.threads ≡ [] }
-        ensures { IfOk result (λ next. next ≡ after_access self.now t (record { replies = thread.now.replies; place = Some place.now; notes = notes_at_step thread.now.place thread.now.notes (finished_counts self.now.threads) }) ((M.rules machine).act op place.now self.now.memory)) }
+        ensures { IfOk result (λ next. next ≡ after_access self.now t (record {
+          replies = thread.now.replies;
+          place = Some place.now;
+          notes = notes_at_step thread.now.place thread.now.notes (finished_counts self.now.threads);
+        }) ((M.rules machine).act op place.now self.now.memory)) }
     {
         let mut after = Thread {
             replies: thread.replies,
@@ -146,13 +156,15 @@ impl<M: Machine> State<M> {
         ensures fits { IfOk result (Fits (M.rules machine) program.now) }
         ensures not_enabled { IsErrOf result StepFault.NotEnabled ↔ ¬ IsEnabled program.now self.now t }
         ensures no_step { IsErrOf result StepFault.NotEnabled ↔ (step (M.rules machine) program.now self.now t ≡ None) }
-        ensures alike { IfOk result (λ next. (twin : State M M.Mem M.Loc M.Form) → AreStatesAlike (M.rules machine) self.now twin → IsSomeAnd (step (M.rules machine) program.now twin t) (AreStatesAlike (M.rules machine) next)) }
+        ensures alike { IfOk result (λ next. (twin : State M M.Mem M.Loc M.Form)
+            → AreStatesAlike (M.rules machine) self.now twin
+            → IsSomeAnd (step (M.rules machine) program.now twin t) (AreStatesAlike (M.rules machine) next)) }
     {
         self.step_in(alloc, machine, program, t, &mut Vec::new(alloc))
     }
 
-    /// The same, made in the memory of one of the spare states, where there is one: it is used up, and of memory the step asks
-    /// for no more than what that one lacks.
+    /// The same, made in the memory of one of the spare states, where there is one: it is used up, and of memory the
+    /// step asks for no more than what that one lacks.
     pub fn step_in(
         &self,
         alloc: Global,
@@ -167,7 +179,9 @@ impl<M: Machine> State<M> {
         ensures fits { IfOk result (Fits (M.rules machine) program.now) }
         ensures not_enabled { IsErrOf result StepFault.NotEnabled ↔ ¬ IsEnabled program.now self.now t }
         ensures no_step { IsErrOf result StepFault.NotEnabled ↔ (step (M.rules machine) program.now self.now t ≡ None) }
-        ensures alike { IfOk result (λ next. (twin : State M M.Mem M.Loc M.Form) → AreStatesAlike (M.rules machine) self.now twin → IsSomeAnd (step (M.rules machine) program.now twin t) (AreStatesAlike (M.rules machine) next)) }
+        ensures alike { IfOk result (λ next. (twin : State M M.Mem M.Loc M.Form)
+            → AreStatesAlike (M.rules machine) self.now twin
+            → IsSomeAnd (step (M.rules machine) program.now twin t) (AreStatesAlike (M.rules machine) next)) }
     {
         let Some((thread, op)) = self.ready(program, t) else {
             return Err(StepFault::NotEnabled);

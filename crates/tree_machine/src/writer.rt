@@ -1,5 +1,6 @@
 //! Parts in bytes, each written as it is visited.
-ghost use Rattle.std.specs.Prelude.{◌≡◌, ◌<◌, ◌≤◌, ◌+◌, ◌^◌, ◌++◌, ◌∷◌, [], Some, length, map, slice_get, IfOk, OnOk, IfSome};
+ghost use Rattle.std.specs.Prelude.{◌≡◌, ◌<◌, ◌≤◌, ◌+◌, ◌^◌, ◌++◌, ◌∷◌, [], Some};
+ghost use Rattle.std.specs.Prelude.{length, map, slice_get, IfOk, OnOk, IfSome};
 ghost use Rattle.std.specs.List.{All, flat_map};
 ghost use Rattle.std.specs.Option.{option_map, option_and_then};
 ghost use Rattle.tree_machine.specs.Cells.{met_all, place_in, renamed};
@@ -97,7 +98,8 @@ impl Pass {
     fn meet_run(&mut self, first: usize, count: usize) -> Result<(), OutOfMemory>
         requires in_range { first + count ≤ length self.old.numbering.numbers.items }
         requires behind { All (λ x. x < first) self.old.numbering.order.items }
-        ensures order { OnOk result (self.new.numbering.order.items ≡ self.old.numbering.order.items ++ numbers_from first count) }
+        ensures order { OnOk result (self.new.numbering.order.items
+            ≡ self.old.numbering.order.items ++ numbers_from first count) }
         ensures bytes { self.new.bytes.items ≡ self.old.bytes.items }
         ensures range { length self.new.numbering.numbers.items ≡ length self.old.numbering.numbers.items }
     {
@@ -111,8 +113,11 @@ impl Pass {
     #[inline(always)]
     fn put_reference(&mut self, reference: Option<usize>) -> Result<(), OutOfMemory>
         requires { IfSome reference (λ x. x < length self.old.numbering.numbers.items) }
-        ensures order { OnOk result (self.new.numbering.order.items ≡ met_all self.old.numbering.order.items (reference ∷ [])) }
-        ensures bytes { OnOk result (self.new.bytes.items ≡ self.old.bytes.items ++ number_code (reference_number (option_and_then (place_in self.new.numbering.order.items) reference))) }
+        ensures order { OnOk result (self.new.numbering.order.items
+            ≡ met_all self.old.numbering.order.items (reference ∷ [])) }
+        ensures bytes { OnOk result (self.new.bytes.items
+            ≡ self.old.bytes.items
+            ++ number_code (reference_number (option_and_then (place_in self.new.numbering.order.items) reference))) }
         ensures range { length self.new.numbering.numbers.items ≡ length self.old.numbering.numbers.items }
     {
         match reference {
@@ -132,8 +137,13 @@ impl Pass {
         references: &[Option<usize>],
     ) -> Result<(), OutOfMemory>
         requires { All (λ r. IfSome r (λ x. first + x < length self.old.numbering.numbers.items)) references.now }
-        ensures order { OnOk result (self.new.numbering.order.items ≡ met_all self.old.numbering.order.items (map (option_map (λ x. first + x)) references.now)) }
-        ensures bytes { OnOk result (self.new.bytes.items ≡ self.old.bytes.items ++ flat_map number_code (map reference_number (map (option_and_then (place_in self.new.numbering.order.items)) (map (option_map (λ x. first + x)) references.now)))) }
+        ensures order { OnOk result (self.new.numbering.order.items
+            ≡ met_all self.old.numbering.order.items (map (option_map (λ x. first + x)) references.now)) }
+        ensures bytes { OnOk result (self.new.bytes.items
+            ≡ self.old.bytes.items
+            ++ flat_map number_code (map reference_number
+            (map (option_and_then (place_in self.new.numbering.order.items))
+            (map (option_map (λ x. first + x)) references.now)))) }
         ensures range { length self.new.numbering.numbers.items ≡ length self.old.numbering.numbers.items }
     {
         for reference in references {
@@ -149,8 +159,13 @@ impl Pass {
     #[inline(always)]
     fn put_cells(&mut self, first: usize, cells: &[u32]) -> Result<(), OutOfMemory>
         requires { All (λ x. first + x < length self.old.numbering.numbers.items) cells.now }
-        ensures order { OnOk result (self.new.numbering.order.items ≡ met_all self.old.numbering.order.items (map (option_map (λ x. first + x)) (map Some cells.now))) }
-        ensures bytes { OnOk result (self.new.bytes.items ≡ self.old.bytes.items ++ flat_map number_code (map reference_number (map (option_and_then (place_in self.new.numbering.order.items)) (map (option_map (λ x. first + x)) (map Some cells.now))))) }
+        ensures order { OnOk result (self.new.numbering.order.items
+            ≡ met_all self.old.numbering.order.items (map (option_map (λ x. first + x)) (map Some cells.now))) }
+        ensures bytes { OnOk result (self.new.bytes.items
+            ≡ self.old.bytes.items
+            ++ flat_map number_code (map reference_number
+            (map (option_and_then (place_in self.new.numbering.order.items))
+            (map (option_map (λ x. first + x)) (map Some cells.now))))) }
         ensures range { length self.new.numbering.numbers.items ≡ length self.old.numbering.numbers.items }
     {
         for cell in cells {
@@ -178,12 +193,18 @@ impl Model for Writer {
 
     ghost Value = { Written };
 
-    ghost view = { λ w. record { nodes = w.nodes; records = w.records; kind = w.kind; order = w.pass.numbering.order.items; bytes = w.pass.bytes.items } };
+    ghost view = { λ w. record {
+      nodes = w.nodes;
+      records = w.records;
+      kind = w.kind;
+      order = w.pass.numbering.order.items;
+      bytes = w.pass.bytes.items;
+    } };
 }
 
 impl Writer {
-    /// Nothing is written behind these bytes, and the roots are met: the first nodes, as many as are fixed, and what the
-    /// threads hold.
+    /// Nothing is written behind these bytes, and the roots are met: the first nodes, as many as are fixed, and what
+    /// the threads hold.
     pub(crate) fn behind(
         pass: Pass,
         fixed: usize,
@@ -195,7 +216,8 @@ impl Writer {
         requires fits { nodes + records + held < 2 ^ 64 }
         ensures nodes { IfOk result (λ writer. writer.nodes ≡ nodes) }
         ensures records { IfOk result (λ writer. writer.records ≡ records) }
-        ensures order { IfOk result (λ writer. writer.order ≡ numbers_from 0 fixed ++ numbers_from (nodes + records) held) }
+        ensures order { IfOk result (λ writer. writer.order
+            ≡ numbers_from 0 fixed ++ numbers_from (nodes + records) held) }
         ensures bytes { IfOk result (λ writer. writer.bytes ≡ pass.bytes.items) }
     {
         let graph = nodes + records;
@@ -242,8 +264,10 @@ impl Writer {
         nodes: &[Option<usize>],
         records: &[Option<usize>],
     ) -> Result<(), OutOfMemory>
-        requires { IsPartBelow self.old.nodes self.old.records (record { facts = facts.now; nodes = nodes.now; records = records.now }) }
-        ensures { OnOk result (self.new ≡ with_part self.old (record { facts = facts.now; nodes = nodes.now; records = records.now })) }
+        requires { IsPartBelow self.old.nodes self.old.records
+            (record { facts = facts.now; nodes = nodes.now; records = records.now }) }
+        ensures { OnOk result (self.new
+            ≡ with_part self.old (record { facts = facts.now; nodes = nodes.now; records = records.now })) }
     {
         self.put_with_stack(facts, nodes, records, &[])
     }
@@ -260,8 +284,11 @@ impl Writer {
         records: &[Option<usize>],
         stack: &[u32],
     ) -> Result<(), OutOfMemory>
-        requires { IsPartBelow self.old.nodes self.old.records (record { facts = facts.now; nodes = nodes.now; records = records.now ++ map Some stack.now }) }
-        ensures { OnOk result (self.new ≡ with_part self.old (record { facts = facts.now; nodes = nodes.now; records = records.now ++ map Some stack.now })) }
+        requires { IsPartBelow self.old.nodes self.old.records
+            (record { facts = facts.now; nodes = nodes.now; records = records.now ++ map Some stack.now }) }
+        ensures { OnOk result (self.new
+            ≡ with_part self.old
+            (record { facts = facts.now; nodes = nodes.now; records = records.now ++ map Some stack.now })) }
     {
         let behind = self.nodes;
         put_facts(&mut self.pass.bytes, self.kind, nodes.len(), facts)?;

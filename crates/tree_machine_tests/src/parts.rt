@@ -101,7 +101,8 @@ fn rows_below(rows: &[Row], nodes: usize, records: usize) -> bool
 
 /// Whether the first nodes are there, and each row names nodes and records that are there.
 fn are_in_range(fixed: usize, tables: &Tables) -> bool
-    ensures { IsTrue result → ArePartsInRange fixed (record { nodes = tables.now.nodes.now; records = tables.now.records.now; held = tables.now.held.now }) }
+    ensures { IsTrue result → ArePartsInRange fixed
+        (record { nodes = tables.now.nodes.now; records = tables.now.records.now; held = tables.now.held.now }) }
 {
     let nodes = tables.nodes.len();
     let records = tables.records.len();
@@ -123,9 +124,9 @@ fn form_of(alloc: Global, tables: &Tables) -> Result<Bytes, OutOfMemory> {
     }
 }
 
-/// The form of a root of this fact above a ring of a node and a record, which a thread holds, and of a node and a record
-/// that nothing names. They stand in the order in which they are met. The record of the ring names this record, and the
-/// thread this node.
+/// The form of a root of this fact above a ring of a node and a record, which a thread holds, and of a node and a
+/// record that nothing names. They stand in the order in which they are met. The record of the ring names this record,
+/// and the thread this node.
 fn ring(
     alloc: Global,
     fact: &'static [u64],

@@ -5,7 +5,7 @@ use Rattle.std.specs.Cmp.{IsEquivalence}
 use Rattle.std.proofs.lemmas.Bool.Decides.{nat_tests}
 use Rattle.sched_program.specs.Exact.{IsExact}
 use Rattle.std.proofs.lemmas.List.{take_all}
-use Rattle.tree_machine.specs.StateExact.{state_eq, state_form_eq}
+use Rattle.tree_machine.specs.StateEq.{state_eq, state_form_eq}
 use Rattle.book.specs.Books.{counted_as_one}
 use Rattle.book.specs.Replay.{StopsAt}
 use Rattle.book.specs.Schedule.{StepMachine, after}

@@ -11,7 +11,7 @@ use Rattle.tree_machine.specs.Rules.{Rules, AreFormsExact}
 use Rattle.tree_machine.specs.Alike.{AreStatesAlike, state_form}
 use Rattle.tree_machine.specs.History.{all_named, history_of}
 use Rattle.tree_machine.specs.Step.{idle, start, step, Fits}
-use Rattle.tree_machine.specs.StateExact.{state_form_eq}
+use Rattle.tree_machine.specs.StateEq.{state_form_eq}
 use Rattle.tree_machine.specs.declared.state.Thread.{Thread}
 use Rattle.tree_machine.specs.declared.state.State.{State}
 use Rattle.tree_machine.proofs.Forms.{forms_alike}

@@ -4,7 +4,7 @@ ghost use Rattle.std.specs.Prelude.{length, true, false, IfOk, IfErr, IfSome, If
 ghost use Rattle.std.specs.HashSet.{contains};
 ghost use Rattle.tree_machine.specs.Alike.{AreStatesAlike, state_form};
 ghost use Rattle.tree_machine.specs.Step.{Fits, start, step};
-ghost use Rattle.tree_machine.specs.StateExact.{state_form_eq};
+ghost use Rattle.tree_machine.specs.StateEq.{state_form_eq};
 ghost use Rattle.tree_machine.specs.declared.state.State.{State};
 ghost use Rattle.book.specs.Closed.{AreClosed, IsAlikeToOneOf};
 ghost use Rattle.book.specs.Findings.{machine_of};

@@ -4,7 +4,7 @@ use Rattle.std.proofs.Common.{sym, ◌∙◌}
 use Rattle.std.proofs.lemmas.List.{length-map}
 use Rattle.tree_machine.specs.Pairing.{AreAlike}
 use Rattle.tree_machine.specs.Rules.{ArePlacesInRange}
-use Rattle.tree_machine.specs.FlatLaws.{flat_forms_exact}
+use Rattle.tree_machine.specs.Laws.Flat.{flat_forms_exact}
 use Rattle.ellen.specs.declared.memory.EllenMem.{EllenMem}
 use Rattle.ellen.specs.declared.place.EllenLoc.{EllenLoc}
 use Rattle.ellen.specs.declared.machine.Ellen.{Ellen}

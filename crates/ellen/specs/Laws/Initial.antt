@@ -11,8 +11,8 @@ use Rattle.tree_machine.specs.declared.search_order.Shape.{Shape}
 use Rattle.tree_machine.specs.declared.search_order.Shape.TheVariants as shape
 use Rattle.tree_machine.specs.declared.search_order.Side.TheVariants as side
 use Rattle.tree_machine.specs.SearchOrder.{side_of, IsOrderedWithin, KeepsSearchOrder, end_of}
-use Rattle.tree_machine.specs.SearchOrderLaws.{of_node}
-use Rattle.tree_machine.specs.InitialKeys.{IsPutIn, stays_ordered}
+use Rattle.tree_machine.specs.Laws.SearchOrder.{of_node}
+use Rattle.tree_machine.specs.Laws.InitialKeys.{IsPutIn, stays_ordered}
 use Rattle.ellen.specs.declared.memory.UpdateWord.{UpdateWord}
 use Rattle.ellen.specs.declared.memory.UpdateWord.TheVariants.{Untouched}
 use Rattle.ellen.specs.declared.memory.Node.{Node}

@@ -5,7 +5,7 @@ use Rattle.std.specs.Option.{option_map}
 use Rattle.std.proofs.Common.{arith, sym, subst}
 use Rattle.tree_machine.specs.Pairing.{IsAmong, ArePairsLawful}
 use Rattle.tree_machine.specs.SearchOrder.{KeepsSearchOrder}
-use Rattle.tree_machine.specs.SearchOrderPairs.{AreShapesPaired, search_order_paired}
+use Rattle.tree_machine.specs.Laws.SearchOrderPairs.{AreShapesPaired, search_order_paired}
 use Rattle.ellen.specs.declared.memory.Node.{Node}
 use Rattle.ellen.specs.declared.memory.Node.TheVariants.{Leaf, Internal}
 use Rattle.ellen.specs.declared.memory.EllenMem.{EllenMem}

@@ -35,7 +35,8 @@ pub const BACKTRACK: (&str, &str) = (
 ",
 );
 
-/// A delete finds its parent flagged by another delete: it awaits its backtrack while it helps to the end. Both splice, and the second splice fails.
+/// A delete finds its parent flagged by another delete: it awaits its backtrack while it helps to the end. Both splice,
+/// and the second splice fails.
 pub const NESTED_DELETES: (&str, &str) = (
     r#"{"version":1,"tree":"ellen","initial":[10,20,15],"threads":[[{"op":"delete","key":20}],[{"op":"delete","key":10}]]}"#,
     "\
@@ -122,7 +123,8 @@ pub const DELETE_HELPS_DELETE: (&str, &str) = (
 ",
 );
 
-/// A delete whose flag fails helps the one that it found, which an insert keeps from its mark: both take the flag back, and the helper finds that of a third delete there.
+/// A delete whose flag fails helps the one that it found, which an insert keeps from its mark: both take the flag back,
+/// and the helper finds that of a third delete there.
 pub const HELPER_BACKTRACKS: (&str, &str) = (
     r#"{"version":1,"tree":"ellen","initial":[10,20],"threads":[[{"op":"delete","key":10}],[{"op":"delete","key":20}],[{"op":"insert","key":15}],[{"op":"delete","key":20}]]}"#,
     "\

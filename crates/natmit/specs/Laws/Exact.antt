@@ -1,8 +1,9 @@
 -- Nodes, places and memories are one and the same where they compare as equal.
 use Rattle.std.specs.Prelude.{◌≡◌, refl}
 use Rattle.std.proofs.Common.{ap}
-use Rattle.sched_program.specs.Exact.{IsExact, nat_exact, bool_exact, list_exact, both}
-use Rattle.tree_machine.specs.SideExact.{side_exact}
+use Rattle.sched_program.specs.Exact.{IsExact}
+use Rattle.sched_program.specs.Laws.Exact.{nat_exact, bool_exact, list_exact, both}
+use Rattle.tree_machine.specs.Laws.SideExact.{side_exact}
 use Rattle.natmit.specs.contracts.memory.WordPartialEq.TheImpl.{eq-value as word_eq}
 use Rattle.natmit.specs.contracts.memory.NodePartialEq.TheImpl.{eq-value as node_eq}
 use Rattle.natmit.specs.contracts.memory.NatMitMemPartialEq.TheImpl.{eq-value as memory_eq}

@@ -2,7 +2,7 @@
 use Rattle.std.specs.Prelude.{◌≡◌, ◌↔◌, List, map, length, Option, IfSome, All}
 use Rattle.std.proofs.Common.{sym, ◌∙◌}
 use Rattle.std.proofs.lemmas.List.{length-map}
-use Rattle.tree_machine.specs.FlatLaws.{flat_forms_exact}
+use Rattle.tree_machine.specs.Laws.Flat.{flat_forms_exact}
 use Rattle.tree_machine.specs.Pairing.{AreAlike}
 use Rattle.tree_machine.specs.Rules.{AreFormsExact}
 use Rattle.natmit.specs.declared.machine.NatMit.{NatMit}

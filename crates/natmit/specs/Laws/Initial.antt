@@ -13,8 +13,8 @@ use Rattle.tree_machine.specs.declared.search_order.Side.TheVariants.{Left, Righ
 use Rattle.tree_machine.specs.declared.search_order.Shape.{Shape}
 use Rattle.tree_machine.specs.declared.search_order.Shape.TheVariants as shape
 use Rattle.tree_machine.specs.SearchOrder.{side_of, IsOrderedWithin, KeepsSearchOrder, went_down, end_of}
-use Rattle.tree_machine.specs.SearchOrderLaws.{of_node}
-use Rattle.tree_machine.specs.InitialKeys.{IsPutIn, stays_ordered}
+use Rattle.tree_machine.specs.Laws.SearchOrder.{of_node}
+use Rattle.tree_machine.specs.Laws.InitialKeys.{IsPutIn, stays_ordered}
 use Rattle.natmit.specs.declared.memory.Word.{Word}
 use Rattle.natmit.specs.declared.memory.Node.{Node}
 use Rattle.natmit.specs.declared.memory.Node.TheVariants.{Leaf, Internal}

@@ -11,7 +11,7 @@ use Rattle.natmit.specs.declared.memory.NatMitMem.{NatMitMem}
 use Rattle.natmit.specs.Memory.{node_at, shape_in, shapes}
 use Rattle.natmit.specs.Pairs.{AreNodesPaired, AreMemoriesPaired, natmit_pairs}
 use Rattle.std.specs.Option.{option_map}
-use Rattle.tree_machine.specs.SearchOrderPairs.{AreShapesPaired, search_order_paired}
+use Rattle.tree_machine.specs.Laws.SearchOrderPairs.{AreShapesPaired, search_order_paired}
 use Rattle.natmit.specs.declared.place.Mode.TheVariants.{Plain}
 use Rattle.natmit.specs.declared.place.NatMitLoc.TheVariants.{Begin}
 use Rattle.natmit.specs.declared.machine.NatMit.{NatMit}

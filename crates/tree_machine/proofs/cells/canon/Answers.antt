@@ -1,5 +1,5 @@
 use Rattle.std.proofs.lemmas.Result.{IfOk-weaker}
-use Rattle.tree_machine.specs.CellLaws.{answer_is, answer_exactly}
+use Rattle.tree_machine.specs.Laws.Cells.{answer_is, answer_exactly}
 use Rattle.tree_machine.proofs.Walks.{order_in_range}
 use Rattle.tree_machine.proofs.cells.canon.Goals as goal
 

@@ -1,6 +1,6 @@
 use Rattle.std.proofs.Common.{◌≡◌, ◌++◌, ap, sym, ◌∙◌}
 use Rattle.tree_machine.specs.Flat.{flat_form}
-use Rattle.tree_machine.specs.FlatLaws.{flat_forms_exact}
+use Rattle.tree_machine.specs.Laws.Flat.{flat_forms_exact}
 use Rattle.tree_machine.proofs.parts.form_parts.Goals as goal
 
 pub returns-clause-exact : goal.returns-clause-exact

@@ -1,6 +1,6 @@
 use Rattle.std.proofs.Common.{rules, ◌≡◌}
 use Rattle.std.specs.Prelude.{Some}
-use Rattle.tree_machine.specs.SearchOrderLaws.{internal_is_ordered}
+use Rattle.tree_machine.specs.Laws.SearchOrder.{internal_is_ordered}
 use Rattle.tree_machine.specs.declared.search_order.Shape.TheVariants.{Internal}
 use Rattle.tree_machine.proofs.search_order.+is_ordered.Goals as goal
 

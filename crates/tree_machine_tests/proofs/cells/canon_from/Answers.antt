@@ -4,7 +4,7 @@ use Rattle.std.specs.List.{All}
 use Rattle.std.proofs.lemmas.List.Elements.{All-from_recursion}
 use Rattle.std.proofs.lemmas.Map.Keys.{IsDistinct-cons}
 use Rattle.tree_machine.specs.Cells.{Content, IsRooted}
-use Rattle.tree_machine.specs.GraphLaws.{distinct_none}
+use Rattle.tree_machine.specs.Laws.Graphs.{distinct_none}
 use Rattle.tree_machine_tests.proofs.cells.canon_from.Goals as goal
 
 one_root : (cells : List Content) (root : ℕ) → root < length cells → All (λ c. All (λ r. IfSome r (λ x. x < length cells)) c.refs) cells → IsRooted cells (root ∷ [])

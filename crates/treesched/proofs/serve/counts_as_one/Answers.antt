@@ -1,4 +1,4 @@
-use Rattle.tree_machine.specs.StateExact.{state_eq, state_form_eq}
+use Rattle.tree_machine.specs.StateEq.{state_eq, state_form_eq}
 use Rattle.treesched.proofs.Servings.{counted, equality_of}
 use Rattle.treesched.proofs.serve.counts_as_one.Goals as goal
 

@@ -2,7 +2,7 @@ use Rattle.std.proofs.Common.{◌≡◌, ◌<◌, length, refl, Some, get_or, sl
 use Rattle.std.proofs.lemmas.Option.{slice_get_read}
 use Rattle.std.specs.HashSet.{contains}
 use Rattle.tree_machine.specs.Alike.{FormContent, state_form}
-use Rattle.tree_machine.specs.StateExact.{state_form_eq}
+use Rattle.tree_machine.specs.StateEq.{state_form_eq}
 use Rattle.book.proofs.BookFile.Known.{more_forms}
 use Rattle.book.proofs.file.closing.forms_of.Goals as goal
 

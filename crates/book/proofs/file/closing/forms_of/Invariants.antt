@@ -1,7 +1,7 @@
 use Rattle.std.proofs.Common.{take}
 use Rattle.std.specs.HashSet.{contains}
 use Rattle.tree_machine.specs.Alike.{state_form}
-use Rattle.tree_machine.specs.StateExact.{state_form_eq}
+use Rattle.tree_machine.specs.StateEq.{state_form_eq}
 use Rattle.book.specs.BookFile.Forms.{AreFormsOf}
 use Rattle.book.proofs.file.closing.forms_of.Given as goal
 

@@ -1,7 +1,7 @@
 use Rattle.std.proofs.Common.{◌≡◌, ◌≤◌, length, ap, arith}
 use Rattle.std.specs.HashSet.{contains}
 use Rattle.tree_machine.specs.Alike.{state_form}
-use Rattle.tree_machine.specs.StateExact.{state_form_eq}
+use Rattle.tree_machine.specs.StateEq.{state_form_eq}
 use Rattle.book.proofs.BookFile.Known.{no_more_threads, one_more_thread}
 use Rattle.book.proofs.file.closing.leads_out.Goals as goal
 

@@ -2,7 +2,7 @@ use Rattle.std.proofs.Common.{◌≡◌, ℕ, ◌<◌, true, Some}
 use Rattle.std.specs.HashSet.{contains}
 use Rattle.tree_machine.specs.Alike.{state_form}
 use Rattle.tree_machine.specs.Step.{step}
-use Rattle.tree_machine.specs.StateExact.{state_form_eq}
+use Rattle.tree_machine.specs.StateEq.{state_form_eq}
 use Rattle.tree_machine.specs.declared.state.State.{State}
 use Rattle.book.proofs.file.closing.leads_out.Given as goal
 

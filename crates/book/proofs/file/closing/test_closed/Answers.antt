@@ -1,7 +1,7 @@
 use Rattle.std.proofs.Common.{◌≡◌, ◌<◌, ◌≤◌, inr, length, refl, get_or, arith, ap}
 use Rattle.std.proofs.lemmas.Option.{slice_get_read}
 use Rattle.std.specs.HashSet.{contains}
-use Rattle.tree_machine.specs.StateExact.{state_form_eq}
+use Rattle.tree_machine.specs.StateEq.{state_form_eq}
 use Rattle.book.proofs.BookFile.Known.{known_next, open_next, known_closed}
 use Rattle.book.proofs.file.closing.test_closed.Goals as goal
 

@@ -1,5 +1,5 @@
 use Rattle.std.specs.HashSet.{contains}
-use Rattle.tree_machine.specs.StateExact.{state_form_eq}
+use Rattle.tree_machine.specs.StateEq.{state_form_eq}
 use Rattle.book.proofs.BookFile.Known.{AreKnownBelow}
 use Rattle.book.proofs.file.closing.test_closed.Given as goal
 

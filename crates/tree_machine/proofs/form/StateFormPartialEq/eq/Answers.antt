@@ -1,8 +1,9 @@
 use Rattle.std.proofs.Common.{rules, ◌≡◌, ◌∙◌, ap, nat_eq}
 use Rattle.std.specs.Cmp.Lexicographic.{pointwise}
 use Rattle.tree_machine.specs.FormCode.{content_code}
-use Rattle.tree_machine.specs.FormCodeLaws.{content_same}
-use Rattle.tree_machine.specs.StateExact.{state_form_eq, state_form_equiv, state_form_exact}
+use Rattle.tree_machine.specs.Laws.FormCode.{content_same}
+use Rattle.tree_machine.specs.StateEq.{state_form_eq}
+use Rattle.tree_machine.specs.Laws.StateExact.{state_form_equiv, state_form_exact}
 use Rattle.tree_machine.proofs.form.StateFormPartialEq.eq.Goals as goal
 
 pub returns : goal.returns

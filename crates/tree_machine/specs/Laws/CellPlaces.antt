@@ -8,8 +8,8 @@ use Rattle.std.proofs.lemmas.Bool.Decides.{eqb_tells}
 use Rattle.std.proofs.lemmas.Map.Keys.{IsDistinct-head, IsDistinct-tail}
 use Rattle.tree_machine.specs.Cells.{IsPairedOrNone, place_in}
 use Rattle.tree_machine.specs.Pairing.{IsOneToOne, IsAmong}
-use Rattle.tree_machine.specs.CellSteps.{same_tests}
-use Rattle.tree_machine.specs.CellOrder.{Has, or_true, all_has, has_itself}
+use Rattle.tree_machine.specs.Laws.CellSteps.{same_tests}
+use Rattle.tree_machine.specs.Laws.CellOrder.{Has, or_true, all_has, has_itself}
 
 -- paired elements have the same place
 pub place_paired : (P : ℕ → ℕ → Type 0) → IsOneToOne P → (xs ys : List ℕ) (a b : ℕ) → AllZip P xs ys → P a b → place_in xs a ≡ place_in ys b

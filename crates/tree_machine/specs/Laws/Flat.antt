@@ -7,7 +7,7 @@ use Rattle.std.proofs.lemmas.List.Concat.{flat_map-cons}
 use Rattle.tree_machine.specs.Cells.{Content}
 use Rattle.tree_machine.specs.Flat.{number_code, counted_codes, reference_number, cell_code, flat, flat_form}
 use Rattle.tree_machine.specs.Parts.{Parts, ArePartsInRange, CanPartsBePaired}
-use Rattle.tree_machine.specs.PartLaws.{parts_exactly}
+use Rattle.tree_machine.specs.Laws.Parts.{parts_exactly}
 
 -- ---- one number
 

@@ -8,10 +8,10 @@ use Rattle.std.proofs.lemmas.List.{length-map}
 use Rattle.std.proofs.lemmas.List.Elements.{All-append, All-map, All-weaker, recursion_from_All}
 use Rattle.tree_machine.specs.Cells.{Content, content_at, IsPairedOrNone}
 use Rattle.tree_machine.specs.Pairing.{IsAmong}
-use Rattle.tree_machine.specs.Graphs.{RefsBelow, IsGraph, AreCellsPaired, IsGraphPairing, graph_form}
+use Rattle.tree_machine.specs.Graphs.{graph_form}
 use Rattle.tree_machine.specs.Parts.{Part, Parts, part_at, ArePartsPaired, IsPartsPairing, IsPartBelow, ArePartsInRange, part_cell, parts_graph, parts_held, parts_form, CanPartsBePaired}
-use Rattle.tree_machine.specs.PairLists.{or_none_weaker, zip_weaker, among_append, are_below, among_below, below_among}
-use Rattle.tree_machine.specs.GraphLaws.{content_front, content_back, refs_stronger, forms_exactly}
+use Rattle.tree_machine.specs.Laws.PairLists.{or_none_weaker, zip_weaker, among_append, are_below, among_below, below_among}
+use Rattle.tree_machine.specs.Laws.Graphs.{RefsBelow, IsGraph, AreCellsPaired, IsGraphPairing, content_front, content_back, refs_stronger, forms_exactly}
 
 -- ---- numbers of records, behind n nodes
 

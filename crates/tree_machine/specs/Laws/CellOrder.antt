@@ -10,7 +10,7 @@ use Rattle.std.proofs.lemmas.Map.Keys.{IsDistinct-push}
 use Rattle.std.proofs.lemmas.Map.Steps.{length-le_from_distinct_below}
 use Rattle.std.proofs.lemmas.Option.{slice_get_past, slice_get_within, slice_get-get_or}
 use Rattle.tree_machine.specs.Cells.{Content, met, met_all, visited, met_in, content_at, order_of, IsRooted}
-use Rattle.tree_machine.specs.CellSteps.{same_tests}
+use Rattle.tree_machine.specs.Laws.CellSteps.{same_tests}
 
 -- x stands in xs
 abbrev pub Has : List ℕ → ℕ → Type 0

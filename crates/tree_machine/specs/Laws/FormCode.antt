@@ -6,10 +6,11 @@ use Rattle.std.specs.List.{flat_map}
 use Rattle.std.proofs.Common.{refl, sym, ◌∙◌, ap, subst, arith, append_assoc}
 use Rattle.std.proofs.lemmas.Cmp.{lists_equiv}
 use Rattle.std.proofs.lemmas.List.Concat.{flat_map-cons}
-use Rattle.sched_program.specs.Exact.{IsExact, nat_exact, list_exact}
-use Rattle.tree_machine.specs.CellOrder.{nat_equivalence}
+use Rattle.sched_program.specs.Exact.{IsExact}
+use Rattle.sched_program.specs.Laws.Exact.{nat_exact, list_exact}
+use Rattle.tree_machine.specs.Laws.CellOrder.{nat_equivalence}
 use Rattle.tree_machine.specs.Alike.{FormContent}
-use Rattle.tree_machine.specs.StateExact.{same_answer}
+use Rattle.tree_machine.specs.Laws.StateExact.{same_answer}
 use Rattle.tree_machine.specs.FormCode.{list_code, reply_code, note_code, astray_code, deeds_code, content_code, IsInjective}
 
 -- whatever stands behind it, what is coded and where its bytes end can be read off

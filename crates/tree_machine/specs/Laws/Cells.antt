@@ -5,9 +5,9 @@ use Rattle.std.specs.List.{AllZip, zip}
 use Rattle.std.specs.Option.{option_and_then}
 use Rattle.tree_machine.specs.Cells.{Content, IsPairedOrNone, IsPairing, CanBePaired, IsRooted, met_in, content_at, place_in, renamed, order_of, canonical}
 use Rattle.tree_machine.specs.Pairing.{IsAmong}
-use Rattle.tree_machine.specs.CellSteps.{met_in_paired}
-use Rattle.tree_machine.specs.CellOrder.{HasAll, Extends, IsOrder, met_in_order, met_in_stable, met_in_extends, order_closed}
-use Rattle.tree_machine.specs.CellPlaces.{refs_renamed, place_from_has, get_place, has_at, among_at, at_among, rel_among, place_at}
+use Rattle.tree_machine.specs.Laws.CellSteps.{met_in_paired}
+use Rattle.tree_machine.specs.Laws.CellOrder.{HasAll, Extends, IsOrder, met_in_order, met_in_stable, met_in_extends, order_closed}
+use Rattle.tree_machine.specs.Laws.CellPlaces.{refs_renamed, place_from_has, get_place, has_at, among_at, at_among, rel_among, place_at}
 
 -- ---- from a pairing to equal answers
 

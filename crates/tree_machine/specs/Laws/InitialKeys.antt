@@ -7,7 +7,7 @@ use Rattle.tree_machine.specs.declared.search_order.End.{End}
 use Rattle.tree_machine.specs.declared.search_order.Shape.{Shape}
 use Rattle.tree_machine.specs.declared.search_order.Shape.TheVariants.{Leaf, Internal}
 use Rattle.tree_machine.specs.SearchOrder.{IsNodeOrdered, IsOrderedWithin, KeepsSearchOrder, end_of}
-use Rattle.tree_machine.specs.SearchOrderLaws.{apart, some_level, more_levels, of_node, end_at_leaf, end_below}
+use Rattle.tree_machine.specs.Laws.SearchOrder.{apart, some_level, more_levels, of_node, end_at_leaf, end_below}
 
 -- before and after a key was put in, where the search for it ends: a new node took the place of the leaf
 pub record IsPutIn (before after : ℕ → Option Shape) (key : ℕ) (end : End) : Type 0 where

@@ -7,10 +7,40 @@ use Rattle.std.proofs.lemmas.List.Elements.{All-append, All-nil, All-weaker, All
 use Rattle.std.proofs.lemmas.Map.Keys.{IsDistinct-cons}
 use Rattle.tree_machine.specs.Cells.{Content, content_at, canonical, IsPairedOrNone, IsPairing, IsRooted}
 use Rattle.tree_machine.specs.Pairing.{IsOneToOne, IsAmong}
-use Rattle.tree_machine.specs.Graphs.{RefsBelow, IsGraph, AreCellsPaired, IsGraphPairing, CanGraphsBePaired, numbers_from, roots_of, graph_form}
-use Rattle.tree_machine.specs.CellOrder.{content_all}
-use Rattle.tree_machine.specs.PairLists.{or_none_weaker, zip_weaker, pairing_same, among_append, are_below, among_below, below_among}
-use Rattle.tree_machine.specs.CellLaws.{canonical_exactly}
+use Rattle.tree_machine.specs.Graphs.{numbers_from, roots_of, graph_form}
+use Rattle.tree_machine.specs.Laws.CellOrder.{content_all}
+use Rattle.tree_machine.specs.Laws.PairLists.{or_none_weaker, zip_weaker, pairing_same, among_append, are_below, among_below, below_among}
+use Rattle.tree_machine.specs.Laws.Cells.{canonical_exactly}
+
+-- ---- graphs that can be paired
+
+-- each ref is none or below n
+abbrev pub RefsBelow : ℕ → Content → Type 0
+RefsBelow n c = All (λ r. IfSome r (λ x. x < n)) c.refs
+
+-- what is held refers to the graph, as the graph does itself, and the graph has its fixed cells
+pub record IsGraph (fixed : ℕ) (graph held : List Content) : Type 0 where
+  pub fixed_in_range : fixed ≤ length graph
+  pub graph_in_range : All (RefsBelow (length graph)) graph
+  pub held_in_range : All (RefsBelow (length graph)) held
+
+-- equal facts, and refs that are paired place by place
+pub record AreCellsPaired (P : ℕ → ℕ → Type 0) (c d : Content) : Type 0 where
+  pub facts : c.facts ≡ d.facts
+  pub refs : AllZip (IsPairedOrNone P) c.refs d.refs
+
+-- P pairs the fixed cells with themselves, cells of the graphs that are alike, and what is held place by place
+pub record IsGraphPairing (P : ℕ → ℕ → Type 0) (fixed : ℕ) (graph held others targets : List Content) : Type 0 where
+  pub one_to_one : IsOneToOne P
+  pub fixed_paired : (x : ℕ) → x < fixed → P x x
+  pub in_range : (x y : ℕ) → P x y → (x < length graph) × (y < length others)
+  pub cells_paired : (x y : ℕ) → P x y → AreCellsPaired P (content_at graph x) (content_at others y)
+  pub held_paired : AllZip (AreCellsPaired P) held targets
+
+-- some set of pairs is a pairing
+abbrev pub CanGraphsBePaired : ℕ → List Content → List Content → List Content → List Content → Type 0
+CanGraphsBePaired fixed graph held others targets =
+    (pairs : List (ℕ × ℕ)) × IsGraphPairing (IsAmong pairs) fixed graph held others targets
 
 -- ---- lists end to end
 

@@ -1,7 +1,8 @@
 -- Operations, what they wait for, and trees are one and the same where they compare as equal.
 use Rattle.std.specs.Prelude.{◌≡◌, ℕ, nat_eq, refl}
 use Rattle.std.proofs.Common.{ap}
-use Rattle.sched_program.specs.Exact.{IsExact, nat_exact, both}
+use Rattle.sched_program.specs.Exact.{IsExact}
+use Rattle.sched_program.specs.Laws.Exact.{nat_exact, both}
 use Rattle.sched_program.specs.declared.operation.Turn.{Turn}
 use Rattle.sched_program.specs.declared.operation.Op.TheVariants.{Insert, Delete, Find}
 use Rattle.sched_program.specs.contracts.operation.OpPartialEq.TheImpl.{eq-value as op_eq}

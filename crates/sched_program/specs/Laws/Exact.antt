@@ -1,0 +1,39 @@
+-- The tests of numbers, of truth values, of options and of lists hold of equal values alone.
+use Rattle.std.specs.Prelude.{◌≡◌, Bool, true, false, nat_eq, ◌&&◌, [], ◌∷◌, Some, None, refl}
+use Rattle.std.specs.Option.{option_eq}
+use Rattle.std.specs.Cmp.Lexicographic.{pointwise}
+use Rattle.std.proofs.Common.{ap}
+use Rattle.std.proofs.lemmas.Bool.{eqb-true}
+use mathlib.Core.Bool.{beq}
+use Rattle.sched_program.specs.Exact.{IsExact}
+
+pub nat_exact : IsExact nat_eq
+nat_exact = eqb-true
+
+pub bool_exact : IsExact beq
+bool_exact true true h = refl
+bool_exact true false h = cc
+bool_exact false true h = cc
+bool_exact false false h = refl
+
+-- both tests held
+pub both : (a b : Bool) → (a && b) ≡ true → (a ≡ true) × (b ≡ true)
+both true b h = (refl, h)
+both false b h = cc
+
+module _ {A : Type 0} {E : A → A → Bool} (exact : IsExact E) where
+  pub option_exact : IsExact (option_eq E)
+  option_exact None None h = refl
+  option_exact None (Some b) h = cc
+  option_exact (Some a) None h = cc
+  option_exact (Some a) (Some b) h = ap Some (exact a b h)
+
+  pub list_exact : IsExact (pointwise E)
+  list_exact [] [] h = refl
+  list_exact [] (b ∷ bs) h = cc
+  list_exact (a ∷ rest) [] h = cc
+  list_exact (a ∷ rest) (b ∷ others) h =
+      let parts = both (E a b) (pointwise E rest others) h in
+      let head : a ≡ b = exact a b parts.0 in
+      let tail : rest ≡ others = list_exact rest others parts.1 in
+      cc

@@ -1,0 +1,19 @@
+-- What is proved of the definitions. No contract's meaning rests on these files, and no definition imports one.
+pub mod Atomic
+pub mod AtomicCode
+pub mod ByteLists
+pub mod CellOrder
+pub mod CellPlaces
+pub mod CellSteps
+pub mod Cells
+pub mod Flat
+pub mod FormCode
+pub mod Graphs
+pub mod InitialKeys
+pub mod PairLists
+pub mod Parts
+pub mod SearchOrder
+pub mod SearchOrderPairs
+pub mod SideExact
+pub mod StateExact
+pub mod Unnumbered

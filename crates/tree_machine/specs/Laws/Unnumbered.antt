@@ -1,0 +1,65 @@
+-- Pairs that are equal are lawful, and what they pair is equal.
+use Rattle.std.specs.Prelude.{◌≡◌, List, [], ◌∷◌, Option, Some, None, refl, ◌↔◌}
+use Rattle.std.specs.List.{AllZip}
+use Rattle.std.proofs.Common.{subst, sym, ap}
+use Rattle.tree_machine.specs.Pairing.{AreOutcomesPaired, AreHeldPaired, AreAlike, ArePairsLawful}
+use Rattle.tree_machine.specs.Unnumbered.{equal_pairs}
+use Rattle.tree_machine.specs.declared.machine.Outcome.{Outcome}
+use Rattle.tree_machine.specs.declared.machine.Outcome.TheVariants.{Goes, Replies, Astray}
+
+module _ {Place : Type 0} where
+  same_outcome : (outcome : Outcome Place) → AreOutcomesPaired (λ place twin. place ≡ twin) outcome outcome
+  same_outcome (Goes place) = refl
+  same_outcome (Replies reply) = refl
+  same_outcome Astray = tt
+
+  outcomes_paired : (outcome twin : Outcome Place) → outcome ≡ twin
+      → AreOutcomesPaired (λ place twin. place ≡ twin) outcome twin
+  outcomes_paired outcome twin h =
+      subst (λ o. AreOutcomesPaired (λ place twin. place ≡ twin) outcome o) h (same_outcome outcome)
+
+  held_paired : (held : List (Option Place)) → AllZip (AreHeldPaired (λ place twin. place ≡ twin)) held held
+  held_paired [] = tt
+  held_paired (None ∷ held) = (tt, held_paired held)
+  held_paired (Some place ∷ held) = (refl, held_paired held)
+
+  held_same : (held twins : List (Option Place)) → AllZip (AreHeldPaired (λ place twin. place ≡ twin)) held twins
+      → held ≡ twins
+  held_same [] [] h = refl
+  held_same [] (twin ∷ twins) h = absurd h
+  held_same (place ∷ held) [] h = absurd h
+  held_same (None ∷ held) (None ∷ twins) h = ap (λ rest. None ∷ rest) (held_same held twins h.1)
+  held_same (None ∷ held) (Some twin ∷ twins) h = absurd h.0
+  held_same (Some place ∷ held) (None ∷ twins) h = absurd h.0
+  held_same (Some place ∷ held) (Some twin ∷ twins) h =
+      let first : place ≡ twin = h.0 in
+      let rest = held_same held twins h.1 in
+      λ i. Some (first i) ∷ rest i
+
+module _ {Memory Place : Type 0} where
+  pub equal_pairs_lawful : {Operation : Type 0} (first : Operation → Place)
+      (act : Operation → Place → Memory → Memory × Outcome Place) (IsOrdered : Memory → Type 0)
+      → ArePairsLawful equal_pairs first act IsOrdered
+  equal_pairs_lawful first act IsOrdered = record {
+    first_paired = λ _ _ _ _ _. refl;
+    places_extend = λ _ _ _ _ _ h. h;
+    ordered_paired = λ _ memory other same. (subst IsOrdered same, subst IsOrdered (sym same));
+    act_paired = λ op p place twin memory other same at. record {
+      then = p;
+      extends = record { nodes = λ _ _ h. h; records = λ _ _ h. h };
+      memories_paired = λ i. (act op (at i) (same i)).0;
+      outcomes_paired = outcomes_paired _ _ (λ i. (act op (at i) (same i)).1);
+    };
+  }
+
+  -- alike is what is equal
+  pub equal_alike : (memory other : Memory) (held twins : List (Option Place))
+      → ((memory ≡ other) × (held ≡ twins)) ↔ AreAlike equal_pairs memory held other twins
+  equal_alike memory other held twins = (
+    (λ same. (
+      record { nodes = []; records = [] },
+      same.0,
+      subst (AllZip (AreHeldPaired (λ place twin. place ≡ twin)) held) same.1 (held_paired held),
+    )),
+    (λ alike. (alike.1, held_same held twins alike.2)),
+  )
