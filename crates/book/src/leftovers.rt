@@ -11,8 +11,8 @@ use std::hash::Hash;
 use std::marker::Model;
 use std::sync::Arc;
 
-/// States that a book knew already, with what else the expansions that were entered held of them. Whoever enters under a
-/// lock can drop these after it.
+/// States that a book knew already, with what else the expansions that were entered held of them. Whoever enters under
+/// a lock can drop these after it.
 #[derive(Drop)]
 pub struct Leftovers<S: Hash, F: Hash> {
     known: Vec<(Hashed<Known<S, F>>, PackedRow, Arc<S>)>,

@@ -27,9 +27,11 @@ fn put_step<S: Eq + Hash + Drop, F: Eq + Hash + Drop>(
     ensures put { OnOk result (map keyed_of slots.new.entries ≡ map keyed_of slots.old.entries
         ++ map (opened parent) (unknown (same_label S.eq F.eq) (states (map keyed_of slots.old.entries)) (step ∷ []))) }
     ensures kept { IsGrown slots.old.entries slots.new.entries }
-    ensures held { OnOk result (StayHeld (entries_of slots.old.entries) (entries_of slots.new.entries) held.old held.new) }
+    ensures held { OnOk result (StayHeld (entries_of slots.old.entries) (entries_of slots.new.entries)
+        held.old held.new) }
     ensures held_kept { IsGrown held.old held.new }
-    ensures left { OnOk result (KeepsMet leftovers.old leftovers.new (length slots.old.entries) (length slots.new.entries) 1) }
+    ensures left { OnOk result (KeepsMet leftovers.old leftovers.new
+        (length slots.old.entries) (length slots.new.entries) 1) }
 {
     let (thread, state, known, finding) = step.into_fields();
     let row = PackedRow::new(Row {
@@ -47,7 +49,8 @@ fn put_step<S: Eq + Hash + Drop, F: Eq + Hash + Drop>(
     Ok(())
 }
 
-/// Puts in, in their order, open rows for the steps that lead to new states, which are held. The others go to the leftovers.
+/// Puts in, in their order, open rows for the steps that lead to new states, which are held. The others go to the
+/// leftovers.
 pub(crate) fn put_steps<S: Eq + Hash + Drop, F: Eq + Hash + Drop>(
     slots: &mut IndexMap<Hashed<Known<S, F>>, PackedRow>,
     held: &mut Held<S>,
@@ -56,11 +59,14 @@ pub(crate) fn put_steps<S: Eq + Hash + Drop, F: Eq + Hash + Drop>(
     leftovers: &mut Leftovers<S, F>,
 ) -> Result<(), AllocError>
     ensures put { OnOk result (map keyed_of slots.new.entries ≡ map keyed_of slots.old.entries
-        ++ map (opened parent) (unknown (same_label S.eq F.eq) (states (map keyed_of slots.old.entries)) successors.items)) }
+        ++ map (opened parent)
+        (unknown (same_label S.eq F.eq) (states (map keyed_of slots.old.entries)) successors.items)) }
     ensures kept { IsGrown slots.old.entries slots.new.entries }
-    ensures held { OnOk result (StayHeld (entries_of slots.old.entries) (entries_of slots.new.entries) held.old held.new) }
+    ensures held { OnOk result (StayHeld (entries_of slots.old.entries) (entries_of slots.new.entries)
+        held.old held.new) }
     ensures held_kept { IsGrown held.old held.new }
-    ensures left { OnOk result (KeepsMet leftovers.old leftovers.new (length slots.old.entries) (length slots.new.entries) (length successors.items)) }
+    ensures left { OnOk result (KeepsMet leftovers.old leftovers.new
+        (length slots.old.entries) (length slots.new.entries) (length successors.items)) }
 {
     for step in successors {
         put_step(slots, held, parent, step, leftovers)?;

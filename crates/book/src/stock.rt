@@ -4,8 +4,8 @@ use std::alloc::Global;
 use std::sync::Arc;
 use tree_machine::{Machine, Room, State, StateForm};
 
-/// What expansions are made in, used again from one to the next: room for forms, and states that nobody needs any more, whose
-/// memory serves for steps.
+/// What expansions are made in, used again from one to the next: room for forms, and states that nobody needs any more,
+/// whose memory serves for steps.
 #[derive(Drop)]
 pub struct Stock<M: Machine> {
     pub(crate) room: Room,

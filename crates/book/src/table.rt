@@ -1,12 +1,15 @@
 //! The entries by number and by state, and the places among them that are looked for again and again.
-ghost use Rattle.std.specs.Prelude.{◌≡◌, ℕ, ◌+◌, ◌-◌, ◌^◌, ◌<◌, ◌≤◌, ◌++◌, ◌∷◌, [], count_by, length, map, not, position, true, OnOk, OnErr, IfOk, IfErr, IfSome, IfNone, Some, None, Option, slice_get, take};
+ghost use Rattle.std.specs.Prelude.{◌≡◌, ℕ, ◌+◌, ◌-◌, ◌^◌, ◌<◌, ◌≤◌, ◌++◌, ◌∷◌, [], count_by, length, map, not};
+ghost use Rattle.std.specs.Prelude.{position, true, OnOk, OnErr, IfOk, IfErr, IfSome, IfNone, Some, None, Option, slice_get, take};
 ghost use Rattle.std.specs.List.{range_with_len};
 ghost use Rattle.indexmap.specs.IndexMap.{values};
-ghost use Rattle.book.specs.Entries.{Entry, At, IsTaken, is_open, is_taken, is_expanded, opened, states, unknown, with_mark, with_marks};
+ghost use Rattle.book.specs.Entries.{Entry, At, IsTaken, is_open, is_taken, is_expanded, opened, states, unknown};
+ghost use Rattle.book.specs.Entries.{with_mark, with_marks};
 ghost use Rattle.book.specs.Findings.{is_sound};
 ghost use Rattle.book.specs.Labels.{AreKnownBy, AreStepsKnownBy, bares, same_as, same_label};
 ghost use Rattle.book.specs.Leftovers.{KeepsMet};
-ghost use Rattle.book.specs.Slots.{entries_of, forms_of, keyed_of, AreStatesOf, IsFirstLeft, IsGrown, IsLeft, IsOpenFrom, StayHeld};
+ghost use Rattle.book.specs.Slots.{entries_of, forms_of, keyed_of, AreStatesOf, IsFirstLeft, IsGrown, IsLeft};
+ghost use Rattle.book.specs.Slots.{IsOpenFrom, StayHeld};
 
 use crate::entry::{Mark, Origin, PackedRow, Row};
 use crate::expansion::Stepped;
@@ -30,8 +33,8 @@ pub enum TableFault {
     OutOfMemory,
 }
 
-/// The entries of a book: states, each with its row. The key of a row is the state's label. The states from the first entry
-/// on that is not expanded are held; those of the entries before it are given back.
+/// The entries of a book: states, each with its row. The key of a row is the state's label. The states from the first
+/// entry on that is not expanded are held; those of the entries before it are given back.
 #[derive(Drop)]
 pub struct Table<S: Eq + Hash + Drop, F: Eq + Hash + Drop> {
     slots: IndexMap<Hashed<Known<S, F>>, PackedRow>,
@@ -148,7 +151,9 @@ fn taken_rows<S: Eq + Hash, F: Eq + Hash>(slots: &IndexMap<Hashed<Known<S, F>>, 
 }
 
 /// The number of expanded rows.
-fn expanded_rows<S: Eq + Hash, F: Eq + Hash>(slots: &IndexMap<Hashed<Known<S, F>>, PackedRow>) -> usize
+fn expanded_rows<S: Eq + Hash, F: Eq + Hash>(
+    slots: &IndexMap<Hashed<Known<S, F>>, PackedRow>,
+) -> usize
     ensures { result ≡ count_by (λ row. is_expanded row.mark) (values slots.now) }
 {
     slots.values().filter(|row| row.is_expanded()).count()

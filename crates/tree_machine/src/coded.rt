@@ -32,7 +32,8 @@ pub(crate) fn put_all_replies<L>(
     threads: &[Thread<L>],
 ) -> Result<(), OutOfMemory>
     requires { length threads.now ≤ 4 }
-    ensures { OnOk result (bytes.new.items ≡ bytes.old.items ++ list_code (list_code reply_code) (replies_of threads.now)) }
+    ensures { OnOk result (bytes.new.items
+        ≡ bytes.old.items ++ list_code (list_code reply_code) (replies_of threads.now)) }
 {
     bytes.push(threads.len() as u8)?;
     for thread in threads {
@@ -67,7 +68,8 @@ pub(crate) fn put_all_notes<L>(
     threads: &[Thread<L>],
 ) -> Result<(), OutOfMemory>
     requires { length threads.now ≤ 4 }
-    ensures { OnOk result (bytes.new.items ≡ bytes.old.items ++ list_code (list_code note_code) (notes_of threads.now)) }
+    ensures { OnOk result (bytes.new.items
+        ≡ bytes.old.items ++ list_code (list_code note_code) (notes_of threads.now)) }
 {
     bytes.push(threads.len() as u8)?;
     for thread in threads {

@@ -73,7 +73,8 @@ impl Room {
         astray: Option<u8>,
     ) -> Result<(), OutOfMemory>
         requires { length threads.now ≤ 4 }
-        ensures { OnOk result (self.new ≡ self.old ++ deeds_code (replies_of threads.now) (notes_of threads.now) astray) }
+        ensures { OnOk result (self.new
+            ≡ self.old ++ deeds_code (replies_of threads.now) (notes_of threads.now) astray) }
     {
         put_all_replies(&mut self.pass.bytes, threads)?;
         put_all_notes(&mut self.pass.bytes, threads)?;
