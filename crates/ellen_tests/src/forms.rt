@@ -23,7 +23,7 @@ const INSERTS: &str =
 const DELETES: &str =
     r#"{"version":1,"tree":"ellen","initial":[10],"threads":[[{"op":"delete","key":10},{"op":"insert","key":10},{"op":"delete","key":10}],[{"op":"find","key":10}]]}"#;
 
-/// Runs of steps, each of one thread: both inserts have searched, and then flag their parents.
+/// Stretches of steps, each of one thread: both inserts have searched, and then flag their parents.
 const FLAG_IN_ORDER: [(u8, u64); 4] = [(0, 6), (1, 8), (0, 1), (1, 1)];
 
 /// The same with the flags in the other order.
@@ -72,17 +72,17 @@ fn more_steps(
     Ok(state)
 }
 
-/// The state after runs of steps from the start, each of one thread.
+/// The state after stretches of steps from the start, each of one thread.
 fn after(
     alloc: Global,
     machine: Ellen,
     program: &Program,
-    runs: &[(u8, u64)],
+    stretches: &[(u8, u64)],
 ) -> Result<State<Ellen>, StepFault>
     ensures { IfOk result (Fits (ellen_rules machine) program.now) }
 {
     let mut state = State::start(alloc, machine, program)?;
-    for (thread, count) in runs {
+    for (thread, count) in stretches {
         state = more_steps(alloc, machine, program, state, *thread, *count)?;
     }
     Ok(state)
@@ -92,20 +92,24 @@ fn after(
 fn are_equal(
     alloc: Global,
     text: &str,
-    runs: &[(u8, u64)],
+    stretches: &[(u8, u64)],
     others: &[(u8, u64)],
 ) -> Result<(bool, bool), StepFault> {
     let program = program_of(alloc, text)?;
-    let left = after(alloc, WHOLE, &program, runs)?;
+    let left = after(alloc, WHOLE, &program, stretches)?;
     let right = after(alloc, WHOLE, &program, others)?;
     let forms = left.form(alloc, WHOLE)? == right.form(alloc, WHOLE)?;
     Ok((left == right, forms))
 }
 
 /// The parent at which thread 1 looks for its key after a schedule.
-fn parent_of_find(alloc: Global, text: &str, runs: &[(u8, u64)]) -> Result<Option<u32>, StepFault> {
+fn parent_of_find(
+    alloc: Global,
+    text: &str,
+    stretches: &[(u8, u64)],
+) -> Result<Option<u32>, StepFault> {
     let program = program_of(alloc, text)?;
-    let state = after(alloc, WHOLE, &program, runs)?;
+    let state = after(alloc, WHOLE, &program, stretches)?;
     let thread = state.threads.get(1);
     Ok(match thread.and_then(|thread| thread.place.as_ref()) {
         Some(EllenLoc::Search(SearchLoc::Update { parent, .. })) => Some(*parent),

@@ -70,9 +70,9 @@ module _ (program : Program) where
 
   same_op : (a b : OpId) → IsNamed a → IsNamed b → rank_of a ≡ rank_of b → a ≡ b
   same_op a b h k e =
-      let parts = rank_same program.threads a.thread a.index b.thread b.index h k e in
+      let pieces = rank_same program.threads a.thread a.index b.thread b.index h k e in
       let make : ℕ → ℕ → OpId = λ t i. record { thread = t; index = i } in
-      ap₂ make parts.0 parts.1
+      ap₂ make pieces.0 pieces.1
 
   apart : (a : OpId) → IsNamed a → (rest : List OpId) → ((b : OpId) → Contains rest b → a ≢ b) → All IsNamed rest → AllByRecursion (λ n. eqb (rank_of a) n ≡ false) (map rank_of rest)
   apart a h [] differ named = tt

@@ -10,9 +10,9 @@ same_name_self a = rw (eq-eqb a.thread a.thread refl, eq-eqb a.index a.index ref
 
 pub same_name-is : (a b : OpId) → same_name a b ≡ true → a ≡ b
 same_name-is a b h =
-    let parts = and_parts (eqb a.thread b.thread) (eqb a.index b.index) h in
-    let threads : a.thread ≡ b.thread = eqb-true a.thread b.thread parts.0 in
-    let indices : a.index ≡ b.index = eqb-true a.index b.index parts.1 in
+    let pieces = and_parts (eqb a.thread b.thread) (eqb a.index b.index) h in
+    let threads : a.thread ≡ b.thread = eqb-true a.thread b.thread pieces.0 in
+    let indices : a.index ≡ b.index = eqb-true a.index b.index pieces.1 in
     let make : ℕ → ℕ → OpId = λ t i. record { thread = t; index = i } in
     ap₂ make threads indices
 

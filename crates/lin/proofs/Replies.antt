@@ -128,10 +128,10 @@ module _ (program : Program) (old new : History) (a : OpId) (r : Bool) (is : Has
       IsSomeAnd-of (op_at program a.thread a.index) (Given new keys a []) own.0 own.1 (own_gives keys own.0 own.2, tt)
   gives_after keys (b ∷ rest) none given told =
       let op = IsSomeAnd-value (op_at program b.thread b.index) (Given old keys b rest) given in
-      let parts = or_parts (same_name b a) (listed_in rest a) none in
+      let pieces = or_parts (same_name b a) (listed_in rest a) none in
       IsSomeAnd-of (op_at program b.thread b.index) (Given new keys b (rest ++ a ∷ [])) op.0 op.1 (
-        other_gives keys op.0 b (differ a b parts.0) op.2.0,
-        gives_after (keys_after op.0 keys) rest parts.1 op.2.1 (sym (past_head program a keys b rest op.0 parts.0 op.1) ∙ told),
+        other_gives keys op.0 b (differ a b pieces.0) op.2.0,
+        gives_after (keys_after op.0 keys) rest pieces.1 op.2.1 (sym (past_head program a keys b rest op.0 pieces.0 op.1) ∙ told),
       )
 
   -- an order that gives all replies gives this one
@@ -160,8 +160,8 @@ module _ (program : Program) (old new : History) (a : OpId) (r : Bool) (is : Has
       telling (op_at program a.thread a.index) op.0 keys r op.1 (subst (λ v. IfSome v (λ s. s ≡ reply_on op.0 keys)) is.replied op.2.0)
   given_after keys (b ∷ rest) none given =
       let op = IsSomeAnd-value (op_at program b.thread b.index) (Given new keys b (rest ++ a ∷ [])) given in
-      let parts = or_parts (same_name b a) (listed_in rest a) none in
-      past_head program a keys b rest op.0 parts.0 op.1 ∙ given_after (keys_after op.0 keys) rest parts.1 op.2.1
+      let pieces = or_parts (same_name b a) (listed_in rest a) none in
+      past_head program a keys b rest op.0 pieces.0 op.1 ∙ given_after (keys_after op.0 keys) rest pieces.1 op.2.1
 
   -- ---- the rest of what makes a linearization
   begun_still : (b : OpId) → IsBegun old b → IsBegun new b

@@ -20,10 +20,10 @@ module _ (history : History) (listed barred before : Listed) (name : OpId) (has 
       → (listed name ≡ false) × ((b : OpId) → with_name listed name b ≡ true → EndedBefore history name b → ⊥)
   in_time none =
       let sets = or_parts (listed name || barred name) (before name) none in
-      let parts = or_parts (listed name) (barred name) sets.0 in (
-        parts.0,
+      let pieces = or_parts (listed name) (barred name) sets.0 in (
+        pieces.0,
         λ b among ended. elim (or_cases (listed b) (same_name name b) among) [
-          | inl earlier ↦ true≢false (sym ((barred_are name has).1 (b, earlier, ended)) ∙ parts.1)
+          | inl earlier ↦ true≢false (sym ((barred_are name has).1 (b, earlier, ended)) ∙ pieces.1)
           | inr same ↦ true≢false (sym ((before_are name has).1 (subst (EndedBefore history name) (sym (same_name-is name b same)) ended)) ∙ sets.1)
         ],
       )
@@ -42,9 +42,9 @@ module _ (history : History) (listed barred before : Listed) (name : OpId) (has 
     -- and each finished operation that ended before it began is listed
     pub none_missing : IsHistory history → (finished : Listed) → finished ≡ finished_in history.finished → (a : OpId) → (before a && finished a) ≡ true → listed a ≡ true
     none_missing events finished finished_are a among =
-        let parts = and_parts (before a) (finished a) among in
-        let some : IsSome (reply history a) = sym (ap (λ f. f a) finished_are) ∙ parts.1 in
-        let ended : EndedBefore history a name = (before_are a (finished_placed history events a some)).0 parts.0 in
+        let pieces = and_parts (before a) (finished a) among in
+        let some : IsSome (reply history a) = sym (ap (λ f. f a) finished_are) ∙ pieces.1 in
+        let ended : EndedBefore history a name = (before_are a (finished_placed history events a some)).0 pieces.0 in
         by_listed (listed a) refl some ended
       where
         itself : same_name name a ≡ true → EndedBefore history a name → ⊥

@@ -30,7 +30,7 @@ AreReplies finished replies = (a : OpId) (d : Option Bool) → HasPlace a → sl
 abbrev pub finished_in : List (OpId × Bool) → Listed
 finished_in finished = λ a. is_some (value_at finished a)
 
--- the three parts of the table of a history
+-- the three pieces of the table of a history
 pub record IsTable (history : History) (sets : List OpSet) (told : List (Option Bool)) (ended : OpSet) : Type 0 where
   pub events : IsHistory history
   pub before : AreSetsBefore history.begun sets

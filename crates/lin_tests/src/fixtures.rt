@@ -1,4 +1,4 @@
-//! What the tests share: why a case fails, programs, notes and answers.
+//! What several tests use: why a case fails, programs, notes and answers.
 
 use lin::Order;
 use sched_program::{Note, OpId, OutOfMemory, Program, ProgramFault};

@@ -1,5 +1,5 @@
-//! Tests of `lin`: worked histories, and its judge beside two plainer searchers that share nothing with it but, one of
-//! them, the test of a finished order.
+//! Tests of `lin`: worked histories, and its judge beside two plainer searchers that have nothing in common with it
+//! but, one of them, the test of a finished order.
 #![tactic(auto)]
 
 #[cfg(test)]

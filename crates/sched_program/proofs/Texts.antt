@@ -44,17 +44,17 @@ same_tree_name NmNoTag NmNoTag e = refl
 same_tree_name a b e = absurd (omega (arith, ap length e))
 
 -- an operation is its word and its key
-op_parts : (op : Op) → op_of (word_of op) (key_of op) ≡ op
-op_parts (op.Insert key) = refl
-op_parts (op.Delete key) = refl
-op_parts (op.Find key) = refl
+op_pieces : (op : Op) → op_of (word_of op) (key_of op) ≡ op
+op_pieces (op.Insert key) = refl
+op_pieces (op.Delete key) = refl
+op_pieces (op.Find key) = refl
 
 same_op : (value : Data) (a b : Op) → IsOp value a → IsOp value b → a ≡ b
 same_op value a b is also =
     let word : word_of a ≡ word_of b = same_word_text (word_of a) (word_of b) (same_text (codes "op") value (word_text (word_of a)) (word_text (word_of b)) is.word also.word) in
     let key : key_of a ≡ key_of b = same_member IsKey (codes "key") same_key value (key_of a) (key_of b) is.key also.key in
-    let one = op_parts a in
-    let other = op_parts b in
+    let one = op_pieces a in
+    let other = op_pieces b in
     cc
 
 pub same_threads : (value : Data) (a b : List (List Op)) → HasThreads value a → HasThreads value b → a ≡ b
@@ -89,9 +89,9 @@ same_wait Second value (Some a) (Some b) is also = ap Some (same_member IsTurn (
 pub same_turns : (version : Version) (value : Data) (a b : List (List (Option Turn))) → HasTurns version value a → HasTurns version value b → a ≡ b
 same_turns version = same_member (IsListOf (IsListOf (HasTurn version))) (codes "threads") (same_list (IsListOf (HasTurn version)) (same_list (HasTurn version) (same_wait version)))
 
-same_parts : (a b : Tree) (ks ls : List ℕ) (xs ys : List (List Op)) (us vs : List (List (Option Turn))) → a ≡ b → ks ≡ ls → xs ≡ ys → us ≡ vs
+same_fields : (a b : Tree) (ks ls : List ℕ) (xs ys : List (List Op)) (us vs : List (List (Option Turn))) → a ≡ b → ks ≡ ls → xs ≡ ys → us ≡ vs
     → (let p : Program = record { tree = a; initial = ks; threads = xs; turns = us } in p) ≡ record { tree = b; initial = ls; threads = ys; turns = vs }
-same_parts a b ks ls xs ys us vs e f g h = rw (e, f, g, h)
+same_fields a b ks ls xs ys us vs e f g h = rw (e, f, g, h)
 
 -- a value is the text of one program at most
 pub same_program : (value : Data) (p q : Program) → IsTextOf value p → IsTextOf value q → p ≡ q
@@ -101,7 +101,7 @@ same_program value p q is also =
     let threads : p.threads ≡ q.threads = same_threads value p.threads q.threads is.threads also.threads in
     let version : also.version ≡ is.version = same_version value also.version is.version also.has_version is.has_version in
     let turns : p.turns ≡ q.turns = same_turns is.version value p.turns q.turns is.turns (subst (λ v. HasTurns v value q.turns) version also.turns) in
-    same_parts p.tree q.tree p.initial q.initial p.threads q.threads p.turns q.turns tree initial threads turns
+    same_fields p.tree q.tree p.initial q.initial p.threads q.threads p.turns q.turns tree initial threads turns
 
 -- what has a member is an object
 has_members : (name : List ℕ) (value member : Data) → get name value ≡ Some member → (members : Members) × (value ≡ object members)

@@ -117,7 +117,7 @@ module _ {A B C : Type 0} (One : Data → A → Type 0) (Other : Data → B → 
       let there = Each-both values xs ys all.1 also.1 in
       (here.0 ∷ there.0, (here.1, there.1))
 
-  -- a list whose values stand for parts stands for the wholes
+  -- a list whose values stand for the pieces stands for the wholes
   pub list_both : (value : Data) (xs : List A) (ys : List B) → IsListOf One value xs → IsListOf Other value ys → (zs : List C) × IsListOf Whole value zs
   list_both value xs ys list also =
       let all = Each-both list.0 xs ys list.2 (subst (λ values. Each Other values ys) (same_items value also.0 list.0 also.1 list.1) also.2) in

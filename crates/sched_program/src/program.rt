@@ -46,7 +46,7 @@ fn copy_lists<T: Copy + Drop>(
 }
 
 impl Program {
-    /// The program of these parts, which meet the limits. It takes no memory.
+    /// The program of these fields, which meet the limits. It takes no memory.
     pub fn new(
         tree: Tree,
         initial: Sequence<u8>,

@@ -13,11 +13,11 @@ const TEXT: &str =
     r#"{"version":1,"tree":"atomic","initial":[],"threads":[[{"op":"insert","key":1}],[{"op":"insert","key":1}]]}"#;
 
 /// A text with members that are ignored.
-const EVERY_PART: &str =
+const EVERY_MEMBER: &str =
     r#"{"threads":[[{"key":0,"op":"insert"},{"op":"delete","key":99,"by":[]}],[{"op":"find","key":7}]],
         "note":{"version":2},"initial":[30,7,12],"tree":"ellen-no-mark","version":1}"#;
 
-/// The operations of `EVERY_PART` by thread and index, and one that it has not.
+/// The operations of `EVERY_MEMBER` by thread and index, and one that it has not.
 const OPS: &[(u8, u8, Option<Op>)] = &[
     (0, 0, Some(Op::Insert(0))),
     (0, 1, Some(Op::Delete(99))),
@@ -124,14 +124,14 @@ fn op_at(program: &Program, thread: u8, index: u8) -> Option<Op> {
     program.op(OpId { thread, index })
 }
 
-/// Holds a program to the parts of `EVERY_PART`.
-fn check_parts(rt: &impl Abort, program: &Program) {
+/// Holds a program to the members of `EVERY_MEMBER`.
+fn check_members(rt: &impl Abort, program: &Program) {
     assert_eq!(rt; program.tree(), Tree::EllenNoMark);
     assert_eq!(rt; program.initial(), [30, 7, 12].as_slice());
     assert_eq!(rt; program.threads().len(), 2);
 }
 
-/// Holds a program to the operations of `EVERY_PART`.
+/// Holds a program to the operations of `EVERY_MEMBER`.
 fn check_ops(rt: &impl Abort, program: &Program) {
     for (thread, index, op) in OPS {
         assert_eq!(rt; op_at(program, *thread, *index), *op);
@@ -140,8 +140,8 @@ fn check_ops(rt: &impl Abort, program: &Program) {
 
 #[test]
 fn reads_every_part(rt: HostRuntime) {
-    let program = expect_program(&rt, "every part", EVERY_PART);
-    check_parts(&rt, &program);
+    let program = expect_program(&rt, "every member", EVERY_MEMBER);
+    check_members(&rt, &program);
     check_ops(&rt, &program);
 }
 

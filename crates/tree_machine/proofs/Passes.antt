@@ -20,7 +20,7 @@ use Rattle.tree_machine.specs.Laws.Parts.{content_map, length-parts_graph, parts
 use Rattle.tree_machine.specs.Flat.{number_code, reference_number, counted_codes, cell_code, flat}
 use Rattle.tree_machine.proofs.Walks.{past_none, met_in_done, met_in_end}
 
--- ---- a run of cells
+-- ---- a range of cells
 
 fresh : (y : ℕ) (xs : List ℕ) → AllByRecursion (λ x. x < y) xs → list_any (nat_eq y) xs ≡ false
 fresh y [] h = refl

@@ -56,7 +56,7 @@ pub fn side_of(wanted: u8, key: u8) -> Side
     }
 }
 
-/// Whether the tree at a node is in order between two keys. Each internal node parts the keys between them in two, so
+/// Whether the tree at a node is in order between two keys. Each internal node splits the keys between them in two, so
 /// that the walk ends, and no node is met twice where the answer is yes.
 #[tactic(auto, using(crate::specs::Laws::SearchOrder::none_is_ordered, crate::specs::Laws::SearchOrder::leaf_is_ordered))]
 fn is_ordered<S: Shapes>(memory: &S, low: u8, high: u8, x: usize) -> bool

@@ -95,7 +95,7 @@ impl Pass {
     }
 
     /// Meets so many cells from one on, all behind those met before.
-    fn meet_run(&mut self, first: usize, count: usize) -> Result<(), OutOfMemory>
+    fn meet_range(&mut self, first: usize, count: usize) -> Result<(), OutOfMemory>
         requires in_range { first + count ≤ length self.old.numbering.numbers.items }
         requires behind { All (λ x. x < first) self.old.numbering.order.items }
         ensures order { OnOk result (self.new.numbering.order.items
@@ -222,8 +222,8 @@ impl Writer {
     {
         let graph = nodes + records;
         let mut pass = pass.restarted(graph + held)?;
-        pass.meet_run(0, fixed)?;
-        pass.meet_run(graph, held)?;
+        pass.meet_range(0, fixed)?;
+        pass.meet_range(graph, held)?;
         Ok(Writer {
             pass,
             nodes,

@@ -83,7 +83,7 @@ module _ (R : ℕ → ℕ → Type 0) (one : IsOneToOne R) where
   words_compared (word.Mark r) (word.Mark s) f g p q = mark_compared r s f g p q
   words_compared _ _ f g p q = absurd p
 
--- ---- paired nodes have paired parts
+-- ---- paired nodes have paired fields
 
 module _ (P R : ℕ → ℕ → Type 0) where
   pub key_paired : (a b : Node) → AreNodesPaired P R a b → key_in a ≡ key_in b

@@ -33,7 +33,7 @@ module _ {A : Type 0} {E : A → A → Bool} (exact : IsExact E) where
   list_exact [] (b ∷ bs) h = cc
   list_exact (a ∷ rest) [] h = cc
   list_exact (a ∷ rest) (b ∷ others) h =
-      let parts = both (E a b) (pointwise E rest others) h in
-      let head : a ≡ b = exact a b parts.0 in
-      let tail : rest ≡ others = list_exact rest others parts.1 in
+      let pieces = both (E a b) (pointwise E rest others) h in
+      let head : a ≡ b = exact a b pieces.0 in
+      let tail : rest ≡ others = list_exact rest others pieces.1 in
       cc

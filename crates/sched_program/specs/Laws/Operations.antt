@@ -26,8 +26,8 @@ same_turn s t c d e f = rw (e, f)
 
 pub turn_exact : IsExact turn_eq.it
 turn_exact a b h =
-    let parts = both (nat_eq a.thread b.thread) (nat_eq a.count b.count) h in
-    same_turn a.thread b.thread a.count b.count (nat_exact a.thread b.thread parts.0) (nat_exact a.count b.count parts.1)
+    let pieces = both (nat_eq a.thread b.thread) (nat_eq a.count b.count) h in
+    same_turn a.thread b.thread a.count b.count (nat_exact a.thread b.thread pieces.0) (nat_exact a.count b.count pieces.1)
 
 pub tree_exact : IsExact tree_eq.it
 tree_exact Atomic Atomic h = refl

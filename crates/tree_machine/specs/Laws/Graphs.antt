@@ -159,7 +159,7 @@ places_from_zip R (x ∷ xs) (y ∷ ys) z (suc i) l = places_from_zip R xs ys z.
 cells_weaker : (P Q : ℕ → ℕ → Type 0) → ((x y : ℕ) → P x y → Q x y) → (c d : Content) → AreCellsPaired P c d → AreCellsPaired Q c d
 cells_weaker P Q h c d p = record { facts = p.facts; refs = zip_weaker _ _ (or_none_weaker P Q h) c.refs d.refs p.refs }
 
--- the pairs of two runs of numbers
+-- the pairs of two ranges of numbers
 held_pair : (n m t x y : ℕ) → IsAmong (zip (numbers_from n t) (numbers_from m t)) x y → (i : ℕ) × (i < t) × (n + i ≡ x) × (m + i ≡ y)
 held_pair n m zero x y h = absurd h
 held_pair n m (suc t) x y (inl e) = (0, omega arith, add-zero n ∙ e.0, add-zero m ∙ e.1)
@@ -196,13 +196,13 @@ module _ (fixed : ℕ) (graph held others targets : List Content) (graph_fits : 
       let Q : ℕ → ℕ → Type 0 = IsAmong (filter (are_below n m) pairs) in
       let roots : AllZip (IsAmong pairs) (numbers_from 0 fixed ++ numbers_from n (length held)) (numbers_from 0 fixed ++ numbers_from m (length held)) =
       subst (λ t. AllZip (IsAmong pairs) (numbers_from 0 fixed ++ numbers_from n (length held)) (numbers_from 0 fixed ++ numbers_from m t)) (sym l) h.roots_paired in
-      let parts = zip_split (IsAmong pairs) 0 fixed _ _ roots in
+      let pieces = zip_split (IsAmong pairs) 0 fixed _ _ roots in
       record {
         one_to_one = λ x y a b p q. h.one_to_one x y a b (among_below n m pairs x y p).0 (among_below n m pairs a b q).0;
         fixed_paired = λ x k.
             let fits : fixed ≤ n = graph_fits.fixed_in_range in
             let fit : fixed ≤ m = others_fit.fixed_in_range in
-            let at : IsAmong pairs x x = subst (λ z. IsAmong pairs z z) (zero-add x) (numbers_at (IsAmong pairs) 0 0 fixed parts.0 x k) in
+            let at : IsAmong pairs x x = subst (λ z. IsAmong pairs z z) (zero-add x) (numbers_at (IsAmong pairs) 0 0 fixed pieces.0 x k) in
             below_among n m pairs x x at (omega arith) (omega arith);
         in_range = λ x y p. let r = among_below n m pairs x y p in (r.1, r.2);
         cells_paired = λ x y p.
@@ -215,7 +215,7 @@ module _ (fixed : ℕ) (graph held others targets : List Content) (graph_fits : 
                   (subst (λ k. AllZip (IsPairedOrNone (IsAmong pairs)) k.refs (content_at others y).refs) c (subst (λ k. AllZip (IsPairedOrNone (IsAmong pairs)) (content_at (graph ++ held) x).refs k.refs) d (h.refs_paired x y r.0)));
             };
         held_paired = zip_from_places (AreCellsPaired Q) held targets l (λ i k.
-            let at = numbers_at (IsAmong pairs) n m (length held) parts.1 i k in
+            let at = numbers_at (IsAmong pairs) n m (length held) pieces.1 i k in
             let c = content_back graph held i in
             let d = content_back others targets i in
             record {

@@ -56,7 +56,7 @@ among_append ps qs x y = (to ps, from ps)
     from (p ∷ ps) (inl e) = inl (inl e)
     from (p ∷ ps) (inr h) = later p ps (from ps h)
 
--- both parts below these bounds
+-- both numbers below these bounds
 abbrev pub are_below : ℕ → ℕ → ℕ × ℕ → Bool
 are_below n m p = nat_lt p.0 n && nat_lt p.1 m
 

@@ -119,11 +119,11 @@ parts_from_cells pairs n m r s kind a b below_a below_b h =
     let d = h.facts in
     let lengths : length a.nodes ≡ length b.nodes = cc in
     let facts : a.facts ≡ b.facts = cc in
-    let parts = refs_part (IsAmong pairs) n m a.nodes b.nodes a.records b.records lengths h.refs in
+    let pieces = refs_part (IsAmong pairs) n m a.nodes b.nodes a.records b.records lengths h.refs in
     record {
       facts = facts;
-      nodes = refs_stronger n m pairs a.nodes b.nodes (recursion_from_All _ _ below_a.nodes) (recursion_from_All _ _ below_b.nodes) parts.0;
-      records = zip_weaker _ _ (or_none_weaker (λ x y. IsAmong pairs (n + x) (m + y)) (IsAmong (lowered n m pairs)) (λ x y p. pair_lowered n m pairs x y p)) a.records b.records parts.1;
+      nodes = refs_stronger n m pairs a.nodes b.nodes (recursion_from_All _ _ below_a.nodes) (recursion_from_All _ _ below_b.nodes) pieces.0;
+      records = zip_weaker _ _ (or_none_weaker (λ x y. IsAmong pairs (n + x) (m + y)) (IsAmong (lowered n m pairs)) (λ x y p. pair_lowered n m pairs x y p)) a.records b.records pieces.1;
     }
 
 -- ---- the cells of all parts

@@ -1,7 +1,7 @@
 use Rattle.std.proofs.Common.{◌+◌, ◌∙◌, ap}
 use Rattle.tree_machine.specs.Cells.{met}
 use Rattle.tree_machine.proofs.Passes.{run_next}
-use Rattle.tree_machine.proofs.writer.Pass.meet_run.Goals as goal
+use Rattle.tree_machine.proofs.writer.Pass.meet_range.Goals as goal
 
 pub loop-i-preserved : goal.loop-i-preserved
 loop-i-preserved c = record {

@@ -1,6 +1,6 @@
 use Rattle.std.proofs.Common.{◌≡◌, ◌++◌, length}
 use Rattle.tree_machine.specs.Graphs.{numbers_from}
-use Rattle.tree_machine.proofs.writer.Pass.meet_run.Given as goal
+use Rattle.tree_machine.proofs.writer.Pass.meet_range.Given as goal
 
 -- so many cells are met
 abbrev pub invariant-loop-i : goal.invariant-loop-i
