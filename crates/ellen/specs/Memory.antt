@@ -1,4 +1,4 @@
--- The nodes and the records that the threads have in common.
+-- The nodes and the records of the shared memory.
 use Rattle.std.specs.Prelude.{ℕ, ◌+◌, Bool, true, false, if◌then◌else◌, nat_eq, nat_lt, [], ◌∷◌, ◌++◌, length, slice_get, slice_set, Option, Some, None, unwrap_or}
 use Rattle.std.specs.Option.{option_map}
 use Rattle.ellen.specs.declared.memory.UpdateWord.{UpdateWord}

@@ -1,4 +1,4 @@
-//! The nodes and the records that the threads have in common.
+//! The nodes and the records of the shared memory.
 ghost use Rattle.std.specs.Prelude.{◌≡◌, ◌+◌, ◌^◌, ◌<◌, ◌≤◌, length, IfOk, IfErr, OnErr, Some};
 ghost use Rattle.ellen.specs.declared.memory.Record.TheVariants.{Ins};
 ghost use Rattle.tree_machine.specs.SearchOrder.{side_of};
@@ -65,7 +65,7 @@ pub enum Record {
     Del(DeleteRecord),
 }
 
-/// The memory that the threads have in common: nodes and records, by number. The root is node 0. It has at most 2^32 of
+/// The shared memory: nodes and records, by number. The root is node 0. It has at most 2^32 of
 /// each: more are refused as memory that there is not.
 #[derive(Drop, PartialEq, Eq, Hash)]
 pub struct EllenMem {

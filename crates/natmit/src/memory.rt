@@ -1,4 +1,4 @@
-//! The nodes that the threads have in common.
+//! The nodes of the shared memory.
 ghost use Rattle.std.specs.Prelude.{◌≡◌, ◌+◌, ◌^◌, ◌<◌, ◌≤◌, length, IfOk, IfErr, OnErr};
 ghost use Rattle.natmit.specs.Memory.{plain, is_plain, key_in, shape_in, shapes, word_on, with_word, node_at};
 ghost use Rattle.natmit.specs.Memory.{key_at, set_word, internal_over, with_internal, new_internal, put_at};
@@ -27,7 +27,7 @@ pub enum Node {
     Internal { key: u8, left: Word, right: Word },
 }
 
-/// The memory that the threads have in common: the nodes, by number. The root is node 0, and each search begins at
+/// The shared memory: the nodes, by number. The root is node 0, and each search begins at
 /// node 1. It has at most 2^32 nodes: more are refused as memory that there is not.
 #[derive(Drop, PartialEq, Eq, Hash)]
 pub struct NatMitMem {
