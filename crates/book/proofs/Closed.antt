@@ -15,25 +15,32 @@ use Rattle.book.proofs.Ways.{fits_after}
 
 module _ {S : Type 0} (m : StepMachine S) (machine : IsMachine m) (Alike : S → S → Type 0)
     (joined : (r s u : S) → Alike r s → Alike s u → Alike r u)
-    (steps_alike : (r s u : S) (t : ℕ) → m.Fits r → m.Fits s → Alike r s → m.step s t ≡ Some u → (v : S) × (m.step r t ≡ Some v) × Alike v u)
+    (steps_alike : (r s u : S) (t : ℕ) → m.Fits r → m.Fits s → Alike r s → m.step s t ≡ Some u
+    → (v : S) × (m.step r t ≡ Some v) × Alike v u)
     (states : List S) (closed : AreClosed m Alike states) where
-  covered_along : (c : List ℕ) (r s : S) → m.Fits r → IsAlikeToOneOf Alike states r → run m r c ≡ Some s → IsAlikeToOneOf Alike states s
+  covered_along : (c : List ℕ) (r s : S) → m.Fits r → IsAlikeToOneOf Alike states r → run m r c ≡ Some s
+      → IsAlikeToOneOf Alike states s
   covered_along [] r s fits here leads = let e : r ≡ s = cc in subst (λ x. IsAlikeToOneOf Alike states x) e here
   covered_along (t ∷ c) r s fits here leads =
-      option_and_then_some (λ (u : S). run m u c) (m.step r t) s leads (λ (u : S) (first : m.step r t ≡ Some u) (rest : run m u c ≡ Some s).
+      option_and_then_some (λ (u : S). run m u c) (m.step r t) s leads
+      (λ (u : S) (first : m.step r t ≡ Some u) (rest : run m u c ≡ Some s).
       let twin = steps_alike here.1 r u t (closed.fit here.0 here.1 here.2) fits here.3 first in
       let there = closed.steps here.0 t here.1 twin.0 here.2 twin.1 in
-      covered_along c u s (machine.step_fits r u t fits first) (there.0, there.1, there.2, joined there.1 twin.0 u there.3 twin.2) rest)
+      covered_along c u s (machine.step_fits r u t fits first)
+      (there.0, there.1, there.2, joined there.1 twin.0 u there.3 twin.2) rest)
 
   -- whatever a schedule leads to, one of them is alike to
   pub covered : (c : List ℕ) (s : S) → after m c ≡ Some s → IsAlikeToOneOf Alike states s
   covered c s leads = covered_along c m.start s machine.start_fits closed.start leads
 
 -- the first entry that is left tells whether one is
-pub worked_out : {S : Type 0} (es : List (Entry S)) → position (λ e. not (is_expanded e.mark)) es ≡ None → IsWorkedOut es
-worked_out es none i e at = expanded_from e.mark (none_passes (λ (r : Entry _). not (is_expanded r.mark)) es none i e at)
+pub worked_out : {S : Type 0} (es : List (Entry S)) → position (λ e. not (is_expanded e.mark)) es ≡ None
+    → IsWorkedOut es
+worked_out es none i e at =
+    expanded_from e.mark (none_passes (λ (r : Entry _). not (is_expanded r.mark)) es none i e at)
 
-pub left_out : {S : Type 0} (es : List (Entry S)) (i : ℕ) → position (λ e. not (is_expanded e.mark)) es ≡ Some i → IsWorkedOut es → ⊥
+pub left_out : {S : Type 0} (es : List (Entry S)) (i : ℕ) → position (λ e. not (is_expanded e.mark)) es ≡ Some i
+    → IsWorkedOut es → ⊥
 left_out {S} es i first out =
     let f = first_passes (λ (r : Entry S). not (is_expanded r.mark)) es i first in
     let q : is_expanded f.0.mark ≡ true = ap is_expanded (out i f.0 f.1) in
@@ -45,7 +52,8 @@ module _ {S : Type 0} (m : StepMachine S) (same : S → S → Bool) (right : S �
     (alike : (a b : S) → m.Fits a → m.Fits b → same a b ≡ true → IsSound right a → IsSound right b)
     (es : List (Entry S)) (law : IsLawful m same right es) where
   -- an entry that stands for a state is alike to it
-  among_states : (s : S) → (i : ℕ) × (e : Entry S) × At es i e × (same e.state s ≡ true) → IsAlikeToOneOf (λ a b. same a b ≡ true) (states es) s
+  among_states : (s : S) → (i : ℕ) × (e : Entry S) × At es i e × (same e.state s ≡ true)
+      → IsAlikeToOneOf (λ a b. same a b ≡ true) (states es) s
   among_states s stood = (stood.0, stood.1.state, states-at es stood.0 stood.1 stood.2, stood.3)
 
   -- the states of a book with no entry left are closed
@@ -62,7 +70,8 @@ module _ {S : Type 0} (m : StepMachine S) (same : S → S → Bool) (right : S �
   -- where each of them is sound, every schedule of any length leads to a sound state
   pub closed_holds : IsWorkedOut es → AreSound es → HoldsForEvery m right
   closed_holds out sound c s leads =
-      let w = covered m machine (λ a b. same a b ≡ true) merges.joined merges.steps_alike (states es) (worked_out_closed out) c s leads in
+      let w = covered m machine (λ a b. same a b ≡ true) merges.joined merges.steps_alike (states es)
+      (worked_out_closed out) c s leads in
       let e = at-states es w.0 w.1 w.2 in
       alike e.0.state s (law.fit w.0 e.0 e.1) (fits_after m machine c s leads) (rw e.2 w.3)
       (e.0.finding, law.findings w.0 e.0 e.1, sound w.0 e.0 e.1)

@@ -1,5 +1,6 @@
 -- How many states the schedules lead to.
-use Rattle.std.proofs.Common.{◌≡◌, ℕ, zero, suc, ◌+◌, ◌<◌, ◌≤◌, inl, inr, Bool, true, false, Some, None, List, [], ◌∷◌, ◌++◌, length, take, count_by, cond, refl, sym, ap, ◌∙◌, arith, slice_get, leb}
+use Rattle.std.proofs.Common.{◌≡◌, ℕ, zero, suc, ◌+◌, ◌<◌, ◌≤◌, inl, inr, Bool, true, false, Some, None, List, [], ◌∷◌}
+use Rattle.std.proofs.Common.{◌++◌, length, take, count_by, cond, refl, sym, ap, ◌∙◌, arith, slice_get, leb}
 use Rattle.std.specs.Option.{option_and_then}
 use Rattle.std.proofs.Math.ListN.{length-map}
 use Rattle.std.proofs.lemmas.Bool.{true≢false, cases_lt, le-leb, leb-true, cases_Bool, false_from_ne_true}
@@ -18,45 +19,59 @@ use Rattle.book.proofs.Coverage.{stands_after}
 pub gt-leb : (m n : ℕ) → n < m → leb m n ≡ false
 gt-leb m n less = false_from_ne_true (leb m n) (λ h. let le : m ≤ n = leb-true m n h in absurd (omega arith))
 
-get-take : {X : Type 0} (k : ℕ) (xs : List X) (i : ℕ) (x : X) → slice_get (take k xs) i ≡ Some x → (i < k) × (slice_get xs i ≡ Some x)
+get-take : {X : Type 0} (k : ℕ) (xs : List X) (i : ℕ) (x : X) → slice_get (take k xs) i ≡ Some x
+    → (i < k) × (slice_get xs i ≡ Some x)
 get-take zero xs i x h = absurd (let q : None ≡ Some x = h in cc)
 get-take (suc k) [] i x h = absurd (let q : None ≡ Some x = h in cc)
 get-take (suc k) (y ∷ xs) zero x h = (omega arith, h)
 get-take (suc k) (y ∷ xs) (suc i) x h = let r = get-take k xs i x h in (let l : i < k = r.0 in omega arith, r.1)
 
-take-get : {X : Type 0} (k : ℕ) (xs : List X) (i : ℕ) (x : X) → i < k → slice_get xs i ≡ Some x → slice_get (take k xs) i ≡ Some x
+take-get : {X : Type 0} (k : ℕ) (xs : List X) (i : ℕ) (x : X) → i < k → slice_get xs i ≡ Some x
+    → slice_get (take k xs) i ≡ Some x
 take-get zero xs i x l h = absurd (omega arith)
 take-get (suc k) [] i x l h = absurd (let q : None ≡ Some x = h in cc)
 take-get (suc k) (y ∷ xs) zero x l h = h
 take-get (suc k) (y ∷ xs) (suc i) x l h = take-get k xs i x (omega arith) h
 
 module _ {S : Type 0} (m : StepMachine S) where
-  pub run_push : (c : List ℕ) (r u v : S) (t : ℕ) → run m r c ≡ Some u → m.step u t ≡ Some v → run m r (c ++ t ∷ []) ≡ Some v
-  run_push [] r u v t h leads = let e : r ≡ u = cc in let q : m.step r t ≡ Some v = ap (λ (x : S). m.step x t) e ∙ leads in ap (λ o. option_and_then (λ (x : S). Some x) o) q
+  pub run_push : (c : List ℕ) (r u v : S) (t : ℕ) → run m r c ≡ Some u → m.step u t ≡ Some v
+      → run m r (c ++ t ∷ []) ≡ Some v
+  run_push [] r u v t h leads = let e : r ≡ u = cc in
+      let q : m.step r t ≡ Some v =
+      ap (λ (x : S). m.step x t) e ∙ leads in ap (λ o. option_and_then (λ (x : S). Some x) o) q
   run_push (w ∷ c) r u v t h leads =
-      option_and_then_some (λ (x : S). run m x c) (m.step r w) u h (λ (x : S) (first : m.step r w ≡ Some x) (rest : run m x c ≡ Some u).
+      option_and_then_some (λ (x : S). run m x c) (m.step r w) u h
+      (λ (x : S) (first : m.step r w ≡ Some x) (rest : run m x c ≡ Some u).
       ap (λ o. option_and_then (λ (y : S). run m y (c ++ t ∷ [])) o) first ∙ run_push c x u v t rest leads)
 
   pub run_stops : (c : List ℕ) (r u : S) (t : ℕ) → run m r c ≡ Some u → m.step u t ≡ None → run m r (c ++ t ∷ []) ≡ None
-  run_stops [] r u t h stuck = let e : r ≡ u = cc in let q : m.step r t ≡ None = ap (λ (x : S). m.step x t) e ∙ stuck in ap (λ o. option_and_then (λ (x : S). Some x) o) q
+  run_stops [] r u t h stuck = let e : r ≡ u = cc in let q : m.step r t ≡ None = ap (λ (x : S). m.step x t) e ∙ stuck in
+      ap (λ o. option_and_then (λ (x : S). Some x) o) q
   run_stops (w ∷ c) r u t h stuck =
-      option_and_then_some (λ (x : S). run m x c) (m.step r w) u h (λ (x : S) (first : m.step r w ≡ Some x) (rest : run m x c ≡ Some u).
+      option_and_then_some (λ (x : S). run m x c) (m.step r w) u h
+      (λ (x : S) (first : m.step r w ≡ Some x) (rest : run m x c ≡ Some u).
       ap (λ o. option_and_then (λ (y : S). run m y (c ++ t ∷ [])) o) first ∙ run_stops c x u t rest stuck)
 
 module _ {S : Type 0} (m : StepMachine S) (same : S → S → Bool) (right : S → Finding → Type 0)
     (machine : IsMachine m) (merges : Merges m same) (es : List (Entry S)) (law : IsLawful m same right es) where
-  recorded_by : (n i : ℕ) (e : Entry S) → At es i e → i < n → (c : List ℕ) × (after m c ≡ Some e.state) × (length c ≡ m.steps e.state)
+  recorded_by : (n i : ℕ) (e : Entry S) → At es i e → i < n → (c : List ℕ) × (after m c ≡ Some e.state)
+      × (length c ≡ m.steps e.state)
   recorded_by zero i e at less = absurd (omega arith)
   recorded_by (suc n) i e at less =
       elim (cases_lt 0 i) [
         | inl pos ↦ (
             let step = law.origins i e at pos in
             let earlier : step.origin.parent < i = step.earlier in
-            let up : m.steps e.state ≡ m.steps step.parent.state + 1 = machine.one_more step.parent.state e.state step.origin.thread step.step in
+            let up : m.steps e.state ≡ m.steps step.parent.state + 1 =
+            machine.one_more step.parent.state e.state step.origin.thread step.step in
             let c = recorded_by n step.origin.parent step.parent step.entered (omega arith) in
             let l : length c.0 ≡ m.steps step.parent.state = c.2 in
-            let p : length (c.0 ++ step.origin.thread ∷ []) ≡ length c.0 + 1 = length_push c.0 step.origin.thread in
-            (c.0 ++ step.origin.thread ∷ [], run_push m c.0 m.start step.parent.state e.state step.origin.thread c.1 step.step, omega arith))
+            let p : length (c.0 ++ step.origin.thread ∷ []) ≡ length c.0 + 1 = length_push c.0 step.origin.thread in (
+              c.0 ++ step.origin.thread ∷ [],
+              run_push m c.0 m.start step.parent.state e.state step.origin.thread c.1
+                  step.step,
+              omega arith,
+            ))
         | inr none ↦ (
             let zero_at : i ≡ 0 = omega arith in
             let first : slice_get es 0 ≡ Some law.start.0 = law.start.1 in
@@ -69,17 +84,20 @@ module _ {S : Type 0} (m : StepMachine S) (same : S → S → Bool) (right : S �
       ]
 
   -- each entry's state is reached by a schedule of as many steps
-  pub recorded : (i : ℕ) (e : Entry S) → At es i e → (c : List ℕ) × (after m c ≡ Some e.state) × (length c ≡ m.steps e.state)
+  pub recorded : (i : ℕ) (e : Entry S) → At es i e → (c : List ℕ) × (after m c ≡ Some e.state)
+      × (length c ≡ m.steps e.state)
   recorded i e at = recorded_by (i + 1) i e at (omega arith)
 
   -- the entries of at most n steps are the first k: then k is the number of states
   pub count_is : (n k : ℕ) → ((i : ℕ) (e : Entry S) → At es i e → m.steps e.state < n → e.mark ≡ Expanded)
-      → k ≤ length es → ((i : ℕ) (e : Entry S) → At es i e → i < k → m.steps e.state ≤ n) → ((i : ℕ) (e : Entry S) → At es i e → m.steps e.state ≤ n → i < k)
+      → k ≤ length es → ((i : ℕ) (e : Entry S) → At es i e → i < k → m.steps e.state ≤ n)
+      → ((i : ℕ) (e : Entry S) → At es i e → m.steps e.state ≤ n → i < k)
       → ((s : S) (c : List ℕ) → after m c ≡ Some s → m.steps s ≡ length c)
       → IsCount m same n k
   count_is n k done few below above steps_of = record {
     states = take k (states es);
-    many = length-take-le k (states es) (let l : length (states es) ≡ length es = length-map es (λ (e : Entry S). e.state) in omega arith);
+    many = length-take-le k (states es)
+        (let l : length (states es) ≡ length es = length-map es (λ (e : Entry S). e.state) in omega arith);
     apart = (λ i j x y at_i at_j h.
         let a = get-take k (states es) i x at_i in
         let b = get-take k (states es) j y at_j in
@@ -97,57 +115,78 @@ module _ {S : Type 0} (m : StepMachine S) (same : S → S → Bool) (right : S �
         let w = stands_after m same right machine merges es law n done r.0 s r.1 r.2 in
         let l : m.steps s ≡ length r.0 = steps_of s r.0 r.2 in
         let r_short : length r.0 ≤ n = r.1 in
-        let less : m.steps w.1.state ≤ m.steps s = w.4 in
-        (w.0, w.1.state, take-get k (states es) w.0 w.1.state (above w.0 w.1 w.2 (omega arith)) (states-at es w.0 w.1 w.2), w.3));
+        let less : m.steps w.1.state ≤ m.steps s = w.4 in (
+          w.0,
+          w.1.state,
+          take-get k (states es) w.0 w.1.state (above w.0 w.1 w.2 (omega arith))
+              (states-at es w.0 w.1 w.2),
+          w.3,
+        ));
   }
 
 module _ {X : Type 0} (p : X → Bool) where
   count_none : (xs : List X) → ((i : ℕ) (x : X) → slice_get xs i ≡ Some x → p x ≡ false) → count_by p xs ≡ 0
   count_none [] h = refl
   count_none (x ∷ xs) h =
-      let a : count_by p (x ∷ xs) ≡ cond {A = ℕ} (p x) 1 0 + count_by p xs = sum_by-cons (λ (y : X). cond {A = ℕ} (p y) 1 0) x xs in
+      let a : count_by p (x ∷ xs) ≡ cond {A = ℕ} (p x) 1 0 + count_by p xs =
+      sum_by-cons (λ (y : X). cond {A = ℕ} (p y) 1 0) x xs in
       let b : cond {A = ℕ} (p x) 1 0 ≡ 0 = ap (λ b. cond {A = ℕ} b 1 0) (h 0 x refl) in
       let c : count_by p xs ≡ 0 = count_none xs (λ i y at. h (suc i) y at) in omega arith
 
   -- where those that pass stand first, they are the first `count_by p xs`
-  pub count_first : (xs : List X) → ((i j : ℕ) (x y : X) → i ≤ j → slice_get xs i ≡ Some x → slice_get xs j ≡ Some y → p y ≡ true → p x ≡ true)
+  pub count_first : (xs : List X)
+      → ((i j : ℕ) (x y : X) → i ≤ j → slice_get xs i ≡ Some x → slice_get xs j ≡ Some y → p y ≡ true → p x ≡ true)
       → (i : ℕ) (x : X) → slice_get xs i ≡ Some x → (p x ≡ true → i < count_by p xs) × (i < count_by p xs → p x ≡ true)
   count_first [] down i x at = absurd (let q : None ≡ Some x = at in cc)
   count_first (w ∷ xs) down zero x at =
-      let a : count_by p (w ∷ xs) ≡ cond {A = ℕ} (p w) 1 0 + count_by p xs = sum_by-cons (λ (y : X). cond {A = ℕ} (p y) 1 0) w xs in
+      let a : count_by p (w ∷ xs) ≡ cond {A = ℕ} (p w) 1 0 + count_by p xs =
+      sum_by-cons (λ (y : X). cond {A = ℕ} (p y) 1 0) w xs in
       let same : w ≡ x = cc in
       elim (cases_Bool (p x)) [
-        | inl t ↦ (let c : cond {A = ℕ} (p w) 1 0 ≡ 1 = ap (λ y. cond {A = ℕ} (p y) 1 0) same ∙ ap (λ b. cond {A = ℕ} b 1 0) t in ((λ _. omega arith), (λ _. t)))
+        | inl t ↦ (let c : cond {A = ℕ} (p w) 1 0 ≡ 1 = ap (λ y. cond {A = ℕ} (p y) 1 0) same
+            ∙ ap (λ b. cond {A = ℕ} b 1 0) t in ((λ _. omega arith), (λ _. t)))
         | inr f ↦ (
-            let n : count_by p (w ∷ xs) ≡ 0 = count_none (w ∷ xs) (λ j y there. false_from_ne_true (p y) (λ h. true≢false (sym (down 0 j x y (omega arith) at there h) ∙ f))) in
+            let n : count_by p (w ∷ xs) ≡ 0 =
+            count_none (w ∷ xs)
+            (λ j y there. false_from_ne_true (p y)
+            (λ h. true≢false (sym (down 0 j x y (omega arith) at there h) ∙ f))) in
             ((λ h. absurd (true≢false (sym h ∙ f))), (λ l. absurd (omega arith))))
       ]
   count_first (w ∷ xs) down (suc i) x at =
-      let a : count_by p (w ∷ xs) ≡ cond {A = ℕ} (p w) 1 0 + count_by p xs = sum_by-cons (λ (y : X). cond {A = ℕ} (p y) 1 0) w xs in
+      let a : count_by p (w ∷ xs) ≡ cond {A = ℕ} (p w) 1 0 + count_by p xs =
+      sum_by-cons (λ (y : X). cond {A = ℕ} (p y) 1 0) w xs in
       let r = count_first xs (λ j k y z le at_j at_k h. down (suc j) (suc k) y z (omega arith) at_j at_k h) i x at in
       elim (cases_Bool (p w)) [
         | inl t ↦ (let c : cond {A = ℕ} (p w) 1 0 ≡ 1 = ap (λ b. cond {A = ℕ} b 1 0) t in
             ((λ h. let l : i < count_by p xs = r.0 h in omega arith), (λ l. r.1 (omega arith))))
         | inr f ↦ (
             let none : (h : p x ≡ true) → ⊥ = λ h. true≢false (sym (down 0 (suc i) w x (omega arith) refl at h) ∙ f) in
-            let n : count_by p (w ∷ xs) ≡ 0 = count_none (w ∷ xs) (λ j y there. false_from_ne_true (p y) (λ h. true≢false (sym (down 0 j w y (omega arith) refl there h) ∙ f))) in
+            let n : count_by p (w ∷ xs) ≡ 0 =
+            count_none (w ∷ xs)
+            (λ j y there. false_from_ne_true (p y)
+            (λ h. true≢false (sym (down 0 j w y (omega arith) refl there h) ∙ f))) in
             ((λ h. absurd (none h)), (λ l. absurd (omega arith))))
       ]
 
 -- where the first k pass and no other does, k is their number
 pub count_upto : {X : Type 0} (p : X → Bool) (xs : List X) (k : ℕ) → k ≤ length xs
-    → ((i : ℕ) (x : X) → slice_get xs i ≡ Some x → i < k → p x ≡ true) → ((i : ℕ) (x : X) → slice_get xs i ≡ Some x → k ≤ i → p x ≡ false) → k ≡ count_by p xs
+    → ((i : ℕ) (x : X) → slice_get xs i ≡ Some x → i < k → p x ≡ true)
+    → ((i : ℕ) (x : X) → slice_get xs i ≡ Some x → k ≤ i → p x ≡ false) → k ≡ count_by p xs
 count_upto p [] k within below above = omega arith
 count_upto p (w ∷ xs) zero within below above = sym (count_none p (w ∷ xs) (λ i x at. above i x at (omega arith)))
 count_upto {X} p (w ∷ xs) (suc k) within below above =
-    let a : count_by p (w ∷ xs) ≡ cond {A = ℕ} (p w) 1 0 + count_by p xs = sum_by-cons (λ (y : X). cond {A = ℕ} (p y) 1 0) w xs in
+    let a : count_by p (w ∷ xs) ≡ cond {A = ℕ} (p w) 1 0 + count_by p xs =
+    sum_by-cons (λ (y : X). cond {A = ℕ} (p y) 1 0) w xs in
     let b : cond {A = ℕ} (p w) 1 0 ≡ 1 = ap (λ b. cond {A = ℕ} b 1 0) (below 0 w refl (omega arith)) in
-    let c : k ≡ count_by p xs = count_upto p xs k (omega arith) (λ i x at l. below (suc i) x at (omega arith)) (λ i x at le. above (suc i) x at (omega arith)) in
+    let c : k ≡ count_by p xs =
+    count_upto p xs k (omega arith) (λ i x at l. below (suc i) x at (omega arith))
+    (λ i x at le. above (suc i) x at (omega arith)) in
     omega arith
 
 module _ {S : Type 0} (m : StepMachine S) (same : S → S → Bool) (right : S → Finding → Type 0)
     (machine : IsMachine m) (merges : Merges m same) (es : List (Entry S)) (law : IsLawful m same right es) where
-  -- the entries of at most n steps are as many as the states that schedules of at most n steps lead to, once all of fewer are expanded
+  -- the entries of at most n steps are as many as the states that schedules of at most n steps lead to, once all of
+  -- fewer are expanded
   pub count_to_is : (n : ℕ) → ((i : ℕ) (e : Entry S) → At es i e → m.steps e.state < n → e.mark ≡ Expanded)
       → ((s : S) (c : List ℕ) → after m c ≡ Some s → m.steps s ≡ length c)
       → IsCount m same n (count_by (λ (e : Entry S). leb (m.steps e.state) n) es)

@@ -13,7 +13,8 @@ module _ {S : Type 0} (m : StepMachine S) (same : S → S → Bool) (right : S �
   pub stands_along : (entries : List (Entry S)) → IsLawful m same right entries → StandsForReached m same entries
   stands_along entries law n done [] r s fits here leads short = let e : r ≡ s = cc in rw (← e) here
   stands_along entries law n done (t ∷ c) r s fits here leads short =
-      option_and_then_some (λ (u : S). run m u c) (m.step r t) s leads (λ (u : S) (first : m.step r t ≡ Some u) (rest : run m u c ≡ Some s).
+      option_and_then_some (λ (u : S). run m u c) (m.step r t) s leads
+      (λ (u : S) (first : m.step r t ≡ Some u) (rest : run m u c ≡ Some s).
       let less : m.steps here.1.state < n = (let h : m.steps here.1.state ≤ m.steps r = here.4 in omega arith) in
       let alike = merges.steps_alike here.1.state r u t (law.fit here.0 here.1 here.2) fits here.3 first in
       let next = law.stands here.0 t here.1 alike.0 here.2 (done here.0 here.1 here.2 less) alike.1 in
@@ -24,7 +25,8 @@ module _ {S : Type 0} (m : StepMachine S) (same : S → S → Bool) (right : S �
         next.1,
         next.2,
         merges.joined next.1.state alike.0 u next.3 alike.2,
-        (let a : m.steps next.1.state ≤ m.steps alike.0 = next.4 in let b : m.steps here.1.state ≤ m.steps r = here.4 in omega arith),
+        (let a : m.steps next.1.state ≤ m.steps alike.0 = next.4 in let b : m.steps here.1.state ≤ m.steps r = here.4 in
+            omega arith),
       ) in
       stands_along entries law n done c u s (machine.step_fits r u t fits first) stood rest (omega arith))
 
@@ -37,5 +39,6 @@ module _ {S : Type 0} (m : StepMachine S) (same : S → S → Bool) (right : S �
       let first = law.start in
       let zero_steps : m.steps m.start ≡ 0 = machine.from_zero in
       let is : same first.0.state m.start ≡ true = rw first.2 (merges.itself m.start) in
-      let few : m.steps first.0.state ≤ m.steps m.start = (let q : m.steps first.0.state ≡ m.steps m.start = ap m.steps first.2 in omega arith) in
+      let few : m.steps first.0.state ≤ m.steps m.start =
+      (let q : m.steps first.0.state ≡ m.steps m.start = ap m.steps first.2 in omega arith) in
       stands_along entries law n done c m.start s machine.start_fits (0, first.0, first.1, is, few) leads (omega arith)

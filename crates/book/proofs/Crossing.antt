@@ -1,4 +1,5 @@
--- A book may go to any thread: each type that it is made of may. A search through all of them at once would not come to its end.
+-- A book may go to any thread: each type that it is made of may. A search through all of them at once would not come to
+-- its end.
 use denote.RattleType.{RattleType}
 use denote.Param.Send.{IsSend, IsSync, sendable}
 use Rattle.std.proofs.Crossing.{crosses}
@@ -32,7 +33,8 @@ module _ (K : RattleType) (h : hash.Ghosts K.Denot) (p : partial.Ghosts K.Denot)
   hashed_send : IsSend (Hashed.the_row K h p)
   hashed_send = search (sendable, crosses) depth 30
 
-module _ (S F : RattleType) (a : eq.Ghosts S.Denot) (b : partial.Ghosts S.Denot) (c : hash.Ghosts S.Denot) (d : eq.Ghosts F.Denot) (e : partial.Ghosts F.Denot) (g : hash.Ghosts F.Denot)
+module _ (S F : RattleType) (a : eq.Ghosts S.Denot) (b : partial.Ghosts S.Denot) (c : hash.Ghosts S.Denot)
+    (d : eq.Ghosts F.Denot) (e : partial.Ghosts F.Denot) (g : hash.Ghosts F.Denot)
     (s : IsSend S) (f : IsSend F) (s' : IsSync S) where
   table_send : IsSend (Table.the_row S F a b c d e g)
   table_send = search (row_send, hashed_send, known_send, sendable, crosses) depth 30
@@ -46,16 +48,21 @@ module _ (M Mem Loc Form : RattleType) (m : IsSend M) (mem : IsSend Mem) (loc : 
   state_sync = search (sendable, crosses) depth 30
 
 module _ (M Mem Loc Form : RattleType) (g : machine.Ghosts M.Denot Mem.Denot Loc.Denot Form.Denot)
-    (mp : partial.Ghosts M.Denot) (ap : partial.Ghosts Mem.Denot) (ah : hash.Ghosts Mem.Denot) (lp : partial.Ghosts Loc.Denot) (lh : hash.Ghosts Loc.Denot)
+    (mp : partial.Ghosts M.Denot) (ap : partial.Ghosts Mem.Denot) (ah : hash.Ghosts Mem.Denot)
+    (lp : partial.Ghosts Loc.Denot) (lh : hash.Ghosts Loc.Denot)
     (fc : coded.Ghosts Form.Denot) (fp : partial.Ghosts Form.Denot) (fh : hash.Ghosts Form.Denot) where
   form_send : IsSend (StateForm.the_row M Mem Loc Form g mp ap ah lp lh fc fp fh)
   form_send = search (sendable, crosses) depth 30
 
-module _ (M Mem Loc Form : RattleType) (g : machine.Ghosts M.Denot Mem.Denot Loc.Denot Form.Denot) (c : clone.Ghosts M.Denot)
+module _ (M Mem Loc Form : RattleType) (g : machine.Ghosts M.Denot Mem.Denot Loc.Denot Form.Denot)
+    (c : clone.Ghosts M.Denot)
     (me : exact.Ghosts M.Denot) (mq : eq.Ghosts M.Denot) (mp : partial.Ghosts M.Denot)
-    (ae : exact.Ghosts Mem.Denot) (aq : eq.Ghosts Mem.Denot) (ap : partial.Ghosts Mem.Denot) (ah : hash.Ghosts Mem.Denot)
-    (le : exact.Ghosts Loc.Denot) (lq : eq.Ghosts Loc.Denot) (lp : partial.Ghosts Loc.Denot) (lh : hash.Ghosts Loc.Denot)
-    (fc : coded.Ghosts Form.Denot) (fe : exact.Ghosts Form.Denot) (fq : eq.Ghosts Form.Denot) (fp : partial.Ghosts Form.Denot) (fh : hash.Ghosts Form.Denot)
+    (ae : exact.Ghosts Mem.Denot) (aq : eq.Ghosts Mem.Denot) (ap : partial.Ghosts Mem.Denot)
+    (ah : hash.Ghosts Mem.Denot)
+    (le : exact.Ghosts Loc.Denot) (lq : eq.Ghosts Loc.Denot) (lp : partial.Ghosts Loc.Denot)
+    (lh : hash.Ghosts Loc.Denot)
+    (fc : coded.Ghosts Form.Denot) (fe : exact.Ghosts Form.Denot) (fq : eq.Ghosts Form.Denot)
+    (fp : partial.Ghosts Form.Denot) (fh : hash.Ghosts Form.Denot)
     (m : IsSend M) (mem : IsSend Mem) (loc : IsSend Loc) (form : IsSend Form)
     (m' : IsSync M) (mem' : IsSync Mem) (loc' : IsSync Loc) (form' : IsSync Form) where
   pub book_send : IsSend (Book.the_row M Mem Loc Form g c me mq mp ae aq ap ah le lq lp lh fc fe fq fp fh)

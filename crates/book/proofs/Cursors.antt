@@ -1,12 +1,15 @@
 -- The places among the entries that are looked for again and again.
-use Rattle.std.proofs.Common.{◌≡◌, ◌≢◌, ℕ, zero, suc, ◌+◌, ◌<◌, ◌≤◌, inl, inr, Bool, true, false, not, cond, Option, Some, None, List, [], ◌∷◌, ◌++◌, length, map, refl, sym, ap, ◌∙◌, arith, slice_get, position, length-append, subst}
+use Rattle.std.proofs.Common.{◌≡◌, ◌≢◌, ℕ, zero, suc, ◌+◌, ◌<◌, ◌≤◌, inl, inr, Bool, true, false, not, cond, Option}
+use Rattle.std.proofs.Common.{Some, None, List, [], ◌∷◌, ◌++◌, length, map, refl, sym, ap, ◌∙◌, arith, slice_get}
+use Rattle.std.proofs.Common.{position, length-append, subst}
 use Rattle.std.proofs.lemmas.Bool.{true≢false, cases_lt, not-false}
 use Rattle.book.specs.declared.entry.Mark.{Mark}
 use Rattle.book.specs.declared.entry.Mark.TheVariants.{Open, Taken, Expanded}
 use Rattle.book.specs.Entries.{Entry, Successor, At, IsTaken, is_open, is_expanded, opened, with_mark}
 use Rattle.book.specs.Findings.{is_sound}
 use Rattle.book.specs.Slots.{IsFirstLeft, AreCursors}
-use Rattle.book.proofs.EntryLemmas.{at-with_mark, length-with_mark, get-append_cases, get-append_left, get_at, get_within}
+use Rattle.book.proofs.EntryLemmas.{at-with_mark, length-with_mark, get-append_cases, get-append_left, get_at}
+use Rattle.book.proofs.EntryLemmas.{get_within}
 use Rattle.book.proofs.Next.{first_passes, none_passes}
 use Rattle.book.proofs.Marks.{expanded_fails, left_passes, open_fails, open_from, open_passes}
 
@@ -27,7 +30,8 @@ first_is p xs i x at passes before = go (position p xs) refl
           ]
         ]
 
-pub none_is : {X : Type 0} (p : X → Bool) (xs : List X) → ((k : ℕ) (y : X) → slice_get xs k ≡ Some y → p y ≡ false) → position p xs ≡ None
+pub none_is : {X : Type 0} (p : X → Bool) (xs : List X) → ((k : ℕ) (y : X) → slice_get xs k ≡ Some y → p y ≡ false)
+    → position p xs ≡ None
 none_is p xs fails = go (position p xs) refl
   where
     go : (o : Option ℕ) → position p xs ≡ o → position p xs ≡ None
@@ -36,7 +40,8 @@ none_is p xs fails = go (position p xs) refl
 
 -- what is so of each below a number, and of the one there, is so of each below the next
 pub below_next : {X : Type 0} (P : X → Type 0) (xs : List X) (n : ℕ) (x : X) → slice_get xs n ≡ Some x → P x
-    → ((i : ℕ) (y : X) → slice_get xs i ≡ Some y → i < n → P y) → (i : ℕ) (y : X) → slice_get xs i ≡ Some y → i < n + 1 → P y
+    → ((i : ℕ) (y : X) → slice_get xs i ≡ Some y → i < n → P y) → (i : ℕ) (y : X) → slice_get xs i ≡ Some y → i < n + 1
+    → P y
 below_next P xs n x at is before i y there less =
     elim (cases_lt i n) [
       | inl l ↦ before i y there l
@@ -45,7 +50,8 @@ below_next P xs n x at is before i y there less =
 
 -- the marks do not tell which entries are sound
 pub fault-with_mark : {S : Type 0} (es : List (Entry S)) (i : ℕ) (k : Mark)
-    → position (λ (e : Entry S). not (is_sound e.finding)) (with_mark es i k) ≡ position (λ (e : Entry S). not (is_sound e.finding)) es
+    → position (λ (e : Entry S). not (is_sound e.finding)) (with_mark es i k)
+    ≡ position (λ (e : Entry S). not (is_sound e.finding)) es
 fault-with_mark {S} es i k = go (position p es) refl
   where
     p : Entry S → Bool
@@ -57,11 +63,15 @@ fault-with_mark {S} es i k = go (position p es) refl
         ap (λ x. not (is_sound x)) o.2.finding ∙ none_passes p es h j o.0 o.1) ∙ sym h
     go (Some a) h =
         let first = first_passes p es a h in
-        let at : (f : Entry S) × At (with_mark es i k) a f = get_at (with_mark es i k) a (let w : a < length es = get_within es a first.0 first.1 in let l : length (with_mark es i k) ≡ length es = length-with_mark es i k in omega arith) in
+        let at : (f : Entry S) × At (with_mark es i k) a f =
+        get_at (with_mark es i k) a (let w : a < length es = get_within es a first.0 first.1 in
+        let l : length (with_mark es i k) ≡ length es = length-with_mark es i k in omega arith) in
         let o = at-with_mark es i k a at.0 at.1 in
-        let same : o.0 ≡ first.0 = (let u : slice_get es a ≡ Some o.0 = o.1 in let v : slice_get es a ≡ Some first.0 = first.1 in cc) in
+        let same : o.0 ≡ first.0 = (let u : slice_get es a ≡ Some o.0 = o.1 in
+        let v : slice_get es a ≡ Some first.0 = first.1 in cc) in
         first_is p (with_mark es i k) a at.0 at.1 (ap (λ x. not (is_sound x)) o.2.finding ∙ ap p same ∙ first.2)
-        (λ j f there less. let q = at-with_mark es i k j f there in ap (λ x. not (is_sound x)) q.2.finding ∙ first.3 j q.0 less q.1)
+        (λ j f there less. let q = at-with_mark es i k j f there in
+        ap (λ x. not (is_sound x)) q.2.finding ∙ first.3 j q.0 less q.1)
         ∙ sym h
 
 module _ {S : Type 0} (es : List (Entry S)) where
@@ -71,7 +81,8 @@ module _ {S : Type 0} (es : List (Entry S)) where
   fault-append fs a h =
       let first = first_passes (λ (e : Entry S). not (is_sound e.finding)) es a h in
       let w : a < length es = get_within es a first.0 first.1 in
-      first_is (λ (e : Entry S). not (is_sound e.finding)) (es ++ fs) a first.0 (get-append_left es fs a first.0 first.1) first.2
+      first_is (λ (e : Entry S). not (is_sound e.finding)) (es ++ fs) a first.0
+      (get-append_left es fs a first.0 first.1) first.2
       (λ j f there less. elim (get-append_cases es fs j f there) [
         | inl l ↦ first.3 j f less l
         | inr r ↦ absurd (omega (arith, r.1))
@@ -90,7 +101,8 @@ module _ {S : Type 0} (es : List (Entry S)) where
     pub open_at : next_open < length es → position (λ (e : Entry S). is_open e.mark) es ≡ Some next_open
     open_at less =
         let at = get_at es next_open less in
-        first_is (λ (e : Entry S). is_open e.mark) es next_open at.0 at.1 (open_passes at.0.mark (cursors.above next_open at.0 at.1 (omega arith)))
+        first_is (λ (e : Entry S). is_open e.mark) es next_open at.0 at.1
+        (open_passes at.0.mark (cursors.above next_open at.0 at.1 (omega arith)))
         (λ k y there l. open_fails y.mark (cursors.below k y there l))
 
     pub open_none : length es ≤ next_open → position (λ (e : Entry S). is_open e.mark) es ≡ None
@@ -101,13 +113,15 @@ module _ {S : Type 0} (es : List (Entry S)) where
     pub left_at : first_left < length es → position (λ (e : Entry S). not (is_expanded e.mark)) es ≡ Some first_left
     left_at less =
         let at = get_at es first_left less in
-        first_is (λ (e : Entry S). not (is_expanded e.mark)) es first_left at.0 at.1 (left_passes at.0.mark (cursors.left.stops at.0 at.1))
+        first_is (λ (e : Entry S). not (is_expanded e.mark)) es first_left at.0 at.1
+        (left_passes at.0.mark (cursors.left.stops at.0 at.1))
         (λ k y there l. expanded_fails y.mark (cursors.left.expanded k y there l))
 
     pub left_none : length es ≤ first_left → position (λ (e : Entry S). not (is_expanded e.mark)) es ≡ None
     left_none le =
         none_is (λ (e : Entry S). not (is_expanded e.mark)) es (λ k y there.
-        expanded_fails y.mark (cursors.left.expanded k y there (let w : k < length es = get_within es k y there in omega arith)))
+        expanded_fails y.mark
+        (cursors.left.expanded k y there (let w : k < length es = get_within es k y there in omega arith)))
 
     -- where some entry is open, the cursor is at the first
     pub cursor_is : (i : ℕ) → position (λ (e : Entry S). is_open e.mark) es ≡ Some i → i ≡ next_open
@@ -120,13 +134,15 @@ module _ {S : Type 0} (es : List (Entry S)) where
           | inr ge ↦ elim (cases_lt next_open i) [
             | inl l ↦ absurd (
                 let at = get_at es next_open (omega arith) in
-                true≢false (sym (open_passes at.0.mark (cursors.above next_open at.0 at.1 (omega arith))) ∙ f.3 next_open at.0 l at.1))
+                true≢false (sym (open_passes at.0.mark (cursors.above next_open at.0 at.1 (omega arith)))
+                ∙ f.3 next_open at.0 l at.1))
             | inr le ↦ omega arith
           ]
         ]
 
     -- the first open entry is taken
-    pub cursors_taken : (i : ℕ) → position (λ (e : Entry S). is_open e.mark) es ≡ Some i → AreCursors (with_mark es i Taken) (i + 1) first_left fault
+    pub cursors_taken : (i : ℕ) → position (λ (e : Entry S). is_open e.mark) es ≡ Some i
+        → AreCursors (with_mark es i Taken) (i + 1) first_left fault
     cursors_taken i first =
         let f = first_passes (λ (e : Entry S). is_open e.mark) es i first in
         let was : f.0.mark ≡ Open = open_from f.0.mark f.2 in
@@ -138,7 +154,10 @@ module _ {S : Type 0} (es : List (Entry S)) where
               let o = at-with_mark es i Taken j d at in
               elim o.3 [
                 | inl n ↦ (λ (q : d.mark ≡ Open). let t : d.mark ≡ Taken = n.1 in cc)
-                | inr n ↦ (λ (q : d.mark ≡ Open). cursors.below j o.0 o.1 (let ne : i ≡ j → ⊥ = n.0 in elim (cases_lt j i) [ inl l ↦ omega arith | inr ge ↦ absurd (ne (omega arith)) ])
+                | inr n ↦
+                    (λ (q : d.mark ≡ Open). cursors.below j o.0 o.1
+                    (let ne : i ≡ j → ⊥ = n.0 in
+                    elim (cases_lt j i) [ inl l ↦ omega arith | inr ge ↦ absurd (ne (omega arith)) ])
                     (sym (ap (λ (x : Entry S). x.mark) n.1) ∙ q))
               ]);
           above = (λ j d at le.
@@ -155,14 +174,17 @@ module _ {S : Type 0} (es : List (Entry S)) where
                 elim o.3 [
                   | inl n ↦ absurd (
                       let e : i ≡ j = n.0 in
-                      let same : o.0 ≡ f.0 = (let u : slice_get es j ≡ Some o.0 = o.1 in let v : slice_get es i ≡ Some f.0 = f.1 in cc) in cc)
+                      let same : o.0 ≡ f.0 = (let u : slice_get es j ≡ Some o.0 = o.1 in
+                      let v : slice_get es i ≡ Some f.0 = f.1 in cc) in cc)
                   | inr n ↦ ap (λ (x : Entry S). x.mark) n.1 ∙ done
                 ]);
             stops = (λ d at.
                 let o = at-with_mark es i Taken first_left d at in
                 elim o.3 [
                   | inl n ↦ (λ (q : d.mark ≡ Expanded). let t : d.mark ≡ Taken = n.1 in cc)
-                  | inr n ↦ (λ (q : d.mark ≡ Expanded). cursors.left.stops o.0 o.1 (sym (ap (λ (x : Entry S). x.mark) n.1) ∙ q))
+                  | inr n ↦
+                      (λ (q : d.mark ≡ Expanded). cursors.left.stops o.0 o.1
+                      (sym (ap (λ (x : Entry S). x.mark) n.1) ∙ q))
                 ]);
             within = (let u : first_left ≤ length es = cursors.left.within in omega arith);
           };
@@ -170,7 +192,8 @@ module _ {S : Type 0} (es : List (Entry S)) where
         }
 
     -- a taken entry is expanded
-    pub still_expanded : (i : ℕ) (j : ℕ) (d : Entry S) → At (with_mark es i Expanded) j d → j < first_left → d.mark ≡ Expanded
+    pub still_expanded : (i : ℕ) (j : ℕ) (d : Entry S) → At (with_mark es i Expanded) j d → j < first_left
+        → d.mark ≡ Expanded
     still_expanded i j d at less =
         let o = at-with_mark es i Expanded j d at in
         elim o.3 [
@@ -178,7 +201,8 @@ module _ {S : Type 0} (es : List (Entry S)) where
           | inr n ↦ ap (λ (x : Entry S). x.mark) n.1 ∙ cursors.left.expanded j o.0 o.1 less
         ]
 
-    pub cursors_expanded : (i : ℕ) → IsTaken es i → (left' : ℕ) → IsFirstLeft (with_mark es i Expanded) left' → AreCursors (with_mark es i Expanded) next_open left' fault
+    pub cursors_expanded : (i : ℕ) → IsTaken es i → (left' : ℕ) → IsFirstLeft (with_mark es i Expanded) left'
+        → AreCursors (with_mark es i Expanded) next_open left' fault
     cursors_expanded i taken left' is_left =
         let l : length (with_mark es i Expanded) ≡ length es = length-with_mark es i Expanded in
         record {
@@ -186,7 +210,8 @@ module _ {S : Type 0} (es : List (Entry S)) where
               let o = at-with_mark es i Expanded j d at in
               elim o.3 [
                 | inl n ↦ (λ (q : d.mark ≡ Open). let t : d.mark ≡ Expanded = n.1 in cc)
-                | inr n ↦ (λ (q : d.mark ≡ Open). cursors.below j o.0 o.1 less (sym (ap (λ (x : Entry S). x.mark) n.1) ∙ q))
+                | inr n ↦
+                    (λ (q : d.mark ≡ Open). cursors.below j o.0 o.1 less (sym (ap (λ (x : Entry S). x.mark) n.1) ∙ q))
               ]);
           above = (λ j d at le.
               let o = at-with_mark es i Expanded j d at in
@@ -195,7 +220,8 @@ module _ {S : Type 0} (es : List (Entry S)) where
                 | inl n ↦ absurd (
                     let e : i ≡ j = n.0 in
                     let t : taken.0.mark ≡ Taken = taken.2 in
-                    let same : o.0 ≡ taken.0 = (let u : slice_get es j ≡ Some o.0 = o.1 in let v : slice_get es i ≡ Some taken.0 = taken.1 in cc) in cc)
+                    let same : o.0 ≡ taken.0 = (let u : slice_get es j ≡ Some o.0 = o.1 in
+                    let v : slice_get es i ≡ Some taken.0 = taken.1 in cc) in cc)
                 | inr n ↦ ap (λ (x : Entry S). x.mark) n.1 ∙ was
               ]);
           within = (let u : next_open ≤ length es = cursors.within in omega arith);
@@ -208,7 +234,8 @@ module _ {S : Type 0} (es : List (Entry S)) where
         → fault' ≡ position (λ (e : Entry S). not (is_sound e.finding)) (es ++ map (opened i) xs)
         → AreCursors (es ++ map (opened i) xs) next_open first_left fault'
     cursors_appended i xs fault' is_fault =
-        let l : length (es ++ map (opened i) xs) ≡ length es + length (map (opened i) xs) = length-append es (map (opened i) xs) in
+        let l : length (es ++ map (opened i) xs) ≡ length es + length (map (opened i) xs) =
+        length-append es (map (opened i) xs) in
         record {
           below = (λ j d at less. elim (get-append_cases es (map (opened i) xs) j d at) [
             | inl o ↦ cursors.below j d o less
@@ -233,17 +260,20 @@ module _ {S : Type 0} (es : List (Entry S)) where
           first_fault = is_fault;
         }
       where
-        opened_open : (i : ℕ) (xs : List (Successor S)) (k : ℕ) (d : Entry S) → slice_get (map (opened i) xs) k ≡ Some d → d.mark ≡ Open
+        opened_open : (i : ℕ) (xs : List (Successor S)) (k : ℕ) (d : Entry S) → slice_get (map (opened i) xs) k ≡ Some d
+            → d.mark ≡ Open
         opened_open i [] k d h = absurd (let q : None ≡ Some d = h in cc)
         opened_open i (x ∷ xs) zero d h = let q : opened i x ≡ d = cc in sym (ap (λ (e : Entry S). e.mark) q)
         opened_open i (x ∷ xs) (suc k) d h = opened_open i xs k d h
 
-only_one : {S : Type 0} (e : Entry S) (k : ℕ) (y : Entry S) → slice_get (e ∷ []) k ≡ Some y → not (is_sound e.finding) ≡ false → not (is_sound y.finding) ≡ false
+only_one : {S : Type 0} (e : Entry S) (k : ℕ) (y : Entry S) → slice_get (e ∷ []) k ≡ Some y
+    → not (is_sound e.finding) ≡ false → not (is_sound y.finding) ≡ false
 only_one {S} e zero y at h = let same : e ≡ y = cc in ap (λ (d : Entry S). not (is_sound d.finding)) (sym same) ∙ h
 only_one e (suc k) y at h = absurd (let q : None ≡ Some y = at in cc)
 
 -- the one entry is the first that is not sound, if it is not
-pub fault_of_one : {S : Type 0} (e : Entry S) → position (λ (d : Entry S). not (is_sound d.finding)) (e ∷ []) ≡ cond (is_sound e.finding) None (Some 0)
+pub fault_of_one : {S : Type 0} (e : Entry S)
+    → position (λ (d : Entry S). not (is_sound d.finding)) (e ∷ []) ≡ cond (is_sound e.finding) None (Some 0)
 fault_of_one {S} e = by (is_sound e.finding) refl
   where
     p : Entry S → Bool
@@ -251,7 +281,8 @@ fault_of_one {S} e = by (is_sound e.finding) refl
 
     by : (b : Bool) → is_sound e.finding ≡ b → position p (e ∷ []) ≡ cond (is_sound e.finding) None (Some 0)
     by true h = none_is p (e ∷ []) (λ k y at. only_one e k y at (ap not h)) ∙ sym (ap (λ b. cond b None (Some 0)) h)
-    by false h = first_is p (e ∷ []) 0 e refl (ap not h) (λ k y at less. absurd (omega arith)) ∙ sym (ap (λ b. cond b None (Some 0)) h)
+    by false h = first_is p (e ∷ []) 0 e refl (ap not h) (λ k y at less. absurd (omega arith))
+        ∙ sym (ap (λ b. cond b None (Some 0)) h)
 
 -- one open entry
 pub cursors_one : {S : Type 0} (e : Entry S) → e.mark ≡ Open → (fault : Option ℕ)

@@ -1,5 +1,7 @@
 -- An expansion is entered.
-use Rattle.std.proofs.Common.{◌≡◌, ◌⊎◌, inl, inr, Result, Ok, Err, OnOk, IfOk, IfErr, ℕ, zero, suc, ◌+◌, ◌-◌, ◌^◌, ◌<◌, ◌≤◌, Bool, Some, List, [], ◌∷◌, ◌++◌, length, map, refl, sym, ap, ◌∙◌, arith, slice_get, length-append, subst}
+use Rattle.std.proofs.Common.{◌≡◌, ◌⊎◌, inl, inr, Result, Ok, Err, OnOk, IfOk, IfErr, ℕ, zero, suc, ◌+◌, ◌-◌, ◌^◌, ◌<◌}
+use Rattle.std.proofs.Common.{◌≤◌, Bool, Some, List, [], ◌∷◌, ◌++◌, length, map, refl, sym, ap, ◌∙◌, arith, slice_get}
+use Rattle.std.proofs.Common.{length-append, subst}
 use Rattle.std.proofs.lemmas.Bool.{cond_both}
 use Rattle.std.proofs.Math.ListN.{length-map}
 use Rattle.sched_program.specs.Program.{Program}
@@ -10,49 +12,66 @@ use Rattle.book.specs.declared.finding.Finding.{Finding}
 use Rattle.book.specs.declared.entry.Mark.{Mark}
 use Rattle.book.specs.declared.entry.Mark.TheVariants.{Taken, Expanded}
 use Rattle.book.specs.Schedule.{StepMachine, IsMachine, Merges}
-use Rattle.book.specs.Entries.{Entry, Successor, Steps, Contents, At, Enters, IsOwn, IsTaken, Refuses, with_mark, with_successors, knows, unknown, opened, states}
+use Rattle.book.specs.Entries.{Entry, Successor, Steps, Contents, At, Enters, IsOwn, IsTaken, Refuses, with_mark}
+use Rattle.book.specs.Entries.{with_successors, knows, unknown, opened, states}
 use Rattle.book.specs.Law.{IsLawfulBook, IsExpansion}
 use Rattle.book.proofs.EntryLemmas.{get_within, get-append_left}
 use Rattle.book.proofs.LawfulBooks.{entered_book, met_fits}
 
 -- an entry's machine and state are its own
-pub own_from : {X S : Type 0} (book : Contents X S) (i : ℕ) (e : Entry S) (x : X) (p : Program) (s r : S) → At book.entries i e → r ≡ e.state → x ≡ book.machine → p ≡ book.program → s ≡ r → IsOwn book i x p s
+pub own_from : {X S : Type 0} (book : Contents X S) (i : ℕ) (e : Entry S) (x : X) (p : Program) (s r : S)
+    → At book.entries i e → r ≡ e.state → x ≡ book.machine → p ≡ book.program → s ≡ r → IsOwn book i x p s
 own_from book i e x p s r at state same_machine same_program same_state = record {
   machine = same_machine;
   program = same_program;
-  source = (λ d there. let q : d ≡ e = (let u : slice_get book.entries i ≡ Some e = at in let v : slice_get book.entries i ≡ Some d = there in cc) in
+  source =
+      (λ d there. let q : d ≡ e = (let u : slice_get book.entries i ≡ Some e = at in
+      let v : slice_get book.entries i ≡ Some d = there in cc) in
       same_state ∙ state ∙ sym (ap (λ (v : Entry _). v.state) q));
 }
 
-length-unknown : {S : Type 0} (same : S → S → Bool) (known : List S) (xs : List (Successor S)) → length (unknown same known xs) ≤ length xs
+length-unknown : {S : Type 0} (same : S → S → Bool) (known : List S) (xs : List (Successor S))
+    → length (unknown same known xs) ≤ length xs
 length-unknown same known [] = omega arith
 length-unknown {S} same known (x ∷ xs) =
-    cond_both (knows same known x.state) (unknown same known xs) (x ∷ unknown same (known ++ x.state ∷ []) xs) (λ (ys : List (Successor S)). length ys ≤ suc (length xs))
+    cond_both (knows same known x.state) (unknown same known xs) (x ∷ unknown same (known ++ x.state ∷ []) xs)
+    (λ (ys : List (Successor S)). length ys ≤ suc (length xs))
     (λ _. let h : length (unknown same known xs) ≤ length xs = length-unknown same known xs in omega arith)
-    (λ _. let h : length (unknown same (known ++ x.state ∷ []) xs) ≤ length xs = length-unknown same (known ++ x.state ∷ []) xs in omega arith)
+    (λ _. let h : length (unknown same (known ++ x.state ∷ []) xs)
+    ≤ length xs = length-unknown same (known ++ x.state ∷ []) xs in omega arith)
 
-with_mark-append : {S : Type 0} (es fs : List (Entry S)) (i : ℕ) (k : Mark) → i < length es → with_mark (es ++ fs) i k ≡ with_mark es i k ++ fs
+with_mark-append : {S : Type 0} (es fs : List (Entry S)) (i : ℕ) (k : Mark) → i < length es
+    → with_mark (es ++ fs) i k ≡ with_mark es i k ++ fs
 with_mark-append [] fs i k h = absurd (omega arith)
 with_mark-append (e ∷ es) fs zero k h = refl
 with_mark-append (e ∷ es) fs (suc i) k h = ap (λ xs. e ∷ xs) (with_mark-append es fs i k (omega arith))
 
-module _ {X S : Type 0} (m : StepMachine S) (same : S → S → Bool) (right : S → Finding → Type 0) (machine : IsMachine m) (merges : Merges m same)
-    (b : Contents X S) (book : IsLawfulBook m same right b) (i : ℕ) (e : Entry S) (at : At b.entries i e) (taken : e.mark ≡ Taken)
+module _ {X S : Type 0} (m : StepMachine S) (same : S → S → Bool) (right : S → Finding → Type 0) (machine : IsMachine m)
+    (merges : Merges m same)
+    (b : Contents X S) (book : IsLawfulBook m same right b) (i : ℕ) (e : Entry S) (at : At b.entries i e)
+    (taken : e.mark ≡ Taken)
     (xs : List (Successor S)) (expansion : IsExpansion m right e.state xs)
     (appended : List (Entry S)) (is : appended ≡ b.entries ++ map (opened i) (unknown same (states b.entries) xs)) where
   pub length_appended : length appended ≡ length b.entries + length (unknown same (states b.entries) xs)
   length_appended =
-      let l : length (b.entries ++ map (opened i) (unknown same (states b.entries) xs)) ≡ length b.entries + length (map (opened i) (unknown same (states b.entries) xs)) =
+      let l : length (b.entries ++ map (opened i) (unknown same (states b.entries) xs))
+      ≡ length b.entries + length (map (opened i) (unknown same (states b.entries) xs)) =
       length-append b.entries (map (opened i) (unknown same (states b.entries) xs)) in
-      let m : length (map (opened i) (unknown same (states b.entries) xs)) ≡ length (unknown same (states b.entries) xs) = length-map (unknown same (states b.entries) xs) (opened i) in
-      let q : length appended ≡ length (b.entries ++ map (opened i) (unknown same (states b.entries) xs)) = ap length is in
+      let m : length (map (opened i) (unknown same (states b.entries) xs))
+      ≡ length (unknown same (states b.entries) xs) = length-map (unknown same (states b.entries) xs) (opened i) in
+      let q : length appended ≡ length (b.entries ++ map (opened i) (unknown same (states b.entries) xs)) =
+      ap length is in
       omega arith
 
   -- so many are new
-  pub entered_is : (entered was now : ℕ) → entered ≡ now - was → was ≡ length b.entries → now ≡ length appended → entered ≡ length (unknown same (states b.entries) xs)
-  entered_is entered was now p q r = let l : length appended ≡ length b.entries + length (unknown same (states b.entries) xs) = length_appended in omega arith
+  pub entered_is : (entered was now : ℕ) → entered ≡ now - was → was ≡ length b.entries → now ≡ length appended
+      → entered ≡ length (unknown same (states b.entries) xs)
+  entered_is entered was now p q r =
+      let l : length appended ≡ length b.entries + length (unknown same (states b.entries) xs) = length_appended in
+      omega arith
 
-  pub few_entered : (entered was now steps : ℕ) → entered ≡ now - was → was ≡ length b.entries → now ≡ length appended → steps ≡ length xs → entered ≤ steps
+  pub few_entered : (entered was now steps : ℕ) → entered ≡ now - was → was ≡ length b.entries → now ≡ length appended
+      → steps ≡ length xs → entered ≤ steps
   few_entered entered was now steps p q r u =
       let e : entered ≡ length (unknown same (states b.entries) xs) = entered_is entered was now p q r in
       let c : length (unknown same (states b.entries) xs) ≤ length xs = length-unknown same (states b.entries) xs in
@@ -60,36 +79,59 @@ module _ {X S : Type 0} (m : StepMachine S) (same : S → S → Bool) (right : S
 
   -- the entry is taken still
   pub still_taken : IsTaken appended i
-  still_taken = (e, rw is (get-append_left b.entries (map (opened i) (unknown same (states b.entries) xs)) i e at), taken)
+  still_taken = (
+    e,
+    rw is (get-append_left b.entries (map (opened i) (unknown same (states b.entries) xs)) i e at),
+    taken,
+  )
 
-  pub entered_entries : (new : List (Entry S)) → new ≡ with_mark appended i Expanded → new ≡ with_successors same b.entries i xs
+  pub entered_entries : (new : List (Entry S)) → new ≡ with_mark appended i Expanded
+      → new ≡ with_successors same b.entries i xs
   entered_entries new marked =
       marked ∙ ap (λ es. with_mark es i Expanded) is
-      ∙ with_mark-append b.entries (map (opened i) (unknown same (states b.entries) xs)) i Expanded (get_within b.entries i e at)
+      ∙ with_mark-append b.entries (map (opened i) (unknown same (states b.entries) xs)) i Expanded
+      (get_within b.entries i e at)
 
-  pub lawful_entered : (new : List (Entry S)) (entered met : ℕ) → new ≡ with_mark appended i Expanded → entered ≡ length (unknown same (states b.entries) xs)
+  pub lawful_entered : (new : List (Entry S)) (entered met : ℕ) → new ≡ with_mark appended i Expanded
+      → entered ≡ length (unknown same (states b.entries) xs)
       → entered + met ≡ length xs → length appended ≤ b.limit
-      → IsLawfulBook m same right (record { machine = b.machine; program = b.program; merge = b.merge; limit = b.limit; entries = new; met = b.met + met })
+      → IsLawfulBook m same right
+      (record {
+        machine = b.machine;
+        program = b.program;
+        merge = b.merge;
+        limit = b.limit;
+        entries = new;
+        met = b.met + met;
+      })
   lawful_entered new entered met marked count each room =
-      rw (entered_entries new marked) (entered_book m same right machine merges b book i e at taken xs expansion entered met (sym count) each
-      (let l : length appended ≡ length b.entries + length (unknown same (states b.entries) xs) = length_appended in omega arith))
+      rw (entered_entries new marked)
+      (entered_book m same right machine merges b book i e at taken xs expansion entered met (sym count) each
+      (let l : length appended ≡ length b.entries + length (unknown same (states b.entries) xs) = length_appended in
+      omega arith))
 
   pub small_met : (met : ℕ) → met ≤ length xs → b.met + met < 2 ^ 64
   small_met met le = met_fits m same right machine merges b book i e at taken xs expansion met le
 
 -- what an expansion holds is right for the entry that it is of
-pub expansion_of_own : {X P S : Type 0} (machine_for : X → P → StepMachine S) (right_for : X → P → S → Finding → Type 0) (x y : X) (p q : P) (s r : S) (xs : List (Successor S))
-    → x ≡ y → p ≡ q → s ≡ r → IsExpansion (machine_for x p) (right_for x p) s xs → IsExpansion (machine_for y q) (right_for y q) r xs
+pub expansion_of_own : {X P S : Type 0} (machine_for : X → P → StepMachine S) (right_for : X → P → S → Finding → Type 0)
+    (x y : X) (p q : P) (s r : S) (xs : List (Successor S))
+    → x ≡ y → p ≡ q → s ≡ r → IsExpansion (machine_for x p) (right_for x p) s xs
+    → IsExpansion (machine_for y q) (right_for y q) r xs
 expansion_of_own {X} {P} {S} machine_for right_for x y p q s r xs e f h is =
     subst (λ (v : S). IsExpansion (machine_for y q) (right_for y q) v xs) h
     (subst (λ (u : P). IsExpansion (machine_for y u) (right_for y u) s xs) f
     (subst (λ (u : X). IsExpansion (machine_for u p) (right_for u p) s xs) e is))
 
 -- what putting the steps of an entry answers, of the expansion that they came of
-module _ {X S : Type 0} (same : S → S → Bool) (old new : Contents X S) (i : ℕ) (x : Steps X S) (xs : List (Successor S)) (steps : xs ≡ x.successors)
+module _ {X S : Type 0} (same : S → S → Bool) (old new : Contents X S) (i : ℕ) (x : Steps X S) (xs : List (Successor S))
+    (steps : xs ≡ x.successors)
     (taken : IsTaken old.entries i) (own : IsOwn old i x.machine x.program x.source) where
-  pub enters_by : (answer : Result Entered EnterFault) → OnOk answer (new.entries ≡ with_successors same old.entries i xs)
-      → IfOk answer (λ r. (r.entered ≡ length (unknown same (states old.entries) xs)) × (r.entered + r.met ≡ length xs) × (new.met ≡ old.met + r.met))
+  pub enters_by : (answer : Result Entered EnterFault)
+      → OnOk answer (new.entries ≡ with_successors same old.entries i xs)
+      → IfOk answer
+      (λ r. (r.entered ≡ length (unknown same (states old.entries) xs)) × (r.entered + r.met ≡ length xs)
+      × (new.met ≡ old.met + r.met))
       → IfOk answer (λ r. length old.entries + r.entered ≤ old.limit)
       → (new.machine ≡ old.machine) × (new.program ≡ old.program) × (new.merge ≡ old.merge) × (new.limit ≡ old.limit)
       → IfOk answer (λ r. Enters same old new i x r.entered r.met)
@@ -109,7 +151,9 @@ module _ {X S : Type 0} (same : S → S → Bool) (old new : Contents X S) (i : 
   enters_by (Err fault) entries counts room rest = tt
 
   pub refuses_by : (answer : Result Entered EnterFault)
-      → IfErr answer (λ fault. (fault ≡ OutOfMemory) ⊎ ((fault ≡ Full) × (old.limit < length old.entries + length (unknown same (states old.entries) xs))))
+      → IfErr answer
+      (λ fault. (fault ≡ OutOfMemory)
+      ⊎ ((fault ≡ Full) × (old.limit < length old.entries + length (unknown same (states old.entries) xs))))
       → IfErr answer (Refuses same old i x)
   refuses_by (Ok r) full = tt
   refuses_by (Err NotTaken) (inl e) = cc
@@ -117,5 +161,9 @@ module _ {X S : Type 0} (same : S → S → Bool) (old new : Contents X S) (i : 
   refuses_by (Err Stranger) (inl e) = absurd (cc)
   refuses_by (Err Stranger) (inr e) = absurd (let q : Stranger ≡ Full = e.0 in cc)
   refuses_by (Err Full) (inl e) = absurd (cc)
-  refuses_by (Err Full) (inr e) = (taken, own, subst (λ ys. old.limit < length old.entries + length (unknown same (states old.entries) ys)) steps e.1)
+  refuses_by (Err Full) (inr e) = (
+    taken,
+    own,
+    subst (λ ys. old.limit < length old.entries + length (unknown same (states old.entries) ys)) steps e.1,
+  )
   refuses_by (Err OutOfMemory) full = (taken, own)

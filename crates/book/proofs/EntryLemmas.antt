@@ -1,5 +1,6 @@
 -- An entry by its number, in lists of entries that are made of others.
-use Rattle.std.proofs.Common.{◌≡◌, ◌≢◌, ℕ, zero, suc, ◌+◌, ◌<◌, ◌≤◌, ◌⊎◌, inl, inr, Some, None, List, [], ◌∷◌, ◌++◌, length, refl, sym, ap, ◌∙◌, append_assoc, append-nil, arith, slice_get, count_by, cond}
+use Rattle.std.proofs.Common.{◌≡◌, ◌≢◌, ℕ, zero, suc, ◌+◌, ◌<◌, ◌≤◌, ◌⊎◌, inl, inr, Some, None, List, [], ◌∷◌, ◌++◌}
+use Rattle.std.proofs.Common.{length, refl, sym, ap, ◌∙◌, append_assoc, append-nil, arith, slice_get, count_by, cond}
 use Rattle.std.proofs.lemmas.List.Sums.{sum_by-cons}
 use Rattle.book.specs.declared.entry.Mark.{Mark}
 use Rattle.book.specs.declared.entry.Mark.TheVariants.{Open, Taken, Expanded}
@@ -11,17 +12,23 @@ module _ {X : Type 0} where
   get-append_left (y ∷ xs) ys zero x h = h
   get-append_left (y ∷ xs) ys (suc i) x h = get-append_left xs ys i x h
 
-  pub get-append_right : (xs ys : List X) (k : ℕ) (x : X) → slice_get ys k ≡ Some x → slice_get (xs ++ ys) (length xs + k) ≡ Some x
+  pub get-append_right : (xs ys : List X) (k : ℕ) (x : X) → slice_get ys k ≡ Some x
+      → slice_get (xs ++ ys) (length xs + k) ≡ Some x
   get-append_right [] ys k x h = let e : 0 + k ≡ k = omega arith in rw e h
-  get-append_right (y ∷ xs) ys k x h = let e : suc (length xs) + k ≡ suc (length xs + k) = omega arith in rw e (get-append_right xs ys k x h)
+  get-append_right (y ∷ xs) ys k x h = let e : suc (length xs) + k ≡ suc (length xs + k) = omega arith in
+      rw e (get-append_right xs ys k x h)
 
   -- the first of those that are left of a list, once some have been taken
-  pub get-next : (taken left all : List X) (x : X) (more : List X) → taken ++ left ≡ all → left ≡ x ∷ more → slice_get all (length taken + 0) ≡ Some x
-  get-next taken left all x more rest next = ap (λ xs. slice_get xs (length taken + 0)) (sym rest) ∙ get-append_right taken left 0 x (ap (λ xs. slice_get xs 0) next)
+  pub get-next : (taken left all : List X) (x : X) (more : List X) → taken ++ left ≡ all → left ≡ x ∷ more
+      → slice_get all (length taken + 0) ≡ Some x
+  get-next taken left all x more rest next = ap (λ xs. slice_get xs (length taken + 0)) (sym rest)
+      ∙ get-append_right taken left 0 x (ap (λ xs. slice_get xs 0) next)
 
   -- and those that are left after it
-  pub taken_next : (taken left all : List X) (x : X) (more : List X) → taken ++ left ≡ all → left ≡ x ∷ more → (taken ++ x ∷ []) ++ more ≡ all
-  taken_next taken left all x more rest next = append_assoc taken (x ∷ []) more ∙ ap (λ xs. taken ++ xs) (sym next) ∙ rest
+  pub taken_next : (taken left all : List X) (x : X) (more : List X) → taken ++ left ≡ all → left ≡ x ∷ more
+      → (taken ++ x ∷ []) ++ more ≡ all
+  taken_next taken left all x more rest next =
+      append_assoc taken (x ∷ []) more ∙ ap (λ xs. taken ++ xs) (sym next) ∙ rest
 
   -- and all of them, once none is left
   pub all_taken : (taken left all : List X) → taken ++ left ≡ all → length left ≡ 0 → taken ≡ all
@@ -29,7 +36,8 @@ module _ {X : Type 0} where
   all_taken taken (x ∷ left) all rest none = absurd (let q : suc (length left) ≡ 0 = none in cc)
 
   -- an element of two lists in a row is one of the first, or one of the second
-  pub get-append_cases : (xs ys : List X) (i : ℕ) (x : X) → slice_get (xs ++ ys) i ≡ Some x → (slice_get xs i ≡ Some x) ⊎ ((k : ℕ) × (i ≡ length xs + k) × (slice_get ys k ≡ Some x))
+  pub get-append_cases : (xs ys : List X) (i : ℕ) (x : X) → slice_get (xs ++ ys) i ≡ Some x → (slice_get xs i ≡ Some x)
+      ⊎ ((k : ℕ) × (i ≡ length xs + k) × (slice_get ys k ≡ Some x))
   get-append_cases [] ys i x h = inr (i, omega arith, h)
   get-append_cases (y ∷ xs) ys zero x h = inl h
   get-append_cases (y ∷ xs) ys (suc i) x h =
@@ -70,44 +78,94 @@ module _ {S : Type 0} where
       → (e : Entry S) × At es j e × SameButMark e f × (((i ≡ j) × (f.mark ≡ k)) ⊎ ((i ≢ j) × (f ≡ e)))
   at-with_mark [] i k j f h = absurd (cc)
   at-with_mark (e ∷ es) zero k zero f h =
-      let same : record e { mark = k } ≡ f = cc in
-      (e, refl, record { state = sym (ap (λ (x : Entry S). x.state) same); finding = sym (ap (λ (x : Entry S). x.finding) same); origin = sym (ap (λ (x : Entry S). x.origin) same) }, inl (refl, sym (ap (λ (x : Entry S). x.mark) same)))
-  at-with_mark (e ∷ es) zero k (suc j) f h =
-      (f, h, record { state = refl; finding = refl; origin = refl }, inr ((λ (n : zero ≡ suc j). absurd (omega arith)), refl))
-  at-with_mark (e ∷ es) (suc i) k zero f h =
-      (f, h, record { state = refl; finding = refl; origin = refl }, inr ((λ (n : suc i ≡ zero). absurd (omega arith)), refl))
+      let same : record e { mark = k } ≡ f = cc in (
+        e,
+        refl,
+        record {
+          state = sym (ap (λ (x : Entry S). x.state) same);
+          finding = sym (ap (λ (x : Entry S). x.finding) same);
+          origin = sym (ap (λ (x : Entry S). x.origin) same);
+        },
+        inl (refl, sym (ap (λ (x : Entry S). x.mark) same)),
+      )
+  at-with_mark (e ∷ es) zero k (suc j) f h = (
+    f,
+    h,
+    record { state = refl; finding = refl; origin = refl },
+    inr ((λ (n : zero ≡ suc j). absurd (omega arith)), refl),
+  )
+  at-with_mark (e ∷ es) (suc i) k zero f h = (
+    f,
+    h,
+    record { state = refl; finding = refl; origin = refl },
+    inr ((λ (n : suc i ≡ zero). absurd (omega arith)), refl),
+  )
   at-with_mark (e ∷ es) (suc i) k (suc j) f h =
-      let r = at-with_mark es i k j f h in
-      (r.0, r.1, r.2, elim r.3 [ inl l ↦ inl (ap suc l.0, l.1) | inr n ↦ inr ((λ (q : suc i ≡ suc j). n.0 (omega arith)), n.1) ])
+      let r = at-with_mark es i k j f h in (
+        r.0,
+        r.1,
+        r.2,
+        elim r.3 [ inl l ↦ inl (ap suc l.0, l.1) | inr n ↦ inr ((λ (q : suc i ≡ suc j). n.0 (omega arith)), n.1) ],
+      )
 
   -- an entry from before is one afterwards, with the mark if it is i
   pub with_mark-at : (es : List (Entry S)) (i : ℕ) (k : Mark) (j : ℕ) (e : Entry S) → At es j e
       → (f : Entry S) × At (with_mark es i k) j f × SameButMark e f × (((i ≡ j) × (f.mark ≡ k)) ⊎ ((i ≢ j) × (f ≡ e)))
   with_mark-at [] i k j e h = absurd (cc)
   with_mark-at (d ∷ es) zero k zero e h =
-      let same : d ≡ e = cc in
-      (record d { mark = k }, refl, record { state = ap (λ (x : Entry S). x.state) same; finding = ap (λ (x : Entry S). x.finding) same; origin = ap (λ (x : Entry S). x.origin) same }, inl (refl, refl))
-  with_mark-at (d ∷ es) zero k (suc j) e h =
-      (e, h, record { state = refl; finding = refl; origin = refl }, inr ((λ (n : zero ≡ suc j). absurd (omega arith)), refl))
-  with_mark-at (d ∷ es) (suc i) k zero e h =
-      (e, h, record { state = refl; finding = refl; origin = refl }, inr ((λ (n : suc i ≡ zero). absurd (omega arith)), refl))
+      let same : d ≡ e = cc in (
+        record d { mark = k },
+        refl,
+        record {
+          state = ap (λ (x : Entry S). x.state) same;
+          finding = ap (λ (x : Entry S). x.finding) same;
+          origin = ap (λ (x : Entry S). x.origin) same;
+        },
+        inl (refl, refl),
+      )
+  with_mark-at (d ∷ es) zero k (suc j) e h = (
+    e,
+    h,
+    record { state = refl; finding = refl; origin = refl },
+    inr ((λ (n : zero ≡ suc j). absurd (omega arith)), refl),
+  )
+  with_mark-at (d ∷ es) (suc i) k zero e h = (
+    e,
+    h,
+    record { state = refl; finding = refl; origin = refl },
+    inr ((λ (n : suc i ≡ zero). absurd (omega arith)), refl),
+  )
   with_mark-at (d ∷ es) (suc i) k (suc j) e h =
-      let r = with_mark-at es i k j e h in
-      (r.0, r.1, r.2, elim r.3 [ inl l ↦ inl (ap suc l.0, l.1) | inr n ↦ inr ((λ (q : suc i ≡ suc j). n.0 (omega arith)), n.1) ])
+      let r = with_mark-at es i k j e h in (
+        r.0,
+        r.1,
+        r.2,
+        elim r.3 [ inl l ↦ inl (ap suc l.0, l.1) | inr n ↦ inr ((λ (q : suc i ≡ suc j). n.0 (omega arith)), n.1) ],
+      )
 
 -- each entry is open, taken or expanded
 pub count_marks : {S : Type 0} (es : List (Entry S))
-    → length es ≡ count_by (λ e. is_open e.mark) es + count_by (λ e. is_taken e.mark) es + count_by (λ e. is_expanded e.mark) es
+    → length es ≡ count_by (λ e. is_open e.mark) es + count_by (λ e. is_taken e.mark) es
+    + count_by (λ e. is_expanded e.mark) es
 count_marks [] = refl
 count_marks {S} (e ∷ es) =
-    let a : count_by (λ (e : Entry S). is_open e.mark) (e ∷ es) ≡ cond (is_open e.mark) 1 0 + count_by (λ (e : Entry S). is_open e.mark) es = sum_by-cons (λ (e : Entry S). cond (is_open e.mark) 1 0) e es in
-    let b : count_by (λ (e : Entry S). is_taken e.mark) (e ∷ es) ≡ cond (is_taken e.mark) 1 0 + count_by (λ (e : Entry S). is_taken e.mark) es = sum_by-cons (λ (e : Entry S). cond (is_taken e.mark) 1 0) e es in
-    let c : count_by (λ (e : Entry S). is_expanded e.mark) (e ∷ es) ≡ cond (is_expanded e.mark) 1 0 + count_by (λ (e : Entry S). is_expanded e.mark) es = sum_by-cons (λ (e : Entry S). cond (is_expanded e.mark) 1 0) e es in
-    let rest : length es ≡ count_by (λ (e : Entry S). is_open e.mark) es + count_by (λ (e : Entry S). is_taken e.mark) es + count_by (λ (e : Entry S). is_expanded e.mark) es = count_marks es in
-    let one : 1 ≡ cond {A = ℕ} (is_open e.mark) 1 0 + cond {A = ℕ} (is_taken e.mark) 1 0 + cond {A = ℕ} (is_expanded e.mark) 1 0 = one_mark e.mark in
+    let a : count_by (λ (e : Entry S). is_open e.mark) (e ∷ es)
+    ≡ cond (is_open e.mark) 1 0 + count_by (λ (e : Entry S). is_open e.mark) es =
+    sum_by-cons (λ (e : Entry S). cond (is_open e.mark) 1 0) e es in
+    let b : count_by (λ (e : Entry S). is_taken e.mark) (e ∷ es)
+    ≡ cond (is_taken e.mark) 1 0 + count_by (λ (e : Entry S). is_taken e.mark) es =
+    sum_by-cons (λ (e : Entry S). cond (is_taken e.mark) 1 0) e es in
+    let c : count_by (λ (e : Entry S). is_expanded e.mark) (e ∷ es)
+    ≡ cond (is_expanded e.mark) 1 0 + count_by (λ (e : Entry S). is_expanded e.mark) es =
+    sum_by-cons (λ (e : Entry S). cond (is_expanded e.mark) 1 0) e es in
+    let rest : length es ≡ count_by (λ (e : Entry S). is_open e.mark) es + count_by (λ (e : Entry S). is_taken e.mark)
+    es + count_by (λ (e : Entry S). is_expanded e.mark) es = count_marks es in
+    let one : 1 ≡ cond {A = ℕ} (is_open e.mark) 1 0 + cond {A = ℕ} (is_taken e.mark) 1 0
+    + cond {A = ℕ} (is_expanded e.mark) 1 0 = one_mark e.mark in
     omega arith
   where
-    one_mark : (k : Mark) → 1 ≡ cond {A = ℕ} (is_open k) 1 0 + cond {A = ℕ} (is_taken k) 1 0 + cond {A = ℕ} (is_expanded k) 1 0
+    one_mark : (k : Mark) → 1 ≡ cond {A = ℕ} (is_open k) 1 0 + cond {A = ℕ} (is_taken k) 1 0
+        + cond {A = ℕ} (is_expanded k) 1 0
     one_mark Open = refl
     one_mark Taken = refl
     one_mark Expanded = refl

@@ -3,7 +3,8 @@ use Rattle.std.proofs.Common.{◌≡◌, Bool, true, ◌∙◌}
 use Rattle.std.specs.Cmp.{IsEquivalence}
 use Rattle.book.specs.Schedule.{StepMachine, Merges}
 
-module _ {S : Type 0} (m : StepMachine S) (eq : S → S → Bool) (laws : IsEquivalence eq) (exact : (a b : S) → eq a b ≡ true → a ≡ b) where
+module _ {S : Type 0} (m : StepMachine S) (eq : S → S → Bool) (laws : IsEquivalence eq)
+    (exact : (a b : S) → eq a b ≡ true → a ≡ b) where
   pub exact_merges : Merges m eq
   exact_merges = record {
     itself = laws.refl;

@@ -1,5 +1,6 @@
 -- The steps of a state are taken thread by thread.
-use Rattle.std.proofs.Common.{◌≡◌, ℕ, zero, suc, ◌+◌, inl, inr, cond, Some, None, is_some, List, [], ◌∷◌, ◌++◌, map, filter, refl, sym, ap, ◌∙◌, arith, slice_get, subst, append-nil}
+use Rattle.std.proofs.Common.{◌≡◌, ℕ, zero, suc, ◌+◌, inl, inr, cond, Some, None, is_some, List, [], ◌∷◌, ◌++◌, map}
+use Rattle.std.proofs.Common.{filter, refl, sym, ap, ◌∙◌, arith, slice_get, subst, append-nil}
 use Rattle.std.specs.List.{range_with_len}
 use Rattle.std.proofs.lemmas.List.{map_push}
 use Rattle.std.proofs.lemmas.List.Elements.{filter-append}
@@ -18,10 +19,12 @@ range-more a zero = let e : a + 0 ≡ a = omega arith in ap (λ x. x ∷ []) (sy
 range-more a (suc n) =
     let e : suc n + 1 ≡ suc (n + 1) = omega arith in
     let f : a + 1 + n ≡ a + suc n = omega arith in
-    ap (λ k. range_with_len a k) e ∙ ap (λ xs. a ∷ xs) (range-more (a + 1) n) ∙ ap (λ k. a ∷ range_with_len (a + 1) n ++ k ∷ []) f
+    ap (λ k. range_with_len a k) e ∙ ap (λ xs. a ∷ xs) (range-more (a + 1) n)
+    ∙ ap (λ k. a ∷ range_with_len (a + 1) n ++ k ∷ []) f
 
 -- the steps of the threads below n
-pub record IsFront {S : Type 0} (m : StepMachine S) (right : S → Finding → Type 0) (s : S) (n : ℕ) (xs : List (Successor S)) : Type 0 where
+pub record IsFront {S : Type 0} (m : StepMachine S) (right : S → Finding → Type 0) (s : S) (n : ℕ)
+    (xs : List (Successor S)) : Type 0 where
   pub threads : map (λ x. x.thread) xs ≡ filter (λ t. is_some (m.step s t)) (range_with_len 0 n)
   pub steps : (k : ℕ) (x : Successor S) → slice_get xs k ≡ Some x → m.step s x.thread ≡ Some x.state
   pub findings : (k : ℕ) (x : Successor S) → slice_get xs k ≡ Some x → right x.state x.finding
@@ -44,29 +47,40 @@ module _ {S : Type 0} (m : StepMachine S) (right : S → Finding → Type 0) (s 
       ∙ filter-append (λ t. is_some (m.step s t)) (range_with_len 0 n) (n ∷ [])
 
   -- a thread that is not enabled adds none
-  pub front_same : (n : ℕ) (xs : List (Successor S)) → IsFront m right s n xs → m.step s n ≡ None → IsFront m right s (n + 1) xs
+  pub front_same : (n : ℕ) (xs : List (Successor S)) → IsFront m right s n xs → m.step s n ≡ None
+      → IsFront m right s (n + 1) xs
   front_same n xs front none = record {
-    threads = front.threads ∙ sym (filter_more n ∙ ap (λ o. filter (λ t. is_some (m.step s t)) (range_with_len 0 n) ++ cond (is_some o) (n ∷ []) []) none ∙ append-nil _);
+    threads =
+        front.threads
+        ∙ sym (filter_more n
+        ∙ ap (λ o. filter (λ t. is_some (m.step s t)) (range_with_len 0 n) ++ cond (is_some o) (n ∷ []) []) none
+        ∙ append-nil _);
     steps = front.steps;
     findings = front.findings;
     fit = front.fit;
   }
 
   -- one that is enabled adds its step
-  pub front_more : (n : ℕ) (xs : List (Successor S)) (r : S) (f : Finding) → IsFront m right s n xs → m.step s n ≡ Some r → right r f → m.Fits r
+  pub front_more : (n : ℕ) (xs : List (Successor S)) (r : S) (f : Finding) → IsFront m right s n xs
+      → m.step s n ≡ Some r → right r f → m.Fits r
       → IsFront m right s (n + 1) (xs ++ record { thread = n; state = r; finding = f } ∷ [])
   front_more n xs r f front leads is fits =
       let x : Successor S = record { thread = n; state = r; finding = f } in
       record {
         threads = map_push (λ (y : Successor S). y.thread) xs x ∙ ap (λ ys. ys ++ n ∷ []) front.threads
-            ∙ sym (filter_more n ∙ ap (λ o. filter (λ t. is_some (m.step s t)) (range_with_len 0 n) ++ cond (is_some o) (n ∷ []) []) leads);
+            ∙ sym (filter_more n
+            ∙ ap (λ o. filter (λ t. is_some (m.step s t)) (range_with_len 0 n) ++ cond (is_some o) (n ∷ []) [])
+            leads);
         steps = (λ k y h. elim (get-append_cases xs (x ∷ []) k y h) [
           | inl l ↦ front.steps k y l
-          | inr o ↦ (let e : x ≡ y = get-single x o.0 y o.2 in let a : x.thread ≡ y.thread = ap (λ (v : Successor S). v.thread) e in let b : r ≡ y.state = ap (λ (v : Successor S). v.state) e in cc)
+          | inr o ↦ (let e : x ≡ y = get-single x o.0 y o.2 in
+              let a : x.thread ≡ y.thread = ap (λ (v : Successor S). v.thread) e in
+              let b : r ≡ y.state = ap (λ (v : Successor S). v.state) e in cc)
         ]);
         findings = (λ k y h. elim (get-append_cases xs (x ∷ []) k y h) [
           | inl l ↦ front.findings k y l
-          | inr o ↦ (let e : x ≡ y = get-single x o.0 y o.2 in subst (λ (v : Successor S). right v.state v.finding) e is)
+          | inr o ↦ (let e : x ≡ y = get-single x o.0 y o.2 in
+              subst (λ (v : Successor S). right v.state v.finding) e is)
         ]);
         fit = (λ k y h. elim (get-append_cases xs (x ∷ []) k y h) [
           | inl l ↦ front.fit k y l
@@ -75,10 +89,13 @@ module _ {S : Type 0} (m : StepMachine S) (right : S → Finding → Type 0) (s 
       }
 
   -- the same, by what the calls of one turn answer
-  pub front_turn : (n : ℕ) (xs ys : List (Successor S)) (x : Successor S) → IsFront m right s n xs → x.thread ≡ n → m.step s n ≡ Some x.state
+  pub front_turn : (n : ℕ) (xs ys : List (Successor S)) (x : Successor S) → IsFront m right s n xs → x.thread ≡ n
+      → m.step s n ≡ Some x.state
       → right x.state x.finding → m.Fits x.state → ys ≡ xs ++ x ∷ [] → IsFront m right s (n + 1) ys
   front_turn n xs ys x front is_thread leads is fits pushed =
-      rw (pushed, ← is_thread) (front_more x.thread xs x.state x.finding (rw is_thread front) (rw is_thread leads) is fits)
+      rw (pushed, ← is_thread)
+      (front_more x.thread xs x.state x.finding (rw is_thread front) (rw is_thread leads) is fits)
 
   pub expansion_from_front : (xs : List (Successor S)) → IsFront m right s m.threads xs → IsExpansion m right s xs
-  expansion_from_front xs front = record { threads = front.threads; steps = front.steps; findings = front.findings; fit = front.fit }
+  expansion_from_front xs front =
+      record { threads = front.threads; steps = front.steps; findings = front.findings; fit = front.fit }

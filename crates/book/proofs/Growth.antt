@@ -1,12 +1,15 @@
 -- How a book grows by one expansion.
-use Rattle.std.proofs.Common.{◌≡◌, ◌≢◌, ℕ, zero, suc, ◌+◌, ◌<◌, ◌≤◌, inl, inr, Bool, false, not, cond, Option, Some, None, List, [], ◌∷◌, length, map, refl, sym, ap, ◌∙◌, arith, slice_get, position, subst, count_by}
+use Rattle.std.proofs.Common.{◌≡◌, ◌≢◌, ℕ, zero, suc, ◌+◌, ◌<◌, ◌≤◌, inl, inr, Bool, false, not, cond, Option, Some}
+use Rattle.std.proofs.Common.{None, List, [], ◌∷◌, length, map, refl, sym, ap, ◌∙◌, arith, slice_get, position, subst}
+use Rattle.std.proofs.Common.{count_by}
 use Rattle.std.proofs.lemmas.Bool.{cases_lt}
 use Rattle.std.proofs.lemmas.List.Sums.{sum_by-cons, sum_by-append}
 use Rattle.book.specs.declared.finding.Finding.{Finding}
 use Rattle.book.specs.declared.entry.Mark.{Mark}
 use Rattle.book.specs.declared.entry.Mark.TheVariants.{Open, Taken, Expanded}
 use Rattle.book.specs.Schedule.{StepMachine, IsMachine, Merges}
-use Rattle.book.specs.Entries.{Entry, Successor, Takes, At, IsNext, with_mark, with_successors, unknown, opened, states, is_expanded}
+use Rattle.book.specs.Entries.{Entry, Successor, Takes, At, IsNext, with_mark, with_successors, unknown, opened, states}
+use Rattle.book.specs.Entries.{is_expanded}
 use Rattle.book.specs.Law.{IsLawful, IsExpansion}
 use Rattle.book.specs.Layers.{IsExpandedTo, IsLeftTo, NoneTaken, GrowsFrom, IsThrough}
 use Rattle.book.specs.Findings.{is_sound}
@@ -25,16 +28,19 @@ module _ {S : Type 0} (m : StepMachine S) (same : S → S → Bool) (right : S �
       elim (cases_lt 0 i) [
         | inl pos ↦ (
             let step = law.origins i e at pos in
-            let up : m.steps e.state ≡ m.steps step.parent.state + 1 = machine.one_more step.parent.state e.state step.origin.thread step.step in
+            let up : m.steps e.state ≡ m.steps step.parent.state + 1 =
+            machine.one_more step.parent.state e.state step.origin.thread step.step in
             let earlier : step.origin.parent < i = step.earlier in
-            let few : m.steps step.parent.state ≤ step.origin.parent = few_by n step.origin.parent step.parent step.entered (omega arith) in
+            let few : m.steps step.parent.state ≤ step.origin.parent =
+            few_by n step.origin.parent step.parent step.entered (omega arith) in
             omega arith)
         | inr none ↦ (
             let zero_at : i ≡ 0 = omega arith in
             let first : slice_get es 0 ≡ Some law.start.0 = law.start.1 in
             let e_is : slice_get es i ≡ Some e = at in
             let q : law.start.0 ≡ e = cc in
-            let steps : m.steps e.state ≡ m.steps m.start = ap (λ (x : Entry S). m.steps x.state) (sym q) ∙ ap m.steps law.start.2 in
+            let steps : m.steps e.state ≡ m.steps m.start =
+            ap (λ (x : Entry S). m.steps x.state) (sym q) ∙ ap m.steps law.start.2 in
             let z : m.steps m.start ≡ 0 = machine.from_zero in
             omega arith)
       ]
@@ -44,10 +50,13 @@ module _ {S : Type 0} (m : StepMachine S) (same : S → S → Bool) (right : S �
       let f : m.steps e.state ≤ i = few_by (i + 1) i e at (omega arith) in
       let w : i < length es = get_within es i e at in omega arith
 
-  pub all_expanded : (n : ℕ) → position (λ (r : Entry S). not (is_expanded r.mark)) es ≡ None → IsExpandedTo m.steps es n
-  all_expanded n none i e at few = expanded_from e.mark (none_passes (λ (r : Entry S). not (is_expanded r.mark)) es none i e at)
+  pub all_expanded : (n : ℕ) → position (λ (r : Entry S). not (is_expanded r.mark)) es ≡ None
+      → IsExpandedTo m.steps es n
+  all_expanded n none i e at few =
+      expanded_from e.mark (none_passes (λ (r : Entry S). not (is_expanded r.mark)) es none i e at)
 
-  module _ (a : ℕ) (first : position (λ (r : Entry S). not (is_expanded r.mark)) es ≡ Some a) (d : Entry S) (at_a : At es a d) where
+  module _ (a : ℕ) (first : position (λ (r : Entry S). not (is_expanded r.mark)) es ≡ Some a) (d : Entry S)
+      (at_a : At es a d) where
     first_is_left : d.mark ≢ Expanded
     first_is_left =
         let f = first_passes (λ (r : Entry S). not (is_expanded r.mark)) es a first in
@@ -60,19 +69,24 @@ module _ {S : Type 0} (m : StepMachine S) (same : S → S → Bool) (right : S �
     pub none_left : (n : ℕ) → n < m.steps d.state → IsExpandedTo m.steps es n
     none_left n less i e at few =
         elim (cases_lt i a) [
-          | inl l ↦ expanded_from e.mark ((first_passes (λ (r : Entry S). not (is_expanded r.mark)) es a first).3 i e l at)
+          | inl l ↦ expanded_from e.mark
+              ((first_passes (λ (r : Entry S). not (is_expanded r.mark)) es a first).3 i e l at)
           | inr le ↦ absurd (let q : m.steps d.state ≤ m.steps e.state = law.ordered a i d e at_a at le in omega arith)
         ]
 
   -- where none is taken and some is left, one is next
-  pub one_is_next : NoneTaken es → (n : ℕ) → IsLeftTo m.steps es n → ((i : ℕ) (e : Entry S) → IsNext m.steps es i e → ⊥) → ⊥
+  pub one_is_next : NoneTaken es → (n : ℕ) → IsLeftTo m.steps es n → ((i : ℕ) (e : Entry S) → IsNext m.steps es i e → ⊥)
+      → ⊥
   one_is_next none_taken n left no_next = go (position (λ (r : Entry S). not (is_expanded r.mark)) es) refl
     where
       go : (o : Option ℕ) → position (λ (r : Entry S). not (is_expanded r.mark)) es ≡ o → ⊥
-      go None h = left.3 (expanded_from left.1.mark (none_passes (λ (r : Entry S). not (is_expanded r.mark)) es h left.0 left.1 left.2))
+      go None h =
+          left.3 (expanded_from left.1.mark
+          (none_passes (λ (r : Entry S). not (is_expanded r.mark)) es h left.0 left.1 left.2))
       go (Some a) h =
           let f = first_passes (λ (r : Entry S). not (is_expanded r.mark)) es a h in
-          let is_open_one : f.0.mark ≡ Open = open_between f.0.mark (not_expanded_from f.0.mark f.2) (none_taken a f.0 f.1) in
+          let is_open_one : f.0.mark ≡ Open =
+          open_between f.0.mark (not_expanded_from f.0.mark f.2) (none_taken a f.0 f.1) in
           no_next a f.0 (record {
             entry = f.1;
             is_open = is_open_one;
@@ -88,7 +102,8 @@ module _ {S : Type 0} (m : StepMachine S) (same : S → S → Bool) (right : S �
 
 -- ---- one is taken, and then its steps are entered
 module _ {S : Type 0} (m : StepMachine S) where
-  pub taken_grows : (es : List (Entry S)) (i : ℕ) (e : Entry S) → IsNext m.steps es i e → GrowsFrom m.steps es (with_mark es i Taken)
+  pub taken_grows : (es : List (Entry S)) (i : ℕ) (e : Entry S) → IsNext m.steps es i e
+      → GrowsFrom m.steps es (with_mark es i Taken)
   taken_grows es i e next j f at =
       let o = at-with_mark es i Taken j f at in
       inl (
@@ -97,54 +112,74 @@ module _ {S : Type 0} (m : StepMachine S) where
         o.2.state,
         o.2.finding,
         (λ (x : o.0.mark ≡ Expanded). elim o.3 [
-          | inl l ↦ absurd (let q : o.0 ≡ e = (let u : slice_get es i ≡ Some e = next.entry in let v : slice_get es j ≡ Some o.0 = o.1 in let w : i ≡ j = l.0 in cc) in
+          | inl l ↦ absurd
+              (let q : o.0 ≡ e = (let u : slice_get es i ≡ Some e = next.entry in
+              let v : slice_get es j ≡ Some o.0 = o.1 in let w : i ≡ j = l.0 in cc) in
               let z : e.mark ≡ Open = next.is_open in cc)
           | inr r ↦ ap (λ (q : Entry S). q.mark) r.1 ∙ x
         ]),
       )
 
-  pub taken_alone : (es : List (Entry S)) (i : ℕ) → NoneTaken es → (j : ℕ) (f : Entry S) → At (with_mark es i Taken) j f → f.mark ≡ Taken → i ≡ j
+  pub taken_alone : (es : List (Entry S)) (i : ℕ) → NoneTaken es → (j : ℕ) (f : Entry S) → At (with_mark es i Taken) j f
+      → f.mark ≡ Taken → i ≡ j
   taken_alone es i none j f at taken =
       let o = at-with_mark es i Taken j f at in
       elim o.3 [ inl l ↦ l.0 | inr r ↦ absurd (none j o.0 o.1 (sym (ap (λ (q : Entry S). q.mark) r.1) ∙ taken)) ]
 
   pub taken_count : (es : List (Entry S)) (i : ℕ) (k : Mark) (e : Entry S) → At es i e → is_expanded e.mark ≡ false
-      → count_by (λ (r : Entry S). is_expanded r.mark) (with_mark es i k) ≡ count_by (λ (r : Entry S). is_expanded r.mark) es + cond (is_expanded k) 1 0
+      → count_by (λ (r : Entry S). is_expanded r.mark) (with_mark es i k)
+      ≡ count_by (λ (r : Entry S). is_expanded r.mark) es + cond (is_expanded k) 1 0
   taken_count [] i k e at closed = absurd (let q : None ≡ Some e = at in cc)
   taken_count (d ∷ es) zero k e at closed =
       let q : d ≡ e = cc in
-      let n : cond {A = ℕ} (is_expanded d.mark) 1 0 ≡ 0 = ap (λ (x : Entry S). cond (is_expanded x.mark) 1 0) q ∙ ap (λ b. cond b 1 0) closed in
-      let a : count_by (λ (r : Entry S). is_expanded r.mark) (record d { mark = k } ∷ es) ≡ cond (is_expanded k) 1 0 + count_by (λ (r : Entry S). is_expanded r.mark) es =
+      let n : cond {A = ℕ} (is_expanded d.mark) 1 0 ≡ 0 =
+      ap (λ (x : Entry S). cond (is_expanded x.mark) 1 0) q ∙ ap (λ b. cond b 1 0) closed in
+      let a : count_by (λ (r : Entry S). is_expanded r.mark) (record d { mark = k } ∷ es)
+      ≡ cond (is_expanded k) 1 0 + count_by (λ (r : Entry S). is_expanded r.mark) es =
       sum_by-cons (λ (r : Entry S). cond (is_expanded r.mark) 1 0) (record d { mark = k }) es in
-      let b : count_by (λ (r : Entry S). is_expanded r.mark) (d ∷ es) ≡ cond (is_expanded d.mark) 1 0 + count_by (λ (r : Entry S). is_expanded r.mark) es =
+      let b : count_by (λ (r : Entry S). is_expanded r.mark) (d ∷ es)
+      ≡ cond (is_expanded d.mark) 1 0 + count_by (λ (r : Entry S). is_expanded r.mark) es =
       sum_by-cons (λ (r : Entry S). cond (is_expanded r.mark) 1 0) d es in
       omega arith
   taken_count (d ∷ es) (suc i) k e at closed =
-      let r : count_by (λ (r : Entry S). is_expanded r.mark) (with_mark es i k) ≡ count_by (λ (r : Entry S). is_expanded r.mark) es + cond (is_expanded k) 1 0 = taken_count es i k e at closed in
-      let a : count_by (λ (r : Entry S). is_expanded r.mark) (d ∷ with_mark es i k) ≡ cond (is_expanded d.mark) 1 0 + count_by (λ (r : Entry S). is_expanded r.mark) (with_mark es i k) =
+      let r : count_by (λ (r : Entry S). is_expanded r.mark) (with_mark es i k)
+      ≡ count_by (λ (r : Entry S). is_expanded r.mark) es + cond (is_expanded k) 1 0 =
+      taken_count es i k e at closed in
+      let a : count_by (λ (r : Entry S). is_expanded r.mark) (d ∷ with_mark es i k)
+      ≡ cond (is_expanded d.mark) 1 0 + count_by (λ (r : Entry S). is_expanded r.mark) (with_mark es i k) =
       sum_by-cons (λ (r : Entry S). cond (is_expanded r.mark) 1 0) d (with_mark es i k) in
-      let b : count_by (λ (r : Entry S). is_expanded r.mark) (d ∷ es) ≡ cond (is_expanded d.mark) 1 0 + count_by (λ (r : Entry S). is_expanded r.mark) es =
+      let b : count_by (λ (r : Entry S). is_expanded r.mark) (d ∷ es)
+      ≡ cond (is_expanded d.mark) 1 0 + count_by (λ (r : Entry S). is_expanded r.mark) es =
       sum_by-cons (λ (r : Entry S). cond (is_expanded r.mark) 1 0) d es in
       omega arith
 
-  opened_count : (i : ℕ) (us : List (Successor S)) → count_by (λ (r : Entry S). is_expanded r.mark) (map (opened i) us) ≡ 0
+  opened_count : (i : ℕ) (us : List (Successor S))
+      → count_by (λ (r : Entry S). is_expanded r.mark) (map (opened i) us) ≡ 0
   opened_count i [] = refl
   opened_count i (u ∷ us) =
       sum_by-cons (λ (r : Entry S). cond (is_expanded r.mark) 1 0) (opened i u) (map (opened i) us)
-      ∙ (let r : count_by (λ (r : Entry S). is_expanded r.mark) (map (opened i) us) ≡ 0 = opened_count i us in omega arith)
+      ∙ (let r : count_by (λ (r : Entry S). is_expanded r.mark) (map (opened i) us) ≡ 0 = opened_count i us in
+      omega arith)
 
-  pub entered_count : (same : S → S → Bool) (es : List (Entry S)) (i : ℕ) (e : Entry S) (xs : List (Successor S)) → At es i e → e.mark ≡ Taken
-      → count_by (λ (r : Entry S). is_expanded r.mark) (with_successors same es i xs) ≡ count_by (λ (r : Entry S). is_expanded r.mark) es + 1
+  pub entered_count : (same : S → S → Bool) (es : List (Entry S)) (i : ℕ) (e : Entry S) (xs : List (Successor S))
+      → At es i e → e.mark ≡ Taken
+      → count_by (λ (r : Entry S). is_expanded r.mark) (with_successors same es i xs)
+      ≡ count_by (λ (r : Entry S). is_expanded r.mark) es + 1
   entered_count same es i e xs at taken =
       let a : count_by (λ (r : Entry S). is_expanded r.mark) (with_successors same es i xs)
-      ≡ count_by (λ (r : Entry S). is_expanded r.mark) (with_mark es i Expanded) + count_by (λ (r : Entry S). is_expanded r.mark) (map (opened i) (unknown same (states es) xs)) =
-      sum_by-append (λ (r : Entry S). cond (is_expanded r.mark) 1 0) (with_mark es i Expanded) (map (opened i) (unknown same (states es) xs)) in
-      let b : count_by (λ (r : Entry S). is_expanded r.mark) (with_mark es i Expanded) ≡ count_by (λ (r : Entry S). is_expanded r.mark) es + 1 = taken_count es i Expanded e at (rw taken refl) in
-      let z : count_by (λ (r : Entry S). is_expanded r.mark) (map (opened i) (unknown same (states es) xs)) ≡ 0 = opened_count i (unknown same (states es) xs) in
+      ≡ count_by (λ (r : Entry S). is_expanded r.mark) (with_mark es i Expanded)
+      + count_by (λ (r : Entry S). is_expanded r.mark) (map (opened i) (unknown same (states es) xs)) =
+      sum_by-append (λ (r : Entry S). cond (is_expanded r.mark) 1 0) (with_mark es i Expanded)
+      (map (opened i) (unknown same (states es) xs)) in
+      let b : count_by (λ (r : Entry S). is_expanded r.mark) (with_mark es i Expanded)
+      ≡ count_by (λ (r : Entry S). is_expanded r.mark) es + 1 = taken_count es i Expanded e at (rw taken refl) in
+      let z : count_by (λ (r : Entry S). is_expanded r.mark) (map (opened i) (unknown same (states es) xs)) ≡ 0 =
+      opened_count i (unknown same (states es) xs) in
       omega arith
 
   pub grows_joined : (a b c : List (Entry S)) (k : ℕ) (e : Entry S) → GrowsFrom m.steps a b → GrowsFrom m.steps b c
-      → ((j : ℕ) (f : Entry S) → At b j f → f.mark ≢ Expanded → (i : ℕ) × (d : Entry S) × At a i d × (d.mark ≢ Expanded) × (m.steps d.state ≡ m.steps f.state))
+      → ((j : ℕ) (f : Entry S) → At b j f → f.mark ≢ Expanded → (i : ℕ) × (d : Entry S) × At a i d × (d.mark ≢ Expanded)
+      × (m.steps d.state ≡ m.steps f.state))
       → GrowsFrom m.steps a c
   grows_joined a b c k e first second back j f at =
       elim (second j f at) [
@@ -156,19 +191,25 @@ module _ {S : Type 0} (m : StepMachine S) where
       ]
 
   -- what is through stays through
-  pub through_grows : (n : ℕ) (old new : List (Entry S)) → IsThrough m.steps old n → GrowsFrom m.steps old new → IsThrough m.steps new n
+  pub through_grows : (n : ℕ) (old new : List (Entry S)) → IsThrough m.steps old n → GrowsFrom m.steps old new
+      → IsThrough m.steps new n
   through_grows n old new through grows = record {
     done = (λ j f at less. elim (grows j f at) [
-      | inl o ↦ o.4 (through.done j o.0 o.1 (let q : m.steps f.state ≡ m.steps o.0.state = ap m.steps o.2 in omega arith))
-      | inr o ↦ absurd (o.3 (through.done o.0 o.1 o.2 (let q : m.steps f.state ≡ m.steps o.1.state + 1 = o.4 in omega arith)))
+      | inl o ↦ o.4
+          (through.done j o.0 o.1 (let q : m.steps f.state ≡ m.steps o.0.state = ap m.steps o.2 in omega arith))
+      | inr o ↦ absurd
+          (o.3 (through.done o.0 o.1 o.2 (let q : m.steps f.state ≡ m.steps o.1.state + 1 = o.4 in omega arith)))
     ]);
     sound = (λ j f at few. elim (grows j f at) [
-      | inl o ↦ ap is_sound o.3 ∙ through.sound j o.0 o.1 (let q : m.steps f.state ≡ m.steps o.0.state = ap m.steps o.2 in omega arith)
-      | inr o ↦ absurd (o.3 (through.done o.0 o.1 o.2 (let q : m.steps f.state ≡ m.steps o.1.state + 1 = o.4 in omega arith)))
+      | inl o ↦ ap is_sound o.3 ∙ through.sound j o.0 o.1
+          (let q : m.steps f.state ≡ m.steps o.0.state = ap m.steps o.2 in omega arith)
+      | inr o ↦ absurd
+          (o.3 (through.done o.0 o.1 o.2 (let q : m.steps f.state ≡ m.steps o.1.state + 1 = o.4 in omega arith)))
     ]);
   }
 
-  taken_back : (es : List (Entry S)) (i : ℕ) (e : Entry S) → IsNext m.steps es i e → (j : ℕ) (f : Entry S) → At (with_mark es i Taken) j f → f.mark ≢ Expanded
+  taken_back : (es : List (Entry S)) (i : ℕ) (e : Entry S) → IsNext m.steps es i e → (j : ℕ) (f : Entry S)
+      → At (with_mark es i Taken) j f → f.mark ≢ Expanded
       → (k : ℕ) × (d : Entry S) × At es k d × (d.mark ≢ Expanded) × (m.steps d.state ≡ m.steps f.state)
   taken_back es i e next j f at left =
       let o = at-with_mark es i Taken j f at in (
@@ -176,7 +217,9 @@ module _ {S : Type 0} (m : StepMachine S) where
         o.0,
         o.1,
         (λ (x : o.0.mark ≡ Expanded). elim o.3 [
-          | inl l ↦ (let q : o.0 ≡ e = (let u : slice_get es i ≡ Some e = next.entry in let v : slice_get es j ≡ Some o.0 = o.1 in let w : i ≡ j = l.0 in cc) in
+          | inl l ↦
+              (let q : o.0 ≡ e = (let u : slice_get es i ≡ Some e = next.entry in
+              let v : slice_get es j ≡ Some o.0 = o.1 in let w : i ≡ j = l.0 in cc) in
               let z : e.mark ≡ Open = next.is_open in cc)
           | inr r ↦ left (ap (λ (q : Entry S). q.mark) r.1 ∙ x)
         ]),
@@ -189,28 +232,49 @@ pub record IsAdvance {S : Type 0} (steps : S → ℕ) (old new : List (Entry S))
   pub none_taken : NoneTaken new
   pub more : count_by (λ (r : Entry S). is_expanded r.mark) new ≡ count_by (λ (r : Entry S). is_expanded r.mark) old + 1
 
-module _ {S : Type 0} (m : StepMachine S) (same : S → S → Bool) (right : S → Finding → Type 0) (machine : IsMachine m) (merges : Merges m same) where
-  pub advances : (a b c : List (Entry S)) (i : ℕ) (s : S) (d : Entry S) (xs : List (Successor S)) → Takes m.steps a b i s → IsLawful m same right b
-      → At b i d → d.mark ≡ Taken → IsExpansion m right d.state xs → c ≡ with_successors same b i xs → NoneTaken a → IsAdvance m.steps a c
+module _ {S : Type 0} (m : StepMachine S) (same : S → S → Bool) (right : S → Finding → Type 0) (machine : IsMachine m)
+    (merges : Merges m same) where
+  pub advances : (a b c : List (Entry S)) (i : ℕ) (s : S) (d : Entry S) (xs : List (Successor S))
+      → Takes m.steps a b i s → IsLawful m same right b
+      → At b i d → d.mark ≡ Taken → IsExpansion m right d.state xs → c ≡ with_successors same b i xs → NoneTaken a
+      → IsAdvance m.steps a c
   advances a b c i s d xs takes law at taken expansion is none =
-      let first : GrowsFrom m.steps a b = subst (λ (q : List (Entry S)). GrowsFrom m.steps a q) (sym takes.after) (taken_grows m a i takes.entry takes.next) in
-      let back : (j : ℕ) (f : Entry S) → At b j f → f.mark ≢ Expanded → (k : ℕ) × (e : Entry S) × At a k e × (e.mark ≢ Expanded) × (m.steps e.state ≡ m.steps f.state) =
-      subst (λ (q : List (Entry S)). (j : ℕ) (f : Entry S) → At q j f → f.mark ≢ Expanded → (k : ℕ) × (e : Entry S) × At a k e × (e.mark ≢ Expanded) × (m.steps e.state ≡ m.steps f.state))
+      let first : GrowsFrom m.steps a b =
+      subst (λ (q : List (Entry S)). GrowsFrom m.steps a q) (sym takes.after)
+      (taken_grows m a i takes.entry takes.next) in
+      let back : (j : ℕ) (f : Entry S) → At b j f → f.mark ≢ Expanded → (k : ℕ) × (e : Entry S) × At a k e
+      × (e.mark ≢ Expanded) × (m.steps e.state ≡ m.steps f.state) =
+      subst (λ (q : List (Entry S)). (j : ℕ) (f : Entry S) → At q j f → f.mark ≢ Expanded → (k : ℕ) × (e : Entry S)
+      × At a k e × (e.mark ≢ Expanded) × (m.steps e.state ≡ m.steps f.state))
       (sym takes.after) (taken_back m a i takes.entry takes.next) in
       let alone : (j : ℕ) (f : Entry S) → At b j f → f.mark ≡ Taken → i ≡ j =
-      subst (λ (q : List (Entry S)). (j : ℕ) (f : Entry S) → At q j f → f.mark ≡ Taken → i ≡ j) (sym takes.after) (taken_alone m a i none) in
-      let counted : count_by (λ (r : Entry S). is_expanded r.mark) b ≡ count_by (λ (r : Entry S). is_expanded r.mark) a =
+      subst (λ (q : List (Entry S)). (j : ℕ) (f : Entry S) → At q j f → f.mark ≡ Taken → i ≡ j) (sym takes.after)
+      (taken_alone m a i none) in
+      let counted : count_by (λ (r : Entry S). is_expanded r.mark) b
+      ≡ count_by (λ (r : Entry S). is_expanded r.mark) a =
       ap (count_by (λ (r : Entry S). is_expanded r.mark)) takes.after
-      ∙ (let q : count_by (λ (r : Entry S). is_expanded r.mark) (with_mark a i Taken) ≡ count_by (λ (r : Entry S). is_expanded r.mark) a + 0 =
+      ∙ (let q : count_by (λ (r : Entry S). is_expanded r.mark) (with_mark a i Taken)
+      ≡ count_by (λ (r : Entry S). is_expanded r.mark) a + 0 =
       taken_count m a i Taken takes.entry takes.next.entry (ap is_expanded takes.next.is_open) in omega arith) in
       record {
-        grows = grows_joined m a b c i d first (subst (λ (q : List (Entry S)). GrowsFrom m.steps b q) (sym is) (entered_grows m same right machine merges b law i d at taken xs expansion)) back;
-        none_taken = subst (λ (q : List (Entry S)). NoneTaken q) (sym is) (entered_rests m same right machine merges b law i d at taken xs expansion alone);
-        more = ap (count_by (λ (r : Entry S). is_expanded r.mark)) is ∙ entered_count m same b i d xs at taken ∙ ap (λ n. n + 1) counted;
+        grows = grows_joined m a b c i d first
+            (subst (λ (q : List (Entry S)). GrowsFrom m.steps b q) (sym is)
+            (entered_grows m same right machine merges b law i d at taken xs expansion)) back;
+        none_taken =
+            subst (λ (q : List (Entry S)). NoneTaken q) (sym is)
+            (entered_rests m same right machine merges b law i d at taken xs expansion alone);
+        more = ap (count_by (λ (r : Entry S). is_expanded r.mark)) is ∙ entered_count m same b i d xs at taken
+            ∙ ap (λ n. n + 1) counted;
       }
 
 -- what was taken is a taken entry
-pub taken_is : {S : Type 0} (steps : S → ℕ) (a b : List (Entry S)) (i : ℕ) (s : S) → Takes steps a b i s → (e : Entry S) × At b i e × (e.mark ≡ Taken) × (e.state ≡ s)
+pub taken_is : {S : Type 0} (steps : S → ℕ) (a b : List (Entry S)) (i : ℕ) (s : S) → Takes steps a b i s
+    → (e : Entry S) × At b i e × (e.mark ≡ Taken) × (e.state ≡ s)
 taken_is steps a b i s takes =
-    let w = with_mark-at a i Taken i takes.entry takes.next.entry in
-    (w.0, ap (λ es. slice_get es i) takes.after ∙ w.1, elim w.3 [ inl l ↦ l.1 | inr r ↦ absurd (r.0 refl) ], w.2.state ∙ takes.state)
+    let w = with_mark-at a i Taken i takes.entry takes.next.entry in (
+      w.0,
+      ap (λ es. slice_get es i) takes.after ∙ w.1,
+      elim w.3 [ inl l ↦ l.1 | inr r ↦ absurd (r.0 refl) ],
+      w.2.state
+          ∙ takes.state,
+    )

@@ -1,5 +1,7 @@
 -- The states that a book holds: those of its entries from the first on that is not expanded.
-use Rattle.std.proofs.Common.{◌≡◌, ◌≢◌, ℕ, zero, suc, ◌+◌, ◌-◌, ◌<◌, ◌≤◌, inl, inr, Bool, true, false, cond, Option, Some, None, List, [], ◌∷◌, ◌++◌, drop, not, position, length, map, take, refl, sym, ap, ◌∙◌, arith, slice_get, subst}
+use Rattle.std.proofs.Common.{◌≡◌, ◌≢◌, ℕ, zero, suc, ◌+◌, ◌-◌, ◌<◌, ◌≤◌, inl, inr, Bool, true, false, cond, Option}
+use Rattle.std.proofs.Common.{Some, None, List, [], ◌∷◌, ◌++◌, drop, not, position, length, map, take, refl, sym, ap}
+use Rattle.std.proofs.Common.{◌∙◌, arith, slice_get, subst}
 use Rattle.std.proofs.Math.Seq.{take-length}
 use Rattle.std.proofs.lemmas.Bool.{cases_lt}
 use Rattle.std.proofs.lemmas.List.{map-append, take-append-drop}
@@ -20,7 +22,8 @@ module _ {X : Type 0} where
   get-drop : (xs : List X) (n k : ℕ) → slice_get (drop n xs) k ≡ slice_get xs (n + k)
   get-drop xs zero k = ap (slice_get xs) (let e : k ≡ 0 + k = omega arith in e)
   get-drop [] (suc n) k = refl
-  get-drop (x ∷ xs) (suc n) k = get-drop xs n k ∙ ap (slice_get (x ∷ xs)) (let e : suc (n + k) ≡ suc n + k = omega arith in e)
+  get-drop (x ∷ xs) (suc n) k =
+      get-drop xs n k ∙ ap (slice_get (x ∷ xs)) (let e : suc (n + k) ≡ suc n + k = omega arith in e)
 
   drop-push : (xs : List X) (n : ℕ) (x : X) → n ≤ length xs → drop n (xs ++ x ∷ []) ≡ drop n xs ++ x ∷ []
   drop-push xs zero x le = refl
@@ -35,37 +38,48 @@ module _ {X : Type 0} where
   pub drop-twice : (xs : List X) (n m : ℕ) → drop m (drop n xs) ≡ drop (n + m) xs
   drop-twice xs zero m = ap (λ i. drop i xs) (let e : m ≡ 0 + m = omega arith in e)
   drop-twice [] (suc n) m = drop-nil m [] refl ∙ sym (drop-nil (suc n + m) [] refl)
-  drop-twice (x ∷ xs) (suc n) m = drop-twice xs n m ∙ ap (λ i. drop i (x ∷ xs)) (let e : suc (n + m) ≡ suc n + m = omega arith in e)
+  drop-twice (x ∷ xs) (suc n) m =
+      drop-twice xs n m ∙ ap (λ i. drop i (x ∷ xs)) (let e : suc (n + m) ≡ suc n + m = omega arith in e)
 
   -- one more that is given back
-  pub drop-one : (xs : List X) (n : ℕ) (all : List X) (x : X) (rest : List X) → xs ≡ drop n all → xs ≡ x ∷ rest → rest ≡ drop (n + 1) all
+  pub drop-one : (xs : List X) (n : ℕ) (all : List X) (x : X) (rest : List X) → xs ≡ drop n all → xs ≡ x ∷ rest
+      → rest ≡ drop (n + 1) all
   drop-one xs n all x rest is next = sym (sym (drop-twice all n 1) ∙ ap (drop 1) (sym is ∙ next))
 
-  pub drop-none : (xs : List X) (n : ℕ) (all rest : List X) → xs ≡ drop n all → xs ≡ [] → rest ≡ [] → rest ≡ drop (n + 1) all
+  pub drop-none : (xs : List X) (n : ℕ) (all rest : List X) → xs ≡ drop n all → xs ≡ [] → rest ≡ []
+      → rest ≡ drop (n + 1) all
   drop-none xs n all rest is next none = none ∙ sym (sym (drop-twice all n 1) ∙ ap (drop 1) (sym is ∙ next))
 
   pub grown_itself : (xs : List X) → IsGrown xs xs
   grown_itself xs = take-length xs
 
   pub grown_on : (a b c : List X) → IsGrown a b → IsGrown b c → IsGrown a c
-  grown_on a b c first then = take_kept a b c (drop (length b) c) first (sym (take-append-drop (length b) c) ∙ ap (λ xs. xs ++ drop (length b) c) then)
+  grown_on a b c first then =
+      take_kept a b c (drop (length b) c) first
+      (sym (take-append-drop (length b) c) ∙ ap (λ xs. xs ++ drop (length b) c) then)
 
   -- what is put in under a key that is new, and what under one that is not
-  pub put_none : (b : Bool) (old new : List X) (x : X) → new ≡ old ++ cond b [] (x ∷ []) → length new ≡ length old + 1 → new ≡ old ++ x ∷ []
-  put_none true old new x put len = absurd (let e : length new ≡ length (old ++ []) = ap length put in let n : length (old ++ []) ≡ length old = ap length (nil old) in omega arith)
+  pub put_none : (b : Bool) (old new : List X) (x : X) → new ≡ old ++ cond b [] (x ∷ []) → length new ≡ length old + 1
+      → new ≡ old ++ x ∷ []
+  put_none true old new x put len =
+      absurd (let e : length new ≡ length (old ++ []) = ap length put in
+      let n : length (old ++ []) ≡ length old = ap length (nil old) in omega arith)
     where
       nil : (xs : List X) → xs ++ [] ≡ xs
       nil [] = refl
       nil (y ∷ xs) = ap (λ ys. y ∷ ys) (nil xs)
   put_none false old new x put len = put
 
-  pub put_some : (b : Bool) (old new : List X) (x : X) → new ≡ old ++ cond b [] (x ∷ []) → length new ≡ length old + 0 → new ≡ old
+  pub put_some : (b : Bool) (old new : List X) (x : X) → new ≡ old ++ cond b [] (x ∷ []) → length new ≡ length old + 0
+      → new ≡ old
   put_some true old new x put len = put ∙ nil old
     where
       nil : (xs : List X) → xs ++ [] ≡ xs
       nil [] = refl
       nil (y ∷ xs) = ap (λ ys. y ∷ ys) (nil xs)
-  put_some false old new x put len = absurd (let e : length new ≡ length (old ++ x ∷ []) = ap length put in let n : length (old ++ x ∷ []) ≡ length old + 1 = more old in omega arith)
+  put_some false old new x put len =
+      absurd (let e : length new ≡ length (old ++ x ∷ []) = ap length put in
+      let n : length (old ++ x ∷ []) ≡ length old + 1 = more old in omega arith)
     where
       more : (xs : List X) → length (xs ++ x ∷ []) ≡ length xs + 1
       more [] = refl
@@ -79,12 +93,15 @@ module _ {S : Type 0} where
   same_states (e ∷ es) zero k = refl
   same_states (e ∷ es) (suc i) k = ap (λ ss. e.state ∷ ss) (same_states es i k)
 
-  pub held_marked : (es : List (Entry S)) (i : ℕ) (k : Mark) (first : ℕ) (held : List S) → AreHeld es first held → AreHeld (with_mark es i k) first held
+  pub held_marked : (es : List (Entry S)) (i : ℕ) (k : Mark) (first : ℕ) (held : List S) → AreHeld es first held
+      → AreHeld (with_mark es i k) first held
   held_marked es i k first held are = are ∙ ap (drop first) (sym (same_states es i k))
 
-  pub held_all_marked : (es : List (Entry S)) (is : List ℕ) (k : Mark) (first : ℕ) (held : List S) → AreHeld es first held → AreHeld (with_marks es is k) first held
+  pub held_all_marked : (es : List (Entry S)) (is : List ℕ) (k : Mark) (first : ℕ) (held : List S)
+      → AreHeld es first held → AreHeld (with_marks es is k) first held
   held_all_marked es [] k first held are = are
-  held_all_marked es (i ∷ is) k first held are = held_all_marked (with_mark es i k) is k first held (held_marked es i k first held are)
+  held_all_marked es (i ∷ is) k first held are =
+      held_all_marked (with_mark es i k) is k first held (held_marked es i k first held are)
 
   -- no entry before the first that is left is left
   pub left_from : (es : List (Entry S)) (left i : ℕ) → IsFirstLeft es left → IsLeft es i → left ≤ i
@@ -95,7 +112,9 @@ module _ {S : Type 0} where
       ]
 
   -- the first that is left comes no earlier than what was expanded before it
-  left_grows : (es : List (Entry S)) (start left : ℕ) → ((i : ℕ) (e : Entry S) → At es i e → i < start → e.mark ≡ Expanded) → start ≤ length es → IsFirstLeft es left → start ≤ left
+  left_grows : (es : List (Entry S)) (start left : ℕ)
+      → ((i : ℕ) (e : Entry S) → At es i e → i < start → e.mark ≡ Expanded) → start ≤ length es → IsFirstLeft es left
+      → start ≤ left
   left_grows es start left before within first =
       elim (cases_lt left start) [
         | inl l ↦ absurd (let at = get_at es left (omega arith) in first.stops at.0 at.1 (before left at.0 at.1 l))
@@ -103,12 +122,14 @@ module _ {S : Type 0} where
       ]
 
   -- so it does where one more is expanded
-  pub left_grows_marked : (es : List (Entry S)) (next_open first_left : ℕ) (fault : Option ℕ) → AreCursors es next_open first_left fault
+  pub left_grows_marked : (es : List (Entry S)) (next_open first_left : ℕ) (fault : Option ℕ)
+      → AreCursors es next_open first_left fault
       → (i left : ℕ) → IsFirstLeft (with_mark es i Expanded) left → first_left ≤ left
   left_grows_marked es next_open first_left fault cursors i left first =
       let same : length (with_mark es i Expanded) ≡ length es = length-with_mark es i Expanded in
       let within : first_left ≤ length es = cursors.left.within in
-      left_grows (with_mark es i Expanded) first_left left (still_expanded es next_open first_left fault cursors i) (omega arith) first
+      left_grows (with_mark es i Expanded) first_left left (still_expanded es next_open first_left fault cursors i)
+      (omega arith) first
 
   state_in : (es : List (Entry S)) (i : ℕ) (e : Entry S) → At es i e → slice_get (states es) i ≡ Some e.state
   state_in [] i e at = absurd (let q : None ≡ Some e = at in cc)
@@ -116,13 +137,16 @@ module _ {S : Type 0} where
   state_in (d ∷ es) (suc i) e at = state_in es i e at
 
   -- the state of an entry that is left is held
-  pub held_at : (es : List (Entry S)) (first : ℕ) (held : List S) → AreHeld es first held → (i : ℕ) (e : Entry S) → At es i e → first ≤ i → slice_get held (i - first) ≡ Some e.state
+  pub held_at : (es : List (Entry S)) (first : ℕ) (held : List S) → AreHeld es first held → (i : ℕ) (e : Entry S)
+      → At es i e → first ≤ i → slice_get held (i - first) ≡ Some e.state
   held_at es first held are i e at le =
       let sum : first + (i - first) ≡ i = omega arith in
-      ap (λ ss. slice_get ss (i - first)) are ∙ get-drop (states es) first (i - first) ∙ ap (slice_get (states es)) sum ∙ state_in es i e at
+      ap (λ ss. slice_get ss (i - first)) are ∙ get-drop (states es) first (i - first) ∙ ap (slice_get (states es)) sum
+      ∙ state_in es i e at
 
   -- those of some more that are expanded are given back
-  pub held_back : (es : List (Entry S)) (first left : ℕ) (held : List S) → first ≤ left → AreHeld es first held → AreHeld es left (drop (left - first) held)
+  pub held_back : (es : List (Entry S)) (first left : ℕ) (held : List S) → first ≤ left → AreHeld es first held
+      → AreHeld es left (drop (left - first) held)
   held_back es first left held le are =
       let sum : first + (left - first) ≡ left = omega arith in
       ap (drop (left - first)) are ∙ drop-twice (states es) first (left - first) ∙ ap (λ n. drop n (states es)) sum
@@ -133,26 +157,32 @@ module _ {S : Type 0} where
   pub stay_same : (es new : List (Entry S)) (held : List S) → new ≡ es → StayHeld es new held held
   stay_same es new held is = λ first le are. are ∙ ap (λ xs. drop first (states xs)) (sym is)
 
-  pub stay_pushed : (es new : List (Entry S)) (held : List S) (e : Entry S) (s : S) → new ≡ es ++ e ∷ [] → e.state ≡ s → StayHeld es new held (held ++ s ∷ [])
+  pub stay_pushed : (es new : List (Entry S)) (held : List S) (e : Entry S) (s : S) → new ≡ es ++ e ∷ [] → e.state ≡ s
+      → StayHeld es new held (held ++ s ∷ [])
   stay_pushed es new held e s is state = λ first le are.
       let n : length (states es) ≡ length es = count es in
-      ap (λ ss. ss ++ s ∷ []) are ∙ ap (λ x. drop first (states es) ++ x ∷ []) (sym state) ∙ sym (drop-push (states es) first e.state (omega arith))
-      ∙ ap (drop first) (sym (map-append (λ (x : Entry S). x.state) es (e ∷ []))) ∙ ap (λ xs. drop first (states xs)) (sym is)
+      ap (λ ss. ss ++ s ∷ []) are ∙ ap (λ x. drop first (states es) ++ x ∷ []) (sym state)
+      ∙ sym (drop-push (states es) first e.state (omega arith))
+      ∙ ap (drop first) (sym (map-append (λ (x : Entry S). x.state) es (e ∷ [])))
+      ∙ ap (λ xs. drop first (states xs)) (sym is)
     where
       count : (xs : List (Entry S)) → length (states xs) ≡ length xs
       count [] = refl
       count (x ∷ xs) = ap suc (count xs)
 
-  pub stay_on : (a b c : List (Entry S)) (held mid still : List S) → length a ≤ length b → StayHeld a b held mid → StayHeld b c mid still → StayHeld a c held still
+  pub stay_on : (a b c : List (Entry S)) (held mid still : List S) → length a ≤ length b → StayHeld a b held mid
+      → StayHeld b c mid still → StayHeld a c held still
   stay_on a b c held mid still le first then = λ n within are. then n (omega arith) (first n within are)
 
   -- the entries that are looked for are left
-  pub open_is_left : (es : List (Entry S)) (i : ℕ) → position (λ (e : Entry S). is_open e.mark) es ≡ Some i → IsLeft es i
+  pub open_is_left : (es : List (Entry S)) (i : ℕ) → position (λ (e : Entry S). is_open e.mark) es ≡ Some i
+      → IsLeft es i
   open_is_left es i first =
       let at = first_passes (λ (e : Entry S). is_open e.mark) es i first in
       (at.0, at.1, left_by at.0.mark (open_left at.0.mark (open_from at.0.mark at.2)))
 
-  pub first_is_left : (es : List (Entry S)) (i : ℕ) → position (λ (e : Entry S). not (is_expanded e.mark)) es ≡ Some i → IsLeft es i
+  pub first_is_left : (es : List (Entry S)) (i : ℕ) → position (λ (e : Entry S). not (is_expanded e.mark)) es ≡ Some i
+      → IsLeft es i
   first_is_left es i first =
       let at = first_passes (λ (e : Entry S). not (is_expanded e.mark)) es i first in
       (at.0, at.1, not_expanded_from at.0.mark at.2)

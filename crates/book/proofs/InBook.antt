@@ -1,5 +1,7 @@
--- What follows for the entries of a book. The book tells its machine, which states it counts as one, and which findings are right.
-use Rattle.std.proofs.Common.{◌≡◌, ℕ, ◌+◌, ◌-◌, ◌<◌, ◌≤◌, ◌++◌, ◌∷◌, [], Bool, not, Option, Some, None, List, length, map, reverse, sym, ap, ◌∙◌, arith, slice_get, position, subst}
+-- What follows for the entries of a book. The book tells its machine, which states it counts as one, and which findings
+-- are right.
+use Rattle.std.proofs.Common.{◌≡◌, ℕ, ◌+◌, ◌-◌, ◌<◌, ◌≤◌, ◌++◌, ◌∷◌, [], Bool, not, Option, Some, None, List, length}
+use Rattle.std.proofs.Common.{map, reverse, sym, ap, ◌∙◌, arith, slice_get, position, subst}
 use Rattle.std.specs.List.{range_with_len}
 use Rattle.std.specs.declared.sync.Arc.{Arc}
 use Rattle.tree_machine.specs.Rules.{Rules}
@@ -8,7 +10,8 @@ use Rattle.tree_machine.specs.declared.state.State.{State}
 use Rattle.book.specs.declared.entry.Mark.TheVariants.{Taken}
 use Rattle.book.specs.declared.entry.Origin.{Origin}
 use Rattle.book.specs.Books.{machine_in, right_in, counted_as_one, IsBook}
-use Rattle.book.specs.Entries.{Entry, Contents, At, IsNext, Takes, TakesLayer, is_expanded, is_open, with_mark, with_marks}
+use Rattle.book.specs.Entries.{Entry, Contents, At, IsNext, Takes, TakesLayer, is_expanded, is_open, with_mark}
+use Rattle.book.specs.Entries.{with_marks}
 use Rattle.book.specs.Law.{StandsForReached}
 use Rattle.book.specs.Labels.{Kept}
 use Rattle.book.specs.Slots.{AllStates, AreStatesOf, IsOpenFrom}
@@ -24,94 +27,143 @@ use Rattle.book.proofs.Ranges.{IsLayerAt, layer_at, range_book, so_of_range, tak
 use Rattle.book.proofs.Ways.{one_way, step_of, way_back, way_ends, way_run}
 
 -- what is known of an entry that is taken: it was the next, and its state is lent
-pub record IsTakenOne {Machine Memory Place Form : Type 0} (rules : Machine → Rules Memory Place) (b : Contents Machine (State Machine Memory Place Form))
-    (i : ℕ) (state : State Machine Memory Place Form) (new : List (Entry (State Machine Memory Place Form))) : Type 0 where
+pub record IsTakenOne {Machine Memory Place Form : Type 0} (rules : Machine → Rules Memory Place)
+    (b : Contents Machine (State Machine Memory Place Form))
+    (i : ℕ) (state : State Machine Memory Place Form) (new : List (Entry (State Machine Memory Place Form))) : Type
+    0 where
   pub takes : Takes (machine_in rules b).steps b.entries new i state
   pub fits : Fits (rules b.machine) b.program state
   pub few : state.steps < b.limit
 
-module _ {Machine Memory Place Form : Type 0} {rules : Machine → Rules Memory Place} {place_eq : Place → Place → Bool} {memory_eq : Memory → Memory → Bool}
-    {form_eq : Form → Form → Bool} {form_of : Machine → Memory → List (Option Place) → Form} {b : Contents Machine (State Machine Memory Place Form)}
+module _ {Machine Memory Place Form : Type 0} {rules : Machine → Rules Memory Place} {place_eq : Place → Place → Bool}
+    {memory_eq : Memory → Memory → Bool}
+    {form_eq : Form → Form → Bool} {form_of : Machine → Memory → List (Option Place) → Form}
+    {b : Contents Machine (State Machine Memory Place Form)}
     (book : IsBook rules place_eq memory_eq form_eq form_of b) where
   abbrev pub same_in : State Machine Memory Place Form → State Machine Memory Place Form → Bool
   same_in = counted_as_one place_eq memory_eq form_eq (form_of b.machine) b.merge
 
   -- each entry has fewer steps than the book may have entries
   few_at : (i : ℕ) (e : Entry (State Machine Memory Place Form)) → At b.entries i e → e.state.steps < b.limit
-  few_at i e at = few_steps (machine_in rules b) same_in (right_in rules b) book.machine b.entries book.law.law i b.limit e at book.law.within
+  few_at i e at =
+      few_steps (machine_in rules b) same_in (right_in rules b) book.machine b.entries book.law.law i b.limit e at
+      book.law.within
 
   module _ (now : Contents Machine (State Machine Memory Place Form)) (view : b ≡ now) (i : ℕ)
       (next : (e : Entry (State Machine Memory Place Form)) × IsNext (machine_in rules now).steps now.entries i e) where
     next_here : (e : Entry (State Machine Memory Place Form)) × IsNext (machine_in rules b).steps b.entries i e
     next_here =
-        subst (λ (q : Contents Machine (State Machine Memory Place Form)). (e : Entry (State Machine Memory Place Form)) × IsNext (machine_in rules q).steps q.entries i e) (sym view) next
+        subst (λ (q : Contents Machine (State Machine Memory Place Form)). (e : Entry (State Machine Memory Place Form))
+        × IsNext (machine_in rules q).steps q.entries i e) (sym view) next
 
     -- the book with the next entry taken
-    pub next_taken : IsBook rules place_eq memory_eq form_eq form_of (record { machine = b.machine; program = b.program; merge = b.merge; limit = b.limit; entries = with_mark b.entries i Taken; met = b.met })
+    pub next_taken : IsBook rules place_eq memory_eq form_eq form_of
+        (record {
+          machine = b.machine;
+          program = b.program;
+          merge = b.merge;
+          limit = b.limit;
+          entries = with_mark b.entries i Taken;
+          met = b.met;
+        })
     next_taken =
         record {
-          law = taken_book (machine_in rules b) same_in (right_in rules b) book.machine book.merges b book.law i next_here.0 next_here.1;
+          law = taken_book (machine_in rules b) same_in (right_in rules b) book.machine book.merges b book.law i
+              next_here.0 next_here.1;
           limits = book.limits;
           machine = book.machine;
           merges = book.merges;
           findings = book.findings;
         }
 
-    pub taken_one : (r : State Machine Memory Place Form) → (e : Entry (State Machine Memory Place Form)) × At b.entries i e × (e.state ≡ r)
-        → (state : State Machine Memory Place Form) → state ≡ r → {F : Type 0} {forms : List (Option F)} (new : Kept (State Machine Memory Place Form) F)
-        → new ≡ record { entries = with_mark b.entries i Taken; forms = forms } → IsTakenOne rules now i state new.entries
+    pub taken_one : (r : State Machine Memory Place Form) → (e : Entry (State Machine Memory Place Form))
+        × At b.entries i e × (e.state ≡ r)
+        → (state : State Machine Memory Place Form) → state ≡ r
+        → {F : Type 0} {forms : List (Option F)} (new : Kept (State Machine Memory Place Form) F)
+        → new ≡ record { entries = with_mark b.entries i Taken; forms = forms }
+        → IsTakenOne rules now i state new.entries
     taken_one r there state is {F} new after =
         let entry = next_here in
-        let same_entry : entry.0 ≡ there.0 = (let u : slice_get b.entries i ≡ Some entry.0 = entry.1.entry in let v : slice_get b.entries i ≡ Some there.0 = there.1 in cc) in
-        let own : entry.0.state ≡ state = ap (λ (e : Entry (State Machine Memory Place Form)). e.state) same_entry ∙ there.2 ∙ sym is in
+        let same_entry : entry.0 ≡ there.0 = (let u : slice_get b.entries i ≡ Some entry.0 = entry.1.entry in
+        let v : slice_get b.entries i ≡ Some there.0 = there.1 in cc) in
+        let own : entry.0.state ≡ state =
+        ap (λ (e : Entry (State Machine Memory Place Form)). e.state) same_entry ∙ there.2 ∙ sym is in
         subst (λ (q : Contents Machine (State Machine Memory Place Form)). IsTakenOne rules q i state new.entries) view
         (record {
-          takes = record { entry = entry.0; next = entry.1; state = own; after = ap (λ (kept : Kept (State Machine Memory Place Form) F). kept.entries) after };
-          fits = subst (λ (v : State Machine Memory Place Form). Fits (rules b.machine) b.program v) own (book.law.law.fit i entry.0 entry.1.entry);
+          takes = record {
+            entry = entry.0;
+            next = entry.1;
+            state = own;
+            after = ap (λ (kept : Kept (State Machine Memory Place Form) F). kept.entries) after;
+          };
+          fits = subst (λ (v : State Machine Memory Place Form). Fits (rules b.machine) b.program v) own
+              (book.law.law.fit i entry.0 entry.1.entry);
           few = subst (λ (v : State Machine Memory Place Form). v.steps < b.limit) own (few_at i entry.0 entry.1.entry);
         })
 
   -- what is so of each state of the entries is so of those that are lent
-  pub states_fit : {A : Type 0} (range : List (ℕ × Arc (State Machine Memory Place Form) A)) → AreStatesOf b.entries range → AllStates (Fits (rules b.machine) b.program) range
-  states_fit range states = so_of_range (machine_in rules b) same_in (right_in rules b) (Fits (rules b.machine) b.program) b.entries range book.law.law.fit states
+  pub states_fit : {A : Type 0} (range : List (ℕ × Arc (State Machine Memory Place Form) A))
+      → AreStatesOf b.entries range → AllStates (Fits (rules b.machine) b.program) range
+  states_fit range states =
+      so_of_range (machine_in rules b) same_in (right_in rules b) (Fits (rules b.machine) b.program) b.entries range
+      book.law.law.fit states
 
-  pub states_few : {A : Type 0} (range : List (ℕ × Arc (State Machine Memory Place Form) A)) → AreStatesOf b.entries range → AllStates (λ state. state.steps < b.limit) range
-  states_few range states = so_of_range (machine_in rules b) same_in (right_in rules b) (λ state. state.steps < b.limit) b.entries range few_at states
+  pub states_few : {A : Type 0} (range : List (ℕ × Arc (State Machine Memory Place Form) A))
+      → AreStatesOf b.entries range → AllStates (λ state. state.steps < b.limit) range
+  states_few range states =
+      so_of_range (machine_in rules b) same_in (right_in rules b) (λ state. state.steps < b.limit) b.entries range
+      few_at states
 
   -- the layer of the next entry ends before the first entry of more steps
   module _ (now : Contents Machine (State Machine Memory Place Form)) (view : b ≡ now) (start end k : ℕ)
       (next : (e : Entry (State Machine Memory Place Form)) × IsNext (machine_in rules now).steps now.entries start e)
-      (first : position (λ (e : Entry (State Machine Memory Place Form)). is_open e.mark) now.entries ≡ Some start) (above : IsOpenFrom now.entries start)
+      (first : position (λ (e : Entry (State Machine Memory Place Form)). is_open e.mark) now.entries ≡ Some start)
+      (above : IsOpenFrom now.entries start)
       (steps : (e : Entry (State Machine Memory Place Form)) × At b.entries start e × (e.state.steps ≡ k))
       (below : (i : ℕ) (e : Entry (State Machine Memory Place Form)) → At now.entries i e → i < end → e.state.steps ≤ k)
-      (beyond : (i : ℕ) (e : Entry (State Machine Memory Place Form)) → At now.entries i e → end ≤ i → k < e.state.steps) (within : end ≤ length now.entries) where
+      (beyond : (i : ℕ) (e : Entry (State Machine Memory Place Form)) → At now.entries i e → end ≤ i
+      → k < e.state.steps) (within : end ≤ length now.entries) where
     pub layer : IsLayerAt (machine_in rules b).steps b.entries start end
     layer =
-        layer_at (machine_in rules b) same_in (right_in rules b) b.entries now.entries (ap (λ (q : Contents Machine (State Machine Memory Place Form)). q.entries) view) start next first above
+        layer_at (machine_in rules b) same_in (right_in rules b) b.entries now.entries
+        (ap (λ (q : Contents Machine (State Machine Memory Place Form)). q.entries) view) start next first above
         end k steps below beyond within
 
     -- the book with it taken
     pub layer_taken : IsBook rules place_eq memory_eq form_eq form_of
-        (record { machine = b.machine; program = b.program; merge = b.merge; limit = b.limit; entries = with_marks b.entries (range_with_len start (end - start)) Taken; met = b.met })
+        (record {
+          machine = b.machine;
+          program = b.program;
+          merge = b.merge;
+          limit = b.limit;
+          entries = with_marks b.entries (range_with_len start (end - start)) Taken;
+          met = b.met;
+        })
     layer_taken =
         record {
-          law = range_book (machine_in rules b) same_in (right_in rules b) book.machine book.merges (end - start) start b book.law layer.range;
+          law = range_book (machine_in rules b) same_in (right_in rules b) book.machine book.merges
+              (end - start) start b book.law layer.range;
           limits = book.limits;
           machine = book.machine;
           merges = book.merges;
           findings = book.findings;
         }
 
-    pub layer_given : {A : Type 0} (range : List (ℕ × Arc (State Machine Memory Place Form) A)) → map (λ (p : ℕ × Arc (State Machine Memory Place Form) A). p.0) range ≡ range_with_len start (end - start)
-        → AreStatesOf b.entries range → {F : Type 0} {forms : List (Option F)} (new : Kept (State Machine Memory Place Form) F)
-        → new ≡ record { entries = with_marks b.entries (range_with_len start (end - start)) Taken; forms = forms } → TakesLayer (machine_in rules b).steps b.entries new.entries range
+    pub layer_given : {A : Type 0} (range : List (ℕ × Arc (State Machine Memory Place Form) A))
+        → map (λ (p : ℕ × Arc (State Machine Memory Place Form) A). p.0) range ≡ range_with_len start (end - start)
+        → AreStatesOf b.entries range → {F : Type 0} {forms : List (Option F)}
+        (new : Kept (State Machine Memory Place Form) F)
+        → new ≡ record { entries = with_marks b.entries (range_with_len start (end - start)) Taken; forms = forms }
+        → TakesLayer (machine_in rules b).steps b.entries new.entries range
     layer_given range numbers states {F} new after =
         let some : start < end = layer.some in
-        takes_layer (machine_in rules b).steps b.entries new.entries start (end - start) range layer.range (omega arith) layer.entry layer.there layer.later numbers states
+        takes_layer (machine_in rules b).steps b.entries new.entries start (end - start) range layer.range
+        (omega arith) layer.entry layer.there layer.later numbers states
         (ap (λ (kept : Kept (State Machine Memory Place Form) F). kept.entries) after)
 
   -- none is next where all are expanded, or none is open
-  pub none_of_expanded : position (λ (e : Entry (State Machine Memory Place Form)). not (is_expanded e.mark)) b.entries ≡ None
+  pub none_of_expanded : position (λ (e : Entry (State Machine Memory Place Form)). not (is_expanded e.mark)) b.entries
+      ≡ None
       → (i : ℕ) (e : Entry (State Machine Memory Place Form)) → IsNext (machine_in rules b).steps b.entries i e → ⊥
   none_of_expanded = no_next_expanded (machine_in rules b) same_in (right_in rules b) b.entries book.law.law
 
@@ -120,70 +172,98 @@ module _ {Machine Memory Place Form : Type 0} {rules : Machine → Rules Memory 
   none_of_open = no_next_open (machine_in rules b) same_in (right_in rules b) b.entries book.law.law
 
   -- a is the first that is not expanded, which has j steps, and c the first open one, which has k
-  module _ (a c j k : ℕ) (left : position (λ (e : Entry (State Machine Memory Place Form)). not (is_expanded e.mark)) b.entries ≡ Some a)
+  module _ (a c j k : ℕ)
+      (left : position (λ (e : Entry (State Machine Memory Place Form)). not (is_expanded e.mark)) b.entries ≡ Some a)
       (first : position (λ (e : Entry (State Machine Memory Place Form)). is_open e.mark) b.entries ≡ Some c)
-      (at_a : (e : Entry (State Machine Memory Place Form)) × At b.entries a e × (e.state.steps ≡ j)) (at_c : (e : Entry (State Machine Memory Place Form)) × At b.entries c e × (e.state.steps ≡ k)) where
-    pub open_is_next : k ≡ j → (e : Entry (State Machine Memory Place Form)) × IsNext (machine_in rules b).steps b.entries c e
-    open_is_next same =
-        (at_c.0, next_from (machine_in rules b) same_in (right_in rules b) b.entries book.law.law a c left first at_a.0 at_c.0 at_a.1 at_c.1 (at_c.2 ∙ same ∙ sym at_a.2))
+      (at_a : (e : Entry (State Machine Memory Place Form)) × At b.entries a e × (e.state.steps ≡ j))
+      (at_c : (e : Entry (State Machine Memory Place Form)) × At b.entries c e × (e.state.steps ≡ k)) where
+    pub open_is_next : k ≡ j → (e : Entry (State Machine Memory Place Form))
+        × IsNext (machine_in rules b).steps b.entries c e
+    open_is_next same = (
+      at_c.0,
+      next_from (machine_in rules b) same_in (right_in rules b) b.entries book.law.law a c left first at_a.0
+          at_c.0 at_a.1 at_c.1 (at_c.2 ∙ same ∙ sym at_a.2),
+    )
 
-    pub open_is_later : (k ≡ j → ⊥) → (i : ℕ) (e : Entry (State Machine Memory Place Form)) → IsNext (machine_in rules b).steps b.entries i e → ⊥
+    pub open_is_later : (k ≡ j → ⊥) → (i : ℕ) (e : Entry (State Machine Memory Place Form))
+        → IsNext (machine_in rules b).steps b.entries i e → ⊥
     open_is_later other =
-        no_next_later (machine_in rules b) same_in (right_in rules b) b.entries book.law.law a c left first at_a.0 at_c.0 at_a.1 at_c.1
+        no_next_later (machine_in rules b) same_in (right_in rules b) b.entries book.law.law a c left first at_a.0
+        at_c.0 at_a.1 at_c.1
         (λ (q : at_c.0.state.steps ≡ at_a.0.state.steps). other (sym at_c.2 ∙ q ∙ at_a.2))
 
   -- what is left of so many steps
-  pub all_expanded_to : (n : ℕ) → position (λ (e : Entry (State Machine Memory Place Form)). not (is_expanded e.mark)) b.entries ≡ None → IsExpandedTo (machine_in rules b).steps b.entries n
+  pub all_expanded_to : (n : ℕ) → position (λ (e : Entry (State Machine Memory Place Form)). not (is_expanded e.mark))
+      b.entries ≡ None → IsExpandedTo (machine_in rules b).steps b.entries n
   all_expanded_to = all_expanded (machine_in rules b) same_in (right_in rules b) book.machine b.entries book.law.law
 
-  module _ (a k n : ℕ) (left : position (λ (e : Entry (State Machine Memory Place Form)). not (is_expanded e.mark)) b.entries ≡ Some a)
+  module _ (a k n : ℕ)
+      (left : position (λ (e : Entry (State Machine Memory Place Form)). not (is_expanded e.mark)) b.entries ≡ Some a)
       (at_a : (e : Entry (State Machine Memory Place Form)) × At b.entries a e × (e.state.steps ≡ k)) where
     pub left_to : k ≤ n → IsLeftTo (machine_in rules b).steps b.entries n
     left_to le =
         let steps : at_a.0.state.steps ≡ k = at_a.2 in
-        is_left (machine_in rules b) same_in (right_in rules b) book.machine b.entries book.law.law a left at_a.0 at_a.1 n (omega arith)
+        is_left (machine_in rules b) same_in (right_in rules b) book.machine b.entries book.law.law a left at_a.0 at_a.1
+        n (omega arith)
 
     pub none_left_to : n < k → IsExpandedTo (machine_in rules b).steps b.entries n
     none_left_to less =
         let steps : at_a.0.state.steps ≡ k = at_a.2 in
-        none_left (machine_in rules b) same_in (right_in rules b) book.machine b.entries book.law.law a left at_a.0 at_a.1 n (omega arith)
+        none_left (machine_in rules b) same_in (right_in rules b) book.machine b.entries book.law.law a left at_a.0
+        at_a.1 n (omega arith)
 
   -- each state that a stood-for one leads to is stood for
   pub stands_for_reached : StandsForReached (machine_in rules b) same_in b.entries
-  stands_for_reached = stands_along (machine_in rules b) same_in (right_in rules b) book.machine book.merges b.entries book.law.law
+  stands_for_reached =
+      stands_along (machine_in rules b) same_in (right_in rules b) book.machine book.merges b.entries book.law.law
 
   -- the way to an entry, followed back
   module _ (now : Contents Machine (State Machine Memory Place Form)) (view : b ≡ now) where
-    module _ (i id : ℕ) (c : List ℕ) (o : Option Origin) (entry : (e : Entry (State Machine Memory Place Form)) × At b.entries i e × (e.origin ≡ o)) where
+    module _ (i id : ℕ) (c : List ℕ) (o : Option Origin)
+        (entry : (e : Entry (State Machine Memory Place Form)) × At b.entries i e × (e.origin ≡ o)) where
       pub earlier_origin : (origin : Origin) → o ≡ Some origin → origin.parent < i
-      earlier_origin origin is = (step_of (machine_in rules b) same_in (right_in rules b) b.entries book.law.law i entry.0 origin entry.1 (entry.2 ∙ is)).2
+      earlier_origin origin is =
+          (step_of (machine_in rules b) same_in (right_in rules b) b.entries book.law.law i entry.0 origin entry.1
+          (entry.2 ∙ is)).2
 
       pub one_back : (origin : Origin) → o ≡ Some origin → IsWay now.entries i (reverse c) id
-          → (origin.parent < length now.entries) × IsWay now.entries origin.parent (reverse (c ++ origin.thread ∷ [])) id
+          → (origin.parent < length now.entries)
+          × IsWay now.entries origin.parent (reverse (c ++ origin.thread ∷ [])) id
       one_back origin is =
           subst (λ (q : Contents Machine (State Machine Memory Place Form)). IsWay q.entries i (reverse c) id
-          → (origin.parent < length q.entries) × IsWay q.entries origin.parent (reverse (c ++ origin.thread ∷ [])) id) view
-          (way_back (machine_in rules b) same_in (right_in rules b) b.entries book.law.law i id c entry.0 origin entry.1 (entry.2 ∙ is))
+          → (origin.parent < length q.entries)
+          × IsWay q.entries origin.parent (reverse (c ++ origin.thread ∷ [])) id) view
+          (way_back (machine_in rules b) same_in (right_in rules b) b.entries book.law.law i id c entry.0 origin entry.1
+          (entry.2 ∙ is))
 
       pub at_start : o ≡ None → IsWay now.entries i c id → IsWay now.entries 0 c id
       at_start is =
-          subst (λ (q : Contents Machine (State Machine Memory Place Form)). IsWay q.entries i c id → IsWay q.entries 0 c id) view
-          (way_ends (machine_in rules b) same_in (right_in rules b) b.entries book.law.law i id c entry.0 entry.1 (entry.2 ∙ is))
+          subst (λ (q : Contents Machine (State Machine Memory Place Form)). IsWay q.entries i c id
+          → IsWay q.entries 0 c id) view
+          (way_ends (machine_in rules b) same_in (right_in rules b) b.entries book.law.law i id c entry.0 entry.1
+          (entry.2 ∙ is))
 
     pub way_leads_to : (c : List ℕ) (id : ℕ) → id < length now.entries → IsWay now.entries 0 c id
-        → (e : Entry (State Machine Memory Place Form)) × At now.entries id e × (after (machine_in rules now) c ≡ Some e.state) × (length c ≡ e.state.steps)
+        → (e : Entry (State Machine Memory Place Form)) × At now.entries id e
+        × (after (machine_in rules now) c ≡ Some e.state) × (length c ≡ e.state.steps)
     way_leads_to c id =
-        subst (λ (q : Contents Machine (State Machine Memory Place Form)). id < length q.entries → IsWay q.entries 0 c id
-        → (e : Entry (State Machine Memory Place Form)) × At q.entries id e × (after (machine_in rules q) c ≡ Some e.state) × (length c ≡ e.state.steps)) view here
+        subst (λ (q : Contents Machine (State Machine Memory Place Form)). id < length q.entries
+        → IsWay q.entries 0 c id
+        → (e : Entry (State Machine Memory Place Form)) × At q.entries id e
+        × (after (machine_in rules q) c ≡ Some e.state) × (length c ≡ e.state.steps)) view here
       where
         here : id < length b.entries → IsWay b.entries 0 c id
-            → (e : Entry (State Machine Memory Place Form)) × At b.entries id e × (after (machine_in rules b) c ≡ Some e.state) × (length c ≡ e.state.steps)
+            → (e : Entry (State Machine Memory Place Form)) × At b.entries id e
+            × (after (machine_in rules b) c ≡ Some e.state) × (length c ≡ e.state.steps)
         here within way =
             let e = get_at b.entries id within in
-            let leads = way_run (machine_in rules b) same_in (right_in rules b) b.entries book.law.law book.machine c id e.0 e.1 way in
+            let leads =
+            way_run (machine_in rules b) same_in (right_in rules b) b.entries book.law.law book.machine c id e.0 e.1
+            way in
             (e.0, e.1, leads.0, leads.1)
 
     pub no_other_way : (c d : List ℕ) (id : ℕ) → IsWay now.entries 0 c id → IsWay now.entries 0 d id → d ≡ c
     no_other_way c d id =
-        subst (λ (q : Contents Machine (State Machine Memory Place Form)). IsWay q.entries 0 c id → IsWay q.entries 0 d id → d ≡ c) view
+        subst (λ (q : Contents Machine (State Machine Memory Place Form)). IsWay q.entries 0 c id
+        → IsWay q.entries 0 d id → d ≡ c) view
         (one_way (machine_in rules b) same_in (right_in rules b) b.entries book.law.law c d id)

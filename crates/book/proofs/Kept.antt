@@ -1,45 +1,18 @@
 -- A book stays lawful.
-use Rattle.std.proofs.Common.{◌≡◌, ◌≢◌, ℕ, zero, suc, ◌+◌, ◌<◌, ◌≤◌, ◌⊎◌, inl, inr, Bool, true, false, Some, is_some, List, [], ◌∷◌, ◌++◌, length, map, filter, refl, sym, ap, ◌∙◌, arith, slice_get, subst}
-use Rattle.std.specs.List.{range_with_len}
-use Rattle.std.proofs.lemmas.Bool.{true≢false, cond_both}
+use Rattle.std.proofs.Common.{◌≡◌, ◌≢◌, ℕ, ◌+◌, ◌<◌, ◌≤◌, ◌⊎◌, inl, inr, Bool, true, false, Some, List, ◌++◌, length}
+use Rattle.std.proofs.Common.{map, refl, sym, ap, ◌∙◌, arith, slice_get, subst}
+use Rattle.std.proofs.lemmas.Bool.{true≢false}
 use Rattle.book.specs.declared.finding.Finding.{Finding}
 use Rattle.book.specs.declared.entry.Mark.TheVariants.{Open, Taken, Expanded}
-use Rattle.book.specs.Schedule.{StepMachine, IsMachine, Merges, enabled_threads}
+use Rattle.book.specs.Schedule.{StepMachine, IsMachine, Merges}
 use Rattle.book.specs.Entries.{Entry, Successor, At, IsNext, with_mark, with_successors, unknown, opened, states}
 use Rattle.book.specs.Layers.{GrowsFrom, NoneTaken}
 use Rattle.book.specs.Law.{StandsFor, IsStep, IsLawful, IsExpansion}
-use Rattle.book.proofs.EntryLemmas.{SameButMark, at-with_mark, with_mark-at, length-with_mark, get-append_cases, get-append_left, get-append_right, get_within}
-use Rattle.book.proofs.Unknown.{list_any-true, list_any-false, at-states, states-at, unknown_is, unknown_apart, known_or_kept}
-
--- what stands at a place of a mapped list comes from what stands there in the list
-get-map_from : {X Y : Type 0} (g : X → Y) (xs : List X) (k : ℕ) (y : Y) → slice_get (map g xs) k ≡ Some y → (x : X) × (slice_get xs k ≡ Some x) × (y ≡ g x)
-get-map_from g [] k y h = absurd (cc)
-get-map_from g (x ∷ xs) zero y h = (x, refl, (cc))
-get-map_from g (x ∷ xs) (suc k) y h = get-map_from g xs k y h
-
-pub get-map_at : {X Y : Type 0} (g : X → Y) (xs : List X) (k : ℕ) (x : X) → slice_get xs k ≡ Some x → slice_get (map g xs) k ≡ Some (g x)
-get-map_at g [] k x h = absurd (cc)
-get-map_at g (w ∷ xs) zero x h = let e : w ≡ x = cc in ap (λ v. Some (g v)) e
-get-map_at g (w ∷ xs) (suc k) x h = get-map_at g xs k x h
-
-get-range : (a n t : ℕ) → t < n → slice_get (range_with_len a n) t ≡ Some (a + t)
-get-range a zero t h = absurd (omega arith)
-get-range a (suc n) zero h = let e : a + 0 ≡ a = omega arith in rw e refl
-get-range a (suc n) (suc t) h = let e : a + suc t ≡ a + 1 + t = omega arith in rw e (get-range (a + 1) n t (omega arith))
-
-get-filter : {X : Type 0} (p : X → Bool) (xs : List X) (k : ℕ) (x : X) → slice_get xs k ≡ Some x → p x ≡ true → (j : ℕ) × (slice_get (filter p xs) j ≡ Some x)
-get-filter p [] k x h passes = absurd (cc)
-get-filter p (w ∷ xs) zero x h passes =
-    let e : w ≡ x = cc in (0, (let y : p w ≡ true = rw e passes in rw y h))
-get-filter {X} p (w ∷ xs) (suc k) x h passes =
-    let r = get-filter p xs k x h passes in
-    cond_both (p w) (w ∷ filter p xs) (filter p xs) (λ (zs : List X). (j : ℕ) × (slice_get zs j ≡ Some x)) (λ _. (suc r.0, r.1)) (λ _. r)
-
--- a thread that is enabled is among the enabled ones
-pub among_enabled : {S : Type 0} (m : StepMachine S) → IsMachine m → (s r : S) (t : ℕ) → m.step s t ≡ Some r → (j : ℕ) × (slice_get (enabled_threads m s) j ≡ Some t)
-among_enabled m machine s r t leads =
-    get-filter (λ (u : ℕ). is_some (m.step s u)) (range_with_len 0 m.threads) t t
-    (let e : 0 + t ≡ t = omega arith in get-range 0 m.threads t (machine.is_thread s r t leads) ∙ ap Some e) (rw leads refl)
+use Rattle.book.proofs.EntryLemmas.{SameButMark, at-with_mark, with_mark-at, length-with_mark, get-append_cases}
+use Rattle.book.proofs.EntryLemmas.{get-append_left, get-append_right, get_within}
+use Rattle.book.proofs.Unknown.{list_any-true, list_any-false, at-states, states-at, unknown_is, unknown_apart}
+use Rattle.book.proofs.Unknown.{known_or_kept}
+use Rattle.book.proofs.EnabledThreads.{get-map_from, get-map_at, among_enabled}
 
 module _ {S : Type 0} (m : StepMachine S) (same : S → S → Bool) (right : S → Finding → Type 0)
     (machine : IsMachine m) (merges : Merges m same) where
@@ -53,19 +26,22 @@ module _ {S : Type 0} (m : StepMachine S) (same : S → S → Bool) (right : S �
   same_of_same a b c d p q h = cc
 
   -- ---- one entry is taken
-  module _ (es : List (Entry S)) (law : IsLawful m same right es) (i : ℕ) (e : Entry S) (next : IsNext m.steps es i e) where
+  module _ (es : List (Entry S)) (law : IsLawful m same right es) (i : ℕ) (e : Entry S)
+      (next : IsNext m.steps es i e) where
     stands_taken : (s : S) → StandsFor m same es s → StandsFor m same (with_mark es i Taken) s
     stands_taken s h =
         let w = with_mark-at es i Taken h.0 h.1 h.2 in
         (h.0, w.0, w.1, rw w.2.state h.3, rw w.2.state h.4)
 
     -- an entry that is expanded afterwards was so before
-    was_expanded : (j : ℕ) (d f : Entry S) → ((i ≡ j) × (f.mark ≡ Taken)) ⊎ ((i ≢ j) × (f ≡ d)) → f.mark ≡ Expanded → d.mark ≡ Expanded
+    was_expanded : (j : ℕ) (d f : Entry S) → ((i ≡ j) × (f.mark ≡ Taken)) ⊎ ((i ≢ j) × (f ≡ d)) → f.mark ≡ Expanded
+        → d.mark ≡ Expanded
     was_expanded j d f (inl l) h = cc
     was_expanded j d f (inr r) h = sym (ap (λ (x : Entry S). x.mark) r.1) ∙ h
 
     -- an entry that is not expanded afterwards was not so before
-    was_not : (j : ℕ) (d f : Entry S) → At es j d → ((i ≡ j) × (f.mark ≡ Taken)) ⊎ ((i ≢ j) × (f ≡ d)) → f.mark ≢ Expanded → d.mark ≢ Expanded
+    was_not : (j : ℕ) (d f : Entry S) → At es j d → ((i ≡ j) × (f.mark ≡ Taken)) ⊎ ((i ≢ j) × (f ≡ d))
+        → f.mark ≢ Expanded → d.mark ≢ Expanded
     was_not j d f at (inl l) h = λ (x : d.mark ≡ Expanded).
         let o : e.mark ≡ Open = next.is_open in
         let same_entry : d ≡ e = (let a : slice_get es i ≡ Some e = next.entry in let b : i ≡ j = l.0 in cc) in cc
@@ -73,7 +49,8 @@ module _ {S : Type 0} (m : StepMachine S) (same : S → S → Bool) (right : S �
 
     pub taken_keeps : IsLawful m same right (with_mark es i Taken)
     taken_keeps = record {
-      start = (let w = with_mark-at es i Taken 0 law.start.0 law.start.1 in (w.0, w.1, w.2.state ∙ law.start.2, w.2.origin ∙ law.start.3));
+      start = (let w = with_mark-at es i Taken 0 law.start.0 law.start.1 in
+          (w.0, w.1, w.2.state ∙ law.start.2, w.2.origin ∙ law.start.3));
       origins = (λ j f at pos.
           let o = at-with_mark es i Taken j f at in
           let old = law.origins j o.0 o.1 pos in
@@ -92,13 +69,16 @@ module _ {S : Type 0} (m : StepMachine S) (same : S → S → Bool) (right : S �
                   let z : old.parent ≡ e = cc in cc)
               | inr r ↦ ap (λ (x : Entry S). x.mark) r.1 ∙ old.expanded
             ];
-            step = step_of_same old.parent.state w.0.state o.0.state f.state old.origin.thread w.2.state o.2.state old.step;
+            step = step_of_same old.parent.state w.0.state o.0.state f.state old.origin.thread w.2.state o.2.state
+                old.step;
           });
       distinct = (λ j k f g at_j at_k h.
           let a = at-with_mark es i Taken j f at_j in
           let b = at-with_mark es i Taken k g at_k in
           law.distinct j k a.0 b.0 a.1 b.1 (rw (← a.2.state, ← b.2.state) h));
-      findings = (λ j f at. let a = at-with_mark es i Taken j f at in right_of_same a.0.state f.state a.0.finding f.finding a.2.state a.2.finding (law.findings j a.0 a.1));
+      findings =
+          (λ j f at. let a = at-with_mark es i Taken j f at in
+          right_of_same a.0.state f.state a.0.finding f.finding a.2.state a.2.finding (law.findings j a.0 a.1));
       fit = (λ j f at. let a = at-with_mark es i Taken j f at in rw a.2.state (law.fit j a.0 a.1));
       stands = (λ j t f s at x leads.
           let a = at-with_mark es i Taken j f at in
@@ -111,9 +91,12 @@ module _ {S : Type 0} (m : StepMachine S) (same : S → S → Bool) (right : S �
           let a = at-with_mark es i Taken j f at_j in
           let b = at-with_mark es i Taken k g at_k in
           rw (a.2.state, b.2.state) (elim a.3 [
-            | inl l ↦ (let z : a.0 ≡ e = (let p : slice_get es i ≡ Some e = next.entry in let q : slice_get es j ≡ Some a.0 = a.1 in let r : i ≡ j = l.0 in cc) in
+            | inl l ↦
+                (let z : a.0 ≡ e = (let p : slice_get es i ≡ Some e = next.entry in
+                let q : slice_get es j ≡ Some a.0 = a.1 in let r : i ≡ j = l.0 in cc) in
                 rw z (next.fewest k b.0 b.1 (was_not k b.0 g b.1 b.3 y)))
-            | inr r ↦ law.least j k a.0 b.0 a.1 (sym (ap (λ (q : Entry S). q.mark) r.1) ∙ x) b.1 (was_not k b.0 g b.1 b.3 y)
+            | inr r ↦ law.least j k a.0 b.0 a.1 (sym (ap (λ (q : Entry S). q.mark) r.1) ∙ x) b.1
+                (was_not k b.0 g b.1 b.3 y)
           ]));
       near = (λ j k f g at_j x at_k.
           let a = at-with_mark es i Taken j f at_j in
@@ -122,8 +105,8 @@ module _ {S : Type 0} (m : StepMachine S) (same : S → S → Bool) (right : S �
     }
 
   -- ---- the steps of an entry are entered
-  module _ (es : List (Entry S)) (law : IsLawful m same right es) (i : ℕ) (e : Entry S) (at_i : At es i e) (is_taken : e.mark ≡ Taken)
-      (xs : List (Successor S)) (expansion : IsExpansion m right e.state xs) where
+  module _ (es : List (Entry S)) (law : IsLawful m same right es) (i : ℕ) (e : Entry S) (at_i : At es i e)
+      (is_taken : e.mark ≡ Taken) (xs : List (Successor S)) (expansion : IsExpansion m right e.state xs) where
     pub fresh : List (Successor S)
     fresh = unknown same (states es) xs
 
@@ -135,7 +118,8 @@ module _ {S : Type 0} (m : StepMachine S) (same : S → S → Bool) (right : S �
 
     -- an entry afterwards is an old one, but for its mark, or is opened for a successor
     pub data Where (j : ℕ) (f : Entry S) : Type 0 where
-      Old : (d : Entry S) → At es j d → SameButMark d f → ((i ≡ j) × (f.mark ≡ Expanded)) ⊎ ((i ≢ j) × (f ≡ d)) → Where j f
+      Old : (d : Entry S) → At es j d → SameButMark d f → ((i ≡ j) × (f.mark ≡ Expanded)) ⊎ ((i ≢ j) × (f ≡ d))
+          → Where j f
       New : (k : ℕ) (y : Successor S) → j ≡ length es + k → slice_get fresh k ≡ Some y → f ≡ opened i y → Where j f
 
     pub where_is : (j : ℕ) (f : Entry S) → At all j f → Where j f
@@ -143,17 +127,22 @@ module _ {S : Type 0} (m : StepMachine S) (same : S → S → Bool) (right : S �
     where_is j f at = elim (get-append_cases (with_mark es i Expanded) (map (opened i) fresh) j f at) [
       | inl l ↦ (let o = at-with_mark es i Expanded j f l in Old o.0 o.1 o.2 o.3)
       | inr r ↦ (let o = get-map_from (opened i) fresh r.0 f r.2 in
-          New r.0 o.0 (let q : j ≡ length (with_mark es i Expanded) + r.0 = r.1 in let z : length (with_mark es i Expanded) ≡ length es = length-with_mark es i Expanded in omega arith) o.1 o.2)
+          New r.0 o.0 (let q : j ≡ length (with_mark es i Expanded) + r.0 = r.1 in
+          let z : length (with_mark es i Expanded) ≡ length es = length-with_mark es i Expanded in
+          omega arith) o.1 o.2)
     ]
 
-    kept_at : (j : ℕ) (d : Entry S) → At es j d → (f : Entry S) × At all j f × SameButMark d f × (((i ≡ j) × (f.mark ≡ Expanded)) ⊎ ((i ≢ j) × (f ≡ d)))
+    kept_at : (j : ℕ) (d : Entry S) → At es j d → (f : Entry S) × At all j f × SameButMark d f
+        × (((i ≡ j) × (f.mark ≡ Expanded)) ⊎ ((i ≢ j) × (f ≡ d)))
     unfolding all
-    kept_at j d at = let w = with_mark-at es i Expanded j d at in (w.0, get-append_left (with_mark es i Expanded) new j w.0 w.1, w.2, w.3)
+    kept_at j d at = let w = with_mark-at es i Expanded j d at in
+        (w.0, get-append_left (with_mark es i Expanded) new j w.0 w.1, w.2, w.3)
 
     new_at : (k : ℕ) (y : Successor S) → slice_get fresh k ≡ Some y → At all (length es + k) (opened i y)
     unfolding all new
     new_at k y at = let z : length (with_mark es i Expanded) ≡ length es = length-with_mark es i Expanded in
-        rw (← z) (get-append_right (with_mark es i Expanded) (map (opened i) fresh) k (opened i y) (get-map_at (opened i) fresh k y at))
+        rw (← z) (get-append_right (with_mark es i Expanded) (map (opened i) fresh) k (opened i y)
+        (get-map_at (opened i) fresh k y at))
 
     -- each new one is a step of e, by its thread
     fresh_step : (k : ℕ) (y : Successor S) → slice_get fresh k ≡ Some y → m.step e.state y.thread ≡ Some y.state
@@ -167,7 +156,8 @@ module _ {S : Type 0} (m : StepMachine S) (same : S → S → Bool) (right : S �
     unfolding fresh
     fresh_right k y at = let u = unknown_is m same merges (states es) xs k y at in expansion.findings u.0.0 y u.0.1
 
-    fresh_unknown : (k j : ℕ) (y : Successor S) (d : Entry S) → slice_get fresh k ≡ Some y → At es j d → same d.state y.state ≡ false
+    fresh_unknown : (k j : ℕ) (y : Successor S) (d : Entry S) → slice_get fresh k ≡ Some y → At es j d
+        → same d.state y.state ≡ false
     unfolding fresh
     fresh_unknown k j y d at there =
         let u = unknown_is m same merges (states es) xs k y at in
@@ -179,10 +169,12 @@ module _ {S : Type 0} (m : StepMachine S) (same : S → S → Bool) (right : S �
     stands_entered : (s : S) → StandsFor m same es s → StandsFor m same all s
     stands_entered s h = let w = kept_at h.0 h.1 h.2 in (h.0, w.0, w.1, rw w.2.state h.3, rw w.2.state h.4)
 
-    among : (t : ℕ) (s : S) → m.step e.state t ≡ Some s → (k : ℕ) × (x : Successor S) × (slice_get xs k ≡ Some x) × (x.thread ≡ t)
+    among : (t : ℕ) (s : S) → m.step e.state t ≡ Some s → (k : ℕ) × (x : Successor S) × (slice_get xs k ≡ Some x)
+        × (x.thread ≡ t)
     among t s leads =
         let j = among_enabled m machine e.state s t leads in
-        let o = get-map_from (λ (x : Successor S). x.thread) xs j.0 t (ap (λ (ys : List ℕ). slice_get ys j.0) expansion.threads ∙ j.1) in
+        let o = get-map_from (λ (x : Successor S). x.thread) xs j.0 t
+        (ap (λ (ys : List ℕ). slice_get ys j.0) expansion.threads ∙ j.1) in
         (j.0, o.0, o.1, sym o.2)
 
     -- the steps of e are stood for
@@ -190,26 +182,36 @@ module _ {S : Type 0} (m : StepMachine S) (same : S → S → Bool) (right : S �
     unfolding fresh
     stands_for_steps t s leads =
         let x = among t s leads in
-        let is : x.1.state ≡ s = (let p : m.step e.state x.1.thread ≡ Some x.1.state = expansion.steps x.0 x.1 x.2 in let q : x.1.thread ≡ t = x.3 in cc) in
+        let is : x.1.state ≡ s = (let p : m.step e.state x.1.thread ≡ Some x.1.state = expansion.steps x.0 x.1 x.2 in
+        let q : x.1.thread ≡ t = x.3 in cc) in
         let up : m.steps s ≡ m.steps e.state + 1 = machine.one_more e.state s t leads in
         elim (known_or_kept m same merges (states es) xs x.0 x.1 x.2) [
           | inl k ↦ (
               let r = list_any-true (λ (u : S). same u x.1.state) (states es) k in
               let d = at-states es r.0 r.1 r.2 in
               let alike : same d.0.state s ≡ true = same_of_same d.0.state r.1 s x.1.state (sym d.2) is r.3 in
-              let few : m.steps d.0.state ≤ m.steps s = (let q : m.steps d.0.state ≤ m.steps e.state + 1 = law.near i r.0 e d.0 at_i not_expanded d.1 in omega arith) in
+              let few : m.steps d.0.state ≤ m.steps s =
+              (let q : m.steps d.0.state ≤ m.steps e.state + 1 = law.near i r.0 e d.0 at_i not_expanded d.1 in
+              omega arith) in
               stands_entered s (r.0, d.0, d.1, alike, few))
           | inr y ↦ (
-              let n : m.steps y.1.state ≡ m.steps e.state + 1 = fresh_steps y.0 y.1 y.2 in
-              (length es + y.0, opened i y.1, new_at y.0 y.1 y.2, same_of_same y.1.state y.1.state s x.1.state refl is y.3, omega arith))
+              let n : m.steps y.1.state ≡ m.steps e.state + 1 = fresh_steps y.0 y.1 y.2 in (
+                length es + y.0,
+                opened i y.1,
+                new_at y.0 y.1 y.2,
+                same_of_same y.1.state y.1.state s x.1.state refl is y.3,
+                omega arith,
+              ))
         ]
 
     -- an entry that is not expanded afterwards is an old one that was not, or is new
-    old_mark : (j : ℕ) (d f : Entry S) → ((i ≡ j) × (f.mark ≡ Expanded)) ⊎ ((i ≢ j) × (f ≡ d)) → f.mark ≢ Expanded → f ≡ d
+    old_mark : (j : ℕ) (d f : Entry S) → ((i ≡ j) × (f.mark ≡ Expanded)) ⊎ ((i ≢ j) × (f ≡ d)) → f.mark ≢ Expanded
+        → f ≡ d
     old_mark j d f (inl l) h = absurd (h l.1)
     old_mark j d f (inr r) h = r.1
 
-    parent_of : (p : ℕ) (d : Entry S) → At es p d → d.mark ≡ Expanded → (f : Entry S) × At all p f × (f.state ≡ d.state) × (f.mark ≡ Expanded)
+    parent_of : (p : ℕ) (d : Entry S) → At es p d → d.mark ≡ Expanded → (f : Entry S) × At all p f × (f.state ≡ d.state)
+        × (f.mark ≡ Expanded)
     parent_of p d at x =
         let w = kept_at p d at in
         (w.0, w.1, w.2.state, elim w.3 [ inl l ↦ l.1 | inr r ↦ ap (λ (q : Entry S). q.mark) r.1 ∙ x ])
@@ -236,23 +238,34 @@ module _ {S : Type 0} (m : StepMachine S) (same : S → S → Bool) (right : S �
           earlier = (let within : i < length es = get_within es i e at_i in omega arith);
           entered = w.1;
           expanded = elim w.3 [ inl l ↦ l.1 | inr r ↦ absurd (r.0 refl) ];
-          step = step_of_same e.state w.0.state y.state f.state y.thread w.2.state (ap (λ (q : Entry S). q.state) opens) (fresh_step k y at);
+          step = step_of_same e.state w.0.state y.state f.state y.thread w.2.state (ap (λ (q : Entry S). q.state) opens)
+              (fresh_step k y at);
         }
 
     apart : (j k : ℕ) (f g : Entry S) → Where j f → Where k g → same f.state g.state ≡ true → j ≡ k
     unfolding fresh
-    apart j k f g (Old d at but which) (Old b there but' which') h = law.distinct j k d b at there (same_of_same d.state f.state b.state g.state but.state but'.state h)
+    apart j k f g (Old d at but which) (Old b there but' which') h =
+        law.distinct j k d b at there (same_of_same d.state f.state b.state g.state but.state but'.state h)
     apart j k f g (Old d at but which) (New n y is there opens) h =
-        absurd (true≢false (sym (same_of_same d.state f.state y.state g.state but.state (ap (λ (q : Entry S). q.state) opens) h) ∙ fresh_unknown n j y d there at))
+        absurd (true≢false
+        (sym (same_of_same d.state f.state y.state g.state but.state (ap (λ (q : Entry S). q.state) opens) h)
+        ∙ fresh_unknown n j y d there at))
     apart j k f g (New n y is at opens) (Old b there but which) h =
-        absurd (true≢false (sym (same_of_same b.state g.state y.state f.state but.state (ap (λ (q : Entry S). q.state) opens) (merges.turned f.state g.state h)) ∙ fresh_unknown n k y b at there))
+        absurd (true≢false
+        (sym (same_of_same b.state g.state y.state f.state but.state (ap (λ (q : Entry S). q.state) opens)
+        (merges.turned f.state g.state h)) ∙ fresh_unknown n k y b at there))
     apart j k f g (New n y is at opens) (New n' y' is' at' opens') h =
-        let e : n ≡ n' = unknown_apart m same merges (states es) xs n n' y y' at at' (same_of_same y.state f.state y'.state g.state (ap (λ (q : Entry S). q.state) opens) (ap (λ (q : Entry S). q.state) opens') h) in
+        let e : n ≡ n' = unknown_apart m same merges (states es) xs n n' y y' at at'
+        (same_of_same y.state f.state y'.state g.state (ap (λ (q : Entry S). q.state) opens)
+        (ap (λ (q : Entry S). q.state) opens') h) in
         omega arith
 
     right_at : (j : ℕ) (f : Entry S) → Where j f → right f.state f.finding
-    right_at j f (Old d at but which) = right_of_same d.state f.state d.finding f.finding but.state but.finding (law.findings j d at)
-    right_at j f (New k y is at opens) = right_of_same y.state f.state y.finding f.finding (ap (λ (q : Entry S). q.state) opens) (ap (λ (q : Entry S). q.finding) opens) (fresh_right k y at)
+    right_at j f (Old d at but which) =
+        right_of_same d.state f.state d.finding f.finding but.state but.finding (law.findings j d at)
+    right_at j f (New k y is at opens) =
+        right_of_same y.state f.state y.finding f.finding (ap (λ (q : Entry S). q.state) opens)
+        (ap (λ (q : Entry S). q.finding) opens) (fresh_right k y at)
 
     fits_at : (j : ℕ) (f : Entry S) → Where j f → m.Fits f.state
     unfolding fresh
@@ -261,13 +274,18 @@ module _ {S : Type 0} (m : StepMachine S) (same : S → S → Bool) (right : S �
         let u = unknown_is m same merges (states es) xs k y at in
         subst m.Fits (sym (ap (λ (q : Entry S). q.state) opens)) (expansion.fit u.0.0 y u.0.1)
 
-    stood : (j t : ℕ) (f : Entry S) (s : S) → Where j f → f.mark ≡ Expanded → m.step f.state t ≡ Some s → StandsFor m same all s
+    stood : (j t : ℕ) (f : Entry S) (s : S) → Where j f → f.mark ≡ Expanded → m.step f.state t ≡ Some s
+        → StandsFor m same all s
     stood j t f s (Old d at but (inl l)) x leads =
-        let q : d ≡ e = (let a : slice_get es i ≡ Some e = at_i in let b : slice_get es j ≡ Some d = at in let c : i ≡ j = l.0 in cc) in
-        stands_for_steps t s (step_of_same f.state e.state s s t (sym (ap (λ (v : Entry S). v.state) q) ∙ sym but.state) refl leads)
-    stood j t f s (Old d at but (inr r)) x leads =
-        stands_entered s (law.stands j t d s at (sym (ap (λ (v : Entry S). v.mark) r.1) ∙ x) (step_of_same f.state d.state s s t (sym but.state) refl leads))
-    stood j t f s (New k y is at opens) x leads = absurd (let o : f.mark ≡ Open = ap (λ (v : Entry S). v.mark) opens in cc)
+        let q : d ≡ e = (let a : slice_get es i ≡ Some e = at_i in let b : slice_get es j ≡ Some d = at in
+        let c : i ≡ j = l.0 in cc) in
+        stands_for_steps t s
+        (step_of_same f.state e.state s s t (sym (ap (λ (v : Entry S). v.state) q) ∙ sym but.state) refl leads)
+    stood j t f s (Old d at but (inr r)) x leads = stands_entered s
+        (law.stands j t d s at (sym (ap (λ (v : Entry S). v.mark) r.1) ∙ x)
+        (step_of_same f.state d.state s s t (sym but.state) refl leads))
+    stood j t f s (New k y is at opens) x leads =
+        absurd (let o : f.mark ≡ Open = ap (λ (v : Entry S). v.mark) opens in cc)
 
     in_order : (j k : ℕ) (f g : Entry S) → Where j f → Where k g → j ≤ k → m.steps f.state ≤ m.steps g.state
     in_order j k f g (Old d at but which) (Old b there but' which') le =
@@ -287,30 +305,38 @@ module _ {S : Type 0} (m : StepMachine S) (same : S → S → Bool) (right : S �
         let u : m.steps y.state ≡ m.steps e.state + 1 = fresh_steps n y at in
         let u' : m.steps y'.state ≡ m.steps e.state + 1 = fresh_steps n' y' at' in omega arith
 
-    fewest_taken : (j k : ℕ) (f g : Entry S) → Where j f → f.mark ≡ Taken → Where k g → g.mark ≢ Expanded → m.steps f.state ≤ m.steps g.state
+    fewest_taken : (j k : ℕ) (f g : Entry S) → Where j f → f.mark ≡ Taken → Where k g → g.mark ≢ Expanded
+        → m.steps f.state ≤ m.steps g.state
     fewest_taken j k f g (Old d at but which) x (Old b there but' which') y =
         let p : f ≡ d = old_mark j d f which (λ (z : f.mark ≡ Expanded). cc) in
         let q : g ≡ b = old_mark k b g which' y in
-        let r : m.steps d.state ≤ m.steps b.state = law.least j k d b at (sym (ap (λ (v : Entry S). v.mark) p) ∙ x) there (λ (z : b.mark ≡ Expanded). y (ap (λ (v : Entry S). v.mark) q ∙ z)) in
+        let r : m.steps d.state ≤ m.steps b.state =
+        law.least j k d b at (sym (ap (λ (v : Entry S). v.mark) p) ∙ x) there
+        (λ (z : b.mark ≡ Expanded). y (ap (λ (v : Entry S). v.mark) q ∙ z)) in
         let u : m.steps f.state ≡ m.steps d.state = ap m.steps but.state in
         let v : m.steps g.state ≡ m.steps b.state = ap m.steps but'.state in omega arith
     fewest_taken j k f g (Old d at but which) x (New n y is there opens) h =
         let p : f ≡ d = old_mark j d f which (λ (z : f.mark ≡ Expanded). cc) in
-        let r : m.steps d.state ≤ m.steps e.state = law.least j i d e at (sym (ap (λ (v : Entry S). v.mark) p) ∙ x) at_i not_expanded in
+        let r : m.steps d.state ≤ m.steps e.state =
+        law.least j i d e at (sym (ap (λ (v : Entry S). v.mark) p) ∙ x) at_i not_expanded in
         let u : m.steps f.state ≡ m.steps d.state = ap m.steps but.state in
         let v : m.steps g.state ≡ m.steps y.state = ap (λ (v : Entry S). m.steps v.state) opens in
         let w : m.steps y.state ≡ m.steps e.state + 1 = fresh_steps n y there in omega arith
-    fewest_taken j k f g (New n y is at opens) x there h = absurd (let o : f.mark ≡ Open = ap (λ (v : Entry S). v.mark) opens in cc)
+    fewest_taken j k f g (New n y is at opens) x there h =
+        absurd (let o : f.mark ≡ Open = ap (λ (v : Entry S). v.mark) opens in cc)
 
-    close : (j k : ℕ) (f g : Entry S) → Where j f → f.mark ≢ Expanded → Where k g → m.steps g.state ≤ m.steps f.state + 1
+    close : (j k : ℕ) (f g : Entry S) → Where j f → f.mark ≢ Expanded → Where k g
+        → m.steps g.state ≤ m.steps f.state + 1
     close j k f g (Old d at but which) x (Old b there but' which') =
         let p : f ≡ d = old_mark j d f which x in
-        let r : m.steps b.state ≤ m.steps d.state + 1 = law.near j k d b at (λ (z : d.mark ≡ Expanded). x (ap (λ (v : Entry S). v.mark) p ∙ z)) there in
+        let r : m.steps b.state ≤ m.steps d.state + 1 =
+        law.near j k d b at (λ (z : d.mark ≡ Expanded). x (ap (λ (v : Entry S). v.mark) p ∙ z)) there in
         let u : m.steps f.state ≡ m.steps d.state = ap m.steps but.state in
         let v : m.steps g.state ≡ m.steps b.state = ap m.steps but'.state in omega arith
     close j k f g (Old d at but which) x (New n y is there opens) =
         let p : f ≡ d = old_mark j d f which x in
-        let r : m.steps e.state ≤ m.steps d.state = law.least i j e d at_i is_taken at (λ (z : d.mark ≡ Expanded). x (ap (λ (v : Entry S). v.mark) p ∙ z)) in
+        let r : m.steps e.state ≤ m.steps d.state =
+        law.least i j e d at_i is_taken at (λ (z : d.mark ≡ Expanded). x (ap (λ (v : Entry S). v.mark) p ∙ z)) in
         let u : m.steps f.state ≡ m.steps d.state = ap m.steps but.state in
         let v : m.steps g.state ≡ m.steps y.state = ap (λ (v : Entry S). m.steps v.state) opens in
         let w : m.steps y.state ≡ m.steps e.state + 1 = fresh_steps n y there in omega arith
@@ -328,7 +354,8 @@ module _ {S : Type 0} (m : StepMachine S) (same : S → S → Bool) (right : S �
     pub entered_keeps : IsLawful m same right (with_successors same es i xs)
     unfolding all new fresh
     entered_keeps = record {
-      start = (let w = kept_at 0 law.start.0 law.start.1 in (w.0, w.1, w.2.state ∙ law.start.2, w.2.origin ∙ law.start.3));
+      start = (let w = kept_at 0 law.start.0 law.start.1 in
+          (w.0, w.1, w.2.state ∙ law.start.2, w.2.origin ∙ law.start.3));
       origins = (λ j f at pos. origin_of j f (where_is j f at) pos);
       distinct = (λ j k f g at_j at_k h. apart j k f g (where_is j f at_j) (where_is k g at_k) h);
       findings = (λ j f at. right_at j f (where_is j f at));
@@ -340,21 +367,34 @@ module _ {S : Type 0} (m : StepMachine S) (same : S → S → Bool) (right : S �
     }
 
     grow : (j : ℕ) (f : Entry S) → Where j f
-        → ((d : Entry S) × At es j d × (f.state ≡ d.state) × (f.finding ≡ d.finding) × (d.mark ≡ Expanded → f.mark ≡ Expanded))
+        → ((d : Entry S) × At es j d × (f.state ≡ d.state) × (f.finding ≡ d.finding)
+        × (d.mark ≡ Expanded → f.mark ≡ Expanded))
         ⊎ ((k : ℕ) × (d : Entry S) × At es k d × (d.mark ≢ Expanded) × (m.steps f.state ≡ m.steps d.state + 1))
-    grow j f (Old d at but which) = inl (d, at, but.state, but.finding, (λ x. elim which [ inl l ↦ l.1 | inr r ↦ ap (λ (q : Entry S). q.mark) r.1 ∙ x ]))
-    grow j f (New k y is at opens) = inr (i, e, at_i, not_expanded, ap (λ (q : Entry S). m.steps q.state) opens ∙ fresh_steps k y at)
+    grow j f (Old d at but which) =
+        inl (
+          d,
+          at,
+          but.state,
+          but.finding,
+          (λ x. elim which [ inl l ↦ l.1 | inr r ↦ ap (λ (q : Entry S). q.mark) r.1 ∙ x ]),
+        )
+    grow j f (New k y is at opens) =
+        inr (i, e, at_i, not_expanded, ap (λ (q : Entry S). m.steps q.state) opens ∙ fresh_steps k y at)
 
     pub entered_grows : GrowsFrom m.steps es (with_successors same es i xs)
     unfolding all new fresh
     entered_grows j f at = grow j f (where_is j f at)
 
-    rest : ((j : ℕ) (d : Entry S) → At es j d → d.mark ≡ Taken → i ≡ j) → (j : ℕ) (f : Entry S) → Where j f → f.mark ≢ Taken
+    rest : ((j : ℕ) (d : Entry S) → At es j d → d.mark ≡ Taken → i ≡ j) → (j : ℕ) (f : Entry S) → Where j f
+        → f.mark ≢ Taken
     rest alone j f (Old d at but (inl l)) = λ (x : f.mark ≡ Taken). let y : f.mark ≡ Expanded = l.1 in cc
-    rest alone j f (Old d at but (inr r)) = λ (x : f.mark ≡ Taken). r.0 (alone j d at (sym (ap (λ (q : Entry S). q.mark) r.1) ∙ x))
-    rest alone j f (New k y is at opens) = λ (x : f.mark ≡ Taken). let o : f.mark ≡ Open = ap (λ (q : Entry S). q.mark) opens in cc
+    rest alone j f (Old d at but (inr r)) =
+        λ (x : f.mark ≡ Taken). r.0 (alone j d at (sym (ap (λ (q : Entry S). q.mark) r.1) ∙ x))
+    rest alone j f (New k y is at opens) =
+        λ (x : f.mark ≡ Taken). let o : f.mark ≡ Open = ap (λ (q : Entry S). q.mark) opens in cc
 
     -- if no other entry was taken, none is
-    pub entered_rests : ((j : ℕ) (d : Entry S) → At es j d → d.mark ≡ Taken → i ≡ j) → NoneTaken (with_successors same es i xs)
+    pub entered_rests : ((j : ℕ) (d : Entry S) → At es j d → d.mark ≡ Taken → i ≡ j)
+        → NoneTaken (with_successors same es i xs)
     unfolding all new fresh
     entered_rests alone j f at = rest alone j f (where_is j f at)

@@ -16,7 +16,8 @@ keeps_one true old mid new was is now steps before len keeps =
     (before.0 + 1, omega arith, omega arith, (omega arith, omega arith))
 
 -- and steps more
-pub keeps_more : (old mid new : Left) (was is now steps more : ℕ) → KeepsMet old mid was is steps → KeepsMet mid new is now more → KeepsMet old new was now (steps + more)
+pub keeps_more : (old mid new : Left) (was is now steps more : ℕ) → KeepsMet old mid was is steps
+    → KeepsMet mid new is now more → KeepsMet old new was now (steps + more)
 keeps_more old mid new was is now steps more before then =
     let a = before.3 in
     let b = then.3 in
@@ -27,7 +28,8 @@ keeps_more old mid new was is now steps more before then =
     (before.0 + then.0, omega arith, omega arith, (omega arith, omega arith))
 
 -- as many as led to no new entry
-pub keeps_met : (old new : Left) (was is steps met : ℕ) → KeepsMet old new was is steps → is + met ≡ was + steps → Keeps old new met
+pub keeps_met : (old new : Left) (was is steps met : ℕ) → KeepsMet old new was is steps → is + met ≡ was + steps
+    → Keeps old new met
 keeps_met old new was is steps met keeps count =
     let same : keeps.0 ≡ met = omega arith in
     subst (λ n. Keeps old new n) same keeps.3

@@ -3,6 +3,7 @@ mod Marks
 pub mod Unknown
 pub mod Coverage
 pub mod Leaving
+pub mod EnabledThreads
 pub mod Kept
 pub mod Next
 pub mod LawfulBooks

@@ -1,5 +1,6 @@
 -- A machine that runs a program is a step machine.
-use Rattle.std.proofs.Common.{◌≡◌, ℕ, ◌+◌, ◌<◌, ◌≤◌, Bool, true, IsSome, Option, Some, None, List, [], ◌∷◌, length, refl, sym, ap, ◌∙◌, arith, slice_get, subst}
+use Rattle.std.proofs.Common.{◌≡◌, ℕ, ◌+◌, ◌<◌, ◌≤◌, Bool, true, IsSome, Option, Some, None, List, [], ◌∷◌, length}
+use Rattle.std.proofs.Common.{refl, sym, ap, ◌∙◌, arith, slice_get, subst}
 use Rattle.std.specs.Cmp.{IsEquivalence}
 use Rattle.std.proofs.lemmas.Option.{option_and_then_some}
 use Rattle.sched_program.specs.Exact.{IsExact}
@@ -31,24 +32,29 @@ use Rattle.book.proofs.Exact.{exact_merges}
 use Rattle.book.proofs.LawfulBooks.{opened_book}
 
 module _ {Machine Memory Place Form : Type 0} (rules : Rules Memory Place) (program : Program) where
-  access_counts : (state : State Machine Memory Place Form) (t : ℕ) (thread : Thread Place) (acted : Memory × Outcome Place) → (after_access state t thread acted).steps ≡ state.steps + 1
+  access_counts : (state : State Machine Memory Place Form) (t : ℕ) (thread : Thread Place)
+      (acted : Memory × Outcome Place) → (after_access state t thread acted).steps ≡ state.steps + 1
   access_counts state t thread (memory, Goes place) = refl
   access_counts state t thread (memory, Replies reply) = refl
   access_counts state t thread (memory, Astray) = refl
 
   -- a step is counted
-  pub step_counts : (state next : State Machine Memory Place Form) (t : ℕ) → step rules program state t ≡ Some next → next.steps ≡ state.steps + 1
+  pub step_counts : (state next : State Machine Memory Place Form) (t : ℕ) → step rules program state t ≡ Some next
+      → next.steps ≡ state.steps + 1
   step_counts state next t is =
       step_parts rules program (next.steps ≡ state.steps + 1) state next t is (λ thread there op op_is same.
       ap (λ (s : State Machine Memory Place Form). s.steps) same ∙ access_counts state t _ _)
 
   -- only a thread takes a step
-  step_of_thread : (state next : State Machine Memory Place Form) (t : ℕ) → step rules program state t ≡ Some next → t < length program.threads
+  step_of_thread : (state next : State Machine Memory Place Form) (t : ℕ) → step rules program state t ≡ Some next
+      → t < length program.threads
   step_of_thread state next t is =
       step_parts rules program (t < length program.threads) state next t is (λ thread there op op_is same.
-      option_and_then_some _ (slice_get program.threads t) op op_is (λ ops at_t _. get_within program.threads t ops at_t))
+      option_and_then_some _ (slice_get program.threads t) op op_is
+      (λ ops at_t _. get_within program.threads t ops at_t))
 
-  pub is_machine : AreLawful rules → IsWithinLimits program → IsMachine (machine_of {Machine = Machine} {Form = Form} rules program)
+  pub is_machine : AreLawful rules → IsWithinLimits program
+      → IsMachine (machine_of {Machine = Machine} {Form = Form} rules program)
   is_machine lawful limits = record {
     from_zero = refl;
     one_more = (λ s r t leads. step_counts s r t leads);
@@ -58,7 +64,8 @@ module _ {Machine Memory Place Form : Type 0} (rules : Rules Memory Place) (prog
     step_fits = (λ s r t fits leads. step_fits rules program s fits lawful t r leads);
   }
 
-module _ {Machine Memory Place Form : Type 0} (place_eq : Place → Place → Bool) (memory_eq : Memory → Memory → Bool) (form_eq : Form → Form → Bool)
+module _ {Machine Memory Place Form : Type 0} (place_eq : Place → Place → Bool) (memory_eq : Memory → Memory → Bool)
+    (form_eq : Form → Form → Bool)
     (form_of : Memory → List (Option Place) → Form) where
   -- labels test equal exactly as the merge counts states as one
   pub counted_by_label : (merge : Merge) → counted_as_one {Machine = Machine} place_eq memory_eq form_eq form_of merge
@@ -66,21 +73,29 @@ module _ {Machine Memory Place Form : Type 0} (place_eq : Place → Place → Bo
   counted_by_label Exact = refl
   counted_by_label Names = refl
 
-  module _ (rules : Rules Memory Place) (program : Program) (lawful : AreLawful rules) (forms : AreFormsExact rules form_of)
-      (states_exact : IsExact (state_eq place_eq {Machine = Machine} {Form = Form} memory_eq)) (states : IsEquivalence (state_eq place_eq {Machine = Machine} {Form = Form} memory_eq))
+  module _ (rules : Rules Memory Place) (program : Program) (lawful : AreLawful rules)
+      (forms : AreFormsExact rules form_of)
+      (states_exact : IsExact (state_eq place_eq {Machine = Machine} {Form = Form} memory_eq))
+      (states : IsEquivalence (state_eq place_eq {Machine = Machine} {Form = Form} memory_eq))
       (forms_exact : IsExact (state_form_eq form_eq)) (form_tests : IsEquivalence (state_form_eq form_eq)) where
     abbrev form : State Machine Memory Place Form → FormContent Form
     form = state_form form_of
 
     -- states that fit are alike where their forms test equal
-    alike_by : (r s : State Machine Memory Place Form) → Fits rules program r → Fits rules program s → state_form_eq form_eq (form r) (form s) ≡ true → AreStatesAlike rules r s
-    alike_by r s r_fits s_fits same = (forms_alike rules form_of forms program program r s r_fits s_fits).0 (forms_exact (form r) (form s) same)
+    alike_by : (r s : State Machine Memory Place Form) → Fits rules program r → Fits rules program s
+        → state_form_eq form_eq (form r) (form s) ≡ true → AreStatesAlike rules r s
+    alike_by r s r_fits s_fits same = (forms_alike rules form_of forms program program r s r_fits s_fits).0
+        (forms_exact (form r) (form s) same)
 
-    named_by : (r s : State Machine Memory Place Form) → Fits rules program r → Fits rules program s → AreStatesAlike rules r s → state_form_eq form_eq (form r) (form s) ≡ true
+    named_by : (r s : State Machine Memory Place Form) → Fits rules program r → Fits rules program s
+        → AreStatesAlike rules r s → state_form_eq form_eq (form r) (form s) ≡ true
     named_by r s r_fits s_fits alike =
-        subst (λ (f : FormContent Form). state_form_eq form_eq (form r) f ≡ true) ((forms_alike rules form_of forms program program r s r_fits s_fits).1 alike) (form_tests.refl (form r))
+        subst (λ (f : FormContent Form). state_form_eq form_eq (form r) f ≡ true)
+        ((forms_alike rules form_of forms program program r s r_fits s_fits).1 alike) (form_tests.refl (form r))
 
-    names_merge : IsMachine (machine_of {Machine = Machine} {Form = Form} rules program) → Merges (machine_of {Machine = Machine} {Form = Form} rules program) (λ r s. state_form_eq form_eq (form r) (form s))
+    names_merge : IsMachine (machine_of {Machine = Machine} {Form = Form} rules program)
+        → Merges (machine_of {Machine = Machine} {Form = Form} rules program)
+        (λ r s. state_form_eq form_eq (form r) (form s))
     names_merge machine = record {
       itself = (λ s. form_tests.refl (form s));
       turned = (λ r s h. form_tests.symm (form s) (form r) ∙ h);
@@ -94,12 +109,14 @@ module _ {Machine Memory Place Form : Type 0} (place_eq : Place → Place → Bo
     }
 
     -- what is found of a state is found of one that is alike to it: the same fault, or the same linearization
-    found_alike : (r s : State Machine Memory Place Form) → Fits rules program r → Fits rules program s → AreStatesAlike rules r s
+    found_alike : (r s : State Machine Memory Place Form) → Fits rules program r → Fits rules program s
+        → AreStatesAlike rules r s
         → (finding : Finding) → IsFindingOf rules program r finding → IsFindingOf rules program s finding
     found_alike r s r_fits s_fits alike found.Astray is = subst (λ a. IsSome a) alike.astray is
     found_alike r s r_fits s_fits alike found.Order is = (
       sym alike.astray ∙ is.0,
-      λ ordered. is.1 (alike_ordered rules s r lawful (alike_turned rules form_of forms program r s r_fits s_fits alike) ordered),
+      λ ordered. is.1
+          (alike_ordered rules s r lawful (alike_turned rules form_of forms program r s r_fits s_fits alike) ordered),
     )
     found_alike r s r_fits s_fits alike found.History is = (
       sym alike.astray ∙ is.0,
@@ -112,23 +129,35 @@ module _ {Machine Memory Place Form : Type 0} (place_eq : Place → Place → Bo
       subst (λ h. IsLinearization program h order) (alike_history rules r s alike) is.2,
     )
 
-    pub merges_by : (merge : Merge) → IsMachine (machine_of {Machine = Machine} {Form = Form} rules program) → Merges (machine_of {Machine = Machine} {Form = Form} rules program) (counted_as_one {Machine = Machine} place_eq memory_eq form_eq form_of merge)
-    merges_by Exact machine = exact_merges (machine_of {Machine = Machine} {Form = Form} rules program) (state_eq place_eq memory_eq) states states_exact
+    pub merges_by : (merge : Merge) → IsMachine (machine_of {Machine = Machine} {Form = Form} rules program)
+        → Merges (machine_of {Machine = Machine} {Form = Form} rules program)
+        (counted_as_one {Machine = Machine} place_eq memory_eq form_eq form_of merge)
+    merges_by Exact machine =
+        exact_merges (machine_of {Machine = Machine} {Form = Form} rules program) (state_eq place_eq memory_eq) states
+        states_exact
     merges_by Names machine = names_merge machine
 
     -- states that count as one have the same findings
-    pub findings_alike : (merge : Merge) → FindsAlike (machine_of {Machine = Machine} {Form = Form} rules program) (counted_as_one {Machine = Machine} place_eq memory_eq form_eq form_of merge) (IsFindingOf rules program)
-    findings_alike Exact r s _ _ same finding is = subst (λ v. IsFindingOf rules program v finding) (states_exact r s same) is
-    findings_alike Names r s r_fits s_fits same finding is = found_alike r s r_fits s_fits (alike_by r s r_fits s_fits same) finding is
+    pub findings_alike : (merge : Merge)
+        → FindsAlike (machine_of {Machine = Machine} {Form = Form} rules program)
+        (counted_as_one {Machine = Machine} place_eq memory_eq form_eq form_of merge) (IsFindingOf rules program)
+    findings_alike Exact r s _ _ same finding is =
+        subst (λ v. IsFindingOf rules program v finding) (states_exact r s same) is
+    findings_alike Names r s r_fits s_fits same finding is =
+        found_alike r s r_fits s_fits (alike_by r s r_fits s_fits same) finding is
 
 -- the book with the start alone
-pub first_book : {Machine Memory Place Form : Type 0} (place_eq : Place → Place → Bool) (memory_eq : Memory → Memory → Bool) (form_eq : Form → Form → Bool)
+pub first_book : {Machine Memory Place Form : Type 0} (place_eq : Place → Place → Bool)
+    (memory_eq : Memory → Memory → Bool) (form_eq : Form → Form → Bool)
     (form_of : Machine → Memory → List (Option Place) → Form) (rules : Machine → Rules Memory Place)
-    → IsExact (state_eq place_eq {Machine = Machine} {Form = Form} memory_eq) → IsEquivalence (state_eq place_eq {Machine = Machine} {Form = Form} memory_eq)
+    → IsExact (state_eq place_eq {Machine = Machine} {Form = Form} memory_eq)
+    → IsEquivalence (state_eq place_eq {Machine = Machine} {Form = Form} memory_eq)
     → IsExact (state_form_eq form_eq) → IsEquivalence (state_form_eq form_eq)
-    → (machine : Machine) (program : Program) (merge : Merge) (limit : ℕ) (state : State Machine Memory Place Form) (finding : Finding)
+    → (machine : Machine) (program : Program) (merge : Merge) (limit : ℕ) (state : State Machine Memory Place Form)
+    (finding : Finding)
     → AreLawful (rules machine) → AreFormsExact (rules machine) (form_of machine) → IsWithinLimits program
-    → state ≡ start (rules machine) program → Fits (rules machine) program state → IsFindingOf (rules machine) program state finding → 1 ≤ limit → limit ≤ 2000000
+    → state ≡ start (rules machine) program → Fits (rules machine) program state
+    → IsFindingOf (rules machine) program state finding → 1 ≤ limit → limit ≤ 2000000
     → IsBook rules place_eq memory_eq form_eq form_of (record {
       machine = machine;
       program = program;
@@ -137,16 +166,21 @@ pub first_book : {Machine Memory Place Form : Type 0} (place_eq : Place → Plac
       entries = record { state = state; finding = finding; origin = None; mark = Open } ∷ [];
       met = 0;
     })
-first_book {Machine} {Memory} {Place} {Form} place_eq memory_eq form_eq form_of rules states_exact states forms_exact form_tests machine program merge limit state finding lawful forms limits starts fits right some few =
+first_book {Machine} {Memory} {Place} {Form} place_eq memory_eq form_eq form_of rules states_exact states forms_exact
+    form_tests machine program merge limit state finding lawful forms limits starts fits right some few =
     let m : StepMachine (State Machine Memory Place Form) = machine_of (rules machine) program in
     let keeps : IsMachine m = is_machine (rules machine) program lawful limits in
     let merges : Merges m (counted_as_one place_eq memory_eq form_eq (form_of machine) merge) =
-    merges_by place_eq memory_eq form_eq (form_of machine) (rules machine) program lawful forms states_exact states forms_exact form_tests merge keeps in
+    merges_by place_eq memory_eq form_eq (form_of machine) (rules machine) program lawful forms states_exact states
+    forms_exact form_tests merge keeps in
     record {
-      law = opened_book {X = Machine} m (counted_as_one place_eq memory_eq form_eq (form_of machine) merge) (IsFindingOf (rules machine) program) keeps merges machine program merge limit state finding
+      law = opened_book {X = Machine} m (counted_as_one place_eq memory_eq form_eq (form_of machine) merge)
+          (IsFindingOf (rules machine) program) keeps merges machine program merge limit state finding
           starts right fits some few;
       limits = limits;
       machine = keeps;
       merges = merges;
-      findings = findings_alike place_eq memory_eq form_eq (form_of machine) (rules machine) program lawful forms states_exact states forms_exact form_tests merge;
+      findings =
+          findings_alike place_eq memory_eq form_eq (form_of machine) (rules machine) program lawful forms states_exact
+          states forms_exact form_tests merge;
     }

@@ -1,5 +1,6 @@
 -- Which entry is next.
-use Rattle.std.proofs.Common.{◌≡◌, ◌≢◌, ℕ, ◌<◌, ◌≤◌, inl, inr, Bool, true, false, not, cond, ltb, Some, None, List, [], ◌∷◌, length, refl, sym, ap, ◌∙◌, arith, slice_get, position, get_or}
+use Rattle.std.proofs.Common.{◌≡◌, ◌≢◌, ℕ, ◌<◌, ◌≤◌, inl, inr, Bool, true, false, not, cond, ltb, Some, None, List, []}
+use Rattle.std.proofs.Common.{◌∷◌, length, refl, sym, ap, ◌∙◌, arith, slice_get, position, get_or}
 use Rattle.std.specs.List.{position_or_len}
 use Rattle.std.proofs.lemmas.Bool.{true≢false, cases_lt, lt-ltb}
 use Rattle.std.proofs.lemmas.Option.{get_or_from_slice_get, slice_get_read}
@@ -20,12 +21,14 @@ module _ {X : Type 0} (p : X → Bool) where
   position-within (x ∷ xs) i h = (position-Some p (x ∷ xs) i x h).0
 
 -- what is read at the place that `position` gives
-pub at_position : {X : Type 0} (p : X → Bool) (xs : List X) (i : ℕ) (x : X) → position p xs ≡ Some i → x ≡ get_or xs i x → slice_get xs i ≡ Some x
+pub at_position : {X : Type 0} (p : X → Bool) (xs : List X) (i : ℕ) (x : X) → position p xs ≡ Some i → x ≡ get_or xs i x
+    → slice_get xs i ≡ Some x
 at_position p xs i x h r = slice_get_read xs (length xs) i x refl (position-within p xs i h) r
 
 module _ {X : Type 0} (p : X → Bool) (xs : List X) where
   -- the first that passes does, and none before it
-  pub first_passes : (i : ℕ) → position p xs ≡ Some i → (x : X) × (slice_get xs i ≡ Some x) × (p x ≡ true) × ((k : ℕ) (y : X) → k < i → slice_get xs k ≡ Some y → p y ≡ false)
+  pub first_passes : (i : ℕ) → position p xs ≡ Some i → (x : X) × (slice_get xs i ≡ Some x) × (p x ≡ true)
+      × ((k : ℕ) (y : X) → k < i → slice_get xs k ≡ Some y → p y ≡ false)
   first_passes i h =
       let at = get_at xs i (position-within p xs i h) in
       let some = position-Some p xs i at.0 h in (
@@ -41,8 +44,10 @@ module _ {X : Type 0} (p : X → Bool) (xs : List X) where
       let e : get_or xs k y ≡ y = get_or_from_slice_get xs k y y a in
       let w : k < length xs = get_within xs k y a in
       elim (cases_lt (position_or_len p xs) (length xs)) [
-        | inl l ↦ absurd (let t : ltb (position_or_len p xs) (length xs) ≡ true = lt-ltb (position_or_len p xs) (length xs) l in
-            let q : cond (ltb (position_or_len p xs) (length xs)) (Some (position_or_len p xs)) None ≡ Some (position_or_len p xs) = rw t refl in cc)
+        | inl l ↦ absurd
+            (let t : ltb (position_or_len p xs) (length xs) ≡ true = lt-ltb (position_or_len p xs) (length xs) l in
+            let q : cond (ltb (position_or_len p xs) (length xs)) (Some (position_or_len p xs)) None
+            ≡ Some (position_or_len p xs) = rw t refl in cc)
         | inr le ↦ ap p (sym e) ∙ fails_before_first p xs k y (omega arith)
       ]
 
@@ -51,17 +56,24 @@ open_from Open h = refl
 open_from Taken h = absurd (true≢false (sym h))
 open_from Expanded h = absurd (true≢false (sym h))
 
-module _ {S : Type 0} (m : StepMachine S) (same : S → S → Bool) (right : S → Finding → Type 0) (es : List (Entry S)) (law : IsLawful m same right es) where
+module _ {S : Type 0} (m : StepMachine S) (same : S → S → Bool) (right : S → Finding → Type 0) (es : List (Entry S))
+    (law : IsLawful m same right es) where
   -- where no entry is open, or all are expanded, none is next
-  pub no_next_open : position (λ (r : Entry S). is_open r.mark) es ≡ None → (i : ℕ) (e : Entry S) → IsNext m.steps es i e → ⊥
-  no_next_open h i e next = true≢false (sym (open_passes e.mark next.is_open) ∙ none_passes (λ (r : Entry S). is_open r.mark) es h i e next.entry)
+  pub no_next_open : position (λ (r : Entry S). is_open r.mark) es ≡ None → (i : ℕ) (e : Entry S)
+      → IsNext m.steps es i e → ⊥
+  no_next_open h i e next =
+      true≢false (sym (open_passes e.mark next.is_open)
+      ∙ none_passes (λ (r : Entry S). is_open r.mark) es h i e next.entry)
 
-  pub no_next_expanded : position (λ (r : Entry S). not (is_expanded r.mark)) es ≡ None → (i : ℕ) (e : Entry S) → IsNext m.steps es i e → ⊥
+  pub no_next_expanded : position (λ (r : Entry S). not (is_expanded r.mark)) es ≡ None → (i : ℕ) (e : Entry S)
+      → IsNext m.steps es i e → ⊥
   no_next_expanded h i e next =
-      let x : e.mark ≡ Expanded = expanded_from e.mark (none_passes (λ (r : Entry S). not (is_expanded r.mark)) es h i e next.entry) in
+      let x : e.mark ≡ Expanded =
+      expanded_from e.mark (none_passes (λ (r : Entry S). not (is_expanded r.mark)) es h i e next.entry) in
       let o : e.mark ≡ Open = next.is_open in cc
 
-  module _ (a b : ℕ) (first : position (λ (r : Entry S). not (is_expanded r.mark)) es ≡ Some a) (open_one : position (λ (r : Entry S). is_open r.mark) es ≡ Some b)
+  module _ (a b : ℕ) (first : position (λ (r : Entry S). not (is_expanded r.mark)) es ≡ Some a)
+      (open_one : position (λ (r : Entry S). is_open r.mark) es ≡ Some b)
       (d e : Entry S) (at_a : At es a d) (at_b : At es b e) where
     -- the first open entry is next if it has no more steps than the first that is not expanded
     pub next_from : m.steps e.state ≡ m.steps d.state → IsNext m.steps es b e
@@ -70,7 +82,9 @@ module _ {S : Type 0} (m : StepMachine S) (same : S → S → Bool) (right : S �
         let o = first_passes (λ (r : Entry S). is_open r.mark) es b open_one in
         record {
           entry = at_b;
-          is_open = (let q : o.0 ≡ e = (let u : slice_get es b ≡ Some o.0 = o.1 in let v : slice_get es b ≡ Some e = at_b in cc) in
+          is_open =
+              (let q : o.0 ≡ e = (let u : slice_get es b ≡ Some o.0 = o.1 in let v : slice_get es b ≡ Some e = at_b in
+              cc) in
               sym (ap (λ (r : Entry S). r.mark) q) ∙ open_from o.0.mark o.2);
           fewest = (λ j g at not_done. elim (cases_lt j a) [
             | inl l ↦ absurd (not_done (expanded_from g.mark (f.3 j g l at)))
@@ -86,9 +100,13 @@ module _ {S : Type 0} (m : StepMachine S) (same : S → S → Bool) (right : S �
     no_next_later differ i g next =
         let f = first_passes (λ (r : Entry S). not (is_expanded r.mark)) es a first in
         let o = first_passes (λ (r : Entry S). is_open r.mark) es b open_one in
-        let d_is : f.0 ≡ d = (let u : slice_get es a ≡ Some f.0 = f.1 in let v : slice_get es a ≡ Some d = at_a in cc) in
-        let e_is : o.0 ≡ e = (let u : slice_get es b ≡ Some o.0 = o.1 in let v : slice_get es b ≡ Some e = at_b in cc) in
-        let d_not : d.mark ≢ Expanded = (λ (q : d.mark ≡ Expanded). not_expanded_from f.0.mark f.2 (ap (λ (r : Entry S). r.mark) d_is ∙ q)) in
+        let d_is : f.0 ≡ d = (let u : slice_get es a ≡ Some f.0 = f.1 in let v : slice_get es a ≡ Some d = at_a in
+        cc) in
+        let e_is : o.0 ≡ e = (let u : slice_get es b ≡ Some o.0 = o.1 in let v : slice_get es b ≡ Some e = at_b in
+        cc) in
+        let d_not : d.mark
+        ≢ Expanded =
+        (λ (q : d.mark ≡ Expanded). not_expanded_from f.0.mark f.2 (ap (λ (r : Entry S). r.mark) d_is ∙ q)) in
         let e_open : e.mark ≡ Open = sym (ap (λ (r : Entry S). r.mark) e_is) ∙ open_from o.0.mark o.2 in
         let below : m.steps g.state ≤ m.steps d.state = next.fewest a d at_a d_not in
         let a_le_b : m.steps d.state ≤ m.steps e.state = (elim (cases_lt b a) [

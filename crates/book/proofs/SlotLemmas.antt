@@ -1,5 +1,6 @@
 -- Rows put under keys that are new.
-use Rattle.std.proofs.Common.{◌≡◌, ℕ, zero, suc, Bool, true, false, cond, Some, None, is_some, List, [], ◌∷◌, ◌++◌, length, map, take, refl, sym, ap, ◌∙◌, append-nil, append_assoc, slice_get, ◌||◌}
+use Rattle.std.proofs.Common.{◌≡◌, ℕ, zero, suc, Bool, true, false, cond, Some, None, is_some, List, [], ◌∷◌, ◌++◌}
+use Rattle.std.proofs.Common.{length, map, take, refl, sym, ap, ◌∙◌, append-nil, append_assoc, slice_get, ◌||◌}
 use Rattle.std.specs.List.{list_any}
 use Rattle.std.specs.Map.{lookup, keys_of, values_of}
 use Rattle.std.proofs.Math.ListN.{length-map}
@@ -16,11 +17,14 @@ use Rattle.book.specs.Slots.{unlisted, keyed_of, entry_of, entries_of, forms_of}
 
 module _ {K V : Type 0} (eq : K → K → Bool) where
   -- a key that is not there goes last
-  put_last : (es : List (K × V)) (k : K) (v : V) → list_any (eq k) (keys_of es) ≡ false → insert_entry eq es k v ≡ es ++ (k, v) ∷ []
+  put_last : (es : List (K × V)) (k : K) (v : V) → list_any (eq k) (keys_of es) ≡ false
+      → insert_entry eq es k v ≡ es ++ (k, v) ∷ []
   put_last [] k v none = refl
   put_last (e ∷ es) k v none = by (eq k e.0) refl (λ h. put_last es k v h)
     where
-      by : (b : Bool) → eq k e.0 ≡ b → (list_any (eq k) (keys_of es) ≡ false → insert_entry eq es k v ≡ es ++ (k, v) ∷ []) → insert_entry eq (e ∷ es) k v ≡ (e ∷ es) ++ (k, v) ∷ []
+      by : (b : Bool) → eq k e.0 ≡ b
+          → (list_any (eq k) (keys_of es) ≡ false → insert_entry eq es k v ≡ es ++ (k, v) ∷ [])
+          → insert_entry eq (e ∷ es) k v ≡ (e ∷ es) ++ (k, v) ∷ []
       by true t again = let no : true ≡ false = ap (λ b. b || list_any (eq k) (keys_of es)) (sym t) ∙ none in cc
       by false f again =
           ap (λ b. cond b ((e.0, v) ∷ es) (e ∷ insert_entry eq es k v)) f
@@ -46,7 +50,8 @@ take-front [] (y ∷ ys) = refl
 take-front (x ∷ xs) ys = ap (λ zs. x ∷ zs) (take-front xs ys)
 
 -- what stood in front before something was put behind it still does
-pub take_kept : {X : Type 0} (old mid new rest : List X) → take (length old) mid ≡ old → new ≡ mid ++ rest → take (length old) new ≡ old
+pub take_kept : {X : Type 0} (old mid new rest : List X) → take (length old) mid ≡ old → new ≡ mid ++ rest
+    → take (length old) new ≡ old
 take_kept {X} [] mid new rest h e = none new
   where
     none : (xs : List X) → take 0 xs ≡ []
@@ -57,11 +62,13 @@ take_kept (x ∷ old) (y ∷ mid) new rest h e =
     let q : y ∷ take (length old) mid ≡ x ∷ old = h in
     let head : y ≡ x = cc in
     let tail : take (length old) mid ≡ old = cc in
-    ap (take (suc (length old))) e ∙ ap (λ xs. y ∷ xs) (take_kept old mid (mid ++ rest) rest tail refl) ∙ ap (λ z. z ∷ old) head
+    ap (take (suc (length old))) e ∙ ap (λ xs. y ∷ xs) (take_kept old mid (mid ++ rest) rest tail refl)
+    ∙ ap (λ z. z ∷ old) head
 
 module _ {S F : Type 0} where
   -- a row written with another mark
-  pub write_mark_at : (es : List (Labelled S F × Row)) (i : ℕ) (r w : Row) (mark : Mark) → slice_get (values_of es) i ≡ Some r → w ≡ record r { mark = mark }
+  pub write_mark_at : (es : List (Labelled S F × Row)) (i : ℕ) (r w : Row) (mark : Mark)
+      → slice_get (values_of es) i ≡ Some r → w ≡ record r { mark = mark }
       → entries_of (set_value_at es i w) ≡ with_mark (entries_of es) i mark
   write_mark_at [] i r w mark at is = refl
   write_mark_at (p ∷ es) zero r w mark at is =
@@ -70,23 +77,27 @@ module _ {S F : Type 0} where
   write_mark_at (p ∷ es) (suc i) r w mark at is = ap (λ xs. entry_of p ∷ xs) (write_mark_at es i r w mark at is)
 
   -- the keys stay
-  pub write_keeps_forms : (es : List (Labelled S F × Row)) (i : ℕ) (w : Row) → forms_of (set_value_at es i w) ≡ forms_of es
+  pub write_keeps_forms : (es : List (Labelled S F × Row)) (i : ℕ) (w : Row)
+      → forms_of (set_value_at es i w) ≡ forms_of es
   write_keeps_forms [] i w = refl
   write_keeps_forms (p ∷ es) zero w = refl
   write_keeps_forms (p ∷ es) (suc i) w = ap (λ xs. p.0.form ∷ xs) (write_keeps_forms es i w)
 
   -- where there is no row, none is marked
-  pub no_mark_at : (es : List (Labelled S F × Row)) (i : ℕ) (mark : Mark) → slice_get (values_of es) i ≡ None → entries_of es ≡ with_mark (entries_of es) i mark
+  pub no_mark_at : (es : List (Labelled S F × Row)) (i : ℕ) (mark : Mark) → slice_get (values_of es) i ≡ None
+      → entries_of es ≡ with_mark (entries_of es) i mark
   no_mark_at [] i mark none = refl
   no_mark_at (e ∷ es) zero mark none = absurd (let q : Some e.1 ≡ None = none in cc)
   no_mark_at (e ∷ es) (suc i) mark none = ap (λ xs. entry_of e ∷ xs) (no_mark_at es i mark none)
 
-  pub entry_at : (es : List (Labelled S F × Row)) (i : ℕ) (p : Labelled S F × Row) → slice_get es i ≡ Some p → slice_get (entries_of es) i ≡ Some (entry_of p)
+  pub entry_at : (es : List (Labelled S F × Row)) (i : ℕ) (p : Labelled S F × Row) → slice_get es i ≡ Some p
+      → slice_get (entries_of es) i ≡ Some (entry_of p)
   entry_at [] i p h = absurd (let q : None ≡ Some p = h in cc)
   entry_at (e ∷ es) zero p h = let q : e ≡ p = cc in ap (λ x. Some (entry_of x)) q
   entry_at (e ∷ es) (suc i) p h = entry_at es i p h
 
-  pub no_entry_at : (es : List (Labelled S F × Row)) (i : ℕ) → slice_get es i ≡ None → slice_get (entries_of es) i ≡ None
+  pub no_entry_at : (es : List (Labelled S F × Row)) (i : ℕ) → slice_get es i ≡ None
+      → slice_get (entries_of es) i ≡ None
   no_entry_at [] i h = refl
   no_entry_at (e ∷ es) zero h = absurd (let q : Some e ≡ None = h in cc)
   no_entry_at (e ∷ es) (suc i) h = no_entry_at es i h
@@ -114,26 +125,33 @@ module _ {K : Type 0} (eq : K → K → Bool) (same : K → K → Bool) (as_same
       ap (map keyed_of) put ∙ map-append keyed_of es (unlisted eq (keys_of es) ((k, w) ∷ []))
       ∙ ap (λ xs. map keyed_of es ++ xs)
       (opens_by i x k w (list_any (eq k) (keys_of es)) is
-      ∙ ap (λ b. map (opened i) (cond b [] (x ∷ []))) (known_as es k ∙ ap (λ (e : Entry K). knows same (states (map keyed_of es)) e.state) is))
+      ∙ ap (λ b. map (opened i) (cond b [] (x ∷ [])))
+      (known_as es k ∙ ap (λ (e : Entry K). knows same (states (map keyed_of es)) e.state) is))
 
 -- ---- step after step
 module _ {S : Type 0} (same : S → S → Bool) where
   push_by : (known : List S) (x y : Successor S) (us vs us' vs' : List (Successor S)) (b : Bool)
       → us' ≡ us ++ unknown same (known ++ map (λ (z : Successor S). z.state) us) (x ∷ [])
       → vs' ≡ vs ++ unknown same ((known ++ y.state ∷ []) ++ map (λ (z : Successor S). z.state) vs) (x ∷ [])
-      → cond b us' (y ∷ vs') ≡ cond b us (y ∷ vs) ++ unknown same (known ++ map (λ (z : Successor S). z.state) (cond b us (y ∷ vs))) (x ∷ [])
+      → cond b us' (y ∷ vs') ≡ cond b us (y ∷ vs)
+      ++ unknown same (known ++ map (λ (z : Successor S). z.state) (cond b us (y ∷ vs))) (x ∷ [])
   push_by known x y us vs us' vs' true p q = p
   push_by known x y us vs us' vs' false p q =
-      ap (λ ws. y ∷ ws) (q ∙ ap (λ ks. vs ++ unknown same ks (x ∷ [])) (append_assoc known (y.state ∷ []) (map (λ (z : Successor S). z.state) vs)))
+      ap (λ ws. y ∷ ws)
+      (q ∙ ap (λ ks. vs ++ unknown same ks (x ∷ []))
+      (append_assoc known (y.state ∷ []) (map (λ (z : Successor S). z.state) vs)))
 
   unknown_push : (known : List S) (xs : List (Successor S)) (x : Successor S)
-      → unknown same known (xs ++ x ∷ []) ≡ unknown same known xs ++ unknown same (known ++ map (λ (y : Successor S). y.state) (unknown same known xs)) (x ∷ [])
+      → unknown same known (xs ++ x ∷ []) ≡ unknown same known xs
+      ++ unknown same (known ++ map (λ (y : Successor S). y.state) (unknown same known xs)) (x ∷ [])
   unknown_push known [] x = ap (λ ks. unknown same ks (x ∷ [])) (sym (append-nil known))
   unknown_push known (y ∷ xs) x =
-      push_by known x y (unknown same known xs) (unknown same (known ++ y.state ∷ []) xs) (unknown same known (xs ++ x ∷ [])) (unknown same (known ++ y.state ∷ []) (xs ++ x ∷ []))
+      push_by known x y (unknown same known xs) (unknown same (known ++ y.state ∷ []) xs)
+      (unknown same known (xs ++ x ∷ [])) (unknown same (known ++ y.state ∷ []) (xs ++ x ∷ []))
       (knows same known y.state) (unknown_push known xs x) (unknown_push (known ++ y.state ∷ []) xs x)
 
-  states_of_opened : (i : ℕ) (xs : List (Successor S)) → states (map (opened i) xs) ≡ map (λ (y : Successor S). y.state) xs
+  states_of_opened : (i : ℕ) (xs : List (Successor S))
+      → states (map (opened i) xs) ≡ map (λ (y : Successor S). y.state) xs
   states_of_opened i [] = refl
   states_of_opened i (x ∷ xs) = ap (λ ss. x.state ∷ ss) (states_of_opened i xs)
 
@@ -145,7 +163,8 @@ module _ {S : Type 0} (same : S → S → Bool) where
   put_turn old mid new i xs x so_far put =
       let us : List (Successor S) = unknown same (states old) xs in
       let known : states mid ≡ states old ++ map (λ (y : Successor S). y.state) us =
-      ap states so_far ∙ map-append (λ (e : Entry S). e.state) old (map (opened i) us) ∙ ap (λ ss. states old ++ ss) (states_of_opened i us) in
+      ap states so_far ∙ map-append (λ (e : Entry S). e.state) old (map (opened i) us)
+      ∙ ap (λ ss. states old ++ ss) (states_of_opened i us) in
       put ∙ ap (λ es. es ++ map (opened i) (unknown same (states mid) (x ∷ []))) so_far
       ∙ append_assoc old (map (opened i) us) (map (opened i) (unknown same (states mid) (x ∷ [])))
       ∙ ap (λ ys. old ++ ys)
@@ -154,7 +173,9 @@ module _ {S : Type 0} (same : S → S → Bool) where
       ∙ ap (map (opened i)) (sym (unknown_push (states old) xs x)))
 
 -- the row that is made of a step's fields
-pub step_row : {K : Type 0} (i : ℕ) (x : Successor K) (k : K) (t : ℕ) (f : Finding) → t ≡ x.thread → k ≡ x.state → f ≡ x.finding
+pub step_row : {K : Type 0} (i : ℕ) (x : Successor K) (k : K) (t : ℕ) (f : Finding) → t ≡ x.thread → k ≡ x.state
+    → f ≡ x.finding
     → keyed_of (k, record { finding = f; origin = Some (record { parent = i; thread = t }); mark = Open }) ≡ opened i x
 step_row {K} i x k t f p q r =
-    let e : Entry K = record { state = k; finding = f; origin = Some (record { parent = i; thread = t }); mark = Open } in cc
+    let e : Entry K =
+    record { state = k; finding = f; origin = Some (record { parent = i; thread = t }); mark = Open } in cc

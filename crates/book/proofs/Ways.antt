@@ -1,5 +1,6 @@
 -- The way from entry 0 to an entry.
-use Rattle.std.proofs.Common.{◌≡◌, ℕ, ◌+◌, ◌<◌, inl, inr, Bool, Some, None, List, [], ◌∷◌, ◌++◌, length, reverse, refl, sym, ap, ◌∙◌, arith, slice_get, subst}
+use Rattle.std.proofs.Common.{◌≡◌, ℕ, ◌+◌, ◌<◌, inl, inr, Bool, Some, None, List, [], ◌∷◌, ◌++◌, length, reverse, refl}
+use Rattle.std.proofs.Common.{sym, ap, ◌∙◌, arith, slice_get, subst}
 use Rattle.std.proofs.lemmas.Bool.{cases_lt}
 use Rattle.std.proofs.lemmas.List.{reverse-append, reverse-reverse}
 use Rattle.std.specs.Option.{option_and_then}
@@ -17,24 +18,28 @@ module _ {S : Type 0} (m : StepMachine S) (machine : IsMachine m) where
   steps_along : (c : List ℕ) (r s : S) → run m r c ≡ Some s → m.steps s ≡ m.steps r + length c
   steps_along [] r s h = let e : r ≡ s = cc in let q : m.steps r ≡ m.steps s = ap m.steps e in omega arith
   steps_along (t ∷ c) r s h =
-      option_and_then_some (λ (u : S). run m u c) (m.step r t) s h (λ (u : S) (first : m.step r t ≡ Some u) (rest : run m u c ≡ Some s).
+      option_and_then_some (λ (u : S). run m u c) (m.step r t) s h
+      (λ (u : S) (first : m.step r t ≡ Some u) (rest : run m u c ≡ Some s).
       let a : m.steps u ≡ m.steps r + 1 = machine.one_more r u t first in
       let b : m.steps s ≡ m.steps u + length c = steps_along c u s rest in omega arith)
 
   pub steps_after : (c : List ℕ) (s : S) → after m c ≡ Some s → m.steps s ≡ length c
-  steps_after c s h = let a : m.steps s ≡ m.steps m.start + length c = steps_along c m.start s h in let z : m.steps m.start ≡ 0 = machine.from_zero in omega arith
+  steps_after c s h = let a : m.steps s ≡ m.steps m.start + length c = steps_along c m.start s h in
+      let z : m.steps m.start ≡ 0 = machine.from_zero in omega arith
 
   -- each state on the way is one of the machine
   fits_along : (c : List ℕ) (r s : S) → m.Fits r → run m r c ≡ Some s → m.Fits s
   fits_along [] r s fits h = let e : r ≡ s = cc in subst m.Fits e fits
   fits_along (t ∷ c) r s fits h =
-      option_and_then_some (λ (u : S). run m u c) (m.step r t) s h (λ (u : S) (first : m.step r t ≡ Some u) (rest : run m u c ≡ Some s).
+      option_and_then_some (λ (u : S). run m u c) (m.step r t) s h
+      (λ (u : S) (first : m.step r t ≡ Some u) (rest : run m u c ≡ Some s).
       fits_along c u s (machine.step_fits r u t fits first) rest)
 
   pub fits_after : (c : List ℕ) (s : S) → after m c ≡ Some s → m.Fits s
   fits_after c s h = fits_along c m.start s machine.start_fits h
 
-module _ {S : Type 0} (m : StepMachine S) (same : S → S → Bool) (right : S → Finding → Type 0) (es : List (Entry S)) (law : IsLawful m same right es) where
+module _ {S : Type 0} (m : StepMachine S) (same : S → S → Bool) (right : S → Finding → Type 0) (es : List (Entry S))
+    (law : IsLawful m same right es) where
   -- an entry that has an origin is the step that its origin tells
   pub step_of : (k : ℕ) (e : Entry S) (o : Origin) → At es k e → e.origin ≡ Some o
       → (parent : Entry S) × At es o.parent parent × (o.parent < k) × (m.step parent.state o.thread ≡ Some e.state)
@@ -50,13 +55,15 @@ module _ {S : Type 0} (m : StepMachine S) (same : S → S → Bool) (right : S �
             ))
         | inr none ↦ absurd (
             let first : k ≡ 0 = omega arith in
-            let same_entry : law.start.0 ≡ e = same_Some law.start.0 e (sym law.start.1 ∙ ap (λ n. slice_get es n) (sym first) ∙ at) in
+            let same_entry : law.start.0 ≡ e =
+            same_Some law.start.0 e (sym law.start.1 ∙ ap (λ n. slice_get es n) (sym first) ∙ at) in
             let none_recorded : e.origin ≡ None = ap (λ (x : Entry S). x.origin) (sym same_entry) ∙ law.start.3 in
             let both : None ≡ Some o = sym none_recorded ∙ recorded in cc)
       ]
 
   -- one step back along the way
-  pub way_back : (at id : ℕ) (noted : List ℕ) (e : Entry S) (o : Origin) → At es at e → e.origin ≡ Some o → IsWay es at (reverse noted) id
+  pub way_back : (at id : ℕ) (noted : List ℕ) (e : Entry S) (o : Origin) → At es at e → e.origin ≡ Some o
+      → IsWay es at (reverse noted) id
       → (o.parent < length es) × IsWay es o.parent (reverse (noted ++ o.thread ∷ [])) id
   way_back at id noted e o there origin way =
       let made = step_of at e o there origin in
@@ -66,41 +73,53 @@ module _ {S : Type 0} (m : StepMachine S) (same : S → S → Bool) (right : S �
   no_origin : (k : ℕ) (e : Entry S) → At es k e → e.origin ≡ None → k ≡ 0
   no_origin k e at none =
       elim (cases_lt 0 k) [
-        | inl later ↦ absurd (let made = law.origins k e at later in let both : None ≡ Some made.origin = sym none ∙ made.recorded in cc)
+        | inl later ↦ absurd (let made = law.origins k e at later in
+            let both : None ≡ Some made.origin = sym none ∙ made.recorded in cc)
         | inr least ↦ omega arith
       ]
 
   -- so there the way back ends
-  pub way_ends : (at id : ℕ) (c : List ℕ) (e : Entry S) → At es at e → e.origin ≡ None → IsWay es at c id → IsWay es 0 c id
+  pub way_ends : (at id : ℕ) (c : List ℕ) (e : Entry S) → At es at e → e.origin ≡ None → IsWay es at c id
+      → IsWay es 0 c id
   way_ends at id c e there none way = subst (λ k. IsWay es k c id) (no_origin at e there none) way
 
   -- the recorded way is a run of the machine
-  pub way_leads : (c : List ℕ) (i j : ℕ) (e f : Entry S) → At es i e → At es j f → IsWay es i c j → run m e.state c ≡ Some f.state
-  way_leads [] i j e f at there way = ap (λ (x : Entry S). Some x.state) (same_Some e f (sym at ∙ ap (λ n. slice_get es n) way ∙ there))
+  pub way_leads : (c : List ℕ) (i j : ℕ) (e f : Entry S) → At es i e → At es j f → IsWay es i c j
+      → run m e.state c ≡ Some f.state
+  way_leads [] i j e f at there way =
+      ap (λ (x : Entry S). Some x.state) (same_Some e f (sym at ∙ ap (λ n. slice_get es n) way ∙ there))
   way_leads (t ∷ c) i j e f at there way =
       let made = step_of way.0 way.1 (record { parent = i; thread = t }) way.2 way.3 in
       let parent : made.0 ≡ e = same_Some made.0 e (sym made.1 ∙ at) in
-      let first : m.step e.state t ≡ Some way.1.state = subst (λ (x : Entry S). m.step x.state t ≡ Some way.1.state) parent made.3 in
+      let first : m.step e.state t ≡ Some way.1.state =
+      subst (λ (x : Entry S). m.step x.state t ≡ Some way.1.state) parent made.3 in
       ap (λ o. option_and_then (λ (r : S). run m r c) o) first ∙ way_leads c way.0 j way.1 f way.2 there way.4
 
   -- from the start it leads to the entry's state, in as many steps as this has behind it
-  pub way_run : IsMachine m → (c : List ℕ) (j : ℕ) (f : Entry S) → At es j f → IsWay es 0 c j → (after m c ≡ Some f.state) × (length c ≡ m.steps f.state)
+  pub way_run : IsMachine m → (c : List ℕ) (j : ℕ) (f : Entry S) → At es j f → IsWay es 0 c j
+      → (after m c ≡ Some f.state) × (length c ≡ m.steps f.state)
   way_run machine c j f there way =
-      let leads : after m c ≡ Some f.state = subst (λ (s : S). run m s c ≡ Some f.state) law.start.2 (way_leads c 0 j law.start.0 f law.start.1 there way) in
+      let leads : after m c ≡ Some f.state =
+      subst (λ (s : S). run m s c ≡ Some f.state) law.start.2
+      (way_leads c 0 j law.start.0 f law.start.1 there way) in
       (leads, sym (steps_after m machine c f.state leads))
 
   -- a way as it is gone back: its last thread first
   abbrev IsWayBack : ℕ → ℕ → List ℕ → Type 0
   IsWayBack i j [] = i ≡ j
-  IsWayBack i j (t ∷ c) = (k : ℕ) × (e : Entry S) × At es j e × (e.origin ≡ Some (record { parent = k; thread = t })) × IsWayBack i k c
+  IsWayBack i j (t ∷ c) = (k : ℕ) × (e : Entry S) × At es j e × (e.origin ≡ Some (record { parent = k; thread = t }))
+      × IsWayBack i k c
 
-  back_further : (c : List ℕ) (i j k t : ℕ) (e : Entry S) → At es k e → e.origin ≡ Some (record { parent = i; thread = t }) → IsWayBack k j c → IsWayBack i j (c ++ t ∷ [])
+  back_further : (c : List ℕ) (i j k t : ℕ) (e : Entry S) → At es k e
+      → e.origin ≡ Some (record { parent = i; thread = t }) → IsWayBack k j c → IsWayBack i j (c ++ t ∷ [])
   back_further [] i j k t e at origin way = (i, e, ap (λ n. slice_get es n) (sym way) ∙ at, origin, refl)
-  back_further (u ∷ c) i j k t e at origin way = (way.0, way.1, way.2, way.3, back_further c i way.0 k t e at origin way.4)
+  back_further (u ∷ c) i j k t e at origin way =
+      (way.0, way.1, way.2, way.3, back_further c i way.0 k t e at origin way.4)
 
   back : (c : List ℕ) (i j : ℕ) → IsWay es i c j → IsWayBack i j (reverse c)
   back [] i j way = way
-  back (t ∷ c) i j way = rw (reverse-append (t ∷ []) c) (back_further (reverse c) i j way.0 t way.1 way.2 way.3 (back c way.0 j way.4))
+  back (t ∷ c) i j way =
+      rw (reverse-append (t ∷ []) c) (back_further (reverse c) i j way.0 t way.1 way.2 way.3 (back c way.0 j way.4))
 
   -- the start has no origin
   start_ends : (j : ℕ) (e : Entry S) (o : Origin) → 0 ≡ j → At es j e → e.origin ≡ Some o → ⊥
@@ -108,7 +127,8 @@ module _ {S : Type 0} (m : StepMachine S) (same : S → S → Bool) (right : S �
 
   back_once : (c d : List ℕ) (j : ℕ) → IsWayBack 0 j c → IsWayBack 0 j d → c ≡ d
   back_once [] [] j way also = refl
-  back_once [] (u ∷ d) j way also = absurd (start_ends j also.1 (record { parent = also.0; thread = u }) way also.2 also.3)
+  back_once [] (u ∷ d) j way also =
+      absurd (start_ends j also.1 (record { parent = also.0; thread = u }) way also.2 also.3)
   back_once (t ∷ c) [] j way also = absurd (start_ends j way.1 (record { parent = way.0; thread = t }) also way.2 way.3)
   back_once (t ∷ c) (u ∷ d) j way also =
       let entry : way.1 ≡ also.1 = same_Some way.1 also.1 (sym way.2 ∙ also.2) in

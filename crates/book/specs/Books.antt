@@ -14,41 +14,55 @@ use Rattle.book.specs.Findings.{machine_of, IsFindingOf}
 use Rattle.book.specs.Entries.{Contents, Steps, is_open, is_taken, is_expanded}
 use Rattle.book.specs.Law.{FindsAlike, IsLawfulBook, IsExpansion}
 
--- Whether two states count as one, given the tests of places, memories and forms, and what the machine's form is: with exact
--- merging, whether they test equal; by names, whether their forms do
-abbrev pub counted_as_one : {Machine Memory Place Form : Type 0} → (Place → Place → Bool) → (Memory → Memory → Bool) → (Form → Form → Bool)
-    → (Memory → List (Option Place) → Form) → Merge → State Machine Memory Place Form → State Machine Memory Place Form → Bool
+-- Whether two states count as one, given the tests of places, memories and forms, and what the machine's form is: with
+-- exact merging, whether they test equal; by names, whether their forms do
+abbrev pub counted_as_one : {Machine Memory Place Form : Type 0} → (Place → Place → Bool) → (Memory → Memory → Bool)
+    → (Form → Form → Bool)
+    → (Memory → List (Option Place) → Form) → Merge → State Machine Memory Place Form → State Machine Memory Place Form
+    → Bool
 counted_as_one place_eq memory_eq form_eq form_of Exact = state_eq place_eq memory_eq
-counted_as_one place_eq memory_eq form_eq form_of Names = λ state twin. state_form_eq form_eq (state_form form_of state) (state_form form_of twin)
+counted_as_one place_eq memory_eq form_eq form_of Names =
+    λ state twin. state_form_eq form_eq (state_form form_of state) (state_form form_of twin)
 
 module _ {Machine Memory Place Form : Type 0} (rules : Machine → Rules Memory Place) where
   -- the machine of a book, as it runs the book's program
-  abbrev pub machine_in : Contents Machine (State Machine Memory Place Form) → StepMachine (State Machine Memory Place Form)
+  abbrev pub machine_in : Contents Machine (State Machine Memory Place Form)
+      → StepMachine (State Machine Memory Place Form)
   machine_in book = machine_of (rules book.machine) book.program
 
   -- the findings that are right in a book
-  abbrev pub right_in : Contents Machine (State Machine Memory Place Form) → State Machine Memory Place Form → Finding → Type 0
+  abbrev pub right_in : Contents Machine (State Machine Memory Place Form) → State Machine Memory Place Form → Finding
+      → Type 0
   right_in book = IsFindingOf (rules book.machine) book.program
 
   -- an expansion holds all enabled steps of its source, each with its right finding
   abbrev pub HoldsSteps : Steps Machine (State Machine Memory Place Form) → Type 0
-  HoldsSteps x = IsExpansion (machine_of (rules x.machine) x.program) (IsFindingOf (rules x.machine) x.program) x.source x.successors
+  HoldsSteps x =
+      IsExpansion (machine_of (rules x.machine) x.program) (IsFindingOf (rules x.machine) x.program) x.source
+      x.successors
 
   -- a book is lawful, given the tests of places, memories and forms, and what the machine's form is
-  abbrev pub IsLawfulIn : (Place → Place → Bool) → (Memory → Memory → Bool) → (Form → Form → Bool) → (Machine → Memory → List (Option Place) → Form)
+  abbrev pub IsLawfulIn : (Place → Place → Bool) → (Memory → Memory → Bool) → (Form → Form → Bool)
+      → (Machine → Memory → List (Option Place) → Form)
       → Contents Machine (State Machine Memory Place Form) → Type 0
   IsLawfulIn place_eq memory_eq form_eq form_of book =
-      IsLawfulBook (machine_in book) (counted_as_one place_eq memory_eq form_eq (form_of book.machine) book.merge) (right_in book) book
+      IsLawfulBook (machine_in book) (counted_as_one place_eq memory_eq form_eq (form_of book.machine) book.merge)
+      (right_in book) book
 
--- A lawful book of a program that meets the limits, and what follows for its machine: it is a step machine, and states of it that count
--- as one step alike and have the same findings.
-pub record IsBook {Machine Memory Place Form : Type 0} (rules : Machine → Rules Memory Place) (place_eq : Place → Place → Bool)
-    (memory_eq : Memory → Memory → Bool) (form_eq : Form → Form → Bool) (form_of : Machine → Memory → List (Option Place) → Form) (book : Contents Machine (State Machine Memory Place Form)) : Type 0 where
+-- A lawful book of a program that meets the limits, and what follows for its machine: it is a step machine, and states
+-- of it that count as one step alike and have the same findings.
+pub record IsBook {Machine Memory Place Form : Type 0} (rules : Machine → Rules Memory Place)
+    (place_eq : Place → Place → Bool)
+    (memory_eq : Memory → Memory → Bool) (form_eq : Form → Form → Bool)
+    (form_of : Machine → Memory → List (Option Place) → Form)
+    (book : Contents Machine (State Machine Memory Place Form)) : Type 0 where
   pub law : IsLawfulIn rules place_eq memory_eq form_eq form_of book
   pub limits : IsWithinLimits book.program
   pub machine : IsMachine (machine_in rules book)
-  pub merges : Merges (machine_in rules book) (counted_as_one place_eq memory_eq form_eq (form_of book.machine) book.merge)
-  pub findings : FindsAlike (machine_in rules book) (counted_as_one place_eq memory_eq form_eq (form_of book.machine) book.merge) (right_in rules book)
+  pub merges : Merges (machine_in rules book)
+      (counted_as_one place_eq memory_eq form_eq (form_of book.machine) book.merge)
+  pub findings : FindsAlike (machine_in rules book)
+      (counted_as_one place_eq memory_eq form_eq (form_of book.machine) book.merge) (right_in rules book)
 
 -- the totals of a book
 abbrev pub totals_of : {X S : Type 0} → Contents X S → Totals

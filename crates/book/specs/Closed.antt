@@ -1,4 +1,5 @@
--- States out of which no step leads, a book in which every entry is worked off, and states that hold for every schedule.
+-- States out of which no step leads, a book in which every entry is worked off, and states that hold for every
+-- schedule.
 use Rattle.std.specs.Prelude.{◌≡◌, ℕ, true, Some, List, slice_get}
 use Rattle.book.specs.declared.entry.Mark.TheVariants.{Expanded}
 use Rattle.book.specs.declared.book.Merge.TheVariants.{Names}
@@ -11,7 +12,8 @@ use Rattle.book.specs.Schedule.{StepMachine, after}
 abbrev pub IsAlikeToOneOf : {S : Type 0} → (S → S → Type 0) → List S → S → Type 0
 IsAlikeToOneOf {S} Alike states s = (i : ℕ) × (r : S) × (slice_get states i ≡ Some r) × Alike r s
 
--- states of a machine: one of them is alike to the start, and each enabled step of each leads to a state that one of them is alike to
+-- states of a machine: one of them is alike to the start, and each enabled step of each leads to a state that one of
+-- them is alike to
 pub record AreClosed {S : Type 0} (m : StepMachine S) (Alike : S → S → Type 0) (states : List S) : Type 0 where
   pub fit : (i : ℕ) (s : S) → slice_get states i ≡ Some s → m.Fits s
   pub start : IsAlikeToOneOf Alike states m.start

@@ -2,7 +2,8 @@
 use Rattle.std.specs.Prelude.{◌≡◌, ℕ, ◌<◌, ◌≤◌, Bool, true, Some, List, length, slice_get}
 use Rattle.book.specs.Schedule.{StepMachine, IsReachableWithin}
 
--- k states, each reached by a schedule of at most n steps: no two count as the same, and each state that is so reached counts as one of them
+-- k states, each reached by a schedule of at most n steps: no two count as the same, and each state that is so reached
+-- counts as one of them
 pub record IsCount {S : Type 0} (m : StepMachine S) (same : S → S → Bool) (n k : ℕ) : Type 0 where
   pub states : List S
   pub many : length states ≡ k

@@ -1,5 +1,6 @@
 -- The entries of a book.
-use Rattle.std.specs.Prelude.{◌≡◌, ◌≢◌, ℕ, zero, suc, ◌+◌, ◌<◌, ◌≤◌, Bool, true, false, if◌then◌else◌, Option, Some, List, [], ◌∷◌, ◌++◌, length, map, slice_get}
+use Rattle.std.specs.Prelude.{◌≡◌, ◌≢◌, ℕ, zero, suc, ◌+◌, ◌<◌, ◌≤◌, Bool, true, false, if◌then◌else◌, Option, Some}
+use Rattle.std.specs.Prelude.{List, [], ◌∷◌, ◌++◌, length, map, slice_get}
 use Rattle.std.specs.List.{list_any}
 use Rattle.std.specs.declared.sync.Arc.{Arc}
 use Rattle.book.specs.declared.finding.Finding.{Finding}
@@ -69,7 +70,13 @@ module _ {S : Type 0} where
 
   -- an open entry for a successor of entry i
   abbrev pub opened : ℕ → Successor S → Entry S
-  opened i x = record { state = x.state; finding = x.finding; origin = Some (record { parent = i; thread = x.thread }); mark = Open }
+  opened i x =
+      record {
+        state = x.state;
+        finding = x.finding;
+        origin = Some (record { parent = i; thread = x.thread });
+        mark = Open;
+      }
 
   abbrev pub states : List (Entry S) → List S
   states entries = map (λ e. e.state) entries
@@ -117,11 +124,13 @@ pub record IsInLayer {S : Type 0} (steps : S → ℕ) (entries : List (Entry S))
   pub state : entry.state ≡ s
   pub fewest : (j : ℕ) (f : Entry S) → At entries j f → f.mark ≢ Expanded → steps s ≤ steps f.state
 
--- The open entries of the fewest steps of those that are not expanded, each by its number and its state in the order of the
--- numbers, are taken, and no others; then none is next
-pub record TakesLayer {S A : Type 0} (steps : S → ℕ) (old new : List (Entry S)) (layer : List (ℕ × Arc S A)) : Type 0 where
+-- The open entries of the fewest steps of those that are not expanded, each by its number and its state in the order of
+-- the numbers, are taken, and no others; then none is next
+pub record TakesLayer {S A : Type 0} (steps : S → ℕ) (old new : List (Entry S)) (layer : List (ℕ × Arc S A)) : Type
+    0 where
   pub each : (k : ℕ) (p : ℕ × Arc S A) → slice_get layer k ≡ Some p → IsInLayer steps old p.0 p.1.value
-  pub ascending : (j k : ℕ) (p q : ℕ × Arc S A) → slice_get layer j ≡ Some p → slice_get layer k ≡ Some q → j < k → p.0 < q.0
+  pub ascending : (j k : ℕ) (p q : ℕ × Arc S A) → slice_get layer j ≡ Some p → slice_get layer k ≡ Some q → j < k
+      → p.0 < q.0
   pub after : new ≡ with_marks old (map (λ p. p.0) layer) Taken
   pub none_next : (i : ℕ) (e : Entry S) → IsNext steps new i e → ⊥
 
@@ -136,7 +145,8 @@ pub record IsOwn {X S : Type 0} (book : Contents X S) (i : ℕ) (x : X) (p : Pro
   pub source : (e : Entry S) → At book.entries i e → s ≡ e.state
 
 -- the expansion of entry i was entered: so many of its states are new, and so many known
-pub record Enters {X S : Type 0} (same : S → S → Bool) (old new : Contents X S) (i : ℕ) (expansion : Steps X S) (entered met : ℕ) : Type 0 where
+pub record Enters {X S : Type 0} (same : S → S → Bool) (old new : Contents X S) (i : ℕ) (expansion : Steps X S)
+    (entered met : ℕ) : Type 0 where
   pub taken : IsTaken old.entries i
   pub own : IsOwn old i expansion.machine expansion.program expansion.source
   pub room : length old.entries + entered ≤ old.limit
@@ -153,5 +163,6 @@ pub record Enters {X S : Type 0} (same : S → S → Bool) (old new : Contents X
 abbrev pub Refuses : {X S : Type 0} → (S → S → Bool) → Contents X S → ℕ → Steps X S → EnterFault → Type 0
 Refuses same book i x NotTaken = IsTaken book.entries i → ⊥
 Refuses same book i x Stranger = IsTaken book.entries i × (IsOwn book i x.machine x.program x.source → ⊥)
-Refuses same book i x Full = IsTaken book.entries i × IsOwn book i x.machine x.program x.source × (book.limit < length book.entries + length (unknown same (states book.entries) x.successors))
+Refuses same book i x Full = IsTaken book.entries i × IsOwn book i x.machine x.program x.source
+    × (book.limit < length book.entries + length (unknown same (states book.entries) x.successors))
 Refuses same book i x OutOfMemory = IsTaken book.entries i × IsOwn book i x.machine x.program x.source

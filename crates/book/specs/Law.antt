@@ -1,5 +1,6 @@
 -- When a book is lawful.
-use Rattle.std.specs.Prelude.{◌≡◌, ◌≢◌, ℕ, ◌+◌, ◌<◌, ◌≤◌, Bool, true, Some, None, List, length, map, slice_get, sum_by, if◌then◌else◌}
+use Rattle.std.specs.Prelude.{◌≡◌, ◌≢◌, ℕ, ◌+◌, ◌<◌, ◌≤◌, Bool, true, Some, None, List, length, map, slice_get, sum_by}
+use Rattle.std.specs.Prelude.{if◌then◌else◌}
 use Rattle.book.specs.declared.finding.Finding.{Finding}
 use Rattle.book.specs.declared.entry.Mark.TheVariants.{Taken, Expanded}
 use Rattle.book.specs.declared.entry.Origin.{Origin}
@@ -10,18 +11,21 @@ use Rattle.book.specs.Layers.{IsExpandedBelow}
 module _ {S : Type 0} (m : StepMachine S) (same : S → S → Bool) where
   -- an entry counts as the same state, with at most its steps
   abbrev pub StandsFor : List (Entry S) → S → Type 0
-  StandsFor entries s = (i : ℕ) × (e : Entry S) × At entries i e × (same e.state s ≡ true) × (m.steps e.state ≤ m.steps s)
+  StandsFor entries s = (i : ℕ) × (e : Entry S) × At entries i e × (same e.state s ≡ true)
+      × (m.steps e.state ≤ m.steps s)
 
-  -- Where each entry of fewer than n steps is expanded, and a state is stood for, so is every state of at most n steps that a
-  -- schedule leads to from it
+  -- Where each entry of fewer than n steps is expanded, and a state is stood for, so is every state of at most n steps
+  -- that a schedule leads to from it
   abbrev pub StandsForReached : List (Entry S) → Type 0
   StandsForReached entries = (n : ℕ) → IsExpandedBelow m.steps entries n
-      → (c : List ℕ) (r s : S) → m.Fits r → StandsFor entries r → run m r c ≡ Some s → m.steps r + length c ≤ n → StandsFor entries s
+      → (c : List ℕ) (r s : S) → m.Fits r → StandsFor entries r → run m r c ≡ Some s → m.steps r + length c ≤ n
+      → StandsFor entries s
 
 module _ {S : Type 0} (m : StepMachine S) (same : S → S → Bool) (right : S → Finding → Type 0) where
   -- each finding that is right of a state is right of all that count as the same
   abbrev pub FindsAlike : Type 0
-  FindsAlike = (r s : S) → m.Fits r → m.Fits s → same r s ≡ true → (finding : Finding) → right r finding → right s finding
+  FindsAlike = (r s : S) → m.Fits r → m.Fits s → same r s ≡ true → (finding : Finding) → right r finding
+      → right s finding
 
   -- e is the step of an earlier entry, which is expanded, by the recorded thread
   pub record IsStep (entries : List (Entry S)) (i : ℕ) (e : Entry S) : Type 0 where
@@ -42,13 +46,17 @@ module _ {S : Type 0} (m : StepMachine S) (same : S → S → Bool) (right : S �
     -- each entry's value is a state of the machine
     pub fit : (i : ℕ) (e : Entry S) → At entries i e → m.Fits e.state
     -- every enabled step of an expanded entry is stood for
-    pub stands : (i t : ℕ) (e : Entry S) (s : S) → At entries i e → e.mark ≡ Expanded → m.step e.state t ≡ Some s → StandsFor m same entries s
+    pub stands : (i t : ℕ) (e : Entry S) (s : S) → At entries i e → e.mark ≡ Expanded → m.step e.state t ≡ Some s
+        → StandsFor m same entries s
     -- step counts never fall along the numbers
-    pub ordered : (i j : ℕ) (e f : Entry S) → At entries i e → At entries j f → i ≤ j → m.steps e.state ≤ m.steps f.state
+    pub ordered : (i j : ℕ) (e f : Entry S) → At entries i e → At entries j f → i ≤ j
+        → m.steps e.state ≤ m.steps f.state
     -- a taken entry has the least step count of those not expanded
-    pub least : (i j : ℕ) (e f : Entry S) → At entries i e → e.mark ≡ Taken → At entries j f → f.mark ≢ Expanded → m.steps e.state ≤ m.steps f.state
+    pub least : (i j : ℕ) (e f : Entry S) → At entries i e → e.mark ≡ Taken → At entries j f → f.mark ≢ Expanded
+        → m.steps e.state ≤ m.steps f.state
     -- no entry has more than one step above that least
-    pub near : (i j : ℕ) (e f : Entry S) → At entries i e → e.mark ≢ Expanded → At entries j f → m.steps f.state ≤ m.steps e.state + 1
+    pub near : (i j : ℕ) (e f : Entry S) → At entries i e → e.mark ≢ Expanded → At entries j f
+        → m.steps f.state ≤ m.steps e.state + 1
 
 module _ {S : Type 0} (m : StepMachine S) (right : S → Finding → Type 0) where
   -- all enabled steps of a state, in the order of the threads, each with a right finding

@@ -28,7 +28,8 @@ NoneTaken {S} entries = (i : ℕ) (e : Entry S) → At entries i e → e.mark �
 -- or has one step more than an old one that was not expanded
 abbrev pub GrowsFrom : {S : Type 0} → (S → ℕ) → List (Entry S) → List (Entry S) → Type 0
 GrowsFrom {S} steps old new = (j : ℕ) (f : Entry S) → At new j f
-    → ((e : Entry S) × At old j e × (f.state ≡ e.state) × (f.finding ≡ e.finding) × (e.mark ≡ Expanded → f.mark ≡ Expanded))
+    → ((e : Entry S) × At old j e × (f.state ≡ e.state) × (f.finding ≡ e.finding)
+    × (e.mark ≡ Expanded → f.mark ≡ Expanded))
     ⊎ ((k : ℕ) × (e : Entry S) × At old k e × (e.mark ≢ Expanded) × (steps f.state ≡ steps e.state + 1))
 
 -- every entry of fewer than n steps is expanded, and every one of at most n is sound

@@ -39,9 +39,11 @@ pub record IsMachine {S : Type 0} (m : StepMachine S) : Type 0 where
   pub start_fits : m.Fits m.start
   pub step_fits : (s r : S) (t : ℕ) → m.Fits s → m.step s t ≡ Some r → m.Fits r
 
--- A test of states that counts two states as one: it is an equivalence, and states of the machine that it counts as one step alike
+-- A test of states that counts two states as one: it is an equivalence, and states of the machine that it counts as one
+-- step alike
 pub record Merges {S : Type 0} (m : StepMachine S) (same : S → S → Bool) : Type 0 where
   pub itself : (s : S) → same s s ≡ true
   pub turned : (r s : S) → same r s ≡ true → same s r ≡ true
   pub joined : (r s u : S) → same r s ≡ true → same s u ≡ true → same r u ≡ true
-  pub steps_alike : (r s u : S) (t : ℕ) → m.Fits r → m.Fits s → same r s ≡ true → m.step s t ≡ Some u → (v : S) × (m.step r t ≡ Some v) × (same v u ≡ true)
+  pub steps_alike : (r s u : S) (t : ℕ) → m.Fits r → m.Fits s → same r s ≡ true → m.step s t ≡ Some u
+      → (v : S) × (m.step r t ≡ Some v) × (same v u ≡ true)

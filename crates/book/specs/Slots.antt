@@ -1,5 +1,6 @@
 -- Rows under keys.
-use Rattle.std.specs.Prelude.{◌≡◌, ◌≢◌, ℕ, ◌<◌, ◌≤◌, Bool, not, Option, Some, position, slice_get, List, [], ◌∷◌, ◌++◌, drop, length, map, take, if◌then◌else◌}
+use Rattle.std.specs.Prelude.{◌≡◌, ◌≢◌, ℕ, ◌<◌, ◌≤◌, Bool, not, Option, Some, position, slice_get, List, [], ◌∷◌, ◌++◌}
+use Rattle.std.specs.Prelude.{drop, length, map, take, if◌then◌else◌}
 use Rattle.std.specs.List.{list_any}
 use Rattle.std.specs.declared.sync.Arc.{Arc}
 use Rattle.book.specs.declared.entry.Row.{Row}
@@ -34,7 +35,8 @@ forms_of slots = map (λ slot. slot.0.form) slots
 
 -- each number is that of an entry, whose state stands beside it
 abbrev pub AreStatesOf : {S A : Type 0} → List (Entry S) → List (ℕ × Arc S A) → Type 0
-AreStatesOf {S} {A} entries range = (k : ℕ) (p : ℕ × Arc S A) → slice_get range k ≡ Some p → (e : Entry S) × At entries p.0 e × (e.state ≡ p.1.value)
+AreStatesOf {S} {A} entries range = (k : ℕ) (p : ℕ × Arc S A) → slice_get range k ≡ Some p
+    → (e : Entry S) × At entries p.0 e × (e.state ≡ p.1.value)
 
 -- P is so of each state
 abbrev pub AllStates : {S A : Type 0} → (S → Type 0) → List (ℕ × Arc S A) → Type 0
@@ -52,7 +54,8 @@ pub record IsFirstLeft {S : Type 0} (entries : List (Entry S)) (left : ℕ) : Ty
 
 -- The entries from `next_open` on are open and those below it are not, `left` is the first that is not expanded,
 -- and `fault` the first that is not sound
-pub record AreCursors {S : Type 0} (entries : List (Entry S)) (next_open first_left : ℕ) (fault : Option ℕ) : Type 0 where
+pub record AreCursors {S : Type 0} (entries : List (Entry S)) (next_open first_left : ℕ) (fault : Option ℕ) : Type
+    0 where
   pub below : (i : ℕ) (e : Entry S) → At entries i e → i < next_open → e.mark ≢ Open
   pub above : (i : ℕ) (e : Entry S) → At entries i e → next_open ≤ i → e.mark ≡ Open
   pub within : next_open ≤ length entries

@@ -1,4 +1,5 @@
--- A machine each of whose operations goes astray at its second step, for the tests. A place says whether the first is done.
+-- A machine each of whose operations goes astray at its second step, for the tests. A place says whether the first is
+-- done.
 use Rattle.std.specs.Prelude.{◌≡◌, ◌↔◌, ℕ, Bool, true, false, refl, List, [], ◌∷◌, map, Option, Some, None}
 use Rattle.std.proofs.Common.{◌∙◌, ap, arith}
 use Rattle.std.proofs.lemmas.Option.{same_Some}
@@ -31,7 +32,8 @@ in_range memory (Goes place) = tt
 in_range memory (Replies reply) = tt
 in_range memory Astray = tt
 
-unchanged : (op : Op) (place memory : Bool) → (straying_act op place memory).1 ≡ Astray → (straying_act op place memory).0 ≡ memory
+unchanged : (op : Op) (place memory : Bool) → (straying_act op place memory).1 ≡ Astray
+    → (straying_act op place memory).0 ≡ memory
 unchanged op false memory h = refl
 unchanged op true memory h = refl
 
@@ -78,7 +80,8 @@ abbrev pub straying_form : Bool → List (Option Bool) → List ℕ
 straying_form memory held = held_code (Some memory) ∷ map held_code held
 
 -- forms are equal exactly if the memories and the places are
-pub straying_forms : (memory other : Bool) (held twins : List (Option Bool)) → (straying_form memory held ≡ straying_form other twins) ↔ AreAlike straying_rules.pairs memory held other twins
+pub straying_forms : (memory other : Bool) (held twins : List (Option Bool))
+    → (straying_form memory held ≡ straying_form other twins) ↔ AreAlike straying_rules.pairs memory held other twins
 straying_forms memory other held twins =
     let alike = equal_alike memory other held twins in (
       (λ same.

@@ -27,10 +27,13 @@ module _ {X S : Type 0} (m : StepMachine S) (same : S → S → Bool) (right : S
       let e : length least.schedule ≡ F = least.long in omega arith
 
   none_above : (n : ℕ) → IsExpandedBelow m.steps b.entries n → (j : ℕ) → j ≤ n → IsAbove m same b.limit j → ⊥
-  none_above n done j le above = not_above m same right machine merges b.entries book.law n b.limit done book.within j le (above_more m same b.limit j above)
+  none_above n done j le above =
+      not_above m same right machine merges b.entries book.law n b.limit done book.within j le
+      (above_more m same b.limit j above)
 
   abbrev pub IsHoldsDue : ℕ → Type 0
-  IsHoldsDue n = ((F : ℕ) → IsLeastFault m right F → n < F) × ((J : ℕ) → IsFirstAbove m same n b.limit J → ⊥) × IsCount m same n (length b.entries)
+  IsHoldsDue n = ((F : ℕ) → IsLeastFault m right F → n < F) × ((J : ℕ) → IsFirstAbove m same n b.limit J → ⊥)
+      × IsCount m same n (length b.entries)
 
   pub holds_sound : (n : ℕ) → first_fault b.entries ≡ None → IsLastLayer m.steps b.entries n → SoundTo m right n
   holds_sound n none last = sound_by m same right machine merges alike b.entries book.law n none last.0
@@ -62,7 +65,8 @@ module _ {X S : Type 0} (m : StepMachine S) (same : S → S → Bool) (right : S
       faulty = (e.finding, leads_to_fault);
       least = (λ d faulty. elim (cases_lt (length d) (length c)) [
         | inl l ↦ absurd (
-            let k : length d < length d = fault_longer m right agree (length d) (fault_sound (length d) l) d faulty in omega arith)
+            let k : length d < length d = fault_longer m right agree (length d) (fault_sound (length d) l) d faulty in
+            omega arith)
         | inr le ↦ le
       ]);
     }
@@ -83,18 +87,22 @@ module _ {X S : Type 0} (m : StepMachine S) (same : S → S → Bool) (right : S
     below_taken j f at less =
         elim (mark_cases f.mark) [
           | inl x ↦ x
-          | inr x ↦ absurd (let q : m.steps full.entry.state ≤ m.steps f.state = book.law.least i j full.entry f full.at full.taken at x in omega arith)
+          | inr x ↦ absurd
+              (let q : m.steps full.entry.state ≤ m.steps f.state = book.law.least i j full.entry f full.at full.taken
+              at x in omega arith)
         ]
 
     pub stopped_sound : SoundTo m right d
     stopped_sound = sound_to m same right machine merges alike b.entries book.law d below_taken sound
 
-    pub stopped_due : (n : ℕ) → d < n → IsFirstAbove m same n b.limit (d + 1) × ((F : ℕ) → IsLeastFault m right F → d + 1 ≤ F)
+    pub stopped_due : (n : ℕ) → d < n → IsFirstAbove m same n b.limit (d + 1)
+        × ((F : ℕ) → IsLeastFault m right F → d + 1 ≤ F)
     stopped_due n less = (
       record {
         within = omega arith;
         above = more_above m same machine merges b.limit (d + 1)
-            (more_than m same right machine merges b.entries book.law i full.entry full.at full.taken full.successors full.expansion d (omega arith) b.limit full.full);
+            (more_than m same right machine merges b.entries book.law i full.entry full.at full.taken full.successors
+            full.expansion d (omega arith) b.limit full.full);
         first = (λ j above. elim (cases_lt d j) [
           | inl l ↦ omega arith
           | inr le ↦ absurd (none_above d below_taken j le above)

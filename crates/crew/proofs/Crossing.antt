@@ -1,4 +1,5 @@
--- What the workers of a layer share may be shared: each type that it is made of may. A search through all of them at once would not come to its end.
+-- What the workers of a layer share may be shared: each type that it is made of may. A search through all of them at
+-- once would not come to its end.
 use mathlib.Core.List.{[], ◌∷◌}
 use mir.Syntax.{named}
 use base.Fml.{Lft}
@@ -29,9 +30,20 @@ use Rattle.crew.specs.contracts.working.Layer as Layer
 
 -- two references that are lent together, as a closure holds them
 pub two_lent : (long short : Lft) (A B : RattleType) → IsSync A → IsSync B
-    → IsSync (Struct record { name = []; args = []; types = []; fields = ShrRef (named 0) long A ∷ ShrRef (named 0) short B ∷ [] })
+    → IsSync
+    (Struct record {
+      name = [];
+      args = [];
+      types = [];
+      fields = ShrRef (named 0) long A ∷ ShrRef (named 0) short B ∷ [];
+    })
 two_lent long short A B a b =
-    struct_sync record { name = []; args = []; types = []; fields = ShrRef (named 0) long A ∷ ShrRef (named 0) short B ∷ [] }
+    struct_sync record {
+      name = [];
+      args = [];
+      types = [];
+      fields = ShrRef (named 0) long A ∷ ShrRef (named 0) short B ∷ [];
+    }
     (shr_sync (named 0) long A a, (shr_sync (named 0) short B b, tt))
 
 program_sync : IsSync Program.the_row
@@ -54,20 +66,30 @@ module _ (M Mem Loc Form : RattleType) (m : IsSend M) (mem : IsSend Mem) (loc : 
   lead_sync : IsSync (Lead.the_row M Mem Loc Form)
   lead_sync = search (finding_sync, state_send, state_sync, sendable, crosses) depth 30
 
-module _ (a : NamedLft) (M Mem Loc Form : RattleType) (g : machine.Ghosts M.Denot Mem.Denot Loc.Denot Form.Denot) (mp : partial.Ghosts M.Denot)
-    (ap : partial.Ghosts Mem.Denot) (ah : hash.Ghosts Mem.Denot) (lp : partial.Ghosts Loc.Denot) (lh : hash.Ghosts Loc.Denot) (fc : coded.Ghosts Form.Denot) (fp : partial.Ghosts Form.Denot) (fh : hash.Ghosts Form.Denot)
-    (m : IsSend M) (mem : IsSend Mem) (loc : IsSend Loc) (form : IsSend Form) (m' : IsSync M) (mem' : IsSync Mem) (loc' : IsSync Loc) (form' : IsSync Form) where
+module _ (a : NamedLft) (M Mem Loc Form : RattleType) (g : machine.Ghosts M.Denot Mem.Denot Loc.Denot Form.Denot)
+    (mp : partial.Ghosts M.Denot)
+    (ap : partial.Ghosts Mem.Denot) (ah : hash.Ghosts Mem.Denot) (lp : partial.Ghosts Loc.Denot)
+    (lh : hash.Ghosts Loc.Denot) (fc : coded.Ghosts Form.Denot) (fp : partial.Ghosts Form.Denot)
+    (fh : hash.Ghosts Form.Denot)
+    (m : IsSend M) (mem : IsSend Mem) (loc : IsSend Loc) (form : IsSend Form) (m' : IsSync M) (mem' : IsSync Mem)
+    (loc' : IsSync Loc) (form' : IsSync Form) where
   pub layer_sync : IsSync (Layer.the_row a M Mem Loc Form g mp ap ah lp lh fc fp fh)
   layer_sync = search (program_sync, claims_sync, lead_send, lead_sync, sendable, crosses) depth 30 fits 10000
 
-module _ (J M Mem Loc Form : RattleType) (g : machine.Ghosts M.Denot Mem.Denot Loc.Denot Form.Denot) (mp : partial.Ghosts M.Denot)
-    (ap : partial.Ghosts Mem.Denot) (ah : hash.Ghosts Mem.Denot) (lp : partial.Ghosts Loc.Denot) (lh : hash.Ghosts Loc.Denot) (fc : coded.Ghosts Form.Denot) (fp : partial.Ghosts Form.Denot) (fh : hash.Ghosts Form.Denot)
-    (r : ledgers.Ghosts J.Denot) (c : clone.Ghosts M.Denot) (me : exact.Ghosts M.Denot) (mq : eq.Ghosts M.Denot) (ae : exact.Ghosts Mem.Denot) (aq : eq.Ghosts Mem.Denot)
+module _ (J M Mem Loc Form : RattleType) (g : machine.Ghosts M.Denot Mem.Denot Loc.Denot Form.Denot)
+    (mp : partial.Ghosts M.Denot)
+    (ap : partial.Ghosts Mem.Denot) (ah : hash.Ghosts Mem.Denot) (lp : partial.Ghosts Loc.Denot)
+    (lh : hash.Ghosts Loc.Denot) (fc : coded.Ghosts Form.Denot) (fp : partial.Ghosts Form.Denot)
+    (fh : hash.Ghosts Form.Denot)
+    (r : ledgers.Ghosts J.Denot) (c : clone.Ghosts M.Denot) (me : exact.Ghosts M.Denot) (mq : eq.Ghosts M.Denot)
+    (ae : exact.Ghosts Mem.Denot) (aq : eq.Ghosts Mem.Denot)
     (le : exact.Ghosts Loc.Denot) (lq : eq.Ghosts Loc.Denot) (fe : exact.Ghosts Form.Denot) (fq : eq.Ghosts Form.Denot)
-    (j : IsSend J) (m : IsSend M) (mem : IsSend Mem) (loc : IsSend Loc) (form : IsSend Form) (m' : IsSync M) (mem' : IsSync Mem) (loc' : IsSync Loc) (form' : IsSync Form) where
+    (j : IsSend J) (m : IsSend M) (mem : IsSend Mem) (loc : IsSend Loc) (form : IsSend Form) (m' : IsSync M)
+    (mem' : IsSync Mem) (loc' : IsSync Loc) (form' : IsSync Form) where
   desk_send : IsSend (Desk.the_row J M Mem Loc Form g mp ap ah lp lh fc fp fh r c me mq ae aq le lq fe fq)
   desk_send = search (book_send, ledger.the_send, sendable, crosses) depth 30 fits 10000
 
   module _ (a : NamedLft) (G R : RattleType) (gate : IsSync G) (threads : IsSync R) where
-    pub exploration_sync : IsSync (Exploration.the_row a J M G R Mem Loc Form g mp ap ah lp lh fc fp fh r c me mq ae aq le lq fe fq)
+    pub exploration_sync : IsSync
+        (Exploration.the_row a J M G R Mem Loc Form g mp ap ah lp lh fc fp fh r c me mq ae aq le lq fe fq)
     exploration_sync = search (program_sync, desk_send, sendable, crosses) depth 30 fits 10000

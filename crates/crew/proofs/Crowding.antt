@@ -1,5 +1,6 @@
 -- States no two of which count as one are no more than states that stand for each of them.
-use Rattle.std.proofs.Common.{◌≡◌, ◌≢◌, ℕ, zero, suc, ◌+◌, ◌<◌, ◌≤◌, inl, inr, Bool, true, Some, None, List, [], ◌∷◌, length, refl, ap, ◌∙◌, arith, slice_get}
+use Rattle.std.proofs.Common.{◌≡◌, ◌≢◌, ℕ, zero, suc, ◌+◌, ◌<◌, ◌≤◌, inl, inr, Bool, true, Some, None, List, [], ◌∷◌}
+use Rattle.std.proofs.Common.{length, refl, ap, ◌∙◌, arith, slice_get}
 use Rattle.std.proofs.lemmas.Bool.{cases_eq}
 use Rattle.book.specs.Schedule.{StepMachine, Merges}
 use Rattle.book.specs.Counts.{IsCount, IsMoreThan}
@@ -15,10 +16,12 @@ module _ {S : Type 0} where
   unfolding without
   length-without [] i x at = absurd (let q : None ≡ Some x = at in cc)
   length-without (w ∷ xs) zero x at = omega arith
-  length-without (w ∷ xs) (suc i) x at = let r : length (without xs i) + 1 ≡ length xs = length-without xs i x at in omega arith
+  length-without (w ∷ xs) (suc i) x at = let r : length (without xs i) + 1 ≡ length xs = length-without xs i x at in
+      omega arith
 
   -- another element is still there
-  without_keeps : (xs : List S) (i j : ℕ) (x : S) → i ≢ j → slice_get xs j ≡ Some x → (k : ℕ) × (slice_get (without xs i) k ≡ Some x)
+  without_keeps : (xs : List S) (i j : ℕ) (x : S) → i ≢ j → slice_get xs j ≡ Some x
+      → (k : ℕ) × (slice_get (without xs i) k ≡ Some x)
   unfolding without
   without_keeps [] i j x other at = absurd (let q : None ≡ Some x = at in cc)
   without_keeps (w ∷ xs) zero zero x other at = absurd (other refl)
@@ -44,7 +47,8 @@ module _ {S : Type 0} (m : StepMachine S) (same : S → S → Bool) (merges : Me
             let there : slice_get xs first.0 ≡ Some c.1 = ap (slice_get xs) e ∙ c.2 in
             let is : first.1 ≡ c.1 = (let p : slice_get xs first.0 ≡ Some first.1 = first.2 in cc) in
             let both : same first.1 w ≡ true = ap (λ v. same v w) is ∙ c.3 in
-            let z : 0 ≡ suc j = apart 0 (suc j) y w refl at (merges.joined y first.1 w (merges.turned first.1 y first.3) both) in
+            let z : 0 ≡ suc j =
+            apart 0 (suc j) y w refl at (merges.joined y first.1 w (merges.turned first.1 y first.3) both) in
             omega arith)
         | inr n ↦ (let k = without_keeps xs first.0 c.0 c.1 n c.2 in (k.0, c.1, k.1, c.3))
       ]) in
@@ -53,7 +57,8 @@ module _ {S : Type 0} (m : StepMachine S) (same : S → S → Bool) (merges : Me
   -- where more than l states are reached, the number of states is more than l
   pub count_above : (n k l : ℕ) → IsCount m same n k → IsMoreThan m same n l → l < k
   count_above n k l count more =
-      let le : length more.states ≤ length count.states = crowd more.states count.states more.apart (λ j y at. count.all y (more.reached j y at)) in
+      let le : length more.states ≤ length count.states =
+      crowd more.states count.states more.apart (λ j y at. count.all y (more.reached j y at)) in
       let a : length count.states ≡ k = count.many in
       let b : l < length more.states = more.many in
       omega arith

@@ -1,5 +1,6 @@
 -- Where schedules end.
-use Rattle.std.proofs.Common.{◌≡◌, ℕ, ◌<◌, zero, suc, Bool, IfSome, IfNone, Option, Some, None, List, [], ◌∷◌, take, refl, sym, ap, ◌∙◌, subst}
+use Rattle.std.proofs.Common.{◌≡◌, ℕ, ◌<◌, zero, suc, Bool, IfSome, IfNone, Option, Some, None, List, [], ◌∷◌, take}
+use Rattle.std.proofs.Common.{refl, sym, ap, ◌∙◌, subst}
 use Rattle.std.specs.Option.{option_and_then}
 use Rattle.std.proofs.lemmas.Option.{option_and_then_some}
 use Rattle.sched_program.specs.Program.{Program}
@@ -14,11 +15,13 @@ use Rattle.crew.specs.Driving.{IsKept}
 use Rattle.crew.specs.Reading.{IsCutAt}
 
 -- where each thread of a schedule is enabled in its turn, so is each of its beginnings
-pub beginning_runs : {S : Type 0} (m : StepMachine S) (c : List ℕ) (k : ℕ) (s r : S) → run m s c ≡ Some r → run m s (take k c) ≡ None → ⊥
+pub beginning_runs : {S : Type 0} (m : StepMachine S) (c : List ℕ) (k : ℕ) (s r : S) → run m s c ≡ Some r
+    → run m s (take k c) ≡ None → ⊥
 beginning_runs m c zero s r leads stops = cc
 beginning_runs m [] (suc k) s r leads stops = cc
 beginning_runs {S} m (t ∷ c) (suc k) s r leads stops =
-    option_and_then_some (λ (u : S). run m u c) (m.step s t) r leads (λ (u : S) (first : m.step s t ≡ Some u) (rest : run m u c ≡ Some r).
+    option_and_then_some (λ (u : S). run m u c) (m.step s t) r leads
+    (λ (u : S) (first : m.step s t ≡ Some u) (rest : run m u c ≡ Some r).
     beginning_runs m c k u r rest (ap (λ o. option_and_then (λ (v : S). run m v (take k c)) o) (sym first) ∙ stops))
 
 -- a fact on the machine and the program that were given is one on the book's
@@ -26,20 +29,27 @@ pub given_own : {X : Type 0} (P : X → Program → Type 0) (x y : X) (p q : Pro
 given_own P x y p q machine program h = subst (λ r. P y r) program (subst (λ z. P z p) machine h)
 
 -- a replay by a machine and a program that are the book's ends where the book's schedule does, and is not cut short
-module _ {X Memory Place Form : Type 0} (rules : X → Rules Memory Place) (b : Contents X (State X Memory Place Form)) (x : X) (p : Program) (machine : x ≡ b.machine) (program : p ≡ b.program)
+module _ {X Memory Place Form : Type 0} (rules : X → Rules Memory Place) (b : Contents X (State X Memory Place Form))
+    (x : X) (p : Program) (machine : x ≡ b.machine) (program : p ≡ b.program)
     (c : List ℕ) (s : State X Memory Place Form) (leads : after (machine_in rules b) c ≡ Some s) where
-  pub same_end : (r : State X Memory Place Form) → after (machine_of {Machine = X} {Form = Form} (rules x) p) c ≡ Some r → r ≡ s
+  pub same_end : (r : State X Memory Place Form) → after (machine_of {Machine = X} {Form = Form} (rules x) p) c ≡ Some r
+      → r ≡ s
   same_end r ends =
-      let own : after (machine_in rules b) c ≡ Some r = given_own (λ y q. after (machine_of {Machine = X} {Form = Form} (rules y) q) c ≡ Some r) x b.machine p b.program machine program ends in
+      let own : after (machine_in rules b) c ≡ Some r =
+      given_own (λ y q. after (machine_of {Machine = X} {Form = Form} (rules y) q) c ≡ Some r) x b.machine p
+      b.program machine program ends in
       cc
 
   pub no_stop : (n : ℕ) → after (machine_of {Machine = X} {Form = Form} (rules x) p) (take n c) ≡ None → ⊥
   no_stop n stops =
       beginning_runs (machine_in rules b) c n (machine_in rules b).start s leads
-      (given_own (λ y q. after (machine_of {Machine = X} {Form = Form} (rules y) q) (take n c) ≡ None) x b.machine p b.program machine program stops)
+      (given_own (λ y q. after (machine_of {Machine = X} {Form = Form} (rules y) q) (take n c) ≡ None) x b.machine p
+      b.program machine program stops)
 
-pub given_merge : {X : Type 0} (P : X → Program → Merge → Type 0) (x y : X) (p q : Program) (k l : Merge) → x ≡ y → p ≡ q → k ≡ l → P x p k → P y q l
-given_merge P x y p q k l machine program merge h = subst (λ r. P y q r) merge (given_own (λ z r. P z r k) x y p q machine program h)
+pub given_merge : {X : Type 0} (P : X → Program → Merge → Type 0) (x y : X) (p q : Program) (k l : Merge) → x ≡ y
+    → p ≡ q → k ≡ l → P x p k → P y q l
+given_merge P x y p q k l machine program merge h =
+    subst (λ r. P y q r) merge (given_own (λ z r. P z r k) x y p q machine program h)
 
 -- what was driven can be read
 pub is_answered : (W A : Type 0) (n l : ℕ) (K L : ℕ → ℕ → Type 0) → n ≡ l → ((d i : ℕ) → K d i → L d i)
@@ -50,12 +60,20 @@ is_answered W A n l K L is turn (Some i) worked cut finished stopped =
     stopped cut.0 (subst (λ k. cut.0 < k) is cut.1) (turn cut.0 i cut.2)
 
 -- a layer that is cut in a book of one machine, program and merge is cut in one of the same
-pub cut_kept : {X Memory Place Form : Type 0} (rules : X → Rules Memory Place) (place_eq : Place → Place → Bool) (memory_eq : Memory → Memory → Bool)
+pub cut_kept : {X Memory Place Form : Type 0} (rules : X → Rules Memory Place) (place_eq : Place → Place → Bool)
+    (memory_eq : Memory → Memory → Bool)
     (form_eq : Form → Form → Bool) (form_of : X → Memory → List (Option Place) → Form)
     (old new b : Contents X (State X Memory Place Form)) (d i : ℕ) → IsKept old new
-    → IsCutAt (machine_in rules old) (counted_as_one place_eq memory_eq form_eq (form_of old.machine) old.merge) (right_in rules old) b d i
-    → IsCutAt (machine_in rules new) (counted_as_one place_eq memory_eq form_eq (form_of new.machine) new.merge) (right_in rules new) b d i
+    → IsCutAt (machine_in rules old) (counted_as_one place_eq memory_eq form_eq (form_of old.machine) old.merge)
+    (right_in rules old) b d i
+    → IsCutAt (machine_in rules new) (counted_as_one place_eq memory_eq form_eq (form_of new.machine) new.merge)
+    (right_in rules new) b d i
 cut_kept {X} {Memory} {Place} {Form} rules place_eq memory_eq form_eq form_of old new b d i kept cut =
-    subst (λ k. IsCutAt (machine_of {Machine = X} {Form = Form} (rules new.machine) new.program) (counted_as_one place_eq memory_eq form_eq (form_of new.machine) k) (IsFindingOf (rules new.machine) new.program) b d i) (sym kept.merge)
-    (given_own (λ x p. IsCutAt (machine_of {Machine = X} {Form = Form} (rules x) p) (counted_as_one place_eq memory_eq form_eq (form_of x) old.merge) (IsFindingOf (rules x) p) b d i) old.machine new.machine old.program new.program
+    subst (λ k. IsCutAt (machine_of {Machine = X} {Form = Form} (rules new.machine) new.program)
+    (counted_as_one place_eq memory_eq form_eq (form_of new.machine) k)
+    (IsFindingOf (rules new.machine) new.program) b d i) (sym kept.merge)
+    (given_own
+    (λ x p. IsCutAt (machine_of {Machine = X} {Form = Form} (rules x) p)
+    (counted_as_one place_eq memory_eq form_eq (form_of x) old.merge) (IsFindingOf (rules x) p) b d i) old.machine
+    new.machine old.program new.program
     (sym kept.machine) (sym kept.program) cut)

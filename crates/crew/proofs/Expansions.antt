@@ -1,5 +1,6 @@
 -- Two expansions of one state.
-use Rattle.std.proofs.Common.{◌≡◌, ℕ, suc, Bool, true, false, cond, Some, List, [], ◌∷◌, ◌++◌, length, map, refl, sym, ap, ◌∙◌, slice_get, subst}
+use Rattle.std.proofs.Common.{◌≡◌, ℕ, suc, Bool, true, false, cond, Some, List, [], ◌∷◌, ◌++◌, length, map, refl, sym}
+use Rattle.std.proofs.Common.{ap, ◌∙◌, slice_get, subst}
 use Rattle.book.specs.declared.finding.Finding.{Finding}
 use Rattle.tree_machine.specs.Rules.{Rules}
 use Rattle.tree_machine.specs.declared.state.State.{State}
@@ -13,22 +14,27 @@ module _ {S : Type 0} (same : S → S → Bool) where
   -- how many states are neither known nor those of earlier ones
   count_unknown : List S → List S → ℕ
   count_unknown known [] = 0
-  count_unknown known (s ∷ rest) = cond (knows same known s) (count_unknown known rest) (suc (count_unknown (known ++ s ∷ []) rest))
+  count_unknown known (s ∷ rest) =
+      cond (knows same known s) (count_unknown known rest) (suc (count_unknown (known ++ s ∷ []) rest))
 
   length-cond : (b : Bool) (xs ys : List (Successor S)) → length (cond b xs ys) ≡ cond b (length xs) (length ys)
   length-cond true xs ys = refl
   length-cond false xs ys = refl
 
-  unknown_counts : (known : List S) (xs : List (Successor S)) → length (unknown same known xs) ≡ count_unknown known (map (λ (x : Successor S). x.state) xs)
+  unknown_counts : (known : List S) (xs : List (Successor S))
+      → length (unknown same known xs) ≡ count_unknown known (map (λ (x : Successor S). x.state) xs)
   unfolding count_unknown
   unknown_counts known [] = refl
   unknown_counts known (x ∷ xs) =
       length-cond (knows same known x.state) (unknown same known xs) (x ∷ unknown same (known ++ x.state ∷ []) xs)
-      ∙ ap (λ k. cond (knows same known x.state) k (suc (length (unknown same (known ++ x.state ∷ []) xs)))) (unknown_counts known xs)
-      ∙ ap (λ k. cond (knows same known x.state) (count_unknown known (map (λ (y : Successor S). y.state) xs)) (suc k)) (unknown_counts (known ++ x.state ∷ []) xs)
+      ∙ ap (λ k. cond (knows same known x.state) k (suc (length (unknown same (known ++ x.state ∷ []) xs))))
+      (unknown_counts known xs)
+      ∙ ap (λ k. cond (knows same known x.state) (count_unknown known (map (λ (y : Successor S). y.state) xs)) (suc k))
+      (unknown_counts (known ++ x.state ∷ []) xs)
 
 module _ {S : Type 0} (m : StepMachine S) (s : S) where
-  same_states : (xs ys : List (Successor S)) → map (λ (x : Successor S). x.thread) xs ≡ map (λ (x : Successor S). x.thread) ys
+  same_states : (xs ys : List (Successor S))
+      → map (λ (x : Successor S). x.thread) xs ≡ map (λ (x : Successor S). x.thread) ys
       → ((k : ℕ) (x : Successor S) → slice_get xs k ≡ Some x → m.step s x.thread ≡ Some x.state)
       → ((k : ℕ) (x : Successor S) → slice_get ys k ≡ Some x → m.step s x.thread ≡ Some x.state)
       → map (λ (x : Successor S). x.state) xs ≡ map (λ (x : Successor S). x.state) ys
@@ -46,17 +52,23 @@ module _ {S : Type 0} (m : StepMachine S) (s : S) where
 
   -- have as many states that are not known
   pub same_unknown : (same : S → S → Bool) (right : S → Finding → Type 0) (known : List S) (xs ys : List (Successor S))
-      → IsExpansion m right s xs → IsExpansion m right s ys → length (unknown same known xs) ≡ length (unknown same known ys)
+      → IsExpansion m right s xs → IsExpansion m right s ys
+      → length (unknown same known xs) ≡ length (unknown same known ys)
   same_unknown same right known xs ys a b =
       unknown_counts same known xs
       ∙ ap (count_unknown same known) (same_states xs ys (a.threads ∙ sym b.threads) a.steps b.steps)
       ∙ sym (unknown_counts same known ys)
 
 -- what an expansion holds is right for the book that it is made for
-pub expansion_in : {X Memory Place Form : Type 0} (rules : X → Rules Memory Place) (b : Contents X (State X Memory Place Form)) (x : Steps X (State X Memory Place Form)) (s : State X Memory Place Form)
+pub expansion_in : {X Memory Place Form : Type 0} (rules : X → Rules Memory Place)
+    (b : Contents X (State X Memory Place Form)) (x : Steps X (State X Memory Place Form))
+    (s : State X Memory Place Form)
     → x.machine ≡ b.machine → x.program ≡ b.program → x.source ≡ s → HoldsSteps rules x
     → IsExpansion (machine_in rules b) (right_in rules b) s x.successors
 expansion_in {X} {Memory} {Place} rules b x s machine program source holds =
-    subst (λ v. IsExpansion (machine_of (rules b.machine) b.program) (IsFindingOf (rules b.machine) b.program) v x.successors) source
-    (subst (λ p. IsExpansion (machine_of (rules b.machine) p) (IsFindingOf (rules b.machine) p) x.source x.successors) program
-    (subst (λ y. IsExpansion (machine_of (rules y) x.program) (IsFindingOf (rules y) x.program) x.source x.successors) machine holds))
+    subst (λ v. IsExpansion (machine_of (rules b.machine) b.program) (IsFindingOf (rules b.machine) b.program) v
+    x.successors) source
+    (subst (λ p. IsExpansion (machine_of (rules b.machine) p) (IsFindingOf (rules b.machine) p) x.source x.successors)
+    program
+    (subst (λ y. IsExpansion (machine_of (rules y) x.program) (IsFindingOf (rules y) x.program) x.source x.successors)
+    machine holds))

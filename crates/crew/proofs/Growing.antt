@@ -1,5 +1,6 @@
 -- What the steps of one more entry show of the entries and of the number of states.
-use Rattle.std.proofs.Common.{◌≡◌, ◌≢◌, ℕ, ◌+◌, ◌<◌, ◌≤◌, inl, inr, Bool, true, Some, List, [], ◌∷◌, ◌++◌, length, map, sym, ap, ◌∙◌, arith, subst, slice_get, length-append, count_by, leb}
+use Rattle.std.proofs.Common.{◌≡◌, ◌≢◌, ℕ, ◌+◌, ◌<◌, ◌≤◌, inl, inr, Bool, true, Some, List, [], ◌∷◌, ◌++◌, length, map}
+use Rattle.std.proofs.Common.{sym, ap, ◌∙◌, arith, subst, slice_get, length-append, count_by, leb}
 use Rattle.std.proofs.Math.ListN.{length-map}
 use Rattle.std.proofs.lemmas.List.{length_push}
 use Rattle.std.proofs.lemmas.List.Sums.{count_by-le-length}
@@ -22,13 +23,18 @@ use Rattle.crew.proofs.Reaching.{at-map, joined_apart}
 pub not_expanded : (k : Mark) → k ≡ Taken → k ≢ Expanded
 not_expanded k h e = let q : Taken ≡ Expanded = sym h ∙ e in cc
 
-module _ {S : Type 0} (m : StepMachine S) (same : S → S → Bool) (right : S → Finding → Type 0) (machine : IsMachine m) (merges : Merges m same)
-    (es : List (Entry S)) (law : IsLawful m same right es) (i : ℕ) (d : Entry S) (at : At es i d) (taken : d.mark ≡ Taken)
+module _ {S : Type 0} (m : StepMachine S) (same : S → S → Bool) (right : S → Finding → Type 0) (machine : IsMachine m)
+    (merges : Merges m same)
+    (es : List (Entry S)) (law : IsLawful m same right es) (i : ℕ) (d : Entry S) (at : At es i d)
+    (taken : d.mark ≡ Taken)
     (xs : List (Successor S)) (expansion : IsExpansion m right d.state xs) (n : ℕ) (few : m.steps d.state ≤ n) where
   pub no_deeper : IsShallow m.steps es (n + 1)
-  no_deeper j f there = let q : m.steps f.state ≤ m.steps d.state + 1 = law.near i j d f at (not_expanded d.mark taken) there in omega arith
+  no_deeper j f there =
+      let q : m.steps f.state ≤ m.steps d.state + 1 = law.near i j d f at (not_expanded d.mark taken) there in
+      omega arith
 
-  new_steps : (k : ℕ) (y : Successor S) → slice_get (unknown same (states es) xs) k ≡ Some y → m.step d.state y.thread ≡ Some y.state
+  new_steps : (k : ℕ) (y : Successor S) → slice_get (unknown same (states es) xs) k ≡ Some y
+      → m.step d.state y.thread ≡ Some y.state
   new_steps k y there = let w = unknown_is m same merges (states es) xs k y there in expansion.steps w.0.0 y w.0.1
 
   -- no entry of the next layer is expanded, if none was
@@ -41,8 +47,10 @@ module _ {S : Type 0} (m : StepMachine S) (same : S → S → Bool) (right : S �
               | inl here ↦ (
                   let p : slice_get es j ≡ Some d = subst (λ k. slice_get es k ≡ Some d) here.0 at in
                   let e : d ≡ o.0 = (let q : slice_get es j ≡ Some o.0 = o.1 in cc) in
-                  let same_steps : m.steps f.state ≡ m.steps d.state = ap m.steps o.2.state ∙ ap (λ (x : Entry S). m.steps x.state) (sym e) in absurd (omega arith))
-              | inr other ↦ fresh j o.0 o.1 (sym (ap m.steps o.2.state) ∙ deep) (ap (λ (x : Entry S). x.mark) (sym other.1) ∙ marked)
+                  let same_steps : m.steps f.state ≡ m.steps d.state =
+                  ap m.steps o.2.state ∙ ap (λ (x : Entry S). m.steps x.state) (sym e) in absurd (omega arith))
+              | inr other ↦ fresh j o.0 o.1 (sym (ap m.steps o.2.state) ∙ deep)
+                  (ap (λ (x : Entry S). x.mark) (sym other.1) ∙ marked)
             ])
         | inr r ↦ (
             let y = at-map (opened i) (unknown same (states es) xs) r.0 f r.2 in
@@ -59,7 +67,8 @@ module _ {S : Type 0} (m : StepMachine S) (same : S → S → Bool) (right : S �
             let p : m.steps f.state ≡ m.steps o.0.state = ap m.steps o.2.state in omega arith)
         | inr r ↦ (
             let y = at-map (opened i) (unknown same (states es) xs) r.0 f r.2 in
-            let up : m.steps y.0.state ≡ m.steps d.state + 1 = machine.one_more d.state y.0.state y.0.thread (new_steps r.0 y.0 y.1) in
+            let up : m.steps y.0.state ≡ m.steps d.state + 1 =
+            machine.one_more d.state y.0.state y.0.thread (new_steps r.0 y.0 y.1) in
             let p : m.steps y.0.state ≡ m.steps f.state = ap (λ (e : Entry S). m.steps e.state) y.2 in omega arith)
       ]
 
@@ -79,38 +88,52 @@ module _ {S : Type 0} (m : StepMachine S) (same : S → S → Bool) (right : S �
             let y = at-map (λ (x : Successor S). x.state) (unknown same (states es) xs) r.0 x r.2 in
             let c = recorded m same right machine merges es law i d at in
             let p : length c.0 ≡ m.steps d.state = c.2 in
-            let l : length (c.0 ++ y.0.thread ∷ []) ≡ length c.0 + 1 = length_push c.0 y.0.thread in
-            (c.0 ++ y.0.thread ∷ [], omega arith, run_push m c.0 m.start d.state y.0.state y.0.thread c.1 (new_steps r.0 y.0 y.1) ∙ ap Some y.2))
+            let l : length (c.0 ++ y.0.thread ∷ []) ≡ length c.0 + 1 = length_push c.0 y.0.thread in (
+              c.0 ++ y.0.thread ∷ [],
+              omega arith,
+              run_push m c.0 m.start d.state y.0.state y.0.thread c.1 (new_steps r.0 y.0 y.1) ∙ ap Some y.2,
+            ))
       ]
 
-  all_apart : (j k : ℕ) (x y : S) → slice_get all_states j ≡ Some x → slice_get all_states k ≡ Some y → same x y ≡ true → j ≡ k
+  all_apart : (j k : ℕ) (x y : S) → slice_get all_states j ≡ Some x → slice_get all_states k ≡ Some y → same x y ≡ true
+      → j ≡ k
   all_apart = joined_apart m same merges (states es) xs (λ j k x y at_j at_k h.
       let a = at-states es j x at_j in
       let b = at-states es k y at_k in
       law.distinct j k a.0 b.0 a.1 b.1 (let p : a.0.state ≡ x = a.2 in let q : b.0.state ≡ y = b.2 in cc))
 
   -- where the book has no room for the steps, more states are reached than it may have entries
-  pub more_than : (limit : ℕ) → limit < length es + length (unknown same (states es) xs) → IsMoreThan m same (n + 1) limit
+  pub more_than : (limit : ℕ) → limit < length es + length (unknown same (states es) xs)
+      → IsMoreThan m same (n + 1) limit
   more_than limit full = record {
     states = all_states;
-    many = (let a : length all_states ≡ length (states es) + length (map (λ (x : Successor S). x.state) (unknown same (states es) xs)) =
+    many = (let a : length all_states ≡ length (states es)
+        + length (map (λ (x : Successor S). x.state) (unknown same (states es) xs)) =
         length-append (states es) (map (λ (x : Successor S). x.state) (unknown same (states es) xs)) in
         let b : length (states es) ≡ length es = length-map es (λ (e : Entry S). e.state) in
-        let c : length (map (λ (x : Successor S). x.state) (unknown same (states es) xs)) ≡ length (unknown same (states es) xs) = length-map (unknown same (states es) xs) (λ (x : Successor S). x.state) in
+        let c : length (map (λ (x : Successor S). x.state) (unknown same (states es) xs))
+        ≡ length (unknown same (states es) xs) =
+        length-map (unknown same (states es) xs) (λ (x : Successor S). x.state) in
         omega arith);
     apart = all_apart;
     reached = all_reached;
   }
 
-module _ {S : Type 0} (m : StepMachine S) (same : S → S → Bool) (right : S → Finding → Type 0) (machine : IsMachine m) (merges : Merges m same)
+module _ {S : Type 0} (m : StepMachine S) (same : S → S → Bool) (right : S → Finding → Type 0) (machine : IsMachine m)
+    (merges : Merges m same)
     (es : List (Entry S)) (law : IsLawful m same right es) where
-  -- a book that is expanded below n has an entry for each state of at most n steps, so these are no more than its entries
-  pub not_above : (n limit : ℕ) → IsExpandedBelow m.steps es n → length es ≤ limit → (j : ℕ) → j ≤ n → IsMoreThan m same j limit → ⊥
+  -- a book that is expanded below n has an entry for each state of at most n steps, so these are no more than its
+  -- entries
+  pub not_above : (n limit : ℕ) → IsExpandedBelow m.steps es n → length es ≤ limit → (j : ℕ) → j ≤ n
+      → IsMoreThan m same j limit → ⊥
   not_above n limit done room j le more =
-      let few : count_by (λ (e : Entry S). leb (m.steps e.state) j) es ≤ length es = count_by-le-length (λ (e : Entry S). leb (m.steps e.state) j) es in
+      let few : count_by (λ (e : Entry S). leb (m.steps e.state) j) es ≤ length es =
+      count_by-le-length (λ (e : Entry S). leb (m.steps e.state) j) es in
       let count : IsCount m same j (count_by (λ (e : Entry S). leb (m.steps e.state) j) es) =
-      count_to_is m same right machine merges es law j (λ i e at less. done i e at (omega arith)) (λ s c leads. steps_after m machine c s leads) in
-      let above : limit < count_by (λ (e : Entry S). leb (m.steps e.state) j) es = count_above m same merges j (count_by (λ (e : Entry S). leb (m.steps e.state) j) es) limit count more in
+      count_to_is m same right machine merges es law j (λ i e at less. done i e at (omega arith))
+      (λ s c leads. steps_after m machine c s leads) in
+      let above : limit < count_by (λ (e : Entry S). leb (m.steps e.state) j) es =
+      count_above m same merges j (count_by (λ (e : Entry S). leb (m.steps e.state) j) es) limit count more in
       omega arith
 
   -- where no entry has more than n steps, all entries count the states of at most n steps

@@ -1,5 +1,6 @@
 -- What is read off a lawful book: the due answer, and that it is true.
-use Rattle.std.proofs.Common.{◌≡◌, ℕ, ◌+◌, ◌<◌, ◌≤◌, ◌∙◌, Bool, true, None, Some, List, length, refl, sym, ap, subst, arith, slice_get}
+use Rattle.std.proofs.Common.{◌≡◌, ℕ, ◌+◌, ◌<◌, ◌≤◌, ◌∙◌, Bool, true, None, Some, List, length, refl, sym, ap, subst}
+use Rattle.std.proofs.Common.{arith, slice_get}
 use Rattle.tree_machine.specs.Rules.{Rules}
 use Rattle.tree_machine.specs.declared.state.State.{State}
 use Rattle.book.specs.declared.finding.Finding.{Finding}
@@ -16,40 +17,51 @@ use Rattle.crew.specs.Faults.{IsLeastFault, LeadsToFault}
 use Rattle.crew.specs.Headline.{HoldsTo, IsShortestFault}
 use Rattle.crew.specs.Reading.{IsAtRest, IsFullAt, IsLastLayer, IsWorkedOff, first_fault}
 use Rattle.crew.specs.declared.answer.Answer.TheVariants as answer
-use Rattle.crew.proofs.Answers.{fault_due, fault_sound, holds_due, holds_sound, leads_to_fault, least_fault, stopped_due, stopped_sound}
+use Rattle.crew.proofs.Answers.{fault_due, fault_sound, holds_due, holds_sound, leads_to_fault, least_fault}
+use Rattle.crew.proofs.Answers.{stopped_due, stopped_sound}
 use Rattle.crew.proofs.Findings.{findings_agree, sound_correct}
 use Rattle.crew.proofs.Rest.{count_rest, rest_count, rest_holds, rest_worked_out}
 use Rattle.crew.proofs.Soundness.{is_fault}
 use Rattle.crew.proofs.WorkedOff.{at_rest, last_of_fault}
 
-module _ {Machine Memory Place Form : Type 0} (rules : Machine → Rules Memory Place) (b : Contents Machine (State Machine Memory Place Form))
-    {same : State Machine Memory Place Form → State Machine Memory Place Form → Bool} (machine : IsMachine (machine_in rules b)) (merges : Merges (machine_in rules b) same)
-    (alike : (r s : State Machine Memory Place Form) → (machine_in rules b).Fits r → (machine_in rules b).Fits s → same r s ≡ true → IsSound (right_in rules b) r → IsSound (right_in rules b) s)
+module _ {Machine Memory Place Form : Type 0} (rules : Machine → Rules Memory Place)
+    (b : Contents Machine (State Machine Memory Place Form))
+    {same : State Machine Memory Place Form → State Machine Memory Place Form → Bool}
+    (machine : IsMachine (machine_in rules b)) (merges : Merges (machine_in rules b) same)
+    (alike : (r s : State Machine Memory Place Form) → (machine_in rules b).Fits r → (machine_in rules b).Fits s
+    → same r s ≡ true → IsSound (right_in rules b) r → IsSound (right_in rules b) s)
     (law : IsLawfulBook (machine_in rules b) same (right_in rules b) b) where
-  agree : (state : State Machine Memory Place Form) (f g : Finding) → right_in rules b state f → right_in rules b state g → is_sound f ≡ true → is_sound g ≡ true
+  agree : (state : State Machine Memory Place Form) (f g : Finding) → right_in rules b state f
+      → right_in rules b state g → is_sound f ≡ true → is_sound g ≡ true
   agree = findings_agree (rules b.machine) b.program
 
   -- layer n is the last, and no entry is a fault
-  module _ (n k : ℕ) (is : k ≡ n) (none : first_fault b.entries ≡ None) (layer : IsLastLayer (machine_in rules b).steps b.entries k) where
+  module _ (n k : ℕ) (is : k ≡ n) (none : first_fault b.entries ≡ None)
+      (layer : IsLastLayer (machine_in rules b).steps b.entries k) where
     last : IsLastLayer (machine_in rules b).steps b.entries n
     last = subst (λ d. IsLastLayer (machine_in rules b).steps b.entries d) is layer
 
     pub holds_true : HoldsTo Machine Form (rules b.machine) b.program n
     holds_true schedule state short leads =
         sound_correct (rules b.machine) b.program state
-        (holds_sound (machine_in rules b) same (right_in rules b) machine merges alike agree b law n none last schedule state short leads)
+        (holds_sound (machine_in rules b) same (right_in rules b) machine merges alike agree b law n none last schedule
+        state short leads)
 
     pub holds_is_due : (IsAtRest (machine_in rules b).steps b.entries b.merge k → ⊥)
         → IsDue (machine_in rules b) same (right_in rules b) b.merge n b.limit (length b.entries) (answer.Holds n)
     holds_is_due moves =
-        let due = holds_due (machine_in rules b) same (right_in rules b) machine merges alike agree b law n none last in (
+        let due =
+        holds_due (machine_in rules b) same (right_in rules b) machine merges alike agree b law n none last in (
           refl,
           due.0,
           due.1,
           due.2,
           (λ names before next count.
-              let shallow = count_rest (machine_in rules b) same (right_in rules b) machine merges alike b.entries law.law n before next last count in
-              moves (subst (λ d. IsAtRest (machine_in rules b).steps b.entries b.merge d) (sym is) (names, before, next, shallow))),
+              let shallow =
+              count_rest (machine_in rules b) same (right_in rules b) machine merges alike b.entries law.law n
+              before next last count in
+              moves (subst (λ d. IsAtRest (machine_in rules b).steps b.entries b.merge d) (sym is)
+              (names, before, next, shallow))),
         )
 
     -- and no entry has so many steps
@@ -57,86 +69,118 @@ module _ {Machine Memory Place Form : Type 0} (rules : Machine → Rules Memory 
       rest : IsAtRest (machine_in rules b).steps b.entries b.merge n
       rest = subst (λ d. IsAtRest (machine_in rules b).steps b.entries b.merge d) is rests
 
-      pub every_is_due : IsDue (machine_in rules b) same (right_in rules b) b.merge n b.limit (length b.entries) answer.Every
+      pub every_is_due : IsDue (machine_in rules b) same (right_in rules b) b.merge n b.limit
+          (length b.entries) answer.Every
       every_is_due =
-          let due = holds_due (machine_in rules b) same (right_in rules b) machine merges alike agree b law n none last in
-          let count = rest_count (machine_in rules b) same (right_in rules b) machine merges alike b.entries law.law n rest.1 rest.2 last rest.3 in
+          let due =
+          holds_due (machine_in rules b) same (right_in rules b) machine merges alike agree b law n none last in
+          let count =
+          rest_count (machine_in rules b) same (right_in rules b) machine merges alike b.entries law.law n rest.1
+          rest.2 last rest.3 in
           (due.0, due.1, due.2, rest.0, (rest.1, rest.2, count))
 
       pub every_true : HoldsAlways Machine Form (rules b.machine) b.program
       every_true schedule state leads =
           sound_correct (rules b.machine) b.program state
-          (rest_holds (machine_in rules b) same (right_in rules b) machine merges alike b.entries law.law n rest.1 rest.2 last none rest.3 schedule state leads)
+          (rest_holds (machine_in rules b) same (right_in rules b) machine merges alike b.entries law.law n rest.1
+          rest.2 last none rest.3 schedule state leads)
 
       pub every_closed : IsClosed b
-      every_closed = (rest.0, rest_worked_out (machine_in rules b) same (right_in rules b) machine merges alike b.entries law.law n rest.1 rest.2 last rest.3)
+      every_closed = (
+        rest.0,
+        rest_worked_out (machine_in rules b) same (right_in rules b) machine merges alike b.entries law.law n
+            rest.1 rest.2 last rest.3,
+      )
 
   -- a closed book that is worked off rests
-  pub closed_rests : (n k : ℕ) → k ≡ n → IsClosed b → IsWorkedOff (machine_in rules b).steps b.entries n → IsAtRest (machine_in rules b).steps b.entries b.merge k
+  pub closed_rests : (n k : ℕ) → k ≡ n → IsClosed b → IsWorkedOff (machine_in rules b).steps b.entries n
+      → IsAtRest (machine_in rules b).steps b.entries b.merge k
   closed_rests n k is closed worked =
       let start = law.law.start in
-      let none : (machine_in rules b).steps start.0.state ≡ 0 = ap (machine_in rules b).steps start.2 ∙ machine.from_zero in
+      let none : (machine_in rules b).steps start.0.state ≡ 0 =
+      ap (machine_in rules b).steps start.2 ∙ machine.from_zero in
       subst (λ d. IsAtRest (machine_in rules b).steps b.entries b.merge d) (sym is)
       (at_rest (machine_in rules b).steps b.entries b.merge n worked closed.0 closed.1 start.0 start.1 none)
 
   -- the first fault, with the schedule that is recorded of it
   module _ (id : ℕ) (first : first_fault b.entries ≡ Some id) (c : List ℕ)
-      (way : (e : Entry (State Machine Memory Place Form)) × At b.entries id e × (after (machine_in rules b) c ≡ Some e.state) × (length c ≡ e.state.steps)) where
+      (way : (e : Entry (State Machine Memory Place Form)) × At b.entries id e
+      × (after (machine_in rules b) c ≡ Some e.state) × (length c ≡ e.state.steps)) where
     -- where the book is worked off, its layer is the last
-    pub fault_is_last : (n : ℕ) → IsWorkedOff (machine_in rules b).steps b.entries n → (length c ≤ n) × IsLastLayer (machine_in rules b).steps b.entries (length c)
+    pub fault_is_last : (n : ℕ) → IsWorkedOff (machine_in rules b).steps b.entries n
+        → (length c ≤ n) × IsLastLayer (machine_in rules b).steps b.entries (length c)
     fault_is_last n worked =
         let here = last_of_fault (machine_in rules b).steps b.entries n worked id way.0 way.1
-        (is_fault (machine_in rules b) same (right_in rules b) machine merges alike b.entries law.law id first way.0 way.1) in
+        (is_fault (machine_in rules b) same (right_in rules b) machine merges alike b.entries law.law id first way.0
+        way.1) in
         subst (λ k. (k ≤ n) × IsLastLayer (machine_in rules b).steps b.entries k) (sym way.3) here
 
-    module _ (f : Finding) (found : (e : Entry (State Machine Memory Place Form)) × At b.entries id e × (e.finding ≡ f)) where
+    module _ (f : Finding) (found : (e : Entry (State Machine Memory Place Form)) × At b.entries id e
+        × (e.finding ≡ f)) where
       same_entry : way.0 ≡ found.0
-      same_entry = (let p : slice_get b.entries id ≡ Some way.0 = way.1 in let q : slice_get b.entries id ≡ Some found.0 = found.1 in cc)
+      same_entry = (let p : slice_get b.entries id ≡ Some way.0 = way.1 in
+          let q : slice_get b.entries id ≡ Some found.0 = found.1 in cc)
 
       finding : way.0.finding ≡ f
       finding = ap (λ (e : Entry (State Machine Memory Place Form)). e.finding) same_entry ∙ found.2
 
-      pub first_told : (i : ℕ) × (e : Entry (State Machine Memory Place Form)) × (first_fault b.entries ≡ Some i) × At b.entries i e × (e.finding ≡ f) × (after (machine_in rules b) c ≡ Some e.state)
+      pub first_told : (i : ℕ) × (e : Entry (State Machine Memory Place Form)) × (first_fault b.entries ≡ Some i)
+          × At b.entries i e × (e.finding ≡ f) × (after (machine_in rules b) c ≡ Some e.state)
       first_told = (id, way.0, first, way.1, finding, way.2)
 
       leads : LeadsToFault (machine_in rules b) (right_in rules b) c f
       leads =
           subst (λ g. LeadsToFault (machine_in rules b) (right_in rules b) c g) finding
-          (leads_to_fault (machine_in rules b) same (right_in rules b) machine merges alike agree b law id first way.0 way.1 c way.2 way.3)
+          (leads_to_fault (machine_in rules b) same (right_in rules b) machine merges alike agree b law id first way.0
+          way.1 c way.2 way.3)
 
       pub fault_true : IsShortestFault Machine Form (rules b.machine) b.program c f
       fault_true =
           record {
             fault = leads;
             none_shorter = (λ shorter state less run. sound_correct (rules b.machine) b.program state
-                (fault_sound (machine_in rules b) same (right_in rules b) machine merges alike agree b law id first way.0 way.1 c way.2 way.3 (length shorter) less shorter state (omega arith) run));
+                (fault_sound (machine_in rules b) same (right_in rules b) machine merges alike agree b law id first
+                way.0 way.1 c way.2 way.3 (length shorter) less shorter state (omega arith) run));
           }
 
       pub fault_is_due : (n k : ℕ) → k ≡ length c → k ≤ n → IsLastLayer (machine_in rules b).steps b.entries k
-          → LeadsToFault (machine_in rules b) (right_in rules b) c f × IsLeastFault (machine_in rules b) (right_in rules b) (length c) × (length c ≤ n)
-          × ((J : ℕ) → IsFirstAbove (machine_in rules b) same n b.limit J → length c < J) × IsCount (machine_in rules b) same (length c) (length b.entries)
+          → LeadsToFault (machine_in rules b) (right_in rules b) c f
+          × IsLeastFault (machine_in rules b) (right_in rules b) (length c) × (length c ≤ n)
+          × ((J : ℕ) → IsFirstAbove (machine_in rules b) same n b.limit J → length c < J)
+          × IsCount (machine_in rules b) same (length c) (length b.entries)
       fault_is_due n k is few layer =
-          let last : IsLastLayer (machine_in rules b).steps b.entries (length c) = subst (λ d. IsLastLayer (machine_in rules b).steps b.entries d) is layer in
-          let due = fault_due (machine_in rules b) same (right_in rules b) machine merges alike agree b law id first way.0 way.1 c way.2 way.3 n last in (
+          let last : IsLastLayer (machine_in rules b).steps b.entries (length c) =
+          subst (λ d. IsLastLayer (machine_in rules b).steps b.entries d) is layer in
+          let due =
+          fault_due (machine_in rules b) same (right_in rules b) machine merges alike agree b law id first way.0
+          way.1 c way.2 way.3 n last in (
             leads,
-            least_fault (machine_in rules b) same (right_in rules b) machine merges alike agree b law id first way.0 way.1 c way.2 way.3,
+            least_fault (machine_in rules b) same (right_in rules b) machine merges alike agree b law id first way.0
+                way.1 c way.2 way.3,
             (omega arith),
             due.0,
             due.1,
           )
 
   -- an entry for whose steps there is no room, with the schedule that is recorded of it
-  module _ (id : ℕ) (full : IsFullAt (machine_in rules b) same (right_in rules b) b id) (d : ℕ) (way : (e : Entry (State Machine Memory Place Form)) × At b.entries id e × (d ≡ e.state.steps))
-      (sound : (i : ℕ) (e : Entry (State Machine Memory Place Form)) → At b.entries i e → e.state.steps ≤ d → is_sound e.finding ≡ true) where
+  module _ (id : ℕ) (full : IsFullAt (machine_in rules b) same (right_in rules b) b id) (d : ℕ)
+      (way : (e : Entry (State Machine Memory Place Form)) × At b.entries id e × (d ≡ e.state.steps))
+      (sound : (i : ℕ) (e : Entry (State Machine Memory Place Form)) → At b.entries i e → e.state.steps ≤ d
+      → is_sound e.finding ≡ true) where
     layer : full.entry.state.steps ≡ d
     layer =
-        let same_entry : full.entry ≡ way.0 = (let p : slice_get b.entries id ≡ Some full.entry = full.at in let q : slice_get b.entries id ≡ Some way.0 = way.1 in cc) in
+        let same_entry : full.entry ≡ way.0 = (let p : slice_get b.entries id ≡ Some full.entry = full.at in
+        let q : slice_get b.entries id ≡ Some way.0 = way.1 in cc) in
         ap (λ (e : Entry (State Machine Memory Place Form)). e.state.steps) same_entry ∙ sym way.2
 
     pub stopped_true : HoldsTo Machine Form (rules b.machine) b.program d
     stopped_true schedule state short leads =
         sound_correct (rules b.machine) b.program state
-        (stopped_sound (machine_in rules b) same (right_in rules b) machine merges alike agree b law d id full layer sound schedule state short leads)
+        (stopped_sound (machine_in rules b) same (right_in rules b) machine merges alike agree b law d id full layer
+        sound schedule state short leads)
 
-    pub stopped_is_due : (n : ℕ) → d < n → IsFirstAbove (machine_in rules b) same n b.limit (d + 1) × ((F : ℕ) → IsLeastFault (machine_in rules b) (right_in rules b) F → d + 1 ≤ F)
-    stopped_is_due n less = stopped_due (machine_in rules b) same (right_in rules b) machine merges alike agree b law d id full layer sound n less
+    pub stopped_is_due : (n : ℕ) → d < n → IsFirstAbove (machine_in rules b) same n b.limit (d + 1)
+        × ((F : ℕ) → IsLeastFault (machine_in rules b) (right_in rules b) F → d + 1 ≤ F)
+    stopped_is_due n less =
+        stopped_due (machine_in rules b) same (right_in rules b) machine merges alike agree b law d id full layer sound
+        n less

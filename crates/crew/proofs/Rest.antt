@@ -21,7 +21,8 @@ use Rattle.crew.proofs.Verdicts.{one_count}
 module _ {S : Type 0} (m : StepMachine S) (same : S → S → Bool) (right : S → Finding → Type 0)
     (machine : IsMachine m) (merges : Merges m same)
     (alike : (a b : S) → m.Fits a → m.Fits b → same a b ≡ true → IsSound right a → IsSound right b)
-    (es : List (Entry S)) (law : IsLawful m same right es) (n before : ℕ) (next : n ≡ before + 1) (last : IsLastLayer m.steps es n) where
+    (es : List (Entry S)) (law : IsLawful m same right es) (n before : ℕ) (next : n ≡ before + 1)
+    (last : IsLastLayer m.steps es n) where
   done_before : IsExpandedBelow m.steps es before
   done_before i e at less = last.0 i e at (omega arith)
 
@@ -36,10 +37,14 @@ module _ {S : Type 0} (m : StepMachine S) (same : S → S → Bool) (right : S �
   -- where n steps reach as many states as one fewer, no entry has n steps
   pub count_rest : IsCount m same before (length es) → IsShallow m.steps es before
   count_rest count i e at =
-      let here = count_to_is m same right machine merges es law before done_before (λ s c leads. steps_after m machine c s leads) in
-      let all : count_by (λ (e : Entry S). leb (m.steps e.state) before) es ≡ length es = one_count m same merges before _ _ here count in
+      let here =
+      count_to_is m same right machine merges es law before done_before
+      (λ s c leads. steps_after m machine c s leads) in
+      let all : count_by (λ (e : Entry S). leb (m.steps e.state) before) es ≡ length es =
+      one_count m same merges before _ _ here count in
       leb-true (m.steps e.state) before (every_counted (λ (e : Entry S). leb (m.steps e.state) before) es all i e at)
 
   -- then every schedule leads to a sound state, if each entry is sound
   pub rest_holds : first_fault es ≡ None → IsShallow m.steps es before → HoldsForEvery m right
-  rest_holds none shallow = closed_holds m same right machine merges alike es law (rest_worked_out shallow) (none_unsound es none)
+  rest_holds none shallow =
+      closed_holds m same right machine merges alike es law (rest_worked_out shallow) (none_unsound es none)

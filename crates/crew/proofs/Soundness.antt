@@ -1,5 +1,6 @@
 -- Which schedules lead to sound states, from the law of the book alone.
-use Rattle.std.proofs.Common.{◌≡◌, ◌≢◌, ℕ, ◌+◌, ◌<◌, ◌≤◌, ◌⊎◌, inl, inr, Bool, true, false, not, Option, Some, None, List, length, refl, sym, ap, ◌∙◌, arith, slice_get}
+use Rattle.std.proofs.Common.{◌≡◌, ◌≢◌, ℕ, ◌+◌, ◌<◌, ◌≤◌, ◌⊎◌, inl, inr, Bool, true, false, not, Option, Some, None}
+use Rattle.std.proofs.Common.{List, length, refl, sym, ap, ◌∙◌, arith, slice_get}
 use Rattle.std.proofs.lemmas.Bool.{true≢false, cases_lt, not-false, not-true}
 use Rattle.std.specs.Option.{option_map}
 use Rattle.book.specs.declared.finding.Finding.{Finding}
@@ -39,11 +40,14 @@ fault_longer m right agree n sound c faulty =
     ]
 
 -- no entry is a fault
-pub none_unsound : {S : Type 0} (es : List (Entry S)) → first_fault es ≡ None → (i : ℕ) (e : Entry S) → At es i e → is_sound e.finding ≡ true
-none_unsound es none i e at = not-false (is_sound e.finding) (none_passes (λ (r : Entry _). not (is_sound r.finding)) es none i e at)
+pub none_unsound : {S : Type 0} (es : List (Entry S)) → first_fault es ≡ None → (i : ℕ) (e : Entry S) → At es i e
+    → is_sound e.finding ≡ true
+none_unsound es none i e at =
+    not-false (is_sound e.finding) (none_passes (λ (r : Entry _). not (is_sound r.finding)) es none i e at)
 
 -- what was found of the first fault
-pub found_at : {S : Type 0} (es : List (Entry S)) (i : ℕ) (o : Option Finding) → first_fault es ≡ Some i → o ≡ option_map (λ (e : Entry S). e.finding) (slice_get es i)
+pub found_at : {S : Type 0} (es : List (Entry S)) (i : ℕ) (o : Option Finding) → first_fault es ≡ Some i
+    → o ≡ option_map (λ (e : Entry S). e.finding) (slice_get es i)
     → (e : Entry S) × At es i e × (o ≡ Some e.finding) × (is_sound e.finding ≡ false)
 found_at es i o first is =
     let f = first_passes (λ (r : Entry _). not (is_sound r.finding)) es i first in
@@ -58,8 +62,11 @@ module _ {S : Type 0} (m : StepMachine S) (same : S → S → Bool) (right : S �
   sound_to n done sound c s short leads =
       let w = stands_after m same right machine merges es law n done c s short leads in
       let up : m.steps s ≡ length c = steps_after m machine c s leads in
-      alike w.1.state s (law.fit w.0 w.1 w.2) (fits_after m machine c s leads) w.3
-      (w.1.finding, law.findings w.0 w.1 w.2, sound w.0 w.1 w.2 (let q : m.steps w.1.state ≤ m.steps s = w.4 in omega arith))
+      alike w.1.state s (law.fit w.0 w.1 w.2) (fits_after m machine c s leads) w.3 (
+        w.1.finding,
+        law.findings w.0 w.1 w.2,
+        sound w.0 w.1 w.2 (let q : m.steps w.1.state ≤ m.steps s = w.4 in omega arith),
+      )
 
   pub sound_by : (n : ℕ) → first_fault es ≡ None → IsExpandedBelow m.steps es n → SoundTo m right n
   sound_by n none done = sound_to n done (λ i e at _. none_unsound es none i e at)
@@ -75,7 +82,8 @@ module _ {S : Type 0} (m : StepMachine S) (same : S → S → Bool) (right : S �
     pub sound_below : (j : ℕ) (d : Entry S) → At es j d → m.steps d.state < m.steps e.state → is_sound d.finding ≡ true
     sound_below j d there less =
         elim (cases_lt j i) [
-          | inl l ↦ not-false (is_sound d.finding) ((first_passes (λ (r : Entry S). not (is_sound r.finding)) es i first).3 j d l there)
+          | inl l ↦ not-false (is_sound d.finding)
+              ((first_passes (λ (r : Entry S). not (is_sound r.finding)) es i first).3 j d l there)
           | inr le ↦ absurd (let q : m.steps e.state ≤ m.steps d.state = law.ordered i j e d at there le in omega arith)
         ]
 

@@ -16,7 +16,9 @@ module _ {S : Type 0} (m : StepMachine S) (same : S → S → Bool) (merges : Me
   no_less : (n k l : ℕ) → IsCount m same n k → IsCount m same n l → k ≤ l
   no_less n k l count other =
       elim (cases_lt l k) [
-        | inl less ↦ absurd (let q : l < l = count_above m same merges n l l other (above_more m same l n (k, count, less)) in omega arith)
+        | inl less
+            ↦ absurd (let q : l < l = count_above m same merges n l l other (above_more m same l n (k, count, less)) in
+            omega arith)
         | inr le ↦ le
       ]
 
@@ -34,7 +36,8 @@ module _ {S : Type 0} (m : StepMachine S) (same : S → S → Bool) (merges : Me
         let c : length least.schedule ≡ F = least.long in
         let d : length other.schedule ≡ G = other.long in omega arith
 
-    pub one_verdict : (c d : ℕ) (a b : Answer) → IsDue m same right merge n limit c a → IsDue m same right merge n limit d b → IsSameVerdict c a d b
+    pub one_verdict : (c d : ℕ) (a b : Answer) → IsDue m same right merge n limit c a
+        → IsDue m same right merge n limit d b → IsSameVerdict c a d b
     one_verdict c d (answer.Stopped at holds_to) (answer.Stopped other other_holds_to) due also = (
       due.0 ∙ sym also.0,
       (let p : holds_to + 1 ≤ other_holds_to + 1 = due.1.first (other_holds_to + 1) also.1.above in
@@ -43,7 +46,8 @@ module _ {S : Type 0} (m : StepMachine S) (same : S → S → Bool) (merges : Me
     one_verdict c d (answer.Fault finding schedule) (answer.Fault other_finding other) due also =
         let e = one_fault (length schedule.items) (length other.items) due.1 also.1 in
         (e, one_count (length other.items) c d (subst (λ l. IsCount m same l c) e due.4) also.4)
-    one_verdict c d (answer.Holds steps) (answer.Holds other) due also = (due.0 ∙ sym also.0, one_count n c d due.3 also.3)
+    one_verdict c d (answer.Holds steps) (answer.Holds other) due also =
+        (due.0 ∙ sym also.0, one_count n c d due.3 also.3)
     one_verdict c d (answer.Stopped at holds_to) (answer.Fault finding schedule) due also =
         let p : holds_to + 1 ≤ length schedule.items = due.2 (length schedule.items) also.1 in
         let q : length schedule.items < holds_to + 1 = also.3 (holds_to + 1) due.1 in

@@ -12,10 +12,12 @@ module _ {S : Type 0} (steps : S → ℕ) (es : List (Entry S)) (n : ℕ) (worke
   pub last_of_all : first_fault es ≡ None → IsLastLayer steps es n
   last_of_all none = (
     worked.all none,
-    (λ i e at. let few : steps e.state ≤ worked.layer = worked.stands.shallow i e at in let le : worked.layer ≤ n = worked.within in omega arith),
+    (λ i e at. let few : steps e.state ≤ worked.layer = worked.stands.shallow i e at in
+        let le : worked.layer ≤ n = worked.within in omega arith),
   )
 
-  pub last_of_fault : (i : ℕ) (e : Entry S) → At es i e → is_sound e.finding ≡ false → (steps e.state ≤ n) × IsLastLayer steps es (steps e.state)
+  pub last_of_fault : (i : ℕ) (e : Entry S) → At es i e → is_sound e.finding ≡ false → (steps e.state ≤ n)
+      × IsLastLayer steps es (steps e.state)
   last_of_fault i e at fault =
       let few : steps e.state ≤ worked.layer = worked.stands.shallow i e at in
       let le : worked.layer ≤ n = worked.within in
@@ -27,7 +29,8 @@ module _ {S : Type 0} (steps : S → ℕ) (es : List (Entry S)) (n : ℕ) (worke
       (omega arith, subst (λ d. IsLastLayer steps es d) is (worked.stands.done, worked.stands.shallow))
 
 -- where every entry is worked out too, none has n steps
-pub at_rest : {S : Type 0} (steps : S → ℕ) (es : List (Entry S)) (merge : Merge) (n : ℕ) → IsWorkedOff steps es n → merge ≡ Names → IsWorkedOut es
+pub at_rest : {S : Type 0} (steps : S → ℕ) (es : List (Entry S)) (merge : Merge) (n : ℕ) → IsWorkedOff steps es n
+    → merge ≡ Names → IsWorkedOut es
     → (start : Entry S) → At es 0 start → steps start.state ≡ 0 → IsAtRest steps es merge n
 at_rest steps es merge zero worked names out start at none =
     let le : worked.layer ≤ 0 = worked.within in

@@ -21,13 +21,15 @@ seats_of views = sum_by (λ seat. seat.seats) views
 abbrev pub below : ℕ → List ℕ
 below n = range_with_len 0 n
 
--- a seat that is several in one is told at most once for each, a seat that is none drew nothing, and a seat knows the counter's size
+-- a seat that is several in one is told at most once for each, a seat that is none drew nothing, and a seat knows the
+-- counter's size
 pub record FitsCounter (size : Size) (seat : Draws) : Type 0 where
   pub told : seat.spent ≤ seat.seats
   pub idle : seat.seats ≡ 0 → seat.places ≡ []
   pub knows : 0 < seat.seats → seat.size ≡ size
 
--- all lists together are the numbers below the smaller of the word and the length, each once, and the word counts the places drawn and the seats told that none is left
+-- all lists together are the numbers below the smaller of the word and the length, each once, and the word counts the
+-- places drawn and the seats told that none is left
 pub record ClaimsHold (size : Size) (word : ℕ) (views : List Draws) : Type 0 where
   pub drawn : IsPermutation (below (min word size.len)) (places_of views)
   pub counted : word ≡ length (places_of views) + spent_of views
@@ -50,9 +52,11 @@ fresh seats size = draws seats [] 0 size
 abbrev pub no_seat : Draws
 no_seat = fresh 0 (record { len = 0; seats = 0 })
 
--- a draw finds the number n: a place above all that the seat drew before, which goes to the end of its list, or the seat is told that none is left
+-- a draw finds the number n: a place above all that the seat drew before, which goes to the end of its list, or the
+-- seat is told that none is left
 pub record IsDraw (before : Draws) (n : ℕ) (after : Draws) : Type 0 where
-  pub place : n < before.size.len → All (λ earlier. earlier < n) before.places × (after ≡ draws before.seats (before.places ++ n ∷ []) before.spent before.size)
+  pub place : n < before.size.len → All (λ earlier. earlier < n) before.places
+      × (after ≡ draws before.seats (before.places ++ n ∷ []) before.spent before.size)
   pub none_left : before.size.len ≤ n → after ≡ draws before.seats before.places (before.spent + 1) before.size
 
 -- a draw as the table sees it: the seat takes no slot

@@ -5,8 +5,8 @@ use Rattle.book.specs.Layers.{IsShallow, IsThrough, NoneTaken}
 use Rattle.crew.specs.declared.answer.Share.{Share}
 use Rattle.crew.specs.Reading.{IsFresh}
 
--- layer d is being expanded: the entries before it are, those up to it are sound, none of the next layer is expanded, and no
--- layer after that is begun
+-- layer d is being expanded: the entries before it are, those up to it are sound, none of the next layer is expanded,
+-- and no layer after that is begun
 pub record IsInLayer {S : Type 0} (steps : S → ℕ) (entries : List (Entry S)) (d : ℕ) : Type 0 where
   pub none_taken : NoneTaken entries
   pub through : IsThrough steps entries d

@@ -20,25 +20,31 @@ module _ {S : Type 0} (m : StepMachine S) (same : S → S → Bool) where
     pub above : IsAbove limit j
     pub first : (i : ℕ) → IsAbove limit i → j ≤ i
 
--- The answer that is due for schedules of at most n steps and a limit of states, with the number of states that it tells of.
--- Let F be the least length of a schedule that leads to a fault, and J the least number of steps, up to n, by which more
--- states are reached than the limit; either may not exist. The first case that fits decides.
-module _ {S : Type 0} (m : StepMachine S) (same : S → S → Bool) (right : S → Finding → Type 0) (merge : Merge) (n limit : ℕ) where
+-- The answer that is due for schedules of at most n steps and a limit of states, with the number of states that it
+-- tells of. Let F be the least length of a schedule that leads to a fault, and J the least number of steps, up to n, by
+-- which more states are reached than the limit; either may not exist. The first case that fits decides.
+module _ {S : Type 0} (m : StepMachine S) (same : S → S → Bool) (right : S → Finding → Type 0) (merge : Merge)
+    (n limit : ℕ) where
   abbrev pub IsDue : ℕ → Answer → Type 0
   -- J exists, and F does not or J is at most F: stopped, one step before J
   IsDue count (answer.Stopped at holds_to) =
       (at ≡ limit) × IsFirstAbove m same n limit (holds_to + 1) × ((F : ℕ) → IsLeastFault m right F → holds_to + 1 ≤ F)
-  -- F exists and is at most n: a schedule of F steps that leads to a fault, with the number of states that F steps reach
+  -- F exists and is at most n: a schedule of F steps that leads to a fault, with the number of states that F steps
+  -- reach
   IsDue count (answer.Fault finding schedule) =
-      LeadsToFault m right schedule.items finding × IsLeastFault m right (length schedule.items) × (length schedule.items ≤ n)
-      × ((J : ℕ) → IsFirstAbove m same n limit J → length schedule.items < J) × IsCount m same (length schedule.items) count
+      LeadsToFault m right schedule.items finding × IsLeastFault m right (length schedule.items)
+      × (length schedule.items ≤ n)
+      × ((J : ℕ) → IsFirstAbove m same n limit J → length schedule.items < J)
+      × IsCount m same (length schedule.items) count
   -- else, states being merged by names, n steps reach no more states than one step fewer: every schedule holds
   IsDue count answer.Every =
-      ((F : ℕ) → IsLeastFault m right F → n < F) × ((J : ℕ) → IsFirstAbove m same n limit J → ⊥) × IsCount m same n count
+      ((F : ℕ) → IsLeastFault m right F → n < F) × ((J : ℕ) → IsFirstAbove m same n limit J → ⊥)
+      × IsCount m same n count
       × (merge ≡ Names) × ((before : ℕ) × (n ≡ before + 1) × IsCount m same before count)
   -- otherwise: holds, with the number of states that n steps reach
   IsDue count (answer.Holds steps) =
-      (steps ≡ n) × ((F : ℕ) → IsLeastFault m right F → n < F) × ((J : ℕ) → IsFirstAbove m same n limit J → ⊥) × IsCount m same n count
+      (steps ≡ n) × ((F : ℕ) → IsLeastFault m right F → n < F) × ((J : ℕ) → IsFirstAbove m same n limit J → ⊥)
+      × IsCount m same n count
       × (merge ≡ Names → (before : ℕ) → n ≡ before + 1 → IsCount m same before count → ⊥)
 
 -- The same answer but for the schedule of a fault: the verdict, its numbers, and how many states it tells of.

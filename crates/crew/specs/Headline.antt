@@ -19,7 +19,8 @@ module _ (Machine Form : Type 0) {Memory Place : Type 0} (rules : Rules Memory P
 
   -- the schedule leads to the fault, and every shorter one keeps search order and leaves a linearizable history
   pub record IsShortestFault (schedule : List ℕ) (finding : Finding) : Type 0 where
-    pub fault : LeadsToFault {S = State Machine Memory Place Form} (machine_of rules program) (IsFindingOf rules program) schedule finding
+    pub fault : LeadsToFault {S = State Machine Memory Place Form} (machine_of rules program)
+        (IsFindingOf rules program) schedule finding
     pub none_shorter : (shorter : List ℕ) (state : State Machine Memory Place Form) → length shorter < length schedule
         → after (machine_of rules program) shorter ≡ Some state → IsCorrect rules program state
 

@@ -29,7 +29,8 @@ IsAtRest steps entries merge n = (merge ≡ Names) × (before : ℕ) × (n ≡ b
 abbrev pub IsFresh : {S : Type 0} → (S → ℕ) → List (Entry S) → ℕ → Type 0
 IsFresh {S} steps entries n = (i : ℕ) (e : Entry S) → At entries i e → steps e.state ≡ n → e.mark ≢ Expanded
 
--- the layers below d are expanded and their entries are sound, none of layer d is expanded, and no layer after it is begun
+-- the layers below d are expanded and their entries are sound, none of layer d is expanded, and no layer after it is
+-- begun
 pub record StandsAt {S : Type 0} (steps : S → ℕ) (entries : List (Entry S)) (d : ℕ) : Type 0 where
   pub none_taken : NoneTaken entries
   pub done : IsExpandedBelow steps entries d
@@ -44,7 +45,8 @@ pub record IsWorkedOff {S : Type 0} (steps : S → ℕ) (entries : List (Entry S
   pub stands : StandsAt steps entries layer
   pub all : first_fault entries ≡ None → IsExpandedBelow steps entries n
 
-module _ {X S : Type 0} (m : StepMachine S) (same : S → S → Bool) (right : S → Finding → Type 0) (book : Contents X S) where
+module _ {X S : Type 0} (m : StepMachine S) (same : S → S → Bool) (right : S → Finding → Type 0)
+    (book : Contents X S) where
   -- entry i is taken, and the book has no room for its steps
   pub record IsFullAt (i : ℕ) : Type 0 where
     pub entry : Entry S
@@ -54,7 +56,8 @@ module _ {X S : Type 0} (m : StepMachine S) (same : S → S → Bool) (right : S
     pub expansion : IsExpansion m right entry.state successors
     pub full : book.limit < length book.entries + length (unknown same (states book.entries) successors)
 
-  -- layer d is cut at its entry i: the book has no room for the entry's steps, and every entry of at most d steps is sound
+  -- layer d is cut at its entry i: the book has no room for the entry's steps, and every entry of at most d steps is
+  -- sound
   pub record IsCutAt (d i : ℕ) : Type 0 where
     pub no_room : IsFullAt i
     pub layer : m.steps no_room.entry.state ≡ d
@@ -65,7 +68,8 @@ abbrev pub TellsFirst : {S : Type 0} → StepMachine S → List (Entry S) → An
 TellsFirst m entries answer.Every = first_fault entries ≡ None
 TellsFirst m entries (answer.Holds steps) = first_fault entries ≡ None
 TellsFirst {S} m entries (answer.Fault finding schedule) =
-    (i : ℕ) × (e : Entry S) × (first_fault entries ≡ Some i) × At entries i e × (e.finding ≡ finding) × (after m schedule.items ≡ Some e.state)
+    (i : ℕ) × (e : Entry S) × (first_fault entries ≡ Some i) × At entries i e × (e.finding ≡ finding)
+    × (after m schedule.items ≡ Some e.state)
 TellsFirst m entries (answer.Stopped limit holds_to) = Unit {0}
 
 -- where neither a fault nor the limit is told, every schedule holds exactly if the book is closed

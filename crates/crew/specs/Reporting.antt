@@ -16,20 +16,27 @@ use Rattle.crew.specs.Reading.{TellsFirst, TellsClosed}
 use Rattle.crew.specs.Settings.{Settings}
 
 -- the book is of the machine, the program, the limit and the merge that are asked for
-pub record IsBookOf {X S : Type 0} (asked : X) (text : Program) (settings : Settings) (book : Contents X S) : Type 0 where
+pub record IsBookOf {X S : Type 0} (asked : X) (text : Program) (settings : Settings) (book : Contents X S) : Type
+    0 where
   pub machine : book.machine ≡ asked
   pub program : book.program ≡ text
   pub limit : book.limit ≡ settings.limit
   pub merge : book.merge ≡ settings.merge
 
--- The answer is the due one and true of all schedules, and no other verdict is due; a fault that is told is the first of
--- the book; the book is the one that is asked for, its totals are told, and the workers' shares sum to them.
-pub record IsReport {X Memory Place Form : Type 0} (rules : X → Rules Memory Place) (place_eq : Place → Place → Bool) (memory_eq : Memory → Memory → Bool)
+-- The answer is the due one and true of all schedules, and no other verdict is due; a fault that is told is the first
+-- of the book; the book is the one that is asked for, its totals are told, and the workers' shares sum to them.
+pub record IsReport {X Memory Place Form : Type 0} (rules : X → Rules Memory Place) (place_eq : Place → Place → Bool)
+    (memory_eq : Memory → Memory → Bool)
     (form_eq : Form → Form → Bool) (form_of : X → Memory → List (Option Place) → Form)
     (machine : X) (program : Program) (settings : Settings) (answer : Answer) (told : Totals) (each : List Share)
     (book : Contents X (State X Memory Place Form)) : Type 0 where
-  pub due : IsDue (machine_of {Machine = X} {Form = Form} (rules machine) program) (counted_as_one place_eq memory_eq form_eq (form_of machine) settings.merge) (IsFindingOf (rules machine) program) settings.merge settings.steps settings.limit told.entries answer
-  pub only : (count : ℕ) (other : Answer) → IsDue (machine_of {Machine = X} {Form = Form} (rules machine) program) (counted_as_one place_eq memory_eq form_eq (form_of machine) settings.merge) (IsFindingOf (rules machine) program) settings.merge settings.steps settings.limit count other
+  pub due : IsDue (machine_of {Machine = X} {Form = Form} (rules machine) program)
+      (counted_as_one place_eq memory_eq form_eq (form_of machine) settings.merge) (IsFindingOf (rules machine) program)
+      settings.merge settings.steps settings.limit told.entries answer
+  pub only : (count : ℕ) (other : Answer)
+      → IsDue (machine_of {Machine = X} {Form = Form} (rules machine) program)
+      (counted_as_one place_eq memory_eq form_eq (form_of machine) settings.merge) (IsFindingOf (rules machine) program)
+      settings.merge settings.steps settings.limit count other
       → IsSameVerdict told.entries answer count other
   pub headline : IsTrueOf X Form (rules machine) program answer
   pub first : TellsFirst (machine_of {Machine = X} {Form = Form} (rules machine) program) book.entries answer

@@ -2,7 +2,8 @@
 use Rattle.std.specs.Prelude.{ℕ, ◌≤◌}
 use Rattle.book.specs.declared.book.Merge.{Merge}
 
--- how many steps a schedule may have, how many entries the book may have, which states it counts as one, and how many workers explore
+-- how many steps a schedule may have, how many entries the book may have, which states it counts as one, and how many
+-- workers explore
 pub record Settings : Type 0 where
   pub steps : ℕ
   pub limit : ℕ

@@ -4,5 +4,6 @@ use denote.Ref.{MutBor}
 use denote.Param.Members.{Shared}
 
 -- f may be called with a `&mut` to the item
-abbrev pub TakesItem : {F T : Type 0} → Shared F (MutBor T × Unit {0}) (Unit {0} × (MutBor T × Unit {0})) → F → T → Type 0
+abbrev pub TakesItem : {F T : Type 0} → Shared F (MutBor T × Unit {0}) (Unit {0} × (MutBor T × Unit {0})) → F → T
+    → Type 0
 TakesItem {F} {T} g f item = (p : MutBor T) → p.now ≡ item → g.pre f (p, tt)

@@ -36,7 +36,8 @@ in_range memory (Goes place) = tt
 in_range memory (Replies reply) = tt
 in_range memory Astray = tt
 
-unchanged : (op : Op) (place memory : Bool) → (faulty_act op place memory).1 ≡ Astray → (faulty_act op place memory).0 ≡ memory
+unchanged : (op : Op) (place memory : Bool) → (faulty_act op place memory).1 ≡ Astray
+    → (faulty_act op place memory).0 ≡ memory
 unchanged (Insert key) place memory h = refl
 unchanged (Delete key) false memory h = refl
 unchanged (Delete key) true memory h = refl
@@ -85,7 +86,8 @@ abbrev pub faulty_form : Bool → List (Option Bool) → List ℕ
 faulty_form memory held = held_code (Some memory) ∷ map held_code held
 
 -- forms are equal exactly if the memories and the places are
-pub faulty_forms : (memory other : Bool) (held twins : List (Option Bool)) → (faulty_form memory held ≡ faulty_form other twins) ↔ AreAlike faulty_rules.pairs memory held other twins
+pub faulty_forms : (memory other : Bool) (held twins : List (Option Bool))
+    → (faulty_form memory held ≡ faulty_form other twins) ↔ AreAlike faulty_rules.pairs memory held other twins
 faulty_forms memory other held twins =
     let alike = equal_alike memory other held twins in (
       (λ same.

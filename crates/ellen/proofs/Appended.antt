@@ -1,5 +1,6 @@
 -- What was appended is taken back, or found again.
-use Rattle.std.proofs.Common.{◌≡◌, ℕ, suc, ◌+◌, Bool, true, false, cond, List, [], ◌∷◌, ◌++◌, length, refl, sym, ◌∙◌, ap, subst, arith, length-append}
+use Rattle.std.proofs.Common.{◌≡◌, ℕ, suc, ◌+◌, Bool, true, false, cond, List, [], ◌∷◌, ◌++◌, length, refl, sym, ◌∙◌}
+use Rattle.std.proofs.Common.{ap, subst, arith, length-append}
 use Rattle.std.specs.Prelude.{Some, slice_get, unwrap_or, nat_lt}
 use Rattle.ellen.specs.declared.memory.UpdateWord.TheVariants.{Untouched}
 use Rattle.ellen.specs.declared.memory.Node.TheVariants.{Leaf, Internal}
@@ -26,13 +27,18 @@ key_over k j x y = go (nat_lt k j)
     go true = refl
     go false = refl
 
-new_key : (memory : EllenMem) (k l : ℕ) → key_at (with_internal memory k l) (new_internal memory) ≡ cond (nat_lt k (key_at memory l)) (key_at memory l) k
+new_key : (memory : EllenMem) (k l : ℕ)
+    → key_at (with_internal memory k l) (new_internal memory) ≡ cond (nat_lt k (key_at memory l)) (key_at memory l) k
 new_key memory k l =
-    ap (λ node. key_in (unwrap_or node (Leaf 0))) (get_third memory.nodes (Leaf k) (Leaf (key_at memory l)) (internal_over k (key_at memory l) (length memory.nodes) (length memory.nodes + 1)))
+    ap (λ node. key_in (unwrap_or node (Leaf 0)))
+    (get_third memory.nodes (Leaf k) (Leaf (key_at memory l))
+    (internal_over k (key_at memory l) (length memory.nodes) (length memory.nodes + 1)))
     ∙ key_over k (key_at memory l) (length memory.nodes) (length memory.nodes + 1)
 
-pub key_of_leaf : (memory : EllenMem) (k l : ℕ) → nat_lt k (key_at memory l) ≡ true → key_at memory l ≡ key_at (with_internal memory k l) (new_internal memory)
+pub key_of_leaf : (memory : EllenMem) (k l : ℕ) → nat_lt k (key_at memory l) ≡ true
+    → key_at memory l ≡ key_at (with_internal memory k l) (new_internal memory)
 key_of_leaf memory k l h = sym (new_key memory k l ∙ ap (λ b. cond b (key_at memory l) k) h)
 
-pub key_of_new : (memory : EllenMem) (k l : ℕ) → nat_lt k (key_at memory l) ≡ false → k ≡ key_at (with_internal memory k l) (new_internal memory)
+pub key_of_new : (memory : EllenMem) (k l : ℕ) → nat_lt k (key_at memory l) ≡ false
+    → k ≡ key_at (with_internal memory k l) (new_internal memory)
 key_of_new memory k l h = sym (new_key memory k l ∙ ap (λ b. cond b (key_at memory l) k) h)

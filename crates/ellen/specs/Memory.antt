@@ -1,5 +1,6 @@
 -- The nodes and the records of the shared memory.
-use Rattle.std.specs.Prelude.{ℕ, ◌+◌, Bool, true, false, if◌then◌else◌, nat_eq, nat_lt, [], ◌∷◌, ◌++◌, length, slice_get, slice_set, Option, Some, None, unwrap_or}
+use Rattle.std.specs.Prelude.{ℕ, ◌+◌, Bool, true, false, if◌then◌else◌, nat_eq, nat_lt, [], ◌∷◌, ◌++◌, length}
+use Rattle.std.specs.Prelude.{slice_get, slice_set, Option, Some, None, unwrap_or}
 use Rattle.std.specs.Option.{option_map}
 use Rattle.ellen.specs.declared.memory.UpdateWord.{UpdateWord}
 use Rattle.ellen.specs.declared.memory.UpdateWord.TheVariants.{Untouched, Clean, InsertFlag, DeleteFlag, Mark}
@@ -93,7 +94,10 @@ internal_over k j x y = if nat_lt k j then Internal j Untouched x y else Interna
 abbrev pub with_internal : EllenMem → ℕ → ℕ → EllenMem
 with_internal memory k l =
     let n = length memory.nodes in
-    record { nodes = memory.nodes ++ Leaf k ∷ Leaf (key_at memory l) ∷ internal_over k (key_at memory l) n (n + 1) ∷ []; records = memory.records }
+    record {
+      nodes = memory.nodes ++ Leaf k ∷ Leaf (key_at memory l) ∷ internal_over k (key_at memory l) n (n + 1) ∷ [];
+      records = memory.records;
+    }
 
 -- the number of that internal node
 abbrev pub new_internal : EllenMem → ℕ

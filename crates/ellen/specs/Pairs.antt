@@ -14,7 +14,8 @@ use Rattle.ellen.specs.declared.place.Resume.{Resume}
 use Rattle.ellen.specs.declared.place.SearchLoc.{SearchLoc}
 use Rattle.ellen.specs.declared.place.SearchLoc.TheVariants.{Update, Child, IFlag, InsOnly, DFlag}
 use Rattle.ellen.specs.declared.place.HelpLoc.{HelpLoc}
-use Rattle.ellen.specs.declared.place.HelpLoc.TheVariants.{InsChild, InsClean, Mark, Right, Other, Splice, DelClean, Back}
+use Rattle.ellen.specs.declared.place.HelpLoc.TheVariants.{InsChild, InsClean, Mark, Right, Other, Splice, DelClean}
+use Rattle.ellen.specs.declared.place.HelpLoc.TheVariants.{Back}
 use Rattle.ellen.specs.declared.place.EllenLoc.{EllenLoc}
 use Rattle.ellen.specs.declared.place.EllenLoc.TheVariants.{Search, Help}
 use Rattle.ellen.specs.Memory.{node_at, record_at}
@@ -46,7 +47,8 @@ module _ (P R : ℕ → ℕ → Type 0) where
   -- the same kind, and nodes that are paired field by field
   abbrev pub AreRecordsPaired : Record → Record → Type 0
   AreRecordsPaired (Ins i) (Ins j) = P i.parent j.parent × P i.leaf j.leaf × P i.new j.new
-  AreRecordsPaired (Del d) (Del e) = P d.grandparent e.grandparent × P d.parent e.parent × P d.leaf e.leaf × AreWordsPaired R d.parent_update e.parent_update
+  AreRecordsPaired (Del d) (Del e) = P d.grandparent e.grandparent × P d.parent e.parent × P d.leaf e.leaf
+      × AreWordsPaired R d.parent_update e.parent_update
   AreRecordsPaired _ _ = ⊥
 
   -- paired grandparents, with paired update words

@@ -1,4 +1,5 @@
--- Nodes, records and what the threads hold as parts: what is told of them, and the nodes and the records that they name.
+-- Nodes, records and what the threads hold as parts: what is told of them, and the nodes and the records that they
+-- name.
 use Rattle.std.specs.Prelude.{ℕ, suc, List, [], ◌∷◌, map, Option, Some, None}
 use Rattle.tree_machine.specs.Flat.{flat_form}
 use Rattle.tree_machine.specs.Parts.{Part, Parts, no_part}
@@ -17,7 +18,8 @@ use Rattle.ellen.specs.declared.place.Base.TheVariants.{Again, Insert, Delete}
 use Rattle.ellen.specs.declared.place.SearchLoc.{SearchLoc}
 use Rattle.ellen.specs.declared.place.SearchLoc.TheVariants.{Update, Child, IFlag, InsOnly, DFlag}
 use Rattle.ellen.specs.declared.place.HelpLoc.{HelpLoc}
-use Rattle.ellen.specs.declared.place.HelpLoc.TheVariants.{InsChild, InsClean, Mark, Right, Other, Splice, DelClean, Back}
+use Rattle.ellen.specs.declared.place.HelpLoc.TheVariants.{InsChild, InsClean, Mark, Right, Other, Splice, DelClean}
+use Rattle.ellen.specs.declared.place.HelpLoc.TheVariants.{Back}
 use Rattle.ellen.specs.declared.place.EllenLoc.{EllenLoc}
 use Rattle.ellen.specs.declared.place.EllenLoc.TheVariants.{Search, Help}
 
@@ -44,7 +46,8 @@ word_record (word.Mark r) = Some r
 -- a node names its children, and the record of its update word
 abbrev pub node_part : Node → Part
 node_part (Leaf k) = record { facts = 0 ∷ k ∷ []; nodes = []; records = [] }
-node_part (Internal k u l r) = record { facts = 1 ∷ k ∷ word_number u ∷ []; nodes = Some l ∷ Some r ∷ []; records = word_record u ∷ [] }
+node_part (Internal k u l r) =
+    record { facts = 1 ∷ k ∷ word_number u ∷ []; nodes = Some l ∷ Some r ∷ []; records = word_record u ∷ [] }
 
 -- a record names its nodes, and the record of the update word that it holds
 abbrev pub record_part : Record → Part
@@ -75,10 +78,16 @@ above_record (Some a) = word_record a.update
 
 -- a place of a search names the nodes that it holds, and the records of its update words
 abbrev pub search_part : SearchLoc → Part
-search_part (Update a p) = record { facts = 0 ∷ above_number a ∷ []; nodes = above_node a ∷ Some p ∷ []; records = above_record a ∷ [] }
+search_part (Update a p) =
+    record { facts = 0 ∷ above_number a ∷ []; nodes = above_node a ∷ Some p ∷ []; records = above_record a ∷ [] }
 search_part (Child a p u) =
-    record { facts = 1 ∷ above_number a ∷ word_number u ∷ []; nodes = above_node a ∷ Some p ∷ []; records = above_record a ∷ word_record u ∷ [] }
-search_part (IFlag p u l) = record { facts = 2 ∷ word_number u ∷ []; nodes = Some p ∷ Some l ∷ []; records = word_record u ∷ [] }
+    record {
+      facts = 1 ∷ above_number a ∷ word_number u ∷ [];
+      nodes = above_node a ∷ Some p ∷ [];
+      records = above_record a ∷ word_record u ∷ [];
+    }
+search_part (IFlag p u l) =
+    record { facts = 2 ∷ word_number u ∷ []; nodes = Some p ∷ Some l ∷ []; records = word_record u ∷ [] }
 search_part (InsOnly p l) = record { facts = 3 ∷ []; nodes = Some p ∷ Some l ∷ []; records = [] }
 search_part (DFlag a p u l) =
     record {
@@ -149,7 +158,8 @@ held_part (Some place) = place_part place
 
 -- the nodes and the records of a memory, and what each thread holds
 abbrev pub ellen_parts : EllenMem → List (Option EllenLoc) → Parts
-ellen_parts memory held = record { nodes = map node_part memory.nodes; records = map record_part memory.records; held = map held_part held }
+ellen_parts memory held =
+    record { nodes = map node_part memory.nodes; records = map record_part memory.records; held = map held_part held }
 
 -- the form of a memory with what the threads hold; the root is paired with itself
 abbrev pub ellen_form : EllenMem → List (Option EllenLoc) → List ℕ

@@ -14,7 +14,8 @@ use Rattle.ellen.specs.declared.place.EllenLoc.TheVariants.{Search, Help}
 use Rattle.ellen.specs.declared.place.SearchLoc.{SearchLoc}
 use Rattle.ellen.specs.declared.place.SearchLoc.TheVariants.{Update, Child, IFlag, InsOnly, DFlag}
 use Rattle.ellen.specs.declared.place.HelpLoc.{HelpLoc}
-use Rattle.ellen.specs.declared.place.HelpLoc.TheVariants.{InsChild, InsClean, Mark, Right, Other, Splice, DelClean, Back}
+use Rattle.ellen.specs.declared.place.HelpLoc.TheVariants.{InsChild, InsClean, Mark, Right, Other, Splice, DelClean}
+use Rattle.ellen.specs.declared.place.HelpLoc.TheVariants.{Back}
 
 -- with so many records
 abbrev pub IsWordIn : ℕ → UpdateWord → Type 0
@@ -34,7 +35,8 @@ IsNodeIn nodes records (Internal k u l r) = IsWordIn records u × (l < nodes) ×
 
 abbrev pub IsRecordIn : ℕ → ℕ → Record → Type 0
 IsRecordIn nodes records (Ins i) = (i.parent < nodes) × (i.leaf < nodes) × (i.new < nodes)
-IsRecordIn nodes records (Del d) = (d.grandparent < nodes) × (d.parent < nodes) × (d.leaf < nodes) × IsWordIn records d.parent_update
+IsRecordIn nodes records (Del d) = (d.grandparent < nodes) × (d.parent < nodes) × (d.leaf < nodes)
+    × IsWordIn records d.parent_update
 
 abbrev pub IsAboveIn : ℕ → ℕ → Above → Type 0
 IsAboveIn nodes records above = (above.node < nodes) × IsWordIn records above.update

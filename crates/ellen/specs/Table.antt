@@ -1,5 +1,6 @@
 -- The place table: what each place's access does, and where the operation goes then.
-use Rattle.std.specs.Prelude.{ℕ, Bool, true, false, if◌then◌else◌, nat_eq, List, [], ◌∷◌, ◌++◌, length, Option, Some, None}
+use Rattle.std.specs.Prelude.{ℕ, Bool, true, false, if◌then◌else◌, nat_eq, List, [], ◌∷◌, ◌++◌, length, Option, Some}
+use Rattle.std.specs.Prelude.{None}
 use Rattle.sched_program.specs.Program.{key_of}
 use Rattle.sched_program.specs.declared.operation.Op.{Op}
 use Rattle.sched_program.specs.declared.operation.Op.TheVariants.{Insert, Delete, Find}
@@ -24,11 +25,13 @@ use Rattle.ellen.specs.declared.place.Resume.{Resume}
 use Rattle.ellen.specs.declared.place.SearchLoc.{SearchLoc}
 use Rattle.ellen.specs.declared.place.SearchLoc.TheVariants.{Update, Child, IFlag, InsOnly, DFlag}
 use Rattle.ellen.specs.declared.place.HelpLoc.{HelpLoc}
-use Rattle.ellen.specs.declared.place.HelpLoc.TheVariants.{InsChild, InsClean, Mark, Right, Other, Splice, DelClean, Back}
+use Rattle.ellen.specs.declared.place.HelpLoc.TheVariants.{InsChild, InsClean, Mark, Right, Other, Splice, DelClean}
+use Rattle.ellen.specs.declared.place.HelpLoc.TheVariants.{Back}
 use Rattle.ellen.specs.declared.place.EllenLoc.{EllenLoc}
 use Rattle.ellen.specs.declared.place.EllenLoc.TheVariants.{Search, Help}
 use Rattle.ellen.specs.declared.machine.Ellen.{Ellen}
-use Rattle.ellen.specs.Memory.{update_of, child_on, is_word, is_clean, node_at, record_at, key_at, set_update, set_child, with_internal, new_internal, add_record}
+use Rattle.ellen.specs.Memory.{update_of, child_on, is_word, is_clean, node_at, record_at, key_at, set_update}
+use Rattle.ellen.specs.Memory.{set_child, with_internal, new_internal, add_record}
 
 -- the memory after an access, and what comes of it
 abbrev pub After : Type 0
@@ -49,15 +52,18 @@ abbrev pub read_child : EllenMem → ℕ → Side → (ℕ → Outcome EllenLoc)
 read_child memory x s goes = found memory (child_on s (node_at memory x)) (λ c. (memory, goes c))
 
 -- exchanges the update word of node x; what is new is appended only if it succeeds
-abbrev pub exchange_update : EllenMem → ℕ → UpdateWord → UpdateWord → EllenMem → Outcome EllenLoc → (UpdateWord → Outcome EllenLoc) → After
+abbrev pub exchange_update : EllenMem → ℕ → UpdateWord → UpdateWord → EllenMem → Outcome EllenLoc
+    → (UpdateWord → Outcome EllenLoc) → After
 exchange_update memory x expected desired appended success failure =
-    found memory (update_of (node_at memory x)) (λ w. if is_word w expected then (set_update appended x desired, success) else (memory, failure w))
+    found memory (update_of (node_at memory x))
+    (λ w. if is_word w expected then (set_update appended x desired, success) else (memory, failure w))
 
 -- exchanges the child of node x from a to b, on the side of b's key; what is new is appended only if it succeeds
 abbrev pub exchange_child : EllenMem → ℕ → ℕ → ℕ → EllenMem → Outcome EllenLoc → Outcome EllenLoc → After
 exchange_child memory x a b appended success failure =
     let s = side_of (key_at appended b) (key_at memory x) in
-    found memory (child_on s (node_at memory x)) (λ c. if nat_eq c a then (set_child appended x s b, success) else (memory, failure))
+    found memory (child_on s (node_at memory x))
+    (λ c. if nat_eq c a then (set_child appended x s b, success) else (memory, failure))
 
 -- a record of the kind that a row wants
 abbrev pub with_insert : EllenMem → Option Record → (InsertRecord → After) → After
@@ -94,10 +100,12 @@ abbrev pub top_taken : ℕ → List ℕ → List ℕ × ℕ
 top_taken r [] = ([], r)
 top_taken r (s ∷ stack) = (r ∷ (top_taken s stack).0, (top_taken s stack).1)
 
--- Return(b): the top of the stack is taken off and its flag is taken back; or, where the stack is empty, what is done behind it
+-- Return(b): the top of the stack is taken off and its flag is taken back; or, where the stack is empty, what is done
+-- behind it
 abbrev pub unwound : Bool → Base → List ℕ → Outcome EllenLoc
 unwound done b [] = settled done b
-unwound done b (r ∷ stack) = Goes (Help (Back (top_taken r stack).1) (record { stack = (top_taken r stack).0; base = b }))
+unwound done b (r ∷ stack) =
+    Goes (Help (Back (top_taken r stack).1) (record { stack = (top_taken r stack).0; base = b }))
 
 abbrev pub returned : Bool → Resume → Outcome EllenLoc
 returned done resume = unwound done resume.base resume.stack
@@ -150,14 +158,16 @@ search_act machine op (Child above p u) m =
     read_child m p (side_of (key_of op) (key_at m p)) (λ c. arrived machine op above p u c (node_at m c))
 search_act machine op (IFlag p u l) m =
     let r = length m.records in
-    exchange_update m p u (word.InsertFlag r) (add_record (with_internal m (key_of op) l) (Ins (record { parent = p; leaf = l; new = new_internal m })))
+    exchange_update m p u (word.InsertFlag r)
+    (add_record (with_internal m (key_of op) l) (Ins (record { parent = p; leaf = l; new = new_internal m })))
     (Goes (Help (InsChild r) (with_base base.Insert)))
     (λ w. help_first machine w)
 search_act machine op (InsOnly p l) m =
     exchange_child m p l (new_internal m) (with_internal m (key_of op) l) (Replies true) (Goes first_place)
 search_act machine op (DFlag above p u l) m =
     let r = length m.records in
-    exchange_update m above.node above.update (word.DeleteFlag r) (add_record m (Del (record { grandparent = above.node; parent = p; leaf = l; parent_update = u })))
+    exchange_update m above.node above.update (word.DeleteFlag r)
+    (add_record m (Del (record { grandparent = above.node; parent = p; leaf = l; parent_update = u })))
     (Goes (Help (marking machine r) (with_base base.Delete)))
     (λ w. help_first machine w)
 
@@ -171,15 +181,19 @@ help_act machine (Mark r) resume m = with_delete m (record_at m r) (λ d.
     (Goes (Help (Right r) resume))
     (λ w. if is_word w (word.Mark r) then Goes (Help (Right r) resume) else help machine w (awaiting r resume)))
 help_act machine (Right r) resume m = with_delete m (record_at m r) (λ d.
-    read_child m d.parent side.Right (λ c. if nat_eq c d.leaf then Goes (Help (Other r side.Left) resume) else Goes (Help (Other r side.Right) resume)))
+    read_child m d.parent side.Right
+    (λ c. if nat_eq c d.leaf then Goes (Help (Other r side.Left) resume) else Goes
+    (Help (Other r side.Right) resume)))
 help_act machine (Other r s) resume m = with_delete m (record_at m r) (λ d.
     read_child m d.parent s (λ o. Goes (Help (Splice r o) resume)))
 help_act machine (Splice r o) resume m = with_delete m (record_at m r) (λ d.
     exchange_child m d.grandparent d.parent o m (Goes (Help (DelClean r) resume)) (Goes (Help (DelClean r) resume)))
 help_act machine (DelClean r) resume m = with_delete m (record_at m r) (λ d.
-    exchange_update m d.grandparent (word.DeleteFlag r) (word.Clean r) m (returned true resume) (λ w. returned true resume))
+    exchange_update m d.grandparent (word.DeleteFlag r) (word.Clean r) m (returned true resume)
+    (λ w. returned true resume))
 help_act machine (Back r) resume m = with_delete m (record_at m r) (λ d.
-    exchange_update m d.grandparent (word.DeleteFlag r) (word.Clean r) m (returned false resume) (λ w. returned false resume))
+    exchange_update m d.grandparent (word.DeleteFlag r) (word.Clean r) m (returned false resume)
+    (λ w. returned false resume))
 
 abbrev pub act : Ellen → Op → EllenLoc → EllenMem → After
 act machine op (Search at) m = search_act machine op at m

@@ -1,5 +1,7 @@
 -- A linearization has no more operations than its program, and so twelve at most.
-use Rattle.std.proofs.Common.{◌≡◌, ◌≢◌, ℕ, zero, suc, ◌+◌, ◌<◌, ◌≤◌, inl, inr, true, false, true≢false, List, [], ◌∷◌, length, map, IsSome, IfSome, All, AllPairs, Contains, slice_get, refl, sym, ◌∙◌, ap, ap₂, arith, subst, eqb, eqb-true}
+use Rattle.std.proofs.Common.{◌≡◌, ◌≢◌, ℕ, zero, suc, ◌+◌, ◌<◌, ◌≤◌, inl, inr, true, false, true≢false, List, [], ◌∷◌}
+use Rattle.std.proofs.Common.{length, map, IsSome, IfSome, All, AllPairs, Contains, slice_get, refl, sym, ◌∙◌, ap, ap₂}
+use Rattle.std.proofs.Common.{arith, subst, eqb, eqb-true}
 use Rattle.std.specs.Prelude.{option_and_then, sum_by}
 use Rattle.std.specs.List.{list_any, AllByRecursion, IsDistinct}
 use Rattle.std.proofs.lemmas.Bool.{or_cases, false_from_ne_true}
@@ -39,7 +41,8 @@ rank_below (ops ∷ rest) (suc t) i h =
     let below : length ops + rank rest t i < sum_by length (ops ∷ rest) = omega (arith, sum_by-cons length ops rest) in
     below
 
-rank_same : (threads : List (List Op)) (t i u j : ℕ) → Has threads t i → Has threads u j → rank threads t i ≡ rank threads u j → (t ≡ u) × (i ≡ j)
+rank_same : (threads : List (List Op)) (t i u j : ℕ) → Has threads t i → Has threads u j
+    → rank threads t i ≡ rank threads u j → (t ≡ u) × (i ≡ j)
 rank_same [] t i u j h k e = absurd (true≢false (sym h))
 rank_same (ops ∷ rest) zero i zero j h k e = (refl, e)
 rank_same (ops ∷ rest) zero i (suc u) j h k e =
@@ -62,10 +65,14 @@ module _ (program : Program) where
   abbrev IsNamed : OpId → Type 0
   IsNamed a = IsSome (op_at program a.thread a.index)
 
-  all_named : (history : History) (keys : Keys) (order : List OpId) → GivesReplies program history keys order → All IsNamed order
+  all_named : (history : History) (keys : Keys) (order : List OpId) → GivesReplies program history keys order
+      → All IsNamed order
   all_named history keys [] given = All-nil IsNamed
   all_named history keys (a ∷ rest) given =
-      let op = IsSomeAnd-value (op_at program a.thread a.index) (λ (o : Op). IfSome (reply history a) (λ r. r ≡ reply_on o keys) × GivesReplies program history (keys_after o keys) rest) given in
+      let op =
+      IsSomeAnd-value (op_at program a.thread a.index)
+      (λ (o : Op). IfSome (reply history a) (λ r. r ≡ reply_on o keys)
+      × GivesReplies program history (keys_after o keys) rest) given in
       All-cons IsNamed a rest (subst IsSome (sym op.1) refl) (all_named history (keys_after op.0 keys) rest op.2.1)
 
   same_op : (a b : OpId) → IsNamed a → IsNamed b → rank_of a ≡ rank_of b → a ≡ b
@@ -74,28 +81,35 @@ module _ (program : Program) where
       let make : ℕ → ℕ → OpId = λ t i. record { thread = t; index = i } in
       ap₂ make pieces.0 pieces.1
 
-  apart : (a : OpId) → IsNamed a → (rest : List OpId) → ((b : OpId) → Contains rest b → a ≢ b) → All IsNamed rest → AllByRecursion (λ n. eqb (rank_of a) n ≡ false) (map rank_of rest)
+  apart : (a : OpId) → IsNamed a → (rest : List OpId) → ((b : OpId) → Contains rest b → a ≢ b) → All IsNamed rest
+      → AllByRecursion (λ n. eqb (rank_of a) n ≡ false) (map rank_of rest)
   apart a h [] differ named = tt
   apart a h (b ∷ rest) differ named = (
-    false_from_ne_true (eqb (rank_of a) (rank_of b)) (λ same. differ b (Contains-head b rest) (same_op a b h (All-head IsNamed b rest named) (eqb-true (rank_of a) (rank_of b) same))),
+    false_from_ne_true (eqb (rank_of a) (rank_of b))
+        (λ same. differ b (Contains-head b rest)
+        (same_op a b h (All-head IsNamed b rest named) (eqb-true (rank_of a) (rank_of b) same))),
     apart a h rest (λ c among. differ c (Contains-tail b rest c among)) (All-tail IsNamed b rest named),
   )
 
-  distinct_ranks : (order : List OpId) → AllPairs (λ a b. a ≢ b) order → All IsNamed order → IsDistinct eqb (map rank_of order)
+  distinct_ranks : (order : List OpId) → AllPairs (λ a b. a ≢ b) order → All IsNamed order
+      → IsDistinct eqb (map rank_of order)
   unfolding IsDistinct
   distinct_ranks [] distinct named = tt
   distinct_ranks (a ∷ rest) distinct named = (
-    apart a (All-head IsNamed a rest named) rest (AllPairs-first (λ x y. x ≢ y) a rest distinct) (All-tail IsNamed a rest named),
+    apart a (All-head IsNamed a rest named) rest (AllPairs-first (λ x y. x ≢ y) a rest distinct)
+        (All-tail IsNamed a rest named),
     distinct_ranks rest (AllPairs-tail (λ x y. x ≢ y) a rest distinct) (All-tail IsNamed a rest named),
   )
 
-  ranks_below : (order : List OpId) → All IsNamed order → (q : ℕ) → list_any (eqb q) (map rank_of order) ≡ true → q < sum_by length program.threads
+  ranks_below : (order : List OpId) → All IsNamed order → (q : ℕ) → list_any (eqb q) (map rank_of order) ≡ true
+      → q < sum_by length program.threads
   ranks_below [] named q h = absurd (true≢false (sym h))
   ranks_below (a ∷ rest) named q h =
       elim (or_cases (eqb q (rank_of a)) (list_any (eqb q) (map rank_of rest)) h) [
         | inl same ↦
             let e : q ≡ rank_of a = eqb-true q (rank_of a) same in
-            let less : rank_of a < sum_by length program.threads = rank_below program.threads a.thread a.index (All-head IsNamed a rest named) in
+            let less : rank_of a < sum_by length program.threads =
+            rank_below program.threads a.thread a.index (All-head IsNamed a rest named) in
             omega arith
         | inr later ↦ ranks_below rest (All-tail IsNamed a rest named) q later
       ]
@@ -104,9 +118,11 @@ module _ (program : Program) where
   map_length [] = refl
   map_length (a ∷ rest) = ap suc (map_length rest)
 
-  pub at_most_twelve : IsWithinLimits program → (history : History) (order : List OpId) → IsLinearization program history order → length order ≤ 12
+  pub at_most_twelve : IsWithinLimits program → (history : History) (order : List OpId)
+      → IsLinearization program history order → length order ≤ 12
   at_most_twelve limits history order is =
       let named = all_named history (keys_of program.initial) order is.replies in
       let few : length (map rank_of order) ≤ sum_by length program.threads =
-      length-le_from_distinct_below (map rank_of order) (sum_by length program.threads) (distinct_ranks order is.distinct named) (ranks_below order named) in
+      length-le_from_distinct_below (map rank_of order) (sum_by length program.threads)
+      (distinct_ranks order is.distinct named) (ranks_below order named) in
       omega (arith, limits.total, map_length order)

@@ -1,5 +1,7 @@
 -- A list is a linearization exactly if it completes one from nothing.
-use Rattle.std.proofs.Common.{◌≡◌, ◌≢◌, ℕ, zero, suc, ◌+◌, ◌<◌, ◌≤◌, ◌⊎◌, inl, inr, true, false, true≢false, List, [], ◌∷◌, length, get_or, take, drop, Some, IsSome, IfSome, All, AllPairs, Contains, slice_get, refl, sym, ◌∙◌, ap, arith, subst, subst₂, ◌↔◌}
+use Rattle.std.proofs.Common.{◌≡◌, ◌≢◌, ℕ, zero, suc, ◌+◌, ◌<◌, ◌≤◌, ◌⊎◌, inl, inr, true, false, true≢false, List, []}
+use Rattle.std.proofs.Common.{◌∷◌, length, get_or, take, drop, Some, IsSome, IfSome, All, AllPairs, Contains, slice_get}
+use Rattle.std.proofs.Common.{refl, sym, ◌∙◌, ap, arith, subst, subst₂, ◌↔◌}
 use mathlib.Core.Path.{fun_ext}
 use Rattle.std.proofs.lemmas.Bool.{or_cases, or_parts, or_from, or_left, or_right, false_from_ne_true}
 use Rattle.std.proofs.lemmas.List.Elements.{All-head, All-tail, All-cons}
@@ -16,21 +18,27 @@ use Rattle.sched_program.specs.History.{reply, IsBegun, EndedBefore}
 use Rattle.lin.specs.Linearization.{GivesReplies, IsLinearization}
 use Rattle.lin.specs.Completion.{Listed, listed_in, with_name, StandsNext, Completes, EveryFinishedIsListed}
 use Rattle.lin.proofs.Names.{same_name_self, same_name-is}
-use Rattle.lin.proofs.Lists.{IsSomeAnd-value, IsSomeAnd-of, Contains-head, Contains-tail, Contains-cases, not-Contains-nil, slice_get-Contains, Contains-slice_get, AllPairs-tail, AllPairs-first, AllPairs-cons}
+use Rattle.lin.proofs.Lists.{IsSomeAnd-value, IsSomeAnd-of, Contains-head, Contains-tail, Contains-cases}
+use Rattle.lin.proofs.Lists.{not-Contains-nil, slice_get-Contains, Contains-slice_get, AllPairs-tail, AllPairs-first}
+use Rattle.lin.proofs.Lists.{AllPairs-cons}
 
 -- the facts of a linearization, of a list that follows a set of operations
-pub record IsLinearizationAfter (program : Program) (history : History) (listed : Listed) (keys : Keys) (rest : List OpId) : Type 0 where
+pub record IsLinearizationAfter (program : Program) (history : History) (listed : Listed) (keys : Keys)
+    (rest : List OpId) : Type 0 where
   pub begun : All (IsBegun history) rest
   pub distinct : AllPairs (λ a b. a ≢ b) rest
   pub new : (a : OpId) → Contains rest a → listed a ≡ false
   pub complete : (a : OpId) → IsSome (reply history a) → (listed a ≡ true) ⊎ Contains rest a
-  pub in_time : (i j : ℕ) (a b : OpId) → slice_get rest i ≡ Some a → slice_get rest j ≡ Some b → EndedBefore history a b → i < j
+  pub in_time : (i j : ℕ) (a b : OpId) → slice_get rest i ≡ Some a → slice_get rest j ≡ Some b → EndedBefore history a b
+      → i < j
   pub after : (a b : OpId) → Contains rest a → listed b ≡ true → EndedBefore history a b → ⊥
   pub replies : GivesReplies program history keys rest
 
 module _ (program : Program) (history : History) where
-  stands : (listed : Listed) (keys : Keys) (x : OpId) (xs : List OpId) (o : Op) → op_at program x.thread x.index ≡ Some o → IfSome (reply history x) (λ r. r ≡ reply_on o keys)
-      → IsLinearizationAfter program history listed keys (x ∷ xs) → StandsNext program history listed keys x (keys_after o keys)
+  stands : (listed : Listed) (keys : Keys) (x : OpId) (xs : List OpId) (o : Op)
+      → op_at program x.thread x.index ≡ Some o → IfSome (reply history x) (λ r. r ≡ reply_on o keys)
+      → IsLinearizationAfter program history listed keys (x ∷ xs)
+      → StandsNext program history listed keys x (keys_after o keys)
   stands listed keys x xs o is gives l = record {
     begun = All-head (IsBegun history) x xs l.begun;
     new = l.new x (Contains-head x xs);
@@ -45,23 +53,29 @@ module _ (program : Program) (history : History) where
       not_itself ended = let below : 0 < 0 = l.in_time 0 0 x x refl refl ended in omega arith
 
   rest_of : (listed : Listed) (keys next : Keys) (x : OpId) (xs : List OpId) → GivesReplies program history next xs
-      → IsLinearizationAfter program history listed keys (x ∷ xs) → IsLinearizationAfter program history (with_name listed x) next xs
+      → IsLinearizationAfter program history listed keys (x ∷ xs)
+      → IsLinearizationAfter program history (with_name listed x) next xs
   rest_of listed keys next x xs gives l = record {
     begun = All-tail (IsBegun history) x xs l.begun;
     distinct = AllPairs-tail (λ a b. a ≢ b) x xs l.distinct;
     new = λ a among. or_from (listed a) (same_name x a) (l.new a (Contains-tail x xs a among))
-        (false_from_ne_true (same_name x a) (λ same. AllPairs-first (λ a b. a ≢ b) x xs l.distinct a among (same_name-is x a same)));
+        (false_from_ne_true (same_name x a)
+        (λ same. AllPairs-first (λ a b. a ≢ b) x xs l.distinct a among (same_name-is x a same)));
     complete = λ a finished. elim (l.complete a finished) [
       | inl earlier ↦ inl (or_left (listed a) (same_name x a) earlier)
       | inr among ↦ elim (Contains-cases x xs a among) [
-        | inl same ↦ inl (or_right (listed a) (same_name x a) (subst (λ b. same_name x b ≡ true) same (same_name_self x)))
+        | inl same
+            ↦ inl (or_right (listed a) (same_name x a) (subst (λ b. same_name x b ≡ true) same (same_name_self x)))
         | inr later ↦ inr later
       ]
     ];
-    in_time = λ i j a b at_i at_j ended. let below : suc i < suc j = l.in_time (suc i) (suc j) a b at_i at_j ended in omega arith;
+    in_time =
+        λ i j a b at_i at_j ended. let below : suc i < suc j = l.in_time (suc i) (suc j) a b at_i at_j ended in
+        omega arith;
     after = λ a b among earlier ended. elim (or_cases (listed b) (same_name x b) earlier) [
       | inl before ↦ l.after a b (Contains-tail x xs a among) before ended
-      | inr same ↦ not_before a (slice_get-Contains xs a among) (subst (EndedBefore history a) (sym (same_name-is x b same)) ended)
+      | inr same ↦ not_before a (slice_get-Contains xs a among)
+          (subst (EndedBefore history a) (sym (same_name-is x b same)) ended)
     ];
     replies = gives;
   }
@@ -69,14 +83,27 @@ module _ (program : Program) (history : History) where
       not_before : (a : OpId) → (k : ℕ) × (slice_get xs k ≡ Some a) → EndedBefore history a x → ⊥
       not_before a at ended = let below : suc at.0 < 0 = l.in_time (suc at.0) 0 a x at.1 refl ended in omega arith
 
-  completes : (listed : Listed) (keys : Keys) (rest : List OpId) → IsLinearizationAfter program history listed keys rest → Completes program history listed keys rest
-  completes listed keys [] l = λ a finished. elim (l.complete a finished) [ inl earlier ↦ earlier | inr among ↦ absurd (not-Contains-nil a among) ]
+  completes : (listed : Listed) (keys : Keys) (rest : List OpId) → IsLinearizationAfter program history listed keys rest
+      → Completes program history listed keys rest
+  completes listed keys [] l =
+      λ a finished. elim (l.complete a finished) [
+        | inl earlier ↦ earlier
+        | inr among
+            ↦ absurd (not-Contains-nil a among)
+      ]
   completes listed keys (x ∷ xs) l =
-      let first = IsSomeAnd-value (op_at program x.thread x.index) (λ o. IfSome (reply history x) (λ r. r ≡ reply_on o keys) × GivesReplies program history (keys_after o keys) xs) l.replies in
-      let next = keys_after first.0 keys in
-      (next, stands listed keys x xs first.0 first.1 first.2.0 l, completes (with_name listed x) next xs (rest_of listed keys next x xs first.2.1 l))
+      let first =
+      IsSomeAnd-value (op_at program x.thread x.index)
+      (λ o. IfSome (reply history x) (λ r. r ≡ reply_on o keys)
+      × GivesReplies program history (keys_after o keys) xs) l.replies in
+      let next = keys_after first.0 keys in (
+        next,
+        stands listed keys x xs first.0 first.1 first.2.0 l,
+        completes (with_name listed x) next xs (rest_of listed keys next x xs first.2.1 l),
+      )
 
-  pub completes_linearization_after : (listed : Listed) (keys : Keys) (rest : List OpId) → Completes program history listed keys rest → IsLinearizationAfter program history listed keys rest
+  pub completes_linearization_after : (listed : Listed) (keys : Keys) (rest : List OpId)
+      → Completes program history listed keys rest → IsLinearizationAfter program history listed keys rest
   completes_linearization_after listed keys [] every = record {
     begun = λ k d below. absurd (omega arith);
     distinct = λ i j d below within. absurd (omega arith);
@@ -86,10 +113,13 @@ module _ (program : Program) (history : History) where
     after = λ a b among earlier ended. not-Contains-nil a among;
     replies = tt;
   }
-  completes_linearization_after listed keys (x ∷ xs) c = first_of_rest listed keys c.0 x xs c.1 (completes_linearization_after (with_name listed x) c.0 xs c.2)
+  completes_linearization_after listed keys (x ∷ xs) c =
+      first_of_rest listed keys c.0 x xs c.1 (completes_linearization_after (with_name listed x) c.0 xs c.2)
     where
-      first_of_rest : (listed : Listed) (keys next : Keys) (x : OpId) (xs : List OpId) → StandsNext program history listed keys x next
-          → IsLinearizationAfter program history (with_name listed x) next xs → IsLinearizationAfter program history listed keys (x ∷ xs)
+      first_of_rest : (listed : Listed) (keys next : Keys) (x : OpId) (xs : List OpId)
+          → StandsNext program history listed keys x next
+          → IsLinearizationAfter program history (with_name listed x) next xs
+          → IsLinearizationAfter program history listed keys (x ∷ xs)
       first_of_rest listed keys next x xs s l = record {
         begun = All-cons (IsBegun history) x xs s.begun l.begun;
         distinct = AllPairs-cons (λ a b. a ≢ b) x xs different l.distinct;
@@ -106,7 +136,8 @@ module _ (program : Program) (history : History) where
         ];
         in_time = places;
         after = λ a b among earlier ended. elim (Contains-cases x xs a among) [
-          | inl same ↦ s.in_time b (or_left (listed b) (same_name x b) earlier) (subst (λ y. EndedBefore history y b) (sym same) ended)
+          | inl same ↦ s.in_time b (or_left (listed b) (same_name x b) earlier)
+              (subst (λ y. EndedBefore history y b) (sym same) ended)
           | inr later ↦ l.after a b later (or_left (listed b) (same_name x b) earlier) ended
         ];
         replies = run;
@@ -121,7 +152,8 @@ module _ (program : Program) (history : History) where
               let equal : same_name x y ≡ true = subst (λ b. same_name x b ≡ true) same (same_name_self x) in
               true≢false (sym equal ∙ other)
 
-          places : (i j : ℕ) (a b : OpId) → slice_get (x ∷ xs) i ≡ Some a → slice_get (x ∷ xs) j ≡ Some b → EndedBefore history a b → i < j
+          places : (i j : ℕ) (a b : OpId) → slice_get (x ∷ xs) i ≡ Some a → slice_get (x ∷ xs) j ≡ Some b
+              → EndedBefore history a b → i < j
           places zero zero a b at_i at_j ended =
               let first : x ≡ a = cc in
               let second : x ≡ b = cc in
@@ -129,17 +161,24 @@ module _ (program : Program) (history : History) where
           places zero (suc j) a b at_i at_j ended = omega arith
           places (suc i) zero a b at_i at_j ended =
               let second : x ≡ b = cc in
-              absurd (l.after a x (Contains-slice_get xs i a at_i) itself (subst (EndedBefore history a) (sym second) ended))
-          places (suc i) (suc j) a b at_i at_j ended = let below : i < j = l.in_time i j a b at_i at_j ended in omega arith
+              absurd (l.after a x (Contains-slice_get xs i a at_i) itself
+              (subst (EndedBefore history a) (sym second) ended))
+          places (suc i) (suc j) a b at_i at_j ended = let below : i < j = l.in_time i j a b at_i at_j ended in
+              omega arith
 
           run : GivesReplies program history keys (x ∷ xs)
           run =
-              let gives = IsSomeAnd-value (op_at program x.thread x.index) (λ o. IfSome (reply history x) (λ r. r ≡ reply_on o keys) × (next ≡ keys_after o keys)) s.gives in
-              IsSomeAnd-of (op_at program x.thread x.index) (λ o. IfSome (reply history x) (λ r. r ≡ reply_on o keys) × GivesReplies program history (keys_after o keys) xs) gives.0 gives.1
+              let gives =
+              IsSomeAnd-value (op_at program x.thread x.index)
+              (λ o. IfSome (reply history x) (λ r. r ≡ reply_on o keys) × (next ≡ keys_after o keys)) s.gives in
+              IsSomeAnd-of (op_at program x.thread x.index)
+              (λ o. IfSome (reply history x) (λ r. r ≡ reply_on o keys)
+              × GivesReplies program history (keys_after o keys) xs) gives.0 gives.1
               (gives.2.0, subst (λ k. GivesReplies program history k xs) gives.2.1 l.replies)
 
   -- a linearization completes what begins with nothing, and what completes that is a linearization
-  pub IsLinearization-completes : (order : List OpId) → IsLinearization program history order → Completes program history (listed_in []) (keys_of program.initial) order
+  pub IsLinearization-completes : (order : List OpId) → IsLinearization program history order
+      → Completes program history (listed_in []) (keys_of program.initial) order
   IsLinearization-completes order l = completes (listed_in []) (keys_of program.initial) order record {
     begun = l.begun;
     distinct = l.distinct;
@@ -150,30 +189,42 @@ module _ (program : Program) (history : History) where
     replies = l.replies;
   }
 
-  pub Completes-linearization : (order : List OpId) → Completes program history (listed_in []) (keys_of program.initial) order → IsLinearization program history order
+  pub Completes-linearization : (order : List OpId)
+      → Completes program history (listed_in []) (keys_of program.initial) order → IsLinearization program history order
   Completes-linearization order c =
       let l = completes_linearization_after (listed_in []) (keys_of program.initial) order c in
       record {
         begun = l.begun;
         distinct = l.distinct;
-        complete = λ a finished. elim (l.complete a finished) [ inl earlier ↦ absurd (true≢false (sym earlier)) | inr among ↦ among ];
+        complete =
+            λ a finished. elim (l.complete a finished) [
+              | inl earlier ↦ absurd (true≢false (sym earlier))
+              | inr among
+                  ↦ among
+            ];
         in_time = l.in_time;
         replies = l.replies;
       }
 
   -- an operation that stands next leaves one set of keys
-  pub StandsNext-same : (listed : Listed) (keys next next' : Keys) (a : OpId) → StandsNext program history listed keys a next → StandsNext program history listed keys a next' → next ≡ next'
+  pub StandsNext-same : (listed : Listed) (keys next next' : Keys) (a : OpId)
+      → StandsNext program history listed keys a next → StandsNext program history listed keys a next' → next ≡ next'
   StandsNext-same listed keys next next' a s t =
-      let P : Keys → Op → Type 0 = λ k o. IfSome (reply history a) (λ r. r ≡ reply_on o keys) × (k ≡ keys_after o keys) in
+      let P : Keys → Op → Type 0 =
+      λ k o. IfSome (reply history a) (λ r. r ≡ reply_on o keys) × (k ≡ keys_after o keys) in
       let one = IsSomeAnd-value (op_at program a.thread a.index) (P next) s.gives in
       let two = IsSomeAnd-value (op_at program a.thread a.index) (P next') t.gives in
       let e : one.0 ≡ two.0 = cc (one.1, two.1) in
       one.2.1 ∙ ap (λ o. keys_after o keys) e ∙ sym two.2.1
 
-  pub Completes-first : (listed : Listed) (keys next : Keys) (x : OpId) (rest : List OpId) → StandsNext program history listed keys x next
+  pub Completes-first : (listed : Listed) (keys next : Keys) (x : OpId) (rest : List OpId)
+      → StandsNext program history listed keys x next
       → Completes program history listed keys (x ∷ rest) ↔ Completes program history (with_name listed x) next rest
-  Completes-first listed keys next x rest s =
-      (λ c. subst (λ k. Completes program history (with_name listed x) k rest) (StandsNext-same listed keys c.0 next x c.1 s) c.2, λ more. (next, s, more))
+  Completes-first listed keys next x rest s = (
+    λ c. subst (λ k. Completes program history (with_name listed x) k rest)
+        (StandsNext-same listed keys c.0 next x c.1 s) c.2,
+    λ more. (next, s, more),
+  )
 
   module _ (order : List OpId) (i : ℕ) (d : OpId) (within : i < length order) where
     -- one more operation is listed
@@ -181,29 +232,36 @@ module _ (program : Program) (history : History) where
     listed_more = fun_ext (λ a. sym (list_any_more (λ b. same_name b a) order i d within))
 
     -- where the next operation stands next, what is left of the list completes exactly if the list after it does
-    pub Completes-more : (keys next : Keys) (A : Type 0) → StandsNext program history (listed_in (take i order)) keys (get_or order i d) next
+    pub Completes-more : (keys next : Keys) (A : Type 0)
+        → StandsNext program history (listed_in (take i order)) keys (get_or order i d) next
         → A ↔ Completes program history (listed_in (take i order)) keys (drop i order)
         → A ↔ Completes program history (listed_in (take (i + 1) order)) next (drop (i + 1) order)
     Completes-more keys next A s before =
         let first = Completes-first (listed_in (take i order)) keys next (get_or order i d) (drop (i + 1) order) s in
         let cut = drop_more order i d within in
         let C : Listed → List OpId → Type 0 = λ listed rest. Completes program history listed next rest in (
-          λ a. subst (λ listed. C listed (drop (i + 1) order)) listed_more (first.0 (subst (Completes program history (listed_in (take i order)) keys) cut (before.0 a))),
-          λ c. before.1 (subst (Completes program history (listed_in (take i order)) keys) (sym cut) (first.1 (subst (λ listed. C listed (drop (i + 1) order)) (sym listed_more) c))),
+          λ a. subst (λ listed. C listed (drop (i + 1) order)) listed_more
+              (first.0 (subst (Completes program history (listed_in (take i order)) keys) cut (before.0 a))),
+          λ c. before.1
+              (subst (Completes program history (listed_in (take i order)) keys) (sym cut)
+              (first.1 (subst (λ listed. C listed (drop (i + 1) order)) (sym listed_more) c))),
         )
 
     -- where it doesn't, nothing that begins with it completes
-    pub Completes-stuck : (keys : Keys) → ((next : Keys) → StandsNext program history (listed_in (take i order)) keys (get_or order i d) next → ⊥)
+    pub Completes-stuck : (keys : Keys)
+        → ((next : Keys) → StandsNext program history (listed_in (take i order)) keys (get_or order i d) next → ⊥)
         → Completes program history (listed_in (take i order)) keys (drop i order) → ⊥
     Completes-stuck keys none c =
         let c' = subst (Completes program history (listed_in (take i order)) keys) (drop_more order i d within) c in
         none c'.0 c'.1
 
   -- at the end of the list it is the last fact that is left
-  pub Completes-end : (order : List OpId) (i : ℕ) → length order ≤ i → (keys : Keys) (A : Type 0) → A ↔ Completes program history (listed_in (take i order)) keys (drop i order)
+  pub Completes-end : (order : List OpId) (i : ℕ) → length order ≤ i → (keys : Keys) (A : Type 0) → A
+      ↔ Completes program history (listed_in (take i order)) keys (drop i order)
       → A ↔ EveryFinishedIsListed history (listed_in order)
   Completes-end order i past keys A last =
       let all = take_all i order past in
       let none = drop_all i order past in
-      let C : List OpId → List OpId → Type 0 = λ front rest. A ↔ Completes program history (listed_in front) keys rest in
+      let C : List OpId → List OpId → Type 0 =
+      λ front rest. A ↔ Completes program history (listed_in front) keys rest in
       subst₂ C all none last

@@ -1,5 +1,7 @@
 -- A linearization before a reply is one after it exactly if running it gives that reply.
-use Rattle.std.proofs.Common.{◌≡◌, ◌≢◌, ℕ, zero, suc, ◌+◌, ◌<◌, ◌≤◌, ◌⊎◌, inl, inr, Bool, true, false, true≢false, cond, ◌||◌, List, [], ◌∷◌, ◌++◌, length, get_or, Option, Some, None, IsSome, IfSome, All, AllPairs, Contains, slice_get, refl, sym, ◌∙◌, ap, arith, subst}
+use Rattle.std.proofs.Common.{◌≡◌, ◌≢◌, ℕ, zero, suc, ◌+◌, ◌<◌, ◌≤◌, ◌⊎◌, inl, inr, Bool, true, false, true≢false, cond}
+use Rattle.std.proofs.Common.{◌||◌, List, [], ◌∷◌, ◌++◌, length, get_or, Option, Some, None, IsSome, IfSome, All}
+use Rattle.std.proofs.Common.{AllPairs, Contains, slice_get, refl, sym, ◌∙◌, ap, arith, subst}
 use Rattle.std.specs.Prelude.{option_and_then, IsSomeAnd, MatchOption, slice_index}
 use mathlib.Core.Bool.{beq}
 use Rattle.std.specs.Option.{option_map}
@@ -30,18 +32,21 @@ listed_here (b ∷ rest) a h =
     ]
 
 not_among : (order : List OpId) (a b : OpId) → listed_in order a ≡ false → Contains order b → b ≢ a
-not_among order a b none among same = true≢false (sym (is_listed order b among) ∙ subst (λ c. listed_in order c ≡ false) (sym same) none)
+not_among order a b none among same =
+    true≢false (sym (is_listed order b among) ∙ subst (λ c. listed_in order c ≡ false) (sym same) none)
   where
     is_listed : (xs : List OpId) (c : OpId) → Contains xs c → listed_in xs c ≡ true
     is_listed [] c h = absurd (omega (arith, h.1))
     is_listed (x ∷ xs) c (zero, less, e) = subst (λ y. listed_in (x ∷ xs) y ≡ true) e (rw (same_name_self x) refl)
-    is_listed (x ∷ xs) c (suc k, less, e) = or_right (same_name x c) (listed_in xs c) (is_listed xs c (k, omega arith, e))
+    is_listed (x ∷ xs) c (suc k, less, e) =
+        or_right (same_name x c) (listed_in xs c) (is_listed xs c (k, omega arith, e))
 
 differ : (a b : OpId) → same_name b a ≡ false → a ≢ b
 differ a b other same = true≢false (sym (subst (λ c. same_name b c ≡ true) (sym same) (same_name_self b)) ∙ other)
 
 -- what stands at a place of a list with one name more
-push_cases : (order : List OpId) (a : OpId) (i : ℕ) (b : OpId) → slice_get (order ++ a ∷ []) i ≡ Some b → (slice_get order i ≡ Some b) ⊎ ((i ≡ length order) × (a ≡ b))
+push_cases : (order : List OpId) (a : OpId) (i : ℕ) (b : OpId) → slice_get (order ++ a ∷ []) i ≡ Some b
+    → (slice_get order i ≡ Some b) ⊎ ((i ≡ length order) × (a ≡ b))
 push_cases [] a zero b h = inr (refl, cc)
 push_cases [] a (suc i) b h = absurd (let q : None ≡ Some b = h in cc)
 push_cases (x ∷ order) a zero b h = inl h
@@ -52,11 +57,13 @@ push_cases (x ∷ order) a (suc i) b h =
     ]
 
 -- ---- what an operation replies
-told_by : (o : Option Op) (keys : Keys) (r : Bool) → option_map (λ op. reply_on op keys) o ≡ Some r → (op : Op) × (o ≡ Some op) × (r ≡ reply_on op keys)
+told_by : (o : Option Op) (keys : Keys) (r : Bool) → option_map (λ op. reply_on op keys) o ≡ Some r
+    → (op : Op) × (o ≡ Some op) × (r ≡ reply_on op keys)
 told_by None keys r h = absurd (let q : None ≡ Some r = h in cc)
 told_by (Some op) keys r h = (op, refl, (let q : Some (reply_on op keys) ≡ Some r = h in cc))
 
-telling : (o : Option Op) (op : Op) (keys : Keys) (r : Bool) → o ≡ Some op → r ≡ reply_on op keys → option_map (λ p. reply_on p keys) o ≡ Some r
+telling : (o : Option Op) (op : Op) (keys : Keys) (r : Bool) → o ≡ Some op → r ≡ reply_on op keys
+    → option_map (λ p. reply_on p keys) o ≡ Some r
 telling o op keys r e is = subst (λ p. option_map (λ q. reply_on q keys) p ≡ Some r) (sym e) (ap Some (sym is))
 
 module _ (program : Program) (a : OpId) where
@@ -65,63 +72,82 @@ module _ (program : Program) (a : OpId) where
   here keys = option_map (λ o. reply_on o keys) (op_at program a.thread a.index)
 
   abbrev later : Keys → List OpId → OpId → Option Bool
-  later keys rest b = option_and_then (λ o. reply_in program (keys_after o keys) rest a) (op_at program b.thread b.index)
+  later keys rest b =
+      option_and_then (λ o. reply_in program (keys_after o keys) rest a) (op_at program b.thread b.index)
 
-  at_head : (keys : Keys) (b : OpId) (rest : List OpId) → same_name b a ≡ true → reply_in program keys (b ∷ rest) a ≡ here keys
+  at_head : (keys : Keys) (b : OpId) (rest : List OpId) → same_name b a ≡ true
+      → reply_in program keys (b ∷ rest) a ≡ here keys
   at_head keys b rest same = ap (λ s. cond s (here keys) (later keys rest b)) same
 
-  past_head : (keys : Keys) (b : OpId) (rest : List OpId) (o : Op) → same_name b a ≡ false → op_at program b.thread b.index ≡ Some o
+  past_head : (keys : Keys) (b : OpId) (rest : List OpId) (o : Op) → same_name b a ≡ false
+      → op_at program b.thread b.index ≡ Some o
       → reply_in program keys (b ∷ rest) a ≡ reply_in program (keys_after o keys) rest a
   past_head keys b rest o other is =
-      ap (λ s. cond s (here keys) (later keys rest b)) other ∙ ap (option_and_then (λ p. reply_in program (keys_after p keys) rest a)) is
+      ap (λ s. cond s (here keys) (later keys rest b)) other
+      ∙ ap (option_and_then (λ p. reply_in program (keys_after p keys) rest a)) is
 
 module _ (program : Program) (old new : History) (a : OpId) (r : Bool) (is : HasReplied old new a r) where
   abbrev Given : History → Keys → OpId → List OpId → Op → Type 0
-  Given history keys b rest o = IfSome (reply history b) (λ s. s ≡ reply_on o keys) × GivesReplies program history (keys_after o keys) rest
+  Given history keys b rest o =
+      IfSome (reply history b) (λ s. s ≡ reply_on o keys) × GivesReplies program history (keys_after o keys) rest
 
   -- operations other than this one reply as before
-  other_gives : (keys : Keys) (o : Op) (b : OpId) → a ≢ b → IfSome (reply old b) (λ s. s ≡ reply_on o keys) → IfSome (reply new b) (λ s. s ≡ reply_on o keys)
+  other_gives : (keys : Keys) (o : Op) (b : OpId) → a ≢ b → IfSome (reply old b) (λ s. s ≡ reply_on o keys)
+      → IfSome (reply new b) (λ s. s ≡ reply_on o keys)
   other_gives keys o b apart given = subst (λ v. IfSome v (λ s. s ≡ reply_on o keys)) (sym (is.others b apart)) given
 
   own_gives : (keys : Keys) (o : Op) → r ≡ reply_on o keys → IfSome (reply new a) (λ s. s ≡ reply_on o keys)
   own_gives keys o told = subst (λ v. IfSome v (λ s. s ≡ reply_on o keys)) (sym is.replied) told
 
-  rest_gives : (keys : Keys) (rest : List OpId) → ((b : OpId) → Contains rest b → a ≢ b) → GivesReplies program old keys rest → GivesReplies program new keys rest
+  rest_gives : (keys : Keys) (rest : List OpId) → ((b : OpId) → Contains rest b → a ≢ b)
+      → GivesReplies program old keys rest → GivesReplies program new keys rest
   rest_gives keys [] apart given = tt
   rest_gives keys (b ∷ rest) apart given =
       let op = IsSomeAnd-value (op_at program b.thread b.index) (Given old keys b rest) given in
-      IsSomeAnd-of (op_at program b.thread b.index) (Given new keys b rest) op.0 op.1
-      (other_gives keys op.0 b (apart b (Contains-head b rest)) op.2.0, rest_gives (keys_after op.0 keys) rest (λ c among. apart c (Contains-tail b rest c among)) op.2.1)
+      IsSomeAnd-of (op_at program b.thread b.index) (Given new keys b rest) op.0 op.1 (
+        other_gives keys op.0 b (apart b (Contains-head b rest)) op.2.0,
+        rest_gives (keys_after op.0 keys) rest (λ c among. apart c (Contains-tail b rest c among)) op.2.1,
+      )
 
   -- where the operation stands in the order already
-  gives_within : (keys : Keys) (order : List OpId) → AllPairs (λ x y. x ≢ y) order → listed_in order a ≡ true → GivesReplies program old keys order
+  gives_within : (keys : Keys) (order : List OpId) → AllPairs (λ x y. x ≢ y) order → listed_in order a ≡ true
+      → GivesReplies program old keys order
       → reply_in program keys order a ≡ Some r → GivesReplies program new keys order
   gives_within keys [] distinct listed given told = tt
-  gives_within keys (b ∷ rest) distinct listed given told = by (same_name b a) refl (λ next. gives_within next rest (AllPairs-tail (λ x y. x ≢ y) b rest distinct))
+  gives_within keys (b ∷ rest) distinct listed given told =
+      by (same_name b a) refl (λ next. gives_within next rest (AllPairs-tail (λ x y. x ≢ y) b rest distinct))
     where
       op : (o : Op) × (op_at program b.thread b.index ≡ Some o) × Given old keys b rest o
       op = IsSomeAnd-value (op_at program b.thread b.index) (Given old keys b rest) given
 
       by : (s : Bool) → same_name b a ≡ s
-          → ((next : Keys) → listed_in rest a ≡ true → GivesReplies program old next rest → reply_in program next rest a ≡ Some r → GivesReplies program new next rest)
+          → ((next : Keys) → listed_in rest a ≡ true → GivesReplies program old next rest
+          → reply_in program next rest a ≡ Some r → GivesReplies program new next rest)
           → GivesReplies program new keys (b ∷ rest)
       by true same again =
           let e : b ≡ a = same_name-is b a same in
           let own = told_by (op_at program a.thread a.index) keys r (sym (at_head program a keys b rest same) ∙ told) in
-          let at : op_at program b.thread b.index ≡ Some own.0 = subst (λ c. op_at program c.thread c.index ≡ Some own.0) (sym e) own.1 in
+          let at : op_at program b.thread b.index ≡ Some own.0 =
+          subst (λ c. op_at program c.thread c.index ≡ Some own.0) (sym e) own.1 in
           let one : op.0 ≡ own.0 = (let q : Some op.0 ≡ Some own.0 = sym op.1 ∙ at in cc) in
-          let gives : IfSome (reply new b) (λ s. s ≡ reply_on own.0 keys) = subst (λ c. IfSome (reply new c) (λ s. s ≡ reply_on own.0 keys)) (sym e) (own_gives keys own.0 own.2) in
-          let more = rest_gives (keys_after op.0 keys) rest (λ c among. subst (λ x. x ≢ c) e (AllPairs-first (λ x y. x ≢ y) b rest distinct c among)) op.2.1 in
-          IsSomeAnd-of (op_at program b.thread b.index) (Given new keys b rest) own.0 at (gives, subst (λ o. GivesReplies program new (keys_after o keys) rest) one more)
+          let gives : IfSome (reply new b) (λ s. s ≡ reply_on own.0 keys) =
+          subst (λ c. IfSome (reply new c) (λ s. s ≡ reply_on own.0 keys)) (sym e) (own_gives keys own.0 own.2) in
+          let more =
+          rest_gives (keys_after op.0 keys) rest
+          (λ c among. subst (λ x. x ≢ c) e (AllPairs-first (λ x y. x ≢ y) b rest distinct c among)) op.2.1 in
+          IsSomeAnd-of (op_at program b.thread b.index) (Given new keys b rest) own.0 at
+          (gives, subst (λ o. GivesReplies program new (keys_after o keys) rest) one more)
       by false other again =
           let elsewhere : listed_in rest a ≡ true = ap (λ s. s || listed_in rest a) (sym other) ∙ listed in
           IsSomeAnd-of (op_at program b.thread b.index) (Given new keys b rest) op.0 op.1 (
             other_gives keys op.0 b (differ a b other) op.2.0,
-            again (keys_after op.0 keys) elsewhere op.2.1 (sym (past_head program a keys b rest op.0 other op.1) ∙ told),
+            again (keys_after op.0 keys) elsewhere op.2.1
+                (sym (past_head program a keys b rest op.0 other op.1) ∙ told),
           )
 
   -- where it does not
-  gives_after : (keys : Keys) (order : List OpId) → listed_in order a ≡ false → GivesReplies program old keys order → reply_in program keys order a ≡ Some r
+  gives_after : (keys : Keys) (order : List OpId) → listed_in order a ≡ false → GivesReplies program old keys order
+      → reply_in program keys order a ≡ Some r
       → GivesReplies program new keys (order ++ a ∷ [])
   gives_after keys [] none given told =
       let own = told_by (op_at program a.thread a.index) keys r told in
@@ -131,33 +157,41 @@ module _ (program : Program) (old new : History) (a : OpId) (r : Bool) (is : Has
       let pieces = or_parts (same_name b a) (listed_in rest a) none in
       IsSomeAnd-of (op_at program b.thread b.index) (Given new keys b (rest ++ a ∷ [])) op.0 op.1 (
         other_gives keys op.0 b (differ a b pieces.0) op.2.0,
-        gives_after (keys_after op.0 keys) rest pieces.1 op.2.1 (sym (past_head program a keys b rest op.0 pieces.0 op.1) ∙ told),
+        gives_after (keys_after op.0 keys) rest pieces.1 op.2.1
+            (sym (past_head program a keys b rest op.0 pieces.0 op.1) ∙ told),
       )
 
   -- an order that gives all replies gives this one
-  given_within : (keys : Keys) (order : List OpId) → listed_in order a ≡ true → GivesReplies program new keys order → reply_in program keys order a ≡ Some r
+  given_within : (keys : Keys) (order : List OpId) → listed_in order a ≡ true → GivesReplies program new keys order
+      → reply_in program keys order a ≡ Some r
   given_within keys [] listed given = absurd (true≢false (sym listed))
   given_within keys (b ∷ rest) listed given = by (same_name b a) refl (λ next. given_within next rest)
     where
       op : (o : Op) × (op_at program b.thread b.index ≡ Some o) × Given new keys b rest o
       op = IsSomeAnd-value (op_at program b.thread b.index) (Given new keys b rest) given
 
-      by : (s : Bool) → same_name b a ≡ s → ((next : Keys) → listed_in rest a ≡ true → GivesReplies program new next rest → reply_in program next rest a ≡ Some r)
+      by : (s : Bool) → same_name b a ≡ s
+          → ((next : Keys) → listed_in rest a ≡ true → GivesReplies program new next rest
+          → reply_in program next rest a ≡ Some r)
           → reply_in program keys (b ∷ rest) a ≡ Some r
       by true same again =
           let e : b ≡ a = same_name-is b a same in
-          let at : op_at program a.thread a.index ≡ Some op.0 = subst (λ c. op_at program c.thread c.index ≡ Some op.0) e op.1 in
-          let own : IfSome (reply new a) (λ s. s ≡ reply_on op.0 keys) = subst (λ c. IfSome (reply new c) (λ s. s ≡ reply_on op.0 keys)) e op.2.0 in
+          let at : op_at program a.thread a.index ≡ Some op.0 =
+          subst (λ c. op_at program c.thread c.index ≡ Some op.0) e op.1 in
+          let own : IfSome (reply new a) (λ s. s ≡ reply_on op.0 keys) =
+          subst (λ c. IfSome (reply new c) (λ s. s ≡ reply_on op.0 keys)) e op.2.0 in
           let told : r ≡ reply_on op.0 keys = subst (λ v. IfSome v (λ s. s ≡ reply_on op.0 keys)) is.replied own in
           at_head program a keys b rest same ∙ telling (op_at program a.thread a.index) op.0 keys r at told
       by false other again =
           let elsewhere : listed_in rest a ≡ true = ap (λ s. s || listed_in rest a) (sym other) ∙ listed in
           past_head program a keys b rest op.0 other op.1 ∙ again (keys_after op.0 keys) elsewhere op.2.1
 
-  given_after : (keys : Keys) (order : List OpId) → listed_in order a ≡ false → GivesReplies program new keys (order ++ a ∷ []) → reply_in program keys order a ≡ Some r
+  given_after : (keys : Keys) (order : List OpId) → listed_in order a ≡ false
+      → GivesReplies program new keys (order ++ a ∷ []) → reply_in program keys order a ≡ Some r
   given_after keys [] none given =
       let op = IsSomeAnd-value (op_at program a.thread a.index) (Given new keys a []) given in
-      telling (op_at program a.thread a.index) op.0 keys r op.1 (subst (λ v. IfSome v (λ s. s ≡ reply_on op.0 keys)) is.replied op.2.0)
+      telling (op_at program a.thread a.index) op.0 keys r op.1
+      (subst (λ v. IfSome v (λ s. s ≡ reply_on op.0 keys)) is.replied op.2.0)
   given_after keys (b ∷ rest) none given =
       let op = IsSomeAnd-value (op_at program b.thread b.index) (Given new keys b (rest ++ a ∷ [])) given in
       let pieces = or_parts (same_name b a) (listed_in rest a) none in
@@ -174,13 +208,15 @@ module _ (program : Program) (old new : History) (a : OpId) (r : Bool) (is : Has
   ended_back : (x b : OpId) → IsBegun old b → EndedBefore new x b → EndedBefore old x b
   ended_back x b h ended = by (value_at old.begun b) refl h
     where
-      by : (o : Option (List ℕ)) → value_at old.begun b ≡ o → IsSome o → IsSomeAnd o (λ note. x.index < slice_index note x.thread)
+      by : (o : Option (List ℕ)) → value_at old.begun b ≡ o → IsSome o
+          → IsSomeAnd o (λ note. x.index < slice_index note x.thread)
       by None e some = absurd (true≢false (sym some))
       by (Some note) e some = subst (λ v. IsSomeAnd v (λ n. x.index < slice_index n x.thread)) (is.begun b note e) ended
 
   module _ (order : List OpId) (was : IsLinearization program old order) where
     begun_at : (j : ℕ) (b : OpId) → slice_get order j ≡ Some b → IsBegun old b
-    begun_at j b at = subst (IsBegun old) (get_or_from_slice_get order j b b at) (was.begun j b (slice_get_within order j b at))
+    begun_at j b at =
+        subst (IsBegun old) (get_or_from_slice_get order j b b at) (was.begun j b (slice_get_within order j b at))
 
     finished : (b : OpId) → IsSome (reply new b) → Contains order b ⊎ (a ≡ b)
     finished b h = by (same_name a b) refl
@@ -189,26 +225,41 @@ module _ (program : Program) (old new : History) (a : OpId) (r : Bool) (is : Has
         by true same = inr (same_name-is a b same)
         by false other = inl (was.complete b (subst IsSome (is.others b (λ e. differ b a other (sym e))) h))
 
-    linear_within : listed_in order a ≡ true → reply_in program (keys_of program.initial) order a ≡ Some r → IsLinearization program new order
+    linear_within : listed_in order a ≡ true → reply_in program (keys_of program.initial) order a ≡ Some r
+        → IsLinearization program new order
     linear_within listed told = record {
       begun = λ k d less. begun_still (get_or order k d) (was.begun k d less);
       distinct = was.distinct;
-      complete = λ b h. elim (finished b h) [ inl among ↦ among | inr same ↦ subst (Contains order) same (listed_here order a listed) ];
+      complete =
+          λ b h. elim (finished b h) [
+            | inl among ↦ among
+            | inr same
+                ↦ subst (Contains order) same (listed_here order a listed)
+          ];
       in_time = λ i j x b at_i at_j ended. was.in_time i j x b at_i at_j (ended_back x b (begun_at j b at_j) ended);
       replies = gives_within (keys_of program.initial) order was.distinct listed was.replies told;
     }
 
-    linear_after : listed_in order a ≡ false → reply_in program (keys_of program.initial) order a ≡ Some r → IsLinearization program new (order ++ a ∷ [])
+    linear_after : listed_in order a ≡ false → reply_in program (keys_of program.initial) order a ≡ Some r
+        → IsLinearization program new (order ++ a ∷ [])
     linear_after none told = record {
       begun = All-push (IsBegun new) order a (λ k d less. begun_still (get_or order k d) (was.begun k d less)) is.began;
-      distinct = all_pairs_push (λ x y. x ≢ y) order a was.distinct (λ k d less. not_among order a (get_or order k d) none (k, less, same_at k d less));
-      complete = λ b h. elim (finished b h) [ inl among ↦ kept b among | inr same ↦ subst (Contains (order ++ a ∷ [])) same (Contains-push order a) ];
+      distinct =
+          all_pairs_push (λ x y. x ≢ y) order a was.distinct
+          (λ k d less. not_among order a (get_or order k d) none (k, less, same_at k d less));
+      complete =
+          λ b h. elim (finished b h) [
+            | inl among ↦ kept b among
+            | inr same
+                ↦ subst (Contains (order ++ a ∷ [])) same (Contains-push order a)
+          ];
       in_time = places;
       replies = gives_after (keys_of program.initial) order none was.replies told;
     }
       where
         same_at : (k : ℕ) (d : OpId) → k < length order → get_or order k (get_or order k d) ≡ get_or order k d
-        same_at k d less = get_or_from_slice_get order k (get_or order k d) (get_or order k d) (slice_get-get_or order k d less)
+        same_at k d less =
+            get_or_from_slice_get order k (get_or order k d) (get_or order k d) (slice_get-get_or order k d less)
 
         kept : (b : OpId) → Contains order b → Contains (order ++ a ∷ []) b
         kept b among = longer order among
@@ -218,7 +269,8 @@ module _ (program : Program) (old new : History) (a : OpId) (r : Bool) (is : Has
             longer (x ∷ xs) (zero, less, e) = (0, omega arith, e)
             longer (x ∷ xs) (suc k, less, e) = Contains-tail x (xs ++ a ∷ []) b (longer xs (k, omega arith, e))
 
-        places : (i j : ℕ) (x b : OpId) → slice_get (order ++ a ∷ []) i ≡ Some x → slice_get (order ++ a ∷ []) j ≡ Some b → EndedBefore new x b → i < j
+        places : (i j : ℕ) (x b : OpId) → slice_get (order ++ a ∷ []) i ≡ Some x
+            → slice_get (order ++ a ∷ []) j ≡ Some b → EndedBefore new x b → i < j
         places i j x b at_i at_j ended =
             elim (push_cases order a i x at_i) [
               | inr own ↦ absurd (is.last b (subst (λ c. EndedBefore new c b) (sym own.1) ended))
@@ -228,28 +280,42 @@ module _ (program : Program) (old new : History) (a : OpId) (r : Bool) (is : Has
               ]
             ]
 
-  pub reply_keeps : (order : List OpId) → IsLinearization program old order → reply_in program (keys_of program.initial) order a ≡ Some r → IsLinearization program new (ending_with order a)
+  pub reply_keeps : (order : List OpId) → IsLinearization program old order
+      → reply_in program (keys_of program.initial) order a ≡ Some r → IsLinearization program new (ending_with order a)
   reply_keeps order was told = by (listed_in order a) refl
     where
       by : (s : Bool) → listed_in order a ≡ s → IsLinearization program new (cond s order (order ++ a ∷ []))
       by true listed = linear_within order was listed told
       by false none = linear_after order was none told
 
-  pub kept_reply : (order : List OpId) → IsLinearization program new (ending_with order a) → reply_in program (keys_of program.initial) order a ≡ Some r
+  pub kept_reply : (order : List OpId) → IsLinearization program new (ending_with order a)
+      → reply_in program (keys_of program.initial) order a ≡ Some r
   kept_reply order now = by (listed_in order a) refl now
     where
-      by : (s : Bool) → listed_in order a ≡ s → IsLinearization program new (cond s order (order ++ a ∷ [])) → reply_in program (keys_of program.initial) order a ≡ Some r
+      by : (s : Bool) → listed_in order a ≡ s → IsLinearization program new (cond s order (order ++ a ∷ []))
+          → reply_in program (keys_of program.initial) order a ≡ Some r
       by true listed l = given_within (keys_of program.initial) order listed l.replies
       by false none l = given_after (keys_of program.initial) order none l.replies
 
 -- ---- what the search of a reply in an order answers
 module _ (program : Program) (limits : IsWithinLimits program) (order : List OpId) (a : OpId) (r : Bool) where
-  pub answer_told : (answer : Option (List OpId)) → MatchOption answer (13 ≤ length (ending_with order a)) (λ longer. longer ≡ ending_with order a) → reply_in program (keys_of program.initial) order a ≡ Some r
+  pub answer_told : (answer : Option (List OpId))
+      → MatchOption answer (13 ≤ length (ending_with order a)) (λ longer. longer ≡ ending_with order a)
+      → reply_in program (keys_of program.initial) order a ≡ Some r
       → MatchOption answer
-      ((old new : History) → HasReplied old new a r → IsLinearization program old order → IsLinearization program new (ending_with order a) → ⊥)
-      (λ longer. (longer ≡ ending_with order a) × ((old new : History) → HasReplied old new a r → IsLinearization program old order → IsLinearization program new longer))
-  answer_told None long told = λ old new is was now. let few : length (ending_with order a) ≤ 12 = at_most_twelve program limits new (ending_with order a) now in omega arith
-  answer_told (Some longer) same told = (same, λ old new is was. subst (IsLinearization program new) (sym same) (reply_keeps program old new a r is order was told))
+      ((old new : History) → HasReplied old new a r → IsLinearization program old order
+      → IsLinearization program new (ending_with order a) → ⊥)
+      (λ longer. (longer ≡ ending_with order a)
+      × ((old new : History) → HasReplied old new a r → IsLinearization program old order
+      → IsLinearization program new longer))
+  answer_told None long told =
+      λ old new is was now. let few : length (ending_with order a) ≤ 12 =
+      at_most_twelve program limits new (ending_with order a) now in omega arith
+  answer_told (Some longer) same told = (
+    same,
+    λ old new is was. subst (IsLinearization program new) (sym same)
+        (reply_keeps program old new a r is order was told),
+  )
 
 pub same_answer : (told r : Bool) → beq told r ≡ true → told ≡ r
 same_answer true true h = refl

@@ -1,5 +1,7 @@
 -- What a search place by place knows of the operations that it tried.
-use Rattle.std.proofs.Common.{◌≡◌, ℕ, ◌+◌, ◌<◌, ◌≤◌, ◌||◌, inl, inr, Bool, true, false, cond, true≢false, List, [], ◌∷◌, ◌++◌, length, Option, Some, None, IsSome, refl, sym, ◌∙◌, ap, arith, subst, subst₂, append_assoc}
+use Rattle.std.proofs.Common.{◌≡◌, ℕ, ◌+◌, ◌<◌, ◌≤◌, ◌||◌, inl, inr, Bool, true, false, cond, true≢false, List, [], ◌∷◌}
+use Rattle.std.proofs.Common.{◌++◌, length, Option, Some, None, IsSome, refl, sym, ◌∙◌, ap, arith, subst, subst₂}
+use Rattle.std.proofs.Common.{append_assoc}
 use Rattle.std.proofs.lemmas.Bool.{or_right}
 use mathlib.Core.Path.{fun_ext}
 use Rattle.std.specs.Option.{option_to_list}
@@ -12,9 +14,11 @@ use Rattle.lin.specs.Keys.{Keys, keys_of}
 use Rattle.sched_program.specs.Name.{same_name, value_at}
 use Rattle.sched_program.specs.History.{IsBegun}
 use Rattle.lin.specs.Linearization.{IsLinearization}
-use Rattle.lin.specs.Completion.{Listed, listed_in, with_name, StandsNext, Completes, EveryFinishedIsListed, IsHopeless, MustWait}
+use Rattle.lin.specs.Completion.{Listed, listed_in, with_name, StandsNext, Completes, EveryFinishedIsListed, IsHopeless}
+use Rattle.lin.specs.Completion.{MustWait}
 use Rattle.lin.proofs.Names.{same_name_self, same_name-is}
-use Rattle.lin.proofs.Completions.{completes_linearization_after, StandsNext-same, IsLinearization-completes, Completes-linearization}
+use Rattle.lin.proofs.Completions.{completes_linearization_after, StandsNext-same, IsLinearization-completes}
+use Rattle.lin.proofs.Completions.{Completes-linearization}
 
 or_nothing : (a b : Bool) → (a || (b || false)) ≡ (a || b)
 or_nothing true b = refl
@@ -22,10 +26,12 @@ or_nothing false true = refl
 or_nothing false false = refl
 
 pub listed_push : (order : List OpId) (a : OpId) → listed_in (order ++ a ∷ []) ≡ with_name (listed_in order) a
-listed_push order a = fun_ext (λ b. list_any-append (λ c. same_name c b) order (a ∷ []) ∙ or_nothing (listed_in order b) (same_name a b))
+listed_push order a =
+    fun_ext (λ b. list_any-append (λ c. same_name c b) order (a ∷ []) ∙ or_nothing (listed_in order b) (same_name a b))
 
 -- a pop takes back what was pushed
-pub popped : {X : Type 0} (ys xs zs : List X) (a : X) (r : Option X) → zs ≡ ys ++ option_to_list r → zs ≡ xs ++ a ∷ [] → (0 < length zs → IsSome r) → ys ≡ xs
+pub popped : {X : Type 0} (ys xs zs : List X) (a : X) (r : Option X) → zs ≡ ys ++ option_to_list r → zs ≡ xs ++ a ∷ []
+    → (0 < length zs → IsSome r) → ys ≡ xs
 popped ys xs zs a None e f some = absurd (true≢false (sym (some (omega (arith, ap length f, length_push xs a)))))
 popped ys xs zs a (Some x) e f some = (same_from_push ys xs x a (sym e ∙ f)).0
 
@@ -54,47 +60,63 @@ module _ {V : Type 0} (listed : Listed) (a : OpId) where
   unlisted_le (x ∷ xs) = omega (arith, unlisted_le xs, weight_falls (listed x.0) (same_name a x.0))
 
   -- one more begun operation is listed
-  pub unlisted_falls : (xs : List (OpId × V)) → listed a ≡ false → IsSome (value_at xs a) → unlisted_count (with_name listed a) xs < unlisted_count listed xs
+  pub unlisted_falls : (xs : List (OpId × V)) → listed a ≡ false → IsSome (value_at xs a)
+      → unlisted_count (with_name listed a) xs < unlisted_count listed xs
   unlisted_falls [] new some = absurd (true≢false (sym some))
   unlisted_falls (x ∷ xs) new some = by_name (same_name x.0 a) refl some (λ later. unlisted_falls xs new later)
     where
-      by_name : (b : Bool) → same_name x.0 a ≡ b → IsSome (cond b (Some x.1) (value_at xs a)) → (IsSome (value_at xs a) → unlisted_count (with_name listed a) xs < unlisted_count listed xs)
+      by_name : (b : Bool) → same_name x.0 a ≡ b → IsSome (cond b (Some x.1) (value_at xs a))
+          → (IsSome (value_at xs a) → unlisted_count (with_name listed a) xs < unlisted_count listed xs)
           → unlisted_count (with_name listed a) (x ∷ xs) < unlisted_count listed (x ∷ xs)
       by_name true e some rest =
           let is : a ≡ x.0 = sym (same_name-is x.0 a e) in
           let before : weight (listed x.0) ≡ 1 = subst (λ b. weight (listed b) ≡ 1) is (ap weight new) in
           let after : weight (listed x.0 || same_name a x.0) ≡ 0 =
-          subst (λ b. weight (listed x.0 || same_name a b) ≡ 0) is (ap (λ s. weight (listed x.0 || s)) (same_name_self a) ∙ weight_listed (listed x.0)) in
+          subst (λ b. weight (listed x.0 || same_name a b) ≡ 0) is
+          (ap (λ s. weight (listed x.0 || s)) (same_name_self a) ∙ weight_listed (listed x.0)) in
           omega (arith, unlisted_le xs, before, after)
       by_name false e some rest = omega (arith, rest some, weight_falls (listed x.0) (same_name a x.0))
 
 -- the same, after a push
-pub unlisted_push : {V : Type 0} (order pushed : List OpId) (a : OpId) (xs : List (OpId × V)) → pushed ≡ order ++ a ∷ [] → listed_in order a ≡ false → IsSome (value_at xs a)
+pub unlisted_push : {V : Type 0} (order pushed : List OpId) (a : OpId) (xs : List (OpId × V)) → pushed ≡ order ++ a ∷ []
+    → listed_in order a ≡ false → IsSome (value_at xs a)
     → unlisted_count (listed_in pushed) xs < unlisted_count (listed_in order) xs
 unlisted_push order pushed a xs e new some =
-    subst (λ listed. unlisted_count listed xs < unlisted_count (listed_in order) xs) (sym (ap listed_in e ∙ listed_push order a)) (unlisted_falls (listed_in order) a xs new some)
+    subst (λ listed. unlisted_count listed xs < unlisted_count (listed_in order) xs)
+    (sym (ap listed_in e ∙ listed_push order a)) (unlisted_falls (listed_in order) a xs new some)
 
 module _ (program : Program) (history : History) where
   -- what may follow with this operation in front may follow
-  pub found_more : (order pushed order' : List OpId) (keys next : Keys) (a : OpId) → StandsNext program history (listed_in order) keys a next → pushed ≡ order ++ a ∷ []
+  pub found_more : (order pushed order' : List OpId) (keys next : Keys) (a : OpId)
+      → StandsNext program history (listed_in order) keys a next → pushed ≡ order ++ a ∷ []
       → (rest : List OpId) × (order' ≡ pushed ++ rest) × Completes program history (listed_in pushed) next rest
       → (rest : List OpId) × (order' ≡ order ++ rest) × Completes program history (listed_in order) keys rest
   found_more order pushed order' keys next a s e found = (
     a ∷ found.0,
     found.1 ∙ ap (λ o. o ++ found.0) e ∙ append_assoc order (a ∷ []) found.0,
-    (next, s, subst (λ listed. Completes program history listed next found.0) (ap listed_in e ∙ listed_push order a) found.2),
+    (
+      next,
+      s,
+      subst (λ listed. Completes program history listed next found.0) (ap listed_in e ∙ listed_push order a)
+          found.2,
+    ),
   )
 
   -- no list with this operation in front completes: nothing may follow it,
-  pub not_after : (order pushed : List OpId) (keys next : Keys) (a : OpId) → StandsNext program history (listed_in order) keys a next → pushed ≡ order ++ a ∷ []
-      → IsHopeless program history (listed_in pushed) next → (rest : List OpId) → Completes program history (listed_in order) keys (a ∷ rest) → ⊥
+  pub not_after : (order pushed : List OpId) (keys next : Keys) (a : OpId)
+      → StandsNext program history (listed_in order) keys a next → pushed ≡ order ++ a ∷ []
+      → IsHopeless program history (listed_in pushed) next → (rest : List OpId)
+      → Completes program history (listed_in order) keys (a ∷ rest) → ⊥
   not_after order pushed keys next a s pushed_is none rest c =
       let e = StandsNext-same program history (listed_in order) keys c.0 next a c.1 s in
       let moved = subst (λ k. Completes program history (with_name (listed_in order) a) k rest) e c.2 in
-      none rest (subst (λ listed. Completes program history listed next rest) (sym (ap listed_in pushed_is ∙ listed_push order a)) moved)
+      none rest
+      (subst (λ listed. Completes program history listed next rest)
+      (sym (ap listed_in pushed_is ∙ listed_push order a)) moved)
 
   -- or another must come first
-  pub not_yet : (listed : Listed) (keys : Keys) (a : OpId) → MustWait history listed a → (rest : List OpId) → Completes program history listed keys (a ∷ rest) → ⊥
+  pub not_yet : (listed : Listed) (keys : Keys) (a : OpId) → MustWait history listed a → (rest : List OpId)
+      → Completes program history listed keys (a ∷ rest) → ⊥
   not_yet listed keys a w rest c =
       let l = completes_linearization_after program history (with_name listed a) c.0 rest c.2 in
       elim (l.complete w.0 w.1) [
@@ -104,21 +126,25 @@ module _ (program : Program) (history : History) where
 
   -- where each begun operation was tried, nothing completes
   pub nothing_left : (listed : Listed) (keys : Keys) → (EveryFinishedIsListed history listed → ⊥)
-      → ((a : OpId) → IsBegun history a → (rest : List OpId) → Completes program history listed keys (a ∷ rest) → ⊥) → IsHopeless program history listed keys
+      → ((a : OpId) → IsBegun history a → (rest : List OpId) → Completes program history listed keys (a ∷ rest) → ⊥)
+      → IsHopeless program history listed keys
   nothing_left listed keys missing tried [] every = missing every
   nothing_left listed keys missing tried (a ∷ rest) c = tried a c.1.begun rest c
 
   -- what completes the empty list is a linearization,
   pub found_linearization : (empty order : List OpId) (keys : Keys) → empty ≡ [] → keys ≡ keys_of program.initial
-      → (rest : List OpId) × (order ≡ empty ++ rest) × Completes program history (listed_in empty) keys rest → IsLinearization program history order
+      → (rest : List OpId) × (order ≡ empty ++ rest) × Completes program history (listed_in empty) keys rest
+      → IsLinearization program history order
   found_linearization empty order keys e k found =
       let whole : order ≡ found.0 = found.1 ∙ ap (λ o. o ++ found.0) e in
       let C : List OpId → Keys → Type 0 = λ o s. Completes program history (listed_in o) s found.0 in
-      subst (IsLinearization program history) (sym whole) (Completes-linearization program history found.0 (subst₂ C e k found.2))
+      subst (IsLinearization program history) (sym whole)
+      (Completes-linearization program history found.0 (subst₂ C e k found.2))
 
   -- and where nothing completes it there is none
   pub none_linearization : (empty : List OpId) (keys : Keys) → empty ≡ [] → keys ≡ keys_of program.initial
-      → IsHopeless program history (listed_in empty) keys → (order : List OpId) → IsLinearization program history order → ⊥
+      → IsHopeless program history (listed_in empty) keys → (order : List OpId) → IsLinearization program history order
+      → ⊥
   none_linearization empty keys e k none order linearization =
       let H : List OpId → Keys → Type 0 = λ o s. IsHopeless program history (listed_in o) s in
       subst₂ H e k none order (IsLinearization-completes program history order linearization)

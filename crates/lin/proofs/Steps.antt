@@ -1,5 +1,6 @@
 -- Whether an operation may stand next, from sets of operations.
-use Rattle.std.proofs.Common.{◌≡◌, ◌&&◌, ◌||◌, Bool, true, false, true≢false, List, [], ◌∷◌, IsSome, MatchBool, ◌↔◌, inl, inr, refl, sym, ◌∙◌, ap, subst}
+use Rattle.std.proofs.Common.{◌≡◌, ◌&&◌, ◌||◌, Bool, true, false, true≢false, List, [], ◌∷◌, IsSome, MatchBool, ◌↔◌}
+use Rattle.std.proofs.Common.{inl, inr, refl, sym, ◌∙◌, ap, subst}
 use Rattle.std.proofs.lemmas.Bool.{or_cases, or_parts, or_left, or_right, and_parts}
 use Rattle.sched_program.specs.declared.operation.OpId.{OpId}
 use Rattle.sched_program.specs.Program.{Program}
@@ -13,7 +14,8 @@ use Rattle.lin.proofs.Names.{same_name_self, same_name-is}
 use Rattle.lin.proofs.Search.{not_yet}
 use Rattle.lin.proofs.Timelines.{finished_placed}
 
-module _ (history : History) (listed barred before : Listed) (name : OpId) (has : HasPlace name) (barred_are : AreBarred history listed barred)
+module _ (history : History) (listed barred before : Listed) (name : OpId) (has : HasPlace name)
+    (barred_are : AreBarred history listed barred)
     (before_are : (a : OpId) → HasPlace a → (before a ≡ true) ↔ EndedBefore history a name) where
   -- an operation in none of the sets is new and in time
   pub in_time : ((listed name || barred name) || before name) ≡ false
@@ -24,23 +26,30 @@ module _ (history : History) (listed barred before : Listed) (name : OpId) (has 
         pieces.0,
         λ b among ended. elim (or_cases (listed b) (same_name name b) among) [
           | inl earlier ↦ true≢false (sym ((barred_are name has).1 (b, earlier, ended)) ∙ pieces.1)
-          | inr same ↦ true≢false (sym ((before_are name has).1 (subst (EndedBefore history name) (sym (same_name-is name b same)) ended)) ∙ sets.1)
+          | inr same
+              ↦ true≢false
+              (sym ((before_are name has).1 (subst (EndedBefore history name) (sym (same_name-is name b same)) ended))
+              ∙ sets.1)
         ],
       )
 
-  module _ (program : Program) (keys : Keys) (rest : List OpId) (c : Completes program history listed keys (name ∷ rest)) where
+  module _ (program : Program) (keys : Keys) (rest : List OpId)
+      (c : Completes program history listed keys (name ∷ rest)) where
     -- one that may stand next is in none of the sets,
     pub in_no_set : ((listed name || barred name) || before name) ≡ true → ⊥
     in_no_set some = elim (or_cases (listed name || barred name) (before name) some) [
       | inl first ↦ elim (or_cases (listed name) (barred name) first) [
         | inl earlier ↦ true≢false (sym earlier ∙ c.1.new)
-        | inr late ↦ let ended = (barred_are name has).0 late in c.1.in_time ended.0 (or_left (listed ended.0) (same_name name ended.0) ended.1) ended.2
+        | inr late ↦ let ended = (barred_are name has).0 late in
+            c.1.in_time ended.0 (or_left (listed ended.0) (same_name name ended.0) ended.1) ended.2
       ]
-      | inr itself ↦ c.1.in_time name (or_right (listed name) (same_name name name) (same_name_self name)) ((before_are name has).0 itself)
+      | inr itself ↦ c.1.in_time name (or_right (listed name) (same_name name name) (same_name_self name))
+          ((before_are name has).0 itself)
     ]
 
     -- and each finished operation that ended before it began is listed
-    pub none_missing : IsHistory history → (finished : Listed) → finished ≡ finished_in history.finished → (a : OpId) → (before a && finished a) ≡ true → listed a ≡ true
+    pub none_missing : IsHistory history → (finished : Listed) → finished ≡ finished_in history.finished → (a : OpId)
+        → (before a && finished a) ≡ true → listed a ≡ true
     none_missing events finished finished_are a among =
         let pieces = and_parts (before a) (finished a) among in
         let some : IsSome (reply history a) = sym (ap (λ f. f a) finished_are) ∙ pieces.1 in
@@ -49,28 +58,34 @@ module _ (history : History) (listed barred before : Listed) (name : OpId) (has 
       where
         itself : same_name name a ≡ true → EndedBefore history a name → ⊥
         itself same ended =
-            c.1.in_time name (or_right (listed name) (same_name name name) (same_name_self name)) (subst (λ b. EndedBefore history b name) (sym (same_name-is name a same)) ended)
+            c.1.in_time name (or_right (listed name) (same_name name name) (same_name_self name))
+            (subst (λ b. EndedBefore history b name) (sym (same_name-is name a same)) ended)
 
-        missing : (b : Bool) → same_name name a ≡ b → listed a ≡ false → IsSome (reply history a) → EndedBefore history a name → ⊥
+        missing : (b : Bool) → same_name name a ≡ b → listed a ≡ false → IsSome (reply history a)
+            → EndedBefore history a name → ⊥
         missing true same not_listed some ended = itself same ended
         missing false other not_listed some ended =
-            not_yet program history listed keys name (a, some, (ap (λ b. b || same_name name a) not_listed ∙ other, ended)) rest c
+            not_yet program history listed keys name
+            (a, some, (ap (λ b. b || same_name name a) not_listed ∙ other, ended)) rest c
 
         by_listed : (b : Bool) → listed a ≡ b → IsSome (reply history a) → EndedBefore history a name → b ≡ true
         by_listed true l some ended = refl
         by_listed false l some ended = absurd (missing (same_name name a) refl l some ended)
 
 -- with one more operation listed, those that ended before it began are barred too
-pub barred_more : (history : History) (listed barred before : Listed) (name : OpId) → AreBarred history listed barred → ((a : OpId) → HasPlace a → (before a ≡ true) ↔ EndedBefore history a name)
+pub barred_more : (history : History) (listed barred before : Listed) (name : OpId) → AreBarred history listed barred
+    → ((a : OpId) → HasPlace a → (before a ≡ true) ↔ EndedBefore history a name)
     → AreBarred history (with_name listed name) (λ a. barred a || before a)
 barred_more history listed barred before name barred_are before_are a has = (
   λ some. elim (or_cases (barred a) (before a) some) [
-    | inl earlier ↦ let ended = (barred_are a has).0 earlier in (ended.0, or_left (listed ended.0) (same_name name ended.0) ended.1, ended.2)
+    | inl earlier ↦ let ended = (barred_are a has).0 earlier in
+        (ended.0, or_left (listed ended.0) (same_name name ended.0) ended.1, ended.2)
     | inr now ↦ (name, or_right (listed name) (same_name name name) (same_name_self name), (before_are a has).0 now)
   ],
   λ ended. elim (or_cases (listed ended.0) (same_name name ended.0) ended.1) [
     | inl earlier ↦ or_left (barred a) (before a) ((barred_are a has).1 (ended.0, earlier, ended.2))
-    | inr same ↦ or_right (barred a) (before a) ((before_are a has).1 (subst (EndedBefore history a) (sym (same_name-is name ended.0 same)) ended.2))
+    | inr same ↦ or_right (barred a) (before a)
+        ((before_are a has).1 (subst (EndedBefore history a) (sym (same_name-is name ended.0 same)) ended.2))
   ],
 )
 
@@ -84,6 +99,7 @@ by_test true f g = f refl
 by_test false f g = g refl
 
 -- every finished operation is listed exactly if the one set is within the other
-pub every_listed : (history : History) (finished listed : Listed) → finished ≡ finished_in history.finished → ((a : OpId) → finished a ≡ true → listed a ≡ true) ↔ EveryFinishedIsListed history listed
+pub every_listed : (history : History) (finished listed : Listed) → finished ≡ finished_in history.finished
+    → ((a : OpId) → finished a ≡ true → listed a ≡ true) ↔ EveryFinishedIsListed history listed
 every_listed history finished listed are =
     (λ within a some. within a (ap (λ f. f a) are ∙ some), λ every a among. every a (sym (ap (λ f. f a) are) ∙ among))

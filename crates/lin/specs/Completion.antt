@@ -1,5 +1,5 @@
--- What may follow a set of operations that are listed already, from a set of keys. Whether there is such a list depends on
--- these two sets alone.
+-- What may follow a set of operations that are listed already, from a set of keys. Whether there is such a list depends
+-- on these two sets alone.
 use Rattle.std.specs.Prelude.{◌≡◌, Bool, true, false, ◌||◌, List, [], ◌∷◌, IfSome, IsSome, IsSomeAnd}
 use Rattle.std.specs.List.{list_any}
 use Rattle.lin.specs.Keys.{Keys, reply_on, keys_after}
@@ -25,17 +25,20 @@ abbrev pub EveryFinishedIsListed : History → Listed → Type 0
 EveryFinishedIsListed history listed = (a : OpId) → IsSome (reply history a) → listed a ≡ true
 
 -- an operation may stand next, and leaves these keys
-pub record StandsNext (program : Program) (history : History) (listed : Listed) (keys : Keys) (a : OpId) (next : Keys) : Type 0 where
+pub record StandsNext (program : Program) (history : History) (listed : Listed) (keys : Keys) (a : OpId)
+    (next : Keys) : Type 0 where
   pub begun : IsBegun history a
   pub new : listed a ≡ false
   pub in_time : (b : OpId) → with_name listed a b ≡ true → EndedBefore history a b → ⊥
-  pub gives : IsSomeAnd (op_at program a.thread a.index) (λ o. IfSome (reply history a) (λ r. r ≡ reply_on o keys) × (next ≡ keys_after o keys))
+  pub gives : IsSomeAnd (op_at program a.thread a.index)
+      (λ o. IfSome (reply history a) (λ r. r ≡ reply_on o keys) × (next ≡ keys_after o keys))
 
 -- this list completes a linearization
 abbrev pub Completes : Program → History → Listed → Keys → List OpId → Type 0
 Completes program history listed keys [] = EveryFinishedIsListed history listed
 Completes program history listed keys (a ∷ rest) =
-    (next : Keys) × StandsNext program history listed keys a next × Completes program history (with_name listed a) next rest
+    (next : Keys) × StandsNext program history listed keys a next
+    × Completes program history (with_name listed a) next rest
 
 -- no list completes a linearization
 abbrev pub IsHopeless : Program → History → Listed → Keys → Type 0

@@ -1,4 +1,5 @@
-use Rattle.std.specs.Prelude.{◌≡◌, ◌≢◌, ℕ, ◌<◌, List, [], ◌∷◌, Some, All, AllPairs, Contains, IfSome, IsSome, IsSomeAnd, slice_get}
+use Rattle.std.specs.Prelude.{◌≡◌, ◌≢◌, ℕ, ◌<◌, List, [], ◌∷◌, Some, All, AllPairs, Contains, IfSome, IsSome, IsSomeAnd}
+use Rattle.std.specs.Prelude.{slice_get}
 use Rattle.lin.specs.Keys.{Keys, keys_of, reply_on, keys_after}
 use Rattle.sched_program.specs.Program.{op_at}
 use Rattle.sched_program.specs.History.{reply, IsBegun, EndedBefore}
@@ -21,7 +22,8 @@ pub record IsLinearization (program : Program) (history : History) (order : List
   -- .. and every one that is finished,
   pub complete : (a : OpId) → IsSome (reply history a) → Contains order a
   -- one that ended before another began comes before it,
-  pub in_time : (i j : ℕ) (a b : OpId) → slice_get order i ≡ Some a → slice_get order j ≡ Some b → EndedBefore history a b → i < j
+  pub in_time : (i j : ℕ) (a b : OpId) → slice_get order i ≡ Some a → slice_get order j ≡ Some b
+      → EndedBefore history a b → i < j
   -- and run from the initial keys they give their replies
   pub replies : GivesReplies program history (keys_of program.initial) order
 

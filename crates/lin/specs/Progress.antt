@@ -6,4 +6,5 @@ use Rattle.lin.specs.Timeline.{HasPlace}
 
 -- the operations that ended before a listed one began
 abbrev pub AreBarred : History → Listed → Listed → Type 0
-AreBarred history listed barred = (a : OpId) → HasPlace a → (barred a ≡ true) ↔ ((b : OpId) × (listed b ≡ true) × EndedBefore history a b)
+AreBarred history listed barred = (a : OpId) → HasPlace a → (barred a ≡ true)
+    ↔ ((b : OpId) × (listed b ≡ true) × EndedBefore history a b)

@@ -8,8 +8,8 @@ use Rattle.sched_program.specs.Program.{Program, op_at}
 use Rattle.sched_program.specs.History.{History, reply, IsBegun, EndedBefore}
 use Rattle.sched_program.specs.declared.operation.OpId.{OpId}
 
--- what an operation replies where those of an order are run one after the other from a set of keys: at its own place, or
--- after the last if it has none
+-- what an operation replies where those of an order are run one after the other from a set of keys: at its own place,
+-- or after the last if it has none
 abbrev pub reply_in : Program → Keys → List OpId → OpId → Option Bool
 reply_in program keys [] a = option_map (λ o. reply_on o keys) (op_at program a.thread a.index)
 reply_in program keys (b ∷ rest) a =
@@ -20,8 +20,8 @@ reply_in program keys (b ∷ rest) a =
 abbrev pub ending_with : List OpId → OpId → List OpId
 ending_with order a = if listed_in order a then order else order ++ a ∷ []
 
--- An operation that began has replied so, and what else is finished is as it was. What had begun is as it was, others may
--- have begun since, and none began after the operation ended.
+-- An operation that began has replied so, and what else is finished is as it was. What had begun is as it was, others
+-- may have begun since, and none began after the operation ended.
 pub record HasReplied (old new : History) (a : OpId) (r : Bool) : Type 0 where
   pub began : IsBegun new a
   pub replied : reply new a ≡ Some r

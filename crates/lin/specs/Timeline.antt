@@ -1,5 +1,6 @@
 -- A table of a history: for each operation of four threads of eight operations a place.
-use Rattle.std.specs.Prelude.{◌≡◌, ℕ, ◌+◌, ◌*◌, ◌<◌, ◌&&◌, Bool, nat_lt, List, Option, IfSome, slice_index, slice_index_or}
+use Rattle.std.specs.Prelude.{◌≡◌, ℕ, ◌+◌, ◌*◌, ◌<◌, ◌&&◌, Bool, nat_lt, List, Option, IfSome, slice_index}
+use Rattle.std.specs.Prelude.{slice_index_or}
 use Rattle.std.specs.Option.{is_some}
 use Rattle.sched_program.specs.declared.operation.OpId.{OpId}
 use Rattle.sched_program.specs.Name.{value_at}
@@ -20,11 +21,13 @@ counted note = λ a. nat_lt a.index 8 && nat_lt a.index (slice_index note a.thre
 
 -- at the place of each operation that began, the operations that ended before
 abbrev pub AreSetsBefore : List (OpId × List ℕ) → List OpSet → Type 0
-AreSetsBefore begun sets = (a : OpId) (d : OpSet) → HasPlace a → IfSome (value_at begun a) (λ note. operations_in (slice_index_or sets (place_of a) d) ≡ counted note)
+AreSetsBefore begun sets = (a : OpId) (d : OpSet) → HasPlace a
+    → IfSome (value_at begun a) (λ note. operations_in (slice_index_or sets (place_of a) d) ≡ counted note)
 
 -- at the place of each operation its reply, if it is finished
 abbrev pub AreReplies : List (OpId × Bool) → List (Option Bool) → Type 0
-AreReplies finished replies = (a : OpId) (d : Option Bool) → HasPlace a → slice_index_or replies (place_of a) d ≡ value_at finished a
+AreReplies finished replies = (a : OpId) (d : Option Bool) → HasPlace a
+    → slice_index_or replies (place_of a) d ≡ value_at finished a
 
 -- the finished operations
 abbrev pub finished_in : List (OpId × Bool) → Listed

@@ -10,7 +10,8 @@ use Rattle.natmit.specs.declared.memory.NatMitMem.{NatMitMem}
 use Rattle.natmit.specs.declared.place.Mode.{Mode}
 use Rattle.natmit.specs.declared.place.Mode.TheVariants.{Plain, Owner}
 use Rattle.natmit.specs.declared.place.NatMitLoc.{NatMitLoc}
-use Rattle.natmit.specs.declared.place.NatMitLoc.TheVariants.{Begin, Down, Put, Flag, Look, CleanRead, Tag, Sibling, Swing}
+use Rattle.natmit.specs.declared.place.NatMitLoc.TheVariants.{Begin, Down, Put, Flag, Look, CleanRead, Tag, Sibling}
+use Rattle.natmit.specs.declared.place.NatMitLoc.TheVariants.{Swing}
 
 abbrev pub bit : Bool → ℕ
 bit b = if b then 1 else 0
@@ -31,7 +32,8 @@ part_of facts nodes = record { facts = facts; nodes = nodes; records = [] }
 -- the kind, the key, and the children with their flags and tags
 abbrev pub node_part : Node → Part
 node_part (Leaf k) = part_of (0 ∷ k ∷ []) []
-node_part (Internal k l r) = part_of (1 ∷ k ∷ bit l.flag ∷ bit l.tag ∷ bit r.flag ∷ bit r.tag ∷ []) (Some l.node ∷ Some r.node ∷ [])
+node_part (Internal k l r) =
+    part_of (1 ∷ k ∷ bit l.flag ∷ bit l.tag ∷ bit r.flag ∷ bit r.tag ∷ []) (Some l.node ∷ Some r.node ∷ [])
 
 -- which place it is, and its locals
 abbrev pub place_part : NatMitLoc → Part

@@ -15,7 +15,8 @@ use Rattle.natmit.specs.declared.memory.NatMitMem.{NatMitMem}
 use Rattle.natmit.specs.declared.place.Mode.{Mode}
 use Rattle.natmit.specs.declared.place.Mode.TheVariants.{Plain, Owner}
 use Rattle.natmit.specs.declared.place.NatMitLoc.{NatMitLoc}
-use Rattle.natmit.specs.declared.place.NatMitLoc.TheVariants.{Begin, Down, Put, Flag, Look, CleanRead, Tag, Sibling, Swing}
+use Rattle.natmit.specs.declared.place.NatMitLoc.TheVariants.{Begin, Down, Put, Flag, Look, CleanRead, Tag, Sibling}
+use Rattle.natmit.specs.declared.place.NatMitLoc.TheVariants.{Swing}
 use Rattle.natmit.specs.declared.machine.NatMit.{NatMit}
 use Rattle.natmit.specs.Memory.{plain, is_plain, word_on, node_at, side_at, set_word, with_internal, new_internal}
 
@@ -33,15 +34,18 @@ found memory (Some w) goes = goes w
 abbrev pub after_read : NatMitMem → ℕ → Side → (Word → Outcome NatMitLoc) → After
 after_read memory x d goes = found memory (word_on d (node_at memory x)) (λ w. (memory, goes w))
 
--- exchanges the word of node x on side d, from the plain word of l to another; what is new is appended only if it succeeds
+-- exchanges the word of node x on side d, from the plain word of l to another; what is new is appended only if it
+-- succeeds
 abbrev pub after_exchange : NatMitMem → ℕ → Side → ℕ → NatMitMem → Word → Outcome NatMitLoc → Outcome NatMitLoc → After
 after_exchange memory x d l appended desired success failure =
-    found memory (word_on d (node_at memory x)) (λ w. if is_plain l w then (set_word appended x d desired, success) else (memory, failure))
+    found memory (word_on d (node_at memory x))
+    (λ w. if is_plain l w then (set_word appended x d desired, success) else (memory, failure))
 
 -- sets the tag of the word of node x on side d
 abbrev pub after_tag : NatMitMem → ℕ → Side → Outcome NatMitLoc → After
 after_tag memory x d goes =
-    found memory (word_on d (node_at memory x)) (λ w. (set_word memory x d (record { flag = w.flag; tag = true; node = w.node }), goes))
+    found memory (word_on d (node_at memory x))
+    (λ w. (set_word memory x d (record { flag = w.flag; tag = true; node = w.node }), goes))
 
 -- ---- where the operation goes, with no access of its own
 
@@ -60,7 +64,8 @@ arrived (Delete k) a s p l t (Owner o) (Leaf j) = if nat_eq l o then Goes (Clean
 -- the search has read the word w of node l, to which a word with tag t led: an untagged word makes a new ancestor
 abbrev pub went_down : Op → ℕ → ℕ → ℕ → ℕ → Bool → Mode → NatMitMem → Word → Outcome NatMitLoc
 went_down op a s p l t mode memory w =
-    if t then arrived op a s l w.node w.tag mode (node_at memory w.node) else arrived op p l l w.node w.tag mode (node_at memory w.node)
+    if t then arrived op a s l w.node w.tag mode (node_at memory w.node) else arrived op p l l w.node w.tag mode
+    (node_at memory w.node)
 
 -- an exchange has failed, and found w
 abbrev pub looked : ℕ → ℕ → ℕ → ℕ → Word → Outcome NatMitLoc
@@ -72,7 +77,8 @@ tagging machine a s p d mode = if machine.tag then Tag a s p d mode else Sibling
 
 -- the sibling stays that is not flagged; d is the side of the key
 abbrev pub clean_read : NatMit → ℕ → ℕ → ℕ → Side → Mode → Word → Outcome NatMitLoc
-clean_read machine a s p d mode w = if w.flag then Goes (tagging machine a s p (other_side d) mode) else Goes (tagging machine a s p d mode)
+clean_read machine a s p d mode w =
+    if w.flag then Goes (tagging machine a s p (other_side d) mode) else Goes (tagging machine a s p d mode)
 
 abbrev pub swung : Mode → Outcome NatMitLoc
 swung Plain = Goes (Begin Plain)
@@ -89,9 +95,11 @@ act machine op (Begin mode) m =
 act machine op (Down a s p l t mode) m =
     after_read m l (side_at (key_of op) m l) (went_down op a s p l t mode m)
 act machine op (Put a s p l) m =
-    after_exchange m p (side_at (key_of op) m p) l (with_internal m (key_of op) l) (plain (new_internal m)) (Replies true) (Goes (Look a s p l))
+    after_exchange m p (side_at (key_of op) m p) l (with_internal m (key_of op) l) (plain (new_internal m))
+    (Replies true) (Goes (Look a s p l))
 act machine op (Flag a s p l) m =
-    after_exchange m p (side_at (key_of op) m p) l m (record { flag = true; tag = false; node = l }) (Goes (CleanRead a s p (Owner l))) (Goes (Look a s p l))
+    after_exchange m p (side_at (key_of op) m p) l m (record { flag = true; tag = false; node = l })
+    (Goes (CleanRead a s p (Owner l))) (Goes (Look a s p l))
 act machine op (Look a s p l) m =
     after_read m p (side_at (key_of op) m p) (looked a s p l)
 act machine op (CleanRead a s p mode) m =
@@ -101,7 +109,8 @@ act machine op (Tag a s p d mode) m =
 act machine op (Sibling a s p d mode) m =
     after_read m p d (λ w. Goes (Swing a s w.flag w.node mode))
 act machine op (Swing a s f n mode) m =
-    after_exchange m a (side_at (key_of op) m a) s m (record { flag = f; tag = false; node = n }) (swung mode) (not_swung mode)
+    after_exchange m a (side_at (key_of op) m a) s m (record { flag = f; tag = false; node = n }) (swung mode)
+    (not_swung mode)
 
 -- a place at which a flagged leaf is cut off, which is the operation's own or that of a delete that it helps
 abbrev pub IsHelping : NatMitLoc → Type 0

@@ -7,14 +7,21 @@ use Rattle.sched_program.specs.Program.{Program, IsWithinLimits, IsUserKey, op_a
 use Rattle.sched_program.specs.History.{History, IsHistory, IsHistoryOf}
 
 module _ (p : Program) (limits : IsWithinLimits p) (t i : ℕ) where
-  in_thread : (o : Op) (thread : Option (List Op)) → slice_get p.threads t ≡ thread → option_and_then (λ ops. slice_get ops i) thread ≡ Some o → (t < 4) × (i < 6) × IsUserKey (key_of o)
+  in_thread : (o : Op) (thread : Option (List Op)) → slice_get p.threads t ≡ thread
+      → option_and_then (λ ops. slice_get ops i) thread ≡ Some o → (t < 4) × (i < 6) × IsUserKey (key_of o)
   in_thread o None e h = absurd cc
   in_thread o (Some ops) e h =
       let at = slice_get_within p.threads t ops e in
-      let short : length ops ≤ 6 = subst (λ os. length os ≤ 6) (get_or_from_slice_get p.threads t ops ops e) (limits.op_counts t ops at).1 in
+      let short : length ops ≤ 6 =
+      subst (λ os. length os ≤ 6) (get_or_from_slice_get p.threads t ops ops e) (limits.op_counts t ops at).1 in
       let within = slice_get_within ops i o h in
-      let keys = subst (λ os. All (λ op. IsUserKey (key_of op)) os) (get_or_from_slice_get p.threads t ops ops e) (limits.op_keys t ops at) in
-      (omega (arith, limits.thread_count), omega arith, subst (λ op. IsUserKey (key_of op)) (get_or_from_slice_get ops i o o h) (keys i o within))
+      let keys =
+      subst (λ os. All (λ op. IsUserKey (key_of op)) os) (get_or_from_slice_get p.threads t ops ops e)
+      (limits.op_keys t ops at) in (
+        omega (arith, limits.thread_count),
+        omega arith,
+        subst (λ op. IsUserKey (key_of op)) (get_or_from_slice_get ops i o o h) (keys i o within),
+      )
 
   -- an operation of a program has a small name and a user key
   pub op_limited : (o : Op) → op_at p t i ≡ Some o → (t < 4) × (i < 6) × IsUserKey (key_of o)
@@ -30,7 +37,8 @@ module _ (p : Program) (limits : IsWithinLimits p) (t i : ℕ) where
 -- the history of a program is a history
 pub is_history : (p : Program) (history : History) → IsWithinLimits p → IsHistoryOf p history → IsHistory history
 is_history p history limits h = record {
-  names = λ k d within. small_name p limits (slice_index_or history.begun k d).0.thread (slice_index_or history.begun k d).0.index (h.names k d within);
+  names = λ k d within. small_name p limits (slice_index_or history.begun k d).0.thread
+      (slice_index_or history.begun k d).0.index (h.names k d within);
   notes = λ k d within. omega (arith, h.notes k d within, limits.thread_count);
   begun_ascend = h.begun_ascend;
   finished_are_begun = h.finished_are_begun;

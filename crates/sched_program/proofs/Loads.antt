@@ -10,8 +10,10 @@ use Rattle.sched_program.specs.declared.fault.ProgramFault.TheVariants as fault
 use Rattle.sched_program.specs.declared.loading.LoadFault.TheVariants as load
 
 -- a fault of the bytes that were read to the end
-pub told : (old new : Option (List ℕ)) (text : List ℕ) (f : ProgramFault) → Consumes old new text → IsAtEnd new → IsFirstFaultOf text f
-    → (f ≢ fault.OutOfMemory → (program : Program) → ¬ IsJsonTextOf text program) → AnswersAllRead old new (Err (load.Program f))
+pub told : (old new : Option (List ℕ)) (text : List ℕ) (f : ProgramFault) → Consumes old new text → IsAtEnd new
+    → IsFirstFaultOf text f
+    → (f ≢ fault.OutOfMemory → (program : Program) → ¬ IsJsonTextOf text program)
+    → AnswersAllRead old new (Err (load.Program f))
 told old new text fault.NotJson all end first none = inr (text, all, end, (first, none (λ e. cc)))
 told old new text fault.NotObject all end first none = inr (text, all, end, (first, none (λ e. cc)))
 told old new text fault.Version all end first none = inr (text, all, end, (first, none (λ e. cc)))

@@ -1,5 +1,6 @@
 -- What the members of a program's text are, and are not.
-use Rattle.std.proofs.Common.{◌≡◌, ◌≢◌, ℕ, ◌≤◌, List, [], ◌∷◌, ◌++◌, length, map, arith, subst, refl, sym, ap, ◌∙◌, All, AllPairs, Bool, Option, true, false, MatchBool, codes}
+use Rattle.std.proofs.Common.{◌≡◌, ◌≢◌, ℕ, ◌≤◌, List, [], ◌∷◌, ◌++◌, length, map, arith, subst, refl, sym, ap, ◌∙◌, All}
+use Rattle.std.proofs.Common.{AllPairs, Bool, Option, true, false, MatchBool, codes}
 use Rattle.std.proofs.lemmas.List.Sums.{sum-map}
 use Rattle.std.specs.List.{AllByRecursion}
 use Rattle.serde_json.specs.Data.{Data, unsigned, number}
@@ -11,9 +12,12 @@ use Rattle.sched_program.specs.declared.operation.Turn.{Turn}
 use Rattle.sched_program.specs.declared.version.Version.{Version}
 use Rattle.sched_program.specs.declared.fault.ProgramFault.TheVariants as fault
 use Rattle.sched_program.specs.Program.{IsUserKey, key_of, AreTurnsWithin, IsWithinLimits}
-use Rattle.sched_program.specs.Text.{IsListOf, HasMember, IsKey, HasKey, HasWord, IsOp, HasThreads, HasTurn, HasTurns, op_of, word_of}
-use Rattle.sched_program.specs.Faults.{item_count, IsListOfCount, IsListWithin, IsListOfFewKeys, IsListOfDistinctKeys, HasOpCounts, HasWords, HasKeys, AreOpCounts, Passes}
-use Rattle.sched_program.proofs.Values.{Each-All, of_map_All, same_items, of_member, list_counted, same_count, same_list, list_map, list_both}
+use Rattle.sched_program.specs.Text.{IsListOf, HasMember, IsKey, HasKey, HasWord, IsOp, HasThreads, HasTurn, HasTurns}
+use Rattle.sched_program.specs.Text.{op_of, word_of}
+use Rattle.sched_program.specs.Faults.{item_count, IsListOfCount, IsListWithin, IsListOfFewKeys, IsListOfDistinctKeys}
+use Rattle.sched_program.specs.Faults.{HasOpCounts, HasWords, HasKeys, AreOpCounts, Passes}
+use Rattle.sched_program.proofs.Values.{Each-All, of_map_All, same_items, of_member, list_counted, same_count}
+use Rattle.sched_program.proofs.Values.{same_list, list_map, list_both}
 
 -- a list of keys is one of few keys only if its length is
 pub few_keys_within : (value : Data) → IsListOfFewKeys value → IsListWithin 0 12 value
@@ -24,7 +28,8 @@ pub same_key : (value : Data) (a b : ℕ) → IsKey value a → IsKey value b �
 same_key value a b is also = let e : number (unsigned a) ≡ number (unsigned b) = sym is.0 ∙ also.0 in cc
 
 -- the keys of a list stand there twice or not
-pub twice : (value : Data) (keys : List ℕ) → IsListOf IsKey value keys → ¬ AllPairs (λ a b. a ≢ b) keys → ¬ IsListOfDistinctKeys value
+pub twice : (value : Data) (keys : List ℕ) → IsListOf IsKey value keys → ¬ AllPairs (λ a b. a ≢ b) keys
+    → ¬ IsListOfDistinctKeys value
 twice value keys list not other =
     not (subst (λ k. AllPairs (λ a b. a ≢ b) k) (same_list IsKey same_key value other.0 keys other.1 list) other.2)
 
@@ -33,19 +38,24 @@ pub same_counted : (value : Data) (a b : ℕ) → IsListOfCount value a → IsLi
 same_counted value a b is also = sym is.2 ∙ ap item_count (same_items value is.0 also.0 is.1 also.1) ∙ also.2
 
 -- counts that are not permitted are those of no permitted ones
-pub no_op_counts : (value : Data) (counts : List ℕ) → IsListOf IsListOfCount value counts → ¬ AreOpCounts counts → ¬ HasOpCounts value
+pub no_op_counts : (value : Data) (counts : List ℕ) → IsListOf IsListOfCount value counts → ¬ AreOpCounts counts
+    → ¬ HasOpCounts value
 no_op_counts value counts list not other =
     not (subst AreOpCounts (same_list IsListOfCount same_counted value other.0 counts other.1 list) other.2)
 
 -- the lengths of threads are the counts of their list
-pub thread_counts : (value : Data) (threads : List (List Op)) → IsListOf (IsListOf IsOp) value threads → HasOpCounts value → AreOpCounts (map length threads)
+pub thread_counts : (value : Data) (threads : List (List Op)) → IsListOf (IsListOf IsOp) value threads
+    → HasOpCounts value → AreOpCounts (map length threads)
 thread_counts value threads list counts =
     let lengths = list_map (IsListOf IsOp) IsListOfCount length (list_counted IsOp) value threads list in
-    subst AreOpCounts (same_list IsListOfCount same_counted value counts.0 (map length threads) counts.1 lengths) counts.2
+    subst AreOpCounts (same_list IsListOfCount same_counted value counts.0 (map length threads) counts.1 lengths)
+    counts.2
 
-pub within : {A : Type 0} (StandsFor : Data → A → Type 0) (value : Data) (xs : List A) (least most : ℕ) → IsListOf StandsFor value xs → IsListWithin least most value → (least ≤ length xs) × (length xs ≤ most)
+pub within : {A : Type 0} (StandsFor : Data → A → Type 0) (value : Data) (xs : List A) (least most : ℕ)
+    → IsListOf StandsFor value xs → IsListWithin least most value → (least ≤ length xs) × (length xs ≤ most)
 within StandsFor value xs least most list few =
-    let same : length xs ≡ few.0 = same_count StandsFor value xs few.0 list few.1 in (omega (arith, same, few.2, few.3), omega (arith, same, few.2, few.3))
+    let same : length xs ≡ few.0 = same_count StandsFor value xs few.0 list few.1 in
+    (omega (arith, same, few.2, few.3), omega (arith, same, few.2, few.3))
 
 word_same : (word : OpWord) (key : ℕ) → word_of (op_of word key) ≡ word
 word_same Insert key = refl
@@ -58,38 +68,58 @@ key_same Delete key = refl
 key_same Find key = refl
 
 -- a word and a key are an operation
-pub op_joined : (value : Data) (word : OpWord) (key : ℕ) → HasWord value word → HasKey value key → (op : Op) × IsOp value op
-op_joined value word key has also =
-    (op_of word key, record { word = subst (HasWord value) (sym (word_same word key)) has; key = subst (HasKey value) (sym (key_same word key)) also })
+pub op_joined : (value : Data) (word : OpWord) (key : ℕ) → HasWord value word → HasKey value key
+    → (op : Op) × IsOp value op
+op_joined value word key has also = (
+  op_of word key,
+  record {
+    word = subst (HasWord value) (sym (word_same word key)) has;
+    key = subst (HasKey value) (sym (key_same word key)) also;
+  },
+)
 
 -- where no operations stand but words do, keys do not
-pub no_keys : (value : Data) → HasWords value → ((threads : List (List Op)) → ¬ IsListOf (IsListOf IsOp) value threads) → ¬ HasKeys value
+pub no_keys : (value : Data) → HasWords value → ((threads : List (List Op)) → ¬ IsListOf (IsListOf IsOp) value threads)
+    → ¬ HasKeys value
 no_keys value words none keys =
-    let found = list_both (IsListOf HasWord) (IsListOf HasKey) (IsListOf IsOp) (list_both HasWord HasKey IsOp op_joined) value words.0 keys.0 words.1 keys.1 in
+    let found =
+    list_both (IsListOf HasWord) (IsListOf HasKey) (IsListOf IsOp) (list_both HasWord HasKey IsOp op_joined) value
+    words.0 keys.0 words.1 keys.1 in
     none found.0 found.1
 
 -- one more of a list
-pub one_more : {A : Type 0} (P : A → Type 0) (xs : List A) (x : A) → AllByRecursion P xs → P x → AllByRecursion P (xs ++ x ∷ [])
+pub one_more : {A : Type 0} (P : A → Type 0) (xs : List A) (x : A) → AllByRecursion P xs → P x
+    → AllByRecursion P (xs ++ x ∷ [])
 one_more P [] x all here = (here, tt)
 one_more P (y ∷ ys) x all here = (all.0, one_more P ys x all.1 here)
 
 -- a value's counts fit if those that were read do
-pub counts_fit : (value : Data) (counts : List ℕ) (fit : Bool) → IsListOf IsListOfCount value counts → MatchBool fit (AreOpCounts counts) (¬ AreOpCounts counts) → MatchBool fit (HasOpCounts value) (¬ HasOpCounts value)
+pub counts_fit : (value : Data) (counts : List ℕ) (fit : Bool) → IsListOf IsListOfCount value counts
+    → MatchBool fit (AreOpCounts counts) (¬ AreOpCounts counts)
+    → MatchBool fit (HasOpCounts value) (¬ HasOpCounts value)
 counts_fit value counts true list are = (counts, list, are)
 counts_fit value counts false list are = no_op_counts value counts list are
 
 -- a key stands twice
-pub not_distinct : (value : Data) (keys : List ℕ) → HasMember (codes "initial") (λ member. IsListOf IsKey member keys) value → ¬ AllPairs (λ a b. a ≢ b) keys → ¬ HasMember (codes "initial") IsListOfDistinctKeys value
-not_distinct value keys has not other = twice has.0 keys has.2 not (of_member IsListOfDistinctKeys (codes "initial") value has.0 (sym has.1) other)
+pub not_distinct : (value : Data) (keys : List ℕ)
+    → HasMember (codes "initial") (λ member. IsListOf IsKey member keys) value → ¬ AllPairs (λ a b. a ≢ b) keys
+    → ¬ HasMember (codes "initial") IsListOfDistinctKeys value
+not_distinct value keys has not other =
+    twice has.0 keys has.2 not (of_member IsListOfDistinctKeys (codes "initial") value has.0 (sym has.1) other)
 
 -- threads of permitted numbers of operations pass each test of theirs
-pub threads_pass : (value : Data) (threads : List (List Op)) → HasThreads value threads → 1 ≤ length threads → length threads ≤ 4 → AreOpCounts (map length threads)
+pub threads_pass : (value : Data) (threads : List (List Op)) → HasThreads value threads → 1 ≤ length threads
+    → length threads ≤ 4 → AreOpCounts (map length threads)
     → Passes value fault.Threads × Passes value fault.Ops × Passes value fault.Op × Passes value fault.Key
 threads_pass value threads has some few counts =
     let count = list_counted (IsListOf IsOp) has.0 threads has.2 in
     let lengths = list_map (IsListOf IsOp) IsListOfCount length (list_counted IsOp) has.0 threads has.2 in
-    let words = list_map (IsListOf IsOp) (IsListOf HasWord) (map word_of) (list_map IsOp HasWord word_of (λ v op is. is.word)) has.0 threads has.2 in
-    let keys = list_map (IsListOf IsOp) (IsListOf HasKey) (map key_of) (list_map IsOp HasKey key_of (λ v op is. is.key)) has.0 threads has.2 in (
+    let words =
+    list_map (IsListOf IsOp) (IsListOf HasWord) (map word_of) (list_map IsOp HasWord word_of (λ v op is. is.word))
+    has.0 threads has.2 in
+    let keys =
+    list_map (IsListOf IsOp) (IsListOf HasKey) (map key_of) (list_map IsOp HasKey key_of (λ v op is. is.key)) has.0
+    threads has.2 in (
       (has.0, has.1, (length threads, count, some, few)),
       (has.0, has.1, (map length threads, lengths, counts)),
       (has.0, has.1, (map (map word_of) threads, words)),
@@ -97,28 +127,43 @@ threads_pass value threads has some few counts =
     )
 
 -- the turns of a value stand beside its operations
-same_counts : (value : Data) (version : Version) (threads : List (List Op)) (turns : List (List (Option Turn))) → HasThreads value threads → HasTurns version value turns → map length turns ≡ map length threads
+same_counts : (value : Data) (version : Version) (threads : List (List Op)) (turns : List (List (Option Turn)))
+    → HasThreads value threads → HasTurns version value turns → map length turns ≡ map length threads
 same_counts value version threads turns has also =
-    let there = of_member (λ member. IsListOf (IsListOf (HasTurn version)) member turns) (codes "threads") value has.0 (sym has.1) also in
+    let there =
+    of_member (λ member. IsListOf (IsListOf (HasTurn version)) member turns) (codes "threads") value has.0
+    (sym has.1) also in
     same_list IsListOfCount same_counted has.0 (map length turns) (map length threads)
     (list_map (IsListOf (HasTurn version)) IsListOfCount length (list_counted (HasTurn version)) has.0 turns there)
     (list_map (IsListOf IsOp) IsListOfCount length (list_counted IsOp) has.0 threads has.2)
 
 -- what a value gives meets the limits of a program
-pub limits_met : (value : Data) (version : Version) (tree : Tree) (initial : List ℕ) (threads : List (List Op)) (turns : List (List (Option Turn))) → HasMember (codes "initial") (λ member. IsListOf IsKey member initial) value → length initial ≤ 12 → AllPairs (λ a b. a ≢ b) initial
-    → HasThreads value threads → 1 ≤ length threads → length threads ≤ 4 → AreOpCounts (map length threads) → HasTurns version value turns → AreTurnsWithin threads turns
+pub limits_met : (value : Data) (version : Version) (tree : Tree) (initial : List ℕ) (threads : List (List Op))
+    (turns : List (List (Option Turn))) → HasMember (codes "initial") (λ member. IsListOf IsKey member initial) value
+    → length initial ≤ 12 → AllPairs (λ a b. a ≢ b) initial
+    → HasThreads value threads → 1 ≤ length threads → length threads ≤ 4 → AreOpCounts (map length threads)
+    → HasTurns version value turns → AreTurnsWithin threads turns
     → IsWithinLimits (record { tree = tree; initial = initial; threads = threads; turns = turns })
 limits_met value version tree initial threads turns keys count distinct ops some few counts has within = record {
-  initial = record { count = count; user_keys = Each-All IsKey IsUserKey (λ v key is. is.1) keys.2.0 initial keys.2.2; distinct = distinct };
+  initial =
+      record {
+        count = count;
+        user_keys = Each-All IsKey IsUserKey (λ v key is. is.1) keys.2.0 initial keys.2.2;
+        distinct = distinct;
+      };
   some_thread = some;
   thread_count = few;
   op_counts = of_map_All (λ count. (1 ≤ count) × (count ≤ 6)) length threads counts.each;
   total = rw (← sum-map length threads) counts.total;
-  op_keys = Each-All (IsListOf IsOp) (All (λ op. IsUserKey (key_of op))) (λ v ops list. Each-All IsOp (λ op. IsUserKey (key_of op)) (λ w op is. is.key.2.1) list.0 ops list.2) ops.2.0 threads ops.2.2;
+  op_keys =
+      Each-All (IsListOf IsOp) (All (λ op. IsUserKey (key_of op)))
+      (λ v ops list. Each-All IsOp (λ op. IsUserKey (key_of op)) (λ w op is. is.key.2.1) list.0 ops list.2) ops.2.0
+      threads ops.2.2;
   turn_counts = same_counts value version threads turns ops has;
   turns = within;
 }
 
 -- the keys of a list of few
-pub few_keys : (value : Data) (keys : List ℕ) → HasMember (codes "initial") (λ member. IsListOf IsKey member keys) value → length keys ≤ 12 → HasMember (codes "initial") IsListOfFewKeys value
+pub few_keys : (value : Data) (keys : List ℕ) → HasMember (codes "initial") (λ member. IsListOf IsKey member keys) value
+    → length keys ≤ 12 → HasMember (codes "initial") IsListOfFewKeys value
 few_keys value keys has few = (has.0, has.1, (keys, has.2, few))

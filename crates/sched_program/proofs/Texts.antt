@@ -1,5 +1,6 @@
 -- A value is the text of one program at most, and a text has no fault.
-use Rattle.std.proofs.Common.{◌≡◌, ◌≢◌, ℕ, ◌≤◌, List, length, get_or, map, arith, subst, refl, sym, ap, ◌∙◌, Option, Some, None, Result, Ok, Err, IfOk, IfErr, codes, sum}
+use Rattle.std.proofs.Common.{◌≡◌, ◌≢◌, ℕ, ◌≤◌, List, length, get_or, map, arith, subst, refl, sym, ap, ◌∙◌, Option}
+use Rattle.std.proofs.Common.{Some, None, Result, Ok, Err, IfOk, IfErr, codes, sum}
 use Rattle.std.proofs.lemmas.Option.{same_Some}
 use Rattle.std.proofs.lemmas.List.Sums.{sum-map}
 use Rattle.std.proofs.lemmas.List.Elements.{All-map}
@@ -9,7 +10,8 @@ use Rattle.serde_json.specs.Data.{Data, unsigned, item, no_items, null, boolean,
 use Rattle.sched_program.specs.declared.operation.Op.{Op}
 use Rattle.sched_program.specs.declared.operation.Op.TheVariants as op
 use Rattle.sched_program.specs.declared.operation.Tree.{Tree}
-use Rattle.sched_program.specs.declared.operation.Tree.TheVariants.{Atomic, Ellen, EllenNoMark, EllenNoIflag, Nm, NmNoTag}
+use Rattle.sched_program.specs.declared.operation.Tree.TheVariants.{Atomic, Ellen, EllenNoMark, EllenNoIflag, Nm}
+use Rattle.sched_program.specs.declared.operation.Tree.TheVariants.{NmNoTag}
 use Rattle.sched_program.specs.declared.operation.Turn.{Turn}
 use Rattle.sched_program.specs.declared.version.Version.{Version}
 use Rattle.sched_program.specs.declared.version.Version.TheVariants.{First, Second}
@@ -19,13 +21,16 @@ use Rattle.sched_program.specs.declared.fault.ProgramFault.{ProgramFault}
 use Rattle.sched_program.specs.declared.fault.ProgramFault.TheVariants as fault
 use Rattle.sched_program.specs.Laws.Operations.{same_turn}
 use Rattle.sched_program.specs.Program.{Program, key_of}
-use Rattle.sched_program.specs.Text.{IsListOf, IsKey, IsOp, IsTurn, HasThreads, HasTurn, HasTurns, HasVersion, version_number, op_of, word_of, word_text, tree_name, IsTextOf, IsJsonOf, IsJsonTextOf}
+use Rattle.sched_program.specs.Text.{IsListOf, IsKey, IsOp, IsTurn, HasThreads, HasTurn, HasTurns, HasVersion}
+use Rattle.sched_program.specs.Text.{version_number, op_of, word_of, word_text, tree_name, IsTextOf, IsJsonOf}
+use Rattle.sched_program.specs.Text.{IsJsonTextOf}
 use Rattle.sched_program.specs.Faults.{AreOpCounts, Passes, Stands, IsFirstFault}
 use Rattle.sched_program.proofs.Values.{same_list, same_member}
 use Rattle.sched_program.proofs.Members.{same_key, threads_pass}
 
 -- one text stands at a name
-same_text : (name : List ℕ) (value : Data) (a b : List ℕ) → get name value ≡ Some (string a) → get name value ≡ Some (string b) → a ≡ b
+same_text : (name : List ℕ) (value : Data) (a b : List ℕ) → get name value ≡ Some (string a)
+    → get name value ≡ Some (string b) → a ≡ b
 same_text name value a b is also = let e : string a ≡ string b = same_Some _ _ (sym is ∙ also) in cc
 
 same_word_text : (a b : OpWord) → word_text a ≡ word_text b → a ≡ b
@@ -51,14 +56,18 @@ op_pieces (op.Find key) = refl
 
 same_op : (value : Data) (a b : Op) → IsOp value a → IsOp value b → a ≡ b
 same_op value a b is also =
-    let word : word_of a ≡ word_of b = same_word_text (word_of a) (word_of b) (same_text (codes "op") value (word_text (word_of a)) (word_text (word_of b)) is.word also.word) in
-    let key : key_of a ≡ key_of b = same_member IsKey (codes "key") same_key value (key_of a) (key_of b) is.key also.key in
+    let word : word_of a ≡ word_of b =
+    same_word_text (word_of a) (word_of b)
+    (same_text (codes "op") value (word_text (word_of a)) (word_text (word_of b)) is.word also.word) in
+    let key : key_of a ≡ key_of b =
+    same_member IsKey (codes "key") same_key value (key_of a) (key_of b) is.key also.key in
     let one = op_pieces a in
     let other = op_pieces b in
     cc
 
 pub same_threads : (value : Data) (a b : List (List Op)) → HasThreads value a → HasThreads value b → a ≡ b
-same_threads = same_member (IsListOf (IsListOf IsOp)) (codes "threads") (same_list (IsListOf IsOp) (same_list IsOp same_op))
+same_threads =
+    same_member (IsListOf (IsListOf IsOp)) (codes "threads") (same_list (IsListOf IsOp) (same_list IsOp same_op))
 
 same_number : (a b : Version) → version_number a ≡ version_number b → a ≡ b
 same_number First First e = refl
@@ -67,44 +76,61 @@ same_number a b e = absurd (omega (arith, e))
 
 pub same_version : (value : Data) (a b : Version) → HasVersion value a → HasVersion value b → a ≡ b
 same_version value a b is also =
-    let e : number (unsigned (version_number a)) ≡ number (unsigned (version_number b)) = same_Some _ _ (sym is ∙ also) in
+    let e : number (unsigned (version_number a)) ≡ number (unsigned (version_number b)) =
+    same_Some _ _ (sym is ∙ also) in
     let number : version_number a ≡ version_number b = cc in
     same_number a b number
 
 -- a value is one turn at most
 same_as_turn : (value : Data) (a b : Turn) → IsTurn value a → IsTurn value b → a ≡ b
 same_as_turn value a b is also =
-    let e : array (item (number (unsigned a.thread)) (item (number (unsigned a.count)) no_items)) ≡ array (item (number (unsigned b.thread)) (item (number (unsigned b.count)) no_items)) = sym is ∙ also in
+    let e : array (item (number (unsigned a.thread)) (item (number (unsigned a.count)) no_items))
+    ≡ array (item (number (unsigned b.thread)) (item (number (unsigned b.count)) no_items)) = sym is ∙ also in
     let thread : a.thread ≡ b.thread = cc in
     let count : a.count ≡ b.count = cc in
     same_turn a.thread b.thread a.count b.count thread count
 
-same_wait : (version : Version) (value : Data) (a b : Option Turn) → HasTurn version value a → HasTurn version value b → a ≡ b
+same_wait : (version : Version) (value : Data) (a b : Option Turn) → HasTurn version value a → HasTurn version value b
+    → a ≡ b
 same_wait First value a b is also = is ∙ sym also
 same_wait Second value None None is also = refl
 same_wait Second value None (Some b) is also = absurd (let e : None ≡ Some also.0 = sym is ∙ also.1 in cc)
 same_wait Second value (Some a) None is also = absurd (let e : None ≡ Some is.0 = sym also ∙ is.1 in cc)
-same_wait Second value (Some a) (Some b) is also = ap Some (same_member IsTurn (codes "after") same_as_turn value a b is also)
+same_wait Second value (Some a) (Some b) is also =
+    ap Some (same_member IsTurn (codes "after") same_as_turn value a b is also)
 
-pub same_turns : (version : Version) (value : Data) (a b : List (List (Option Turn))) → HasTurns version value a → HasTurns version value b → a ≡ b
-same_turns version = same_member (IsListOf (IsListOf (HasTurn version))) (codes "threads") (same_list (IsListOf (HasTurn version)) (same_list (HasTurn version) (same_wait version)))
+pub same_turns : (version : Version) (value : Data) (a b : List (List (Option Turn))) → HasTurns version value a
+    → HasTurns version value b → a ≡ b
+same_turns version =
+    same_member (IsListOf (IsListOf (HasTurn version))) (codes "threads")
+    (same_list (IsListOf (HasTurn version)) (same_list (HasTurn version) (same_wait version)))
 
-same_fields : (a b : Tree) (ks ls : List ℕ) (xs ys : List (List Op)) (us vs : List (List (Option Turn))) → a ≡ b → ks ≡ ls → xs ≡ ys → us ≡ vs
-    → (let p : Program = record { tree = a; initial = ks; threads = xs; turns = us } in p) ≡ record { tree = b; initial = ls; threads = ys; turns = vs }
+same_fields : (a b : Tree) (ks ls : List ℕ) (xs ys : List (List Op)) (us vs : List (List (Option Turn))) → a ≡ b
+    → ks ≡ ls → xs ≡ ys → us ≡ vs
+    → (let p : Program = record { tree = a; initial = ks; threads = xs; turns = us } in p)
+    ≡ record { tree = b; initial = ls; threads = ys; turns = vs }
 same_fields a b ks ls xs ys us vs e f g h = rw (e, f, g, h)
 
 -- a value is the text of one program at most
 pub same_program : (value : Data) (p q : Program) → IsTextOf value p → IsTextOf value q → p ≡ q
 same_program value p q is also =
-    let tree : p.tree ≡ q.tree = same_tree_name p.tree q.tree (same_text (codes "tree") value (tree_name p.tree) (tree_name q.tree) is.tree also.tree) in
-    let initial : p.initial ≡ q.initial = same_member (IsListOf IsKey) (codes "initial") (same_list IsKey same_key) value p.initial q.initial is.initial also.initial in
+    let tree : p.tree ≡ q.tree =
+    same_tree_name p.tree q.tree
+    (same_text (codes "tree") value (tree_name p.tree) (tree_name q.tree) is.tree also.tree) in
+    let initial : p.initial ≡ q.initial =
+    same_member (IsListOf IsKey) (codes "initial") (same_list IsKey same_key) value p.initial q.initial is.initial
+    also.initial in
     let threads : p.threads ≡ q.threads = same_threads value p.threads q.threads is.threads also.threads in
-    let version : also.version ≡ is.version = same_version value also.version is.version also.has_version is.has_version in
-    let turns : p.turns ≡ q.turns = same_turns is.version value p.turns q.turns is.turns (subst (λ v. HasTurns v value q.turns) version also.turns) in
+    let version : also.version ≡ is.version =
+    same_version value also.version is.version also.has_version is.has_version in
+    let turns : p.turns ≡ q.turns =
+    same_turns is.version value p.turns q.turns is.turns
+    (subst (λ v. HasTurns v value q.turns) version also.turns) in
     same_fields p.tree q.tree p.initial q.initial p.threads q.threads p.turns q.turns tree initial threads turns
 
 -- what has a member is an object
-has_members : (name : List ℕ) (value member : Data) → get name value ≡ Some member → (members : Members) × (value ≡ object members)
+has_members : (name : List ℕ) (value member : Data) → get name value ≡ Some member → (members : Members)
+    × (value ≡ object members)
 has_members name null member is = cc
 has_members name (boolean b) member is = cc
 has_members name (number n) member is = cc
@@ -113,11 +139,13 @@ has_members name (array ds) member is = cc
 has_members name (object ms) member is = (ms, refl)
 
 -- a text's threads pass each test of theirs
-all_threads_pass : (value : Data) (program : Program) → IsTextOf value program → Passes value fault.Threads × Passes value fault.Ops × Passes value fault.Op × Passes value fault.Key
+all_threads_pass : (value : Data) (program : Program) → IsTextOf value program → Passes value fault.Threads
+    × Passes value fault.Ops × Passes value fault.Op × Passes value fault.Key
 all_threads_pass value program is =
     let each = All-map (λ count. (1 ≤ count) × (count ≤ 6)) length program.threads is.limits.op_counts in
     let total : sum (map length program.threads) ≤ 12 = rw (sum-map length program.threads) is.limits.total in
-    threads_pass value program.threads is.threads is.limits.some_thread is.limits.thread_count (let counts : AreOpCounts (map length program.threads) = record { each = each; total = total } in counts)
+    threads_pass value program.threads is.threads is.limits.some_thread is.limits.thread_count
+    (let counts : AreOpCounts (map length program.threads) = record { each = each; total = total } in counts)
 
 -- a text passes each test
 passes_all : (value : Data) (program : Program) → IsTextOf value program → (fault : ProgramFault) → Passes value fault
@@ -125,13 +153,16 @@ passes_all value program is fault.NotJson = tt
 passes_all value program is fault.NotObject = has_members (codes "version") value _ is.has_version
 passes_all value program is fault.Version = (is.version, is.has_version)
 passes_all value program is fault.Tree = (program.tree, is.tree)
-passes_all value program is fault.Initial = (is.initial.0, is.initial.1, (program.initial, is.initial.2, is.limits.initial.count))
-passes_all value program is fault.InitialTwice = (is.initial.0, is.initial.1, (program.initial, is.initial.2, is.limits.initial.distinct))
+passes_all value program is fault.Initial =
+    (is.initial.0, is.initial.1, (program.initial, is.initial.2, is.limits.initial.count))
+passes_all value program is fault.InitialTwice =
+    (is.initial.0, is.initial.1, (program.initial, is.initial.2, is.limits.initial.distinct))
 passes_all value program is fault.Threads = (all_threads_pass value program is).0
 passes_all value program is fault.Ops = (all_threads_pass value program is).1
 passes_all value program is fault.Op = (all_threads_pass value program is).2
 passes_all value program is fault.Key = (all_threads_pass value program is).3
-passes_all value program is fault.After = (is.version, program.threads, program.turns, is.has_version, is.threads, is.turns, is.limits.turns)
+passes_all value program is fault.After =
+    (is.version, program.threads, program.turns, is.has_version, is.threads, is.turns, is.limits.turns)
 passes_all value program is fault.OutOfMemory = tt
 
 -- what passes a test has not its fault
@@ -150,7 +181,8 @@ not_both value fault.Key passes stands = absurd (stands passes)
 not_both value fault.After passes stands = absurd (stands passes)
 
 -- a text has no first fault but a refusal of memory
-pub no_fault : (value : Data) (program : Program) (told : ProgramFault) → IsTextOf value program → IsFirstFault value told → told ≡ fault.OutOfMemory
+pub no_fault : (value : Data) (program : Program) (told : ProgramFault) → IsTextOf value program
+    → IsFirstFault value told → told ≡ fault.OutOfMemory
 no_fault value program told is first = not_both value told (passes_all value program is told) first.stands
 
 -- the bytes have one value
@@ -162,11 +194,13 @@ module _ (bytes : List ℕ) (value : Data) (is : read bytes ≡ Some value) wher
   of_value program text = subst (λ v. IsTextOf v program) (same_value bytes value text.0 is text.1) text.2
 
   -- a program of the value is the only one of the bytes
-  pub only_program : (answer : Result Program ProgramFault) → IfOk answer (IsTextOf value) → IfOk answer (λ program. (other : Program) → IsJsonTextOf bytes other → other ≡ program)
+  pub only_program : (answer : Result Program ProgramFault) → IfOk answer (IsTextOf value)
+      → IfOk answer (λ program. (other : Program) → IsJsonTextOf bytes other → other ≡ program)
   only_program (Ok program) has = λ other text. same_program value other program (of_value other text) has
   only_program (Err told) has = tt
 
   -- bytes whose value has a fault are the text of no program
-  pub no_program : (answer : Result Program ProgramFault) → IfErr answer (IsFirstFault value) → IfErr answer (λ told. told ≢ fault.OutOfMemory → (program : Program) → ¬ IsJsonTextOf bytes program)
+  pub no_program : (answer : Result Program ProgramFault) → IfErr answer (IsFirstFault value)
+      → IfErr answer (λ told. told ≢ fault.OutOfMemory → (program : Program) → ¬ IsJsonTextOf bytes program)
   no_program (Ok program) first = tt
   no_program (Err told) first = λ other program text. other (no_fault value program told (of_value program text) first)

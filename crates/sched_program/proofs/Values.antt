@@ -1,5 +1,6 @@
 -- Lists of values that stand for things, value by value.
-use Rattle.std.proofs.Common.{◌≡◌, ℕ, zero, suc, ◌+◌, ◌<◌, List, [], ◌∷◌, ◌++◌, length, map, get_or, take, arith, subst, sym, refl, ap, ◌∙◌, Some, All}
+use Rattle.std.proofs.Common.{◌≡◌, ℕ, zero, suc, ◌+◌, ◌<◌, List, [], ◌∷◌, ◌++◌, length, map, get_or, take, arith, subst}
+use Rattle.std.proofs.Common.{sym, refl, ap, ◌∙◌, Some, All}
 use Rattle.std.proofs.lemmas.Option.{same_Some}
 use Rattle.std.proofs.lemmas.List.{take_more}
 use Rattle.serde_json.specs.Find.{get, as_array}
@@ -21,38 +22,48 @@ All-cons P x xs h rest (suc k) d below = rest k d (omega arith)
 -- what holds of each image
 pub of_map_All : {A : Type 0} (P : ℕ → Type 0) (f : A → ℕ) (xs : List A) → All P (map f xs) → All (λ x. P (f x)) xs
 of_map_All P f [] all = λ k d below. absurd (omega arith)
-of_map_All P f (x ∷ xs) all = All-cons (λ y. P (f y)) x xs (all 0 0 (omega arith)) (of_map_All P f xs (λ k d below. all (suc k) d (omega arith)))
+of_map_All P f (x ∷ xs) all =
+    All-cons (λ y. P (f y)) x xs (all 0 0 (omega arith)) (of_map_All P f xs (λ k d below. all (suc k) d (omega arith)))
 
 -- a value is a list in one way
 pub same_items : (value : Data) (values others : Items) → value ≡ array values → value ≡ array others → values ≡ others
 same_items value values others is also = same_Some values others (ap as_array (sym is ∙ also))
 
 -- what holds of an object's member of a name, which is one
-pub of_member : (P : Data → Type 0) (name : List ℕ) (value found : Data) → Some found ≡ get name value → HasMember name P value → P found
+pub of_member : (P : Data → Type 0) (name : List ℕ) (value found : Data) → Some found ≡ get name value
+    → HasMember name P value → P found
 of_member P name value found is has = subst P (same_Some _ _ (sym has.1 ∙ sym is)) has.2
 
 module _ {A : Type 0} (StandsFor : Data → A → Type 0) where
-  Each-push : (values : List Value) (xs : List A) (value : Value) (x : A) → Each StandsFor (items_view values) xs → StandsFor (view value) x → Each StandsFor (items_view (values ++ value ∷ [])) (xs ++ x ∷ [])
+  Each-push : (values : List Value) (xs : List A) (value : Value) (x : A) → Each StandsFor (items_view values) xs
+      → StandsFor (view value) x → Each StandsFor (items_view (values ++ value ∷ [])) (xs ++ x ∷ [])
   Each-push [] [] value x all here = (here, tt)
   Each-push [] (y ∷ xs) value x all here = absurd all
   Each-push (first ∷ values) [] value x all here = absurd all
   Each-push (first ∷ values) (y ∷ xs) value x all here = (all.0, Each-push values xs value x all.1 here)
 
   -- one more value and its thing
-  pub Each-more : (values : List Value) (xs ys : List A) (i : ℕ) (value : Value) (x : A) → i < length values → value ≡ get_or values i value → ys ≡ xs ++ x ∷ [] → Each StandsFor (items_view (take i values)) xs → StandsFor (view value) x
+  pub Each-more : (values : List Value) (xs ys : List A) (i : ℕ) (value : Value) (x : A) → i < length values
+      → value ≡ get_or values i value → ys ≡ xs ++ x ∷ [] → Each StandsFor (items_view (take i values)) xs
+      → StandsFor (view value) x
       → Each StandsFor (items_view (take (i + 1) values)) ys
   Each-more values xs ys i value x below is pushed all here =
-      rw (pushed, take_more values i value below) (subst (λ v. Each StandsFor (items_view (take i values ++ v ∷ [])) (xs ++ x ∷ [])) is (Each-push (take i values) xs value x all here))
+      rw (pushed, take_more values i value below)
+      (subst (λ v. Each StandsFor (items_view (take i values ++ v ∷ [])) (xs ++ x ∷ [])) is
+      (Each-push (take i values) xs value x all here))
 
   -- each value stands for something
-  Each-at : (values : List Value) (xs : List A) (i : ℕ) (d : Value) → i < length values → Each StandsFor (items_view values) xs → (x : A) × StandsFor (view (get_or values i d)) x
+  Each-at : (values : List Value) (xs : List A) (i : ℕ) (d : Value) → i < length values
+      → Each StandsFor (items_view values) xs → (x : A) × StandsFor (view (get_or values i d)) x
   Each-at [] xs i d below all = absurd (omega arith)
   Each-at (value ∷ values) [] i d below all = absurd all
   Each-at (value ∷ values) (x ∷ xs) zero d below all = (x, all.0)
   Each-at (value ∷ values) (x ∷ xs) (suc i) d below all = Each-at values xs i d (omega arith) all.1
 
   -- a value that stands for nothing
-  pub Each-none : (values : List Value) (xs : List A) (i : ℕ) (value : Value) → i < length values → value ≡ get_or values i value → ((x : A) → StandsFor (view value) x → ⊥) → Each StandsFor (items_view values) xs → ⊥
+  pub Each-none : (values : List Value) (xs : List A) (i : ℕ) (value : Value) → i < length values
+      → value ≡ get_or values i value → ((x : A) → StandsFor (view value) x → ⊥) → Each StandsFor (items_view values) xs
+      → ⊥
   Each-none values xs i value below is none all =
       let found = Each-at values xs i value below all in
       none found.0 (subst (λ v. StandsFor (view v) found.0) (sym is) found.1)
@@ -67,18 +78,22 @@ module _ {A : Type 0} (StandsFor : Data → A → Type 0) where
   pub list_counted : (value : Data) (xs : List A) → IsListOf StandsFor value xs → IsListOfCount value (length xs)
   list_counted value xs list = (list.0, list.1, Each-count list.0 xs list.2)
 
-  pub same_count : (value : Data) (xs : List A) (count : ℕ) → IsListOf StandsFor value xs → IsListOfCount value count → length xs ≡ count
-  same_count value xs count list counted = sym (Each-count list.0 xs list.2) ∙ ap item_count (same_items value list.0 counted.0 list.1 counted.1) ∙ counted.2
+  pub same_count : (value : Data) (xs : List A) (count : ℕ) → IsListOf StandsFor value xs → IsListOfCount value count
+      → length xs ≡ count
+  same_count value xs count list counted =
+      sym (Each-count list.0 xs list.2) ∙ ap item_count (same_items value list.0 counted.0 list.1 counted.1) ∙ counted.2
 
   -- what holds of each thing that a value stands for holds of all
-  pub Each-All : (P : A → Type 0) → ((value : Data) (x : A) → StandsFor value x → P x) → (values : Items) (xs : List A) → Each StandsFor values xs → All P xs
+  pub Each-All : (P : A → Type 0) → ((value : Data) (x : A) → StandsFor value x → P x) → (values : Items) (xs : List A)
+      → Each StandsFor values xs → All P xs
   Each-All P f no_items [] h = λ k d below. absurd (omega arith)
   Each-All P f no_items (x ∷ xs) h = absurd h
   Each-All P f (item v vs) [] h = λ k d below. absurd (omega arith)
   Each-All P f (item v vs) (x ∷ xs) h = All-cons P x xs (f v x h.0) (Each-All P f vs xs h.1)
 
   -- where a value stands for one thing at most, so does a list
-  Each-same : ((value : Data) (x y : A) → StandsFor value x → StandsFor value y → x ≡ y) → (values : Items) (xs ys : List A) → Each StandsFor values xs → Each StandsFor values ys → xs ≡ ys
+  Each-same : ((value : Data) (x y : A) → StandsFor value x → StandsFor value y → x ≡ y)
+      → (values : Items) (xs ys : List A) → Each StandsFor values xs → Each StandsFor values ys → xs ≡ ys
   Each-same one no_items [] [] all also = refl
   Each-same one no_items [] (y ∷ ys) all also = absurd also
   Each-same one no_items (x ∷ xs) ys all also = absurd all
@@ -89,14 +104,20 @@ module _ {A : Type 0} (StandsFor : Data → A → Type 0) where
       let there : xs ≡ ys = Each-same one values xs ys all.1 also.1 in
       cc
 
-  pub same_list : ((value : Data) (x y : A) → StandsFor value x → StandsFor value y → x ≡ y) → (value : Data) (xs ys : List A) → IsListOf StandsFor value xs → IsListOf StandsFor value ys → xs ≡ ys
+  pub same_list : ((value : Data) (x y : A) → StandsFor value x → StandsFor value y → x ≡ y)
+      → (value : Data) (xs ys : List A) → IsListOf StandsFor value xs → IsListOf StandsFor value ys → xs ≡ ys
   same_list one value xs ys list also =
-      Each-same one list.0 xs ys list.2 (subst (λ values. Each StandsFor values ys) (same_items value also.0 list.0 also.1 list.1) also.2)
+      Each-same one list.0 xs ys list.2
+      (subst (λ values. Each StandsFor values ys) (same_items value also.0 list.0 also.1 list.1) also.2)
 
-  pub same_member : (name : List ℕ) → ((value : Data) (x y : A) → StandsFor value x → StandsFor value y → x ≡ y) → (value : Data) (x y : A) → HasMember name (λ v. StandsFor v x) value → HasMember name (λ v. StandsFor v y) value → x ≡ y
-  same_member name one value x y has also = one has.0 x y has.2 (of_member (λ v. StandsFor v y) name value has.0 (sym has.1) also)
+  pub same_member : (name : List ℕ) → ((value : Data) (x y : A) → StandsFor value x → StandsFor value y → x ≡ y)
+      → (value : Data) (x y : A) → HasMember name (λ v. StandsFor v x) value → HasMember name (λ v. StandsFor v y) value
+      → x ≡ y
+  same_member name one value x y has also =
+      one has.0 x y has.2 (of_member (λ v. StandsFor v y) name value has.0 (sym has.1) also)
 
-module _ {A B : Type 0} (From : Data → A → Type 0) (To : Data → B → Type 0) (f : A → B) (each : (value : Data) (x : A) → From value x → To value (f x)) where
+module _ {A B : Type 0} (From : Data → A → Type 0) (To : Data → B → Type 0) (f : A → B)
+    (each : (value : Data) (x : A) → From value x → To value (f x)) where
   Each-map : (values : Items) (xs : List A) → Each From values xs → Each To values (map f xs)
   Each-map no_items [] all = tt
   Each-map no_items (x ∷ xs) all = absurd all
@@ -107,8 +128,10 @@ module _ {A B : Type 0} (From : Data → A → Type 0) (To : Data → B → Type
   pub list_map : (value : Data) (xs : List A) → IsListOf From value xs → IsListOf To value (map f xs)
   list_map value xs list = (list.0, list.1, Each-map list.0 xs list.2)
 
-module _ {A B C : Type 0} (One : Data → A → Type 0) (Other : Data → B → Type 0) (Whole : Data → C → Type 0) (joined : (value : Data) (x : A) (y : B) → One value x → Other value y → (z : C) × Whole value z) where
-  Each-both : (values : Items) (xs : List A) (ys : List B) → Each One values xs → Each Other values ys → (zs : List C) × Each Whole values zs
+module _ {A B C : Type 0} (One : Data → A → Type 0) (Other : Data → B → Type 0) (Whole : Data → C → Type 0)
+    (joined : (value : Data) (x : A) (y : B) → One value x → Other value y → (z : C) × Whole value z) where
+  Each-both : (values : Items) (xs : List A) (ys : List B) → Each One values xs → Each Other values ys
+      → (zs : List C) × Each Whole values zs
   Each-both no_items xs ys all also = ([], tt)
   Each-both (item value values) [] ys all also = absurd all
   Each-both (item value values) (x ∷ xs) [] all also = absurd also
@@ -118,7 +141,10 @@ module _ {A B C : Type 0} (One : Data → A → Type 0) (Other : Data → B → 
       (here.0 ∷ there.0, (here.1, there.1))
 
   -- a list whose values stand for the pieces stands for the wholes
-  pub list_both : (value : Data) (xs : List A) (ys : List B) → IsListOf One value xs → IsListOf Other value ys → (zs : List C) × IsListOf Whole value zs
+  pub list_both : (value : Data) (xs : List A) (ys : List B) → IsListOf One value xs → IsListOf Other value ys
+      → (zs : List C) × IsListOf Whole value zs
   list_both value xs ys list also =
-      let all = Each-both list.0 xs ys list.2 (subst (λ values. Each Other values ys) (same_items value also.0 list.0 also.1 list.1) also.2) in
+      let all =
+      Each-both list.0 xs ys list.2
+      (subst (λ values. Each Other values ys) (same_items value also.0 list.0 also.1 list.1) also.2) in
       (all.0, (list.0, list.1, all.1))

@@ -1,5 +1,6 @@
 -- What the operations of a text wait for, and where that is not within the limits.
-use Rattle.std.proofs.Common.{◌≡◌, ℕ, zero, suc, ◌<◌, ◌≤◌, List, [], ◌∷◌, length, get_or, slice_get, arith, subst, sym, ap, ◌∙◌, Option, Some, None, IfSome, IfNone, Result, Ok, Err, IfOk, All, codes}
+use Rattle.std.proofs.Common.{◌≡◌, ℕ, zero, suc, ◌<◌, ◌≤◌, List, [], ◌∷◌, length, get_or, slice_get, arith, subst, sym}
+use Rattle.std.proofs.Common.{ap, ◌∙◌, Option, Some, None, IfSome, IfNone, Result, Ok, Err, IfOk, All, codes}
 use Rattle.std.proofs.lemmas.Option.{same_Some, slice_get_within, get_or_from_slice_get}
 use Rattle.std.proofs.lemmas.List.{get_or_default}
 use Rattle.serde_json.specs.Find.{get, as_array}
@@ -16,46 +17,73 @@ use Rattle.sched_program.proofs.Values.{items_view_count, of_member}
 use Rattle.sched_program.proofs.Texts.{same_threads, same_turns, same_version}
 
 -- a turn is a list of two
-pub two_numbers : (value : Data) (values : List Value) (turn : Turn) → Some (items_view values) ≡ as_array value → IsTurn value turn → length values ≡ 2
-two_numbers value values turn is also = sym (items_view_count values) ∙ ap item_count (same_Some (items_view values) _ (is ∙ ap as_array also))
+pub two_numbers : (value : Data) (values : List Value) (turn : Turn) → Some (items_view values) ≡ as_array value
+    → IsTurn value turn → length values ≡ 2
+two_numbers value values turn is also =
+    sym (items_view_count values) ∙ ap item_count (same_Some (items_view values) _ (is ∙ ap as_array also))
 
-module _ (value : Data) (version : Version) (threads : List (List Op)) (of_version : HasVersion value version) (has : HasThreads value threads) where
+module _ (value : Data) (version : Version) (threads : List (List Op)) (of_version : HasVersion value version)
+    (has : HasThreads value threads) where
   -- turns that are nowhere within the limits
-  pub nowhere_within : ((turns : List (List (Option Turn))) → HasTurns version value turns → ¬ AreTurnsWithin threads turns) → ¬ HasTurnsWithin value
+  pub nowhere_within : ((turns : List (List (Option Turn))) → HasTurns version value turns
+      → ¬ AreTurnsWithin threads turns) → ¬ HasTurnsWithin value
   nowhere_within none (other, ops, turns, of_other, has_ops, has_turns, within) =
       none turns
       (subst (λ v. HasTurns v value turns) (same_version value other version of_other of_version) has_turns)
       (subst (λ xs. AreTurnsWithin xs turns) (same_threads value ops threads has_ops has) within)
 
   -- turns that are not within the limits
-  pub not_within : (turns : List (List (Option Turn))) → HasTurns version value turns → ¬ AreTurnsWithin threads turns → ¬ HasTurnsWithin value
-  not_within turns are not = nowhere_within (λ others also within. not (subst (AreTurnsWithin threads) (same_turns version value others turns also are) within))
+  pub not_within : (turns : List (List (Option Turn))) → HasTurns version value turns → ¬ AreTurnsWithin threads turns
+      → ¬ HasTurnsWithin value
+  not_within turns are not =
+      nowhere_within
+      (λ others also within. not
+      (subst (AreTurnsWithin threads) (same_turns version value others turns also are) within))
 
 -- where the member with the threads is no list of turns, the value has none
-pub none_listed : {Refusal : Type 0} (version known : Version) (value threads : Data) (answer : Result (Option (List (List (Option Turn)))) Refusal) → version ≡ known → Some threads ≡ get (codes "threads") value
-    → IfOk answer (λ found. IfNone found ((turns : List (List (Option Turn))) → ¬ IsListOf (IsListOf (HasTurn known)) threads turns))
+pub none_listed : {Refusal : Type 0} (version known : Version) (value threads : Data)
+    (answer : Result (Option (List (List (Option Turn)))) Refusal) → version ≡ known
+    → Some threads ≡ get (codes "threads") value
+    → IfOk answer
+    (λ found. IfNone found ((turns : List (List (Option Turn)))
+    → ¬ IsListOf (IsListOf (HasTurn known)) threads turns))
     → IfOk answer (λ found. IfNone found ((turns : List (List (Option Turn))) → ¬ HasTurns version value turns))
 none_listed version known value threads (Ok None) is at none =
-    λ turns has. none turns (of_member (λ member. IsListOf (IsListOf (HasTurn known)) member turns) (codes "threads") value threads at (subst (λ v. HasTurns v value turns) is has))
+    λ turns has. none turns
+    (of_member (λ member. IsListOf (IsListOf (HasTurn known)) member turns) (codes "threads") value threads at
+    (subst (λ v. HasTurns v value turns) is has))
 none_listed version known value threads (Ok (Some x)) is at none = tt
 none_listed version known value threads (Err e) is at none = tt
 
 -- a thread's row is as that thread may wait
-row_within : (threads : List (List Op)) (turns : List (List (Option Turn))) (t : ℕ) (row : List (Option Turn)) → AreTurnsWithin threads turns → slice_get turns t ≡ Some row → All (λ turn. IfSome turn (IsTurnWithin threads t)) row
-row_within threads turns t row within at = subst (λ r. All (λ turn. IfSome turn (IsTurnWithin threads t)) r) (get_or_from_slice_get turns t row [] at) (within t)
+row_within : (threads : List (List Op)) (turns : List (List (Option Turn))) (t : ℕ) (row : List (Option Turn))
+    → AreTurnsWithin threads turns → slice_get turns t ≡ Some row
+    → All (λ turn. IfSome turn (IsTurnWithin threads t)) row
+row_within threads turns t row within at =
+    subst (λ r. All (λ turn. IfSome turn (IsTurnWithin threads t)) r) (get_or_from_slice_get turns t row [] at)
+    (within t)
 
-few_ops : (threads : List (List Op)) (k : ℕ) → All (λ ops. (1 ≤ length ops) × (length ops ≤ 6)) threads → length (get_or threads k []) ≤ 6
+few_ops : (threads : List (List Op)) (k : ℕ) → All (λ ops. (1 ≤ length ops) × (length ops ≤ 6)) threads
+    → length (get_or threads k []) ≤ 6
 few_ops [] k all = omega arith
 few_ops (ops ∷ rest) zero all = (all 0 [] (omega arith)).1
 few_ops (ops ∷ rest) (suc k) all = few_ops rest k (λ j d below. all (suc j) d (omega arith))
 
 -- the numbers of a turn are small
-pub small_turn : (threads : List (List Op)) (turns : List (List (Option Turn))) (t i : ℕ) (row : List (Option Turn)) (turn : Turn) → All (λ ops. (1 ≤ length ops) × (length ops ≤ 6)) threads → AreTurnsWithin threads turns → slice_get turns t ≡ Some row → slice_get row i ≡ Some (Some turn) → (turn.thread < t) × (turn.count ≤ 6)
+pub small_turn : (threads : List (List Op)) (turns : List (List (Option Turn))) (t i : ℕ) (row : List (Option Turn))
+    (turn : Turn) → All (λ ops. (1 ≤ length ops) × (length ops ≤ 6)) threads → AreTurnsWithin threads turns
+    → slice_get turns t ≡ Some row → slice_get row i ≡ Some (Some turn) → (turn.thread < t) × (turn.count ≤ 6)
 small_turn threads turns t i row turn counts within at_t at_i =
     let all = row_within threads turns t row within at_t in
-    let is : IsTurnWithin threads t turn = subst (λ wait. IfSome wait (IsTurnWithin threads t)) (get_or_from_slice_get row i (Some turn) None at_i) (all i None (slice_get_within row i (Some turn) at_i)) in
+    let is : IsTurnWithin threads t turn =
+    subst (λ wait. IfSome wait (IsTurnWithin threads t)) (get_or_from_slice_get row i (Some turn) None at_i)
+    (all i None (slice_get_within row i (Some turn) at_i)) in
     (is.lower, omega (arith, is.few, few_ops threads turn.thread counts))
 
 -- the same of a row at its place
-pub row_at : (threads : List (List Op)) (turns : List (List (Option Turn))) (t : ℕ) (row : List (Option Turn)) → t < length turns → row ≡ get_or turns t row → AreTurnsWithin threads turns → All (λ turn. IfSome turn (IsTurnWithin threads t)) row
-row_at threads turns t row below at within = subst (λ r. All (λ turn. IfSome turn (IsTurnWithin threads t)) r) (get_or_default turns t [] row below ∙ sym at) (within t)
+pub row_at : (threads : List (List Op)) (turns : List (List (Option Turn))) (t : ℕ) (row : List (Option Turn))
+    → t < length turns → row ≡ get_or turns t row → AreTurnsWithin threads turns
+    → All (λ turn. IfSome turn (IsTurnWithin threads t)) row
+row_at threads turns t row below at within =
+    subst (λ r. All (λ turn. IfSome turn (IsTurnWithin threads t)) r) (get_or_default turns t [] row below ∙ sym at)
+    (within t)

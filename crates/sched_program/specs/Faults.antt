@@ -8,7 +8,8 @@ use Rattle.sched_program.specs.declared.operation.Turn.{Turn}
 use Rattle.sched_program.specs.declared.version.Version.{Version}
 use Rattle.sched_program.specs.declared.reader.OpWord.{OpWord}
 use Rattle.sched_program.specs.Program.{AreTurnsWithin}
-use Rattle.sched_program.specs.Text.{HasMember, IsListOf, IsKey, HasKey, HasWord, HasVersion, HasTree, HasThreads, HasTurns, IsJsonOf}
+use Rattle.sched_program.specs.Text.{HasMember, IsListOf, IsKey, HasKey, HasWord, HasVersion, HasTree, HasThreads}
+use Rattle.sched_program.specs.Text.{HasTurns, IsJsonOf}
 use Rattle.sched_program.specs.declared.fault.ProgramFault.{ProgramFault}
 use Rattle.sched_program.specs.declared.fault.ProgramFault.TheVariants as fault
 
@@ -81,10 +82,15 @@ earlier fault.Tree = fault.NotObject ∷ fault.Version ∷ []
 earlier fault.Initial = fault.NotObject ∷ fault.Version ∷ fault.Tree ∷ []
 earlier fault.InitialTwice = fault.NotObject ∷ fault.Version ∷ fault.Tree ∷ fault.Initial ∷ []
 earlier fault.Threads = fault.NotObject ∷ fault.Version ∷ fault.Tree ∷ fault.Initial ∷ fault.InitialTwice ∷ []
-earlier fault.Ops = fault.NotObject ∷ fault.Version ∷ fault.Tree ∷ fault.Initial ∷ fault.InitialTwice ∷ fault.Threads ∷ []
-earlier fault.Op = fault.NotObject ∷ fault.Version ∷ fault.Tree ∷ fault.Initial ∷ fault.InitialTwice ∷ fault.Threads ∷ fault.Ops ∷ []
-earlier fault.Key = fault.NotObject ∷ fault.Version ∷ fault.Tree ∷ fault.Initial ∷ fault.InitialTwice ∷ fault.Threads ∷ fault.Ops ∷ fault.Op ∷ []
-earlier fault.After = fault.NotObject ∷ fault.Version ∷ fault.Tree ∷ fault.Initial ∷ fault.InitialTwice ∷ fault.Threads ∷ fault.Ops ∷ fault.Op ∷ fault.Key ∷ []
+earlier fault.Ops =
+    fault.NotObject ∷ fault.Version ∷ fault.Tree ∷ fault.Initial ∷ fault.InitialTwice ∷ fault.Threads ∷ []
+earlier fault.Op =
+    fault.NotObject ∷ fault.Version ∷ fault.Tree ∷ fault.Initial ∷ fault.InitialTwice ∷ fault.Threads ∷ fault.Ops ∷ []
+earlier fault.Key = fault.NotObject ∷ fault.Version ∷ fault.Tree ∷ fault.Initial ∷ fault.InitialTwice ∷ fault.Threads
+    ∷ fault.Ops ∷ fault.Op ∷ []
+earlier fault.After =
+    fault.NotObject ∷ fault.Version ∷ fault.Tree ∷ fault.Initial ∷ fault.InitialTwice ∷ fault.Threads ∷ fault.Ops
+    ∷ fault.Op ∷ fault.Key ∷ []
 earlier fault.OutOfMemory = []
 
 -- the fault stands in the value, and none that is told before it does

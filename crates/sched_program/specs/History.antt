@@ -21,8 +21,8 @@ reply history a = value_at history.finished a
 abbrev pub EndedBefore : History → OpId → OpId → Type 0
 EndedBefore history a b = IsSomeAnd (value_at history.begun b) (λ note. a.index < slice_index note a.thread)
 
--- A history of a program: it names the program's operations, in ascending order, each note has one count for each thread,
--- and every finished operation is begun.
+-- A history of a program: it names the program's operations, in ascending order, each note has one count for each
+-- thread, and every finished operation is begun.
 pub record IsHistoryOf (program : Program) (history : History) : Type 0 where
   pub names : All (λ e. IsSome (op_at program e.0.thread e.0.index)) history.begun
   pub notes : All (λ e. length e.1 ≡ length program.threads) history.begun

@@ -25,12 +25,14 @@ failed_loads _ = 0
 
 -- the answer for a text: its only program, or its first fault
 abbrev pub AnswersText : List ℕ → Result Program LoadFault → Type 0
-AnswersText text (Ok program) = IsJsonTextOf text program × ((other : Program) → IsJsonTextOf text other → other ≡ program)
+AnswersText text (Ok program) =
+    IsJsonTextOf text program × ((other : Program) → IsJsonTextOf text other → other ≡ program)
 AnswersText text (Err (load.Program f)) = IsFirstFaultOf text f × ((program : Program) → ¬ IsJsonTextOf text program)
 AnswersText text (Err load.Device) = ⊥
 
--- A read failed, or memory was refused, or the answer is for all the bytes up to the end, which are those that the reader
--- had where it says which.
+-- A read failed, or memory was refused, or the answer is for all the bytes up to the end, which are those that the
+-- reader had where it says which.
 abbrev pub AnswersAllRead : Option (List ℕ) → Option (List ℕ) → Result Program LoadFault → Type 0
 AnswersAllRead old new (Err load.Device) = Unit {0}
-AnswersAllRead old new answer = (answer ≡ Err (load.Program fault.OutOfMemory)) ⊎ ((text : List ℕ) × Consumes old new text × IsAtEnd new × AnswersText text answer)
+AnswersAllRead old new answer = (answer ≡ Err (load.Program fault.OutOfMemory))
+    ⊎ ((text : List ℕ) × Consumes old new text × IsAtEnd new × AnswersText text answer)

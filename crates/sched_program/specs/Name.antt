@@ -1,5 +1,6 @@
 -- The names of operations, and values beside them.
-use Rattle.std.specs.Prelude.{◌≡◌, ℕ, ◌+◌, ◌<◌, ◌⊎◌, Bool, ◌==◌, ◌&&◌, if◌then◌else◌, List, [], ◌∷◌, Option, Some, None, slice_get}
+use Rattle.std.specs.Prelude.{◌≡◌, ℕ, ◌+◌, ◌<◌, ◌⊎◌, Bool, ◌==◌, ◌&&◌, if◌then◌else◌, List, [], ◌∷◌, Option, Some, None}
+use Rattle.std.specs.Prelude.{slice_get}
 use Rattle.sched_program.specs.declared.operation.OpId.{OpId}
 
 -- whether two names are the same
@@ -17,4 +18,5 @@ IsBefore a b = (a.thread < b.thread) ⊎ ((a.thread ≡ b.thread) × (a.index < 
 
 -- the names ascend strictly
 abbrev pub Ascend : {V : Type 0} → List (OpId × V) → Type 0
-Ascend {V} entries = (i : ℕ) (a b : OpId × V) → slice_get entries i ≡ Some a → slice_get entries (i + 1) ≡ Some b → IsBefore a.0 b.0
+Ascend {V} entries = (i : ℕ) (a b : OpId × V) → slice_get entries i ≡ Some a → slice_get entries (i + 1) ≡ Some b
+    → IsBefore a.0 b.0

@@ -6,7 +6,8 @@ use Rattle.serde_json.specs.Read.{read}
 use Rattle.sched_program.specs.declared.operation.Op.{Op}
 use Rattle.sched_program.specs.declared.operation.Op.TheVariants as op
 use Rattle.sched_program.specs.declared.operation.Tree.{Tree}
-use Rattle.sched_program.specs.declared.operation.Tree.TheVariants.{Atomic, Ellen, EllenNoMark, EllenNoIflag, Nm, NmNoTag}
+use Rattle.sched_program.specs.declared.operation.Tree.TheVariants.{Atomic, Ellen, EllenNoMark, EllenNoIflag, Nm}
+use Rattle.sched_program.specs.declared.operation.Tree.TheVariants.{NmNoTag}
 use Rattle.sched_program.specs.declared.operation.Turn.{Turn}
 use Rattle.sched_program.specs.declared.version.Version.{Version}
 use Rattle.sched_program.specs.declared.version.Version.TheVariants.{First, Second}
@@ -73,7 +74,8 @@ abbrev pub HasThreads : Data → List (List Op) → Type 0
 HasThreads value threads = HasMember (codes "threads") (λ member. IsListOf (IsListOf IsOp) member threads) value
 
 abbrev pub HasTurns : Version → Data → List (List (Option Turn)) → Type 0
-HasTurns version value turns = HasMember (codes "threads") (λ member. IsListOf (IsListOf (HasTurn version)) member turns) value
+HasTurns version value turns =
+    HasMember (codes "threads") (λ member. IsListOf (IsListOf (HasTurn version)) member turns) value
 
 abbrev pub tree_name : Tree → List ℕ
 tree_name Atomic = codes "atomic"

@@ -1,5 +1,6 @@
 -- Alike states: the same threads of theirs have steps, their steps are alike, and so are their findings.
-use Rattle.std.proofs.Common.{◌≡◌, ℕ, List, [], ◌∷◌, ◌++◌, length, map, Bool, Option, Some, None, is_some, refl, sym, ap, ◌∙◌, subst, slice_get, ◌↔◌, if◌then◌else◌, true}
+use Rattle.std.proofs.Common.{◌≡◌, ℕ, List, [], ◌∷◌, ◌++◌, length, map, Bool, Option, Some, None, is_some, refl, sym}
+use Rattle.std.proofs.Common.{ap, ◌∙◌, subst, slice_get, ◌↔◌, if◌then◌else◌, true}
 use Rattle.std.specs.Prelude.{IsTrue, IsSomeAnd}
 use Rattle.std.specs.List.{AllZip}
 use Rattle.sched_program.specs.Program.{Program, op_at, after_at}
@@ -8,12 +9,14 @@ use Rattle.tree_machine.specs.Alike.{places_of, replies_of, notes_of, AreStatesA
 use Rattle.tree_machine.specs.History.{all_named, history_of}
 use Rattle.tree_machine.specs.Pairing.{Pairing, Extends, AreHeldPaired, AreStepsPaired, ArePairsLawful}
 use Rattle.tree_machine.specs.Rules.{Rules, AreLawful}
-use Rattle.tree_machine.specs.Step.{finished_counts, place_or, notes_at_step, at_step, after_access, stepped, step, is_met, next_op, ready, IsEnabled}
+use Rattle.tree_machine.specs.Step.{finished_counts, place_or, notes_at_step, at_step, after_access, stepped, step}
+use Rattle.tree_machine.specs.Step.{is_met, next_op, ready, IsEnabled}
 use Rattle.tree_machine.specs.declared.machine.Outcome.{Outcome}
 use Rattle.tree_machine.specs.declared.machine.Outcome.TheVariants.{Goes, Replies, Astray}
 use Rattle.tree_machine.specs.declared.state.Thread.{Thread}
 use Rattle.tree_machine.specs.declared.state.State.{State}
-use Rattle.tree_machine.proofs.Pairs.{held_weaker, zip_weaker, zip_set, zip_get, if_paired, held_some, held_some_and, held_same, held_are_some, then_paired, map_paired}
+use Rattle.tree_machine.proofs.Pairs.{held_weaker, zip_weaker, zip_set, zip_get, if_paired, held_some, held_some_and}
+use Rattle.tree_machine.proofs.Pairs.{held_same, held_are_some, then_paired, map_paired}
 
 cons_same : {A : Type 0} (x y : A) (xs ys : List A) → x ∷ xs ≡ y ∷ ys → (x ≡ y) × (xs ≡ ys)
 cons_same x y xs ys h = ((cc), (cc))
@@ -25,10 +28,13 @@ module _ {Place : Type 0} where
     replies : thread.replies ≡ twin.replies
     notes : thread.notes ≡ twin.notes
 
-  threads_weaker : (P Q : Place → Place → Type 0) → ((x y : Place) → P x y → Q x y) → (thread twin : Thread Place) → AreThreadsPaired P thread twin → AreThreadsPaired Q thread twin
-  threads_weaker P Q h thread twin k = record { place = held_weaker P Q h thread.place twin.place k.place; replies = k.replies; notes = k.notes }
+  threads_weaker : (P Q : Place → Place → Type 0) → ((x y : Place) → P x y → Q x y) → (thread twin : Thread Place)
+      → AreThreadsPaired P thread twin → AreThreadsPaired Q thread twin
+  threads_weaker P Q h thread twin k =
+      record { place = held_weaker P Q h thread.place twin.place k.place; replies = k.replies; notes = k.notes }
 
-  threads_zip : (P : Place → Place → Type 0) (xs ys : List (Thread Place)) → AllZip (AreHeldPaired P) (places_of xs) (places_of ys)
+  threads_zip : (P : Place → Place → Type 0) (xs ys : List (Thread Place))
+      → AllZip (AreHeldPaired P) (places_of xs) (places_of ys)
       → replies_of xs ≡ replies_of ys → notes_of xs ≡ notes_of ys → AllZip (AreThreadsPaired P) xs ys
   threads_zip P [] [] z r n = tt
   threads_zip P [] (y ∷ ys) z r n = absurd z
@@ -38,13 +44,15 @@ module _ {Place : Type 0} where
       let notes = cons_same x.notes y.notes (notes_of xs) (notes_of ys) n in
       (record { place = z.0; replies = replies.0; notes = notes.0 }, threads_zip P xs ys z.1 replies.1 notes.1)
 
-  zip_places : (P : Place → Place → Type 0) (xs ys : List (Thread Place)) → AllZip (AreThreadsPaired P) xs ys → AllZip (AreHeldPaired P) (places_of xs) (places_of ys)
+  zip_places : (P : Place → Place → Type 0) (xs ys : List (Thread Place)) → AllZip (AreThreadsPaired P) xs ys
+      → AllZip (AreHeldPaired P) (places_of xs) (places_of ys)
   zip_places P [] [] z = tt
   zip_places P [] (y ∷ ys) z = absurd z
   zip_places P (x ∷ xs) [] z = absurd z
   zip_places P (x ∷ xs) (y ∷ ys) z = (z.0.place, zip_places P xs ys z.1)
 
-  zip_read : {A : Type 0} (read : Thread Place → A) (P : Place → Place → Type 0) → ((x y : Thread Place) → AreThreadsPaired P x y → read x ≡ read y)
+  zip_read : {A : Type 0} (read : Thread Place → A) (P : Place → Place → Type 0)
+      → ((x y : Thread Place) → AreThreadsPaired P x y → read x ≡ read y)
       → (xs ys : List (Thread Place)) → AllZip (AreThreadsPaired P) xs ys → map read xs ≡ map read ys
   zip_read read P h [] [] z = refl
   zip_read read P h [] (y ∷ ys) z = absurd z
@@ -54,13 +62,15 @@ module _ {Place : Type 0} where
       let rest = zip_read read P h xs ys z.1 in
       λ i. first i ∷ rest i
 
-  place_or_paired : (P : Place → Place → Type 0) (held twin : Option Place) (first : Place) → P first first → AreHeldPaired P held twin → P (place_or held first) (place_or twin first)
+  place_or_paired : (P : Place → Place → Type 0) (held twin : Option Place) (first : Place) → P first first
+      → AreHeldPaired P held twin → P (place_or held first) (place_or twin first)
   place_or_paired P None None first f k = f
   place_or_paired P None (Some y) first f k = absurd k
   place_or_paired P (Some x) None first f k = absurd k
   place_or_paired P (Some x) (Some y) first f k = k
 
-  notes_paired : (P : Place → Place → Type 0) (held twin : Option Place) (notes others : List (List ℕ)) (counts : List ℕ) → AreHeldPaired P held twin → notes ≡ others
+  notes_paired : (P : Place → Place → Type 0) (held twin : Option Place) (notes others : List (List ℕ))
+      (counts : List ℕ) → AreHeldPaired P held twin → notes ≡ others
       → notes_at_step held notes counts ≡ notes_at_step twin others counts
   notes_paired P None None notes others counts k h = ap (λ n. n ++ counts ∷ []) h
   notes_paired P None (Some y) notes others counts k h = absurd k
@@ -69,9 +79,12 @@ module _ {Place : Type 0} where
 
 module _ {Machine Memory Place Form : Type 0} (rules : Rules Memory Place) where
   -- states of paired memories and threads
-  from_threads : (p : Pairing) (memory twin : Memory) (xs ys : List (Thread Place)) (n m : ℕ) (astray : Option ℕ) → rules.pairs.memories p memory twin
+  from_threads : (p : Pairing) (memory twin : Memory) (xs ys : List (Thread Place)) (n m : ℕ) (astray : Option ℕ)
+      → rules.pairs.memories p memory twin
       → AllZip (AreThreadsPaired (rules.pairs.places p)) xs ys
-      → AreStatesAlike {Machine = Machine} {Form = Form} rules (record { memory = memory; threads = xs; steps = n; astray = astray }) (record { memory = twin; threads = ys; steps = m; astray = astray })
+      → AreStatesAlike {Machine = Machine} {Form = Form} rules
+      (record { memory = memory; threads = xs; steps = n; astray = astray })
+      (record { memory = twin; threads = ys; steps = m; astray = astray })
   from_threads p memory twin xs ys n m astray h z = record {
     paired = (p, h, zip_places _ xs ys z);
     replies = zip_read (λ thread. thread.replies) _ (λ x y k. k.replies) xs ys z;
@@ -80,94 +93,132 @@ module _ {Machine Memory Place Form : Type 0} (rules : Rules Memory Place) where
   }
 
   module _ (state twin : State Machine Memory Place Form) where
-    after_alike : (p : Pairing) (t : ℕ) (thread other : Thread Place) (memory changed : Memory) (outcome result : Outcome Place)
+    after_alike : (p : Pairing) (t : ℕ) (thread other : Thread Place) (memory changed : Memory)
+        (outcome result : Outcome Place)
         → ((q : Pairing) (x y : Place) → Extends p q → rules.pairs.places p x y → rules.pairs.places q x y)
-        → rules.pairs.memories p state.memory twin.memory → AllZip (AreThreadsPaired (rules.pairs.places p)) state.threads twin.threads
-        → AreThreadsPaired (rules.pairs.places p) thread other → AreStepsPaired rules.pairs p (memory, outcome) (changed, result)
-        → AreStatesAlike rules (after_access state t thread (memory, outcome)) (after_access twin t other (changed, result))
+        → rules.pairs.memories p state.memory twin.memory
+        → AllZip (AreThreadsPaired (rules.pairs.places p)) state.threads twin.threads
+        → AreThreadsPaired (rules.pairs.places p) thread other
+        → AreStepsPaired rules.pairs p (memory, outcome) (changed, result)
+        → AreStatesAlike rules (after_access state t thread (memory, outcome))
+        (after_access twin t other (changed, result))
     after_alike p t thread other memory changed (Goes goal) (Goes next) extend h z k both =
         from_threads both.then memory changed _ _ _ _ None both.memories_paired
-        (zip_set _ state.threads twin.threads t _ _ (zip_weaker _ _ (threads_weaker _ _ (λ x y. extend both.then x y both.extends)) state.threads twin.threads z)
+        (zip_set _ state.threads twin.threads t _ _
+        (zip_weaker _ _ (threads_weaker _ _ (λ x y. extend both.then x y both.extends)) state.threads twin.threads
+        z)
         (record { place = both.outcomes_paired; replies = k.replies; notes = k.notes }))
     after_alike p t thread other memory changed (Replies reply) (Replies answer) extend h z k both =
         let same : reply ≡ answer = both.outcomes_paired in
         let replies = k.replies in
         from_threads both.then memory changed _ _ _ _ None both.memories_paired
-        (zip_set _ state.threads twin.threads t _ _ (zip_weaker _ _ (threads_weaker _ _ (λ x y. extend both.then x y both.extends)) state.threads twin.threads z)
+        (zip_set _ state.threads twin.threads t _ _
+        (zip_weaker _ _ (threads_weaker _ _ (λ x y. extend both.then x y both.extends)) state.threads twin.threads
+        z)
         (record { place = tt; replies = λ i. replies i ++ same i ∷ []; notes = k.notes }))
     after_alike p t thread other memory changed Astray Astray extend h z k both =
-        from_threads p state.memory twin.memory _ _ _ _ (Some t) h (zip_set _ state.threads twin.threads t thread other z k)
+        from_threads p state.memory twin.memory _ _ _ _ (Some t) h
+        (zip_set _ state.threads twin.threads t thread other z k)
     after_alike p t thread other memory changed _ _ extend h z k both = absurd both.outcomes_paired
 
     -- the steps of two paired threads
-    stepped_alike : ArePairsLawful rules.pairs rules.first rules.act rules.IsOrdered → (p : Pairing) → rules.pairs.memories p state.memory twin.memory
-        → AllZip (AreThreadsPaired (rules.pairs.places p)) state.threads twin.threads → (t : ℕ) (op : Op) (thread other : Thread Place)
-        → AreThreadsPaired (rules.pairs.places p) thread other → AreStatesAlike rules (stepped rules state t op thread) (stepped rules twin t op other)
+    stepped_alike : ArePairsLawful rules.pairs rules.first rules.act rules.IsOrdered → (p : Pairing)
+        → rules.pairs.memories p state.memory twin.memory
+        → AllZip (AreThreadsPaired (rules.pairs.places p)) state.threads twin.threads
+        → (t : ℕ) (op : Op) (thread other : Thread Place)
+        → AreThreadsPaired (rules.pairs.places p) thread other
+        → AreStatesAlike rules (stepped rules state t op thread) (stepped rules twin t op other)
     stepped_alike lawful p h z t op thread other k =
         let first = lawful.first_paired op p state.memory twin.memory h in
         let place = place_or_paired (rules.pairs.places p) thread.place other.place (rules.first op) first k.place in
-        let counts : finished_counts state.threads ≡ finished_counts twin.threads = zip_read (λ x. length x.replies) _ (λ x y paired. ap length paired.replies) state.threads twin.threads z in
+        let counts : finished_counts state.threads ≡ finished_counts twin.threads =
+        zip_read (λ x. length x.replies) _ (λ x y paired. ap length paired.replies) state.threads twin.threads z in
         let acted = rules.act op (place_or thread.place (rules.first op)) state.memory in
         let matched = rules.act op (place_or other.place (rules.first op)) twin.memory in
-        after_alike p t (at_step rules state op thread) (at_step rules twin op other) acted.0 matched.0 acted.1 matched.1
+        after_alike p t (at_step rules state op thread) (at_step rules twin op other) acted.0 matched.0 acted.1
+        matched.1
         (λ q x y. lawful.places_extend p q x y) h z
         (record {
           place = place;
           replies = k.replies;
-          notes = notes_paired (rules.pairs.places p) thread.place other.place thread.notes other.notes (finished_counts state.threads) k.place k.notes
+          notes = notes_paired (rules.pairs.places p) thread.place other.place thread.notes other.notes
+              (finished_counts state.threads) k.place k.notes
               ∙ ap (λ n. notes_at_step other.place other.notes n) counts;
         })
-        (lawful.act_paired op p (place_or thread.place (rules.first op)) (place_or other.place (rules.first op)) state.memory twin.memory h place)
+        (lawful.act_paired op p (place_or thread.place (rules.first op)) (place_or other.place (rules.first op))
+        state.memory twin.memory h place)
 
-    threads_paired : (alike : AreStatesAlike rules state twin) → AllZip (AreThreadsPaired (rules.pairs.places alike.paired.0)) state.threads twin.threads
+    threads_paired : (alike : AreStatesAlike rules state twin)
+        → AllZip (AreThreadsPaired (rules.pairs.places alike.paired.0)) state.threads twin.threads
     threads_paired alike = threads_zip _ state.threads twin.threads alike.paired.2 alike.replies alike.notes
 
     counts_alike : AreStatesAlike rules state twin → finished_counts state.threads ≡ finished_counts twin.threads
-    counts_alike alike = zip_read (λ x. length x.replies) _ (λ x y paired. ap length paired.replies) state.threads twin.threads (threads_paired alike)
+    counts_alike alike =
+        zip_read (λ x. length x.replies) _ (λ x y paired. ap length paired.replies) state.threads twin.threads
+        (threads_paired alike)
 
     -- paired threads are in the same operation, or may begin the same next
-    next_same : (P : Place → Place → Type 0) (program : Program) (t : ℕ) (counts others : List ℕ) (thread other : Thread Place) → counts ≡ others → AreThreadsPaired P thread other
+    next_same : (P : Place → Place → Type 0) (program : Program) (t : ℕ) (counts others : List ℕ)
+        (thread other : Thread Place) → counts ≡ others → AreThreadsPaired P thread other
         → next_op program counts t thread ≡ next_op program others t other
     next_same P program t counts others thread other c k =
         let held = held_are_some P thread.place other.place k.place in
         let replies = k.replies in
-        λ i. if (if held i then true else is_met (c i) (after_at program t (length (replies i)))) then op_at program t (length (replies i)) else None
+        λ i. if (if held i then true else is_met (c i) (after_at program t (length (replies i)))) then op_at program t
+        (length (replies i)) else None
 
     -- the same threads have a step, each of the same operation
     ready_alike : (alike : AreStatesAlike rules state twin) → (program : Program) (t : ℕ)
-        → AreHeldPaired (λ (x y : Thread Place × Op). AreThreadsPaired (rules.pairs.places alike.paired.0) x.0 y.0 × (x.1 ≡ y.1)) (ready program state t) (ready program twin t)
+        → AreHeldPaired
+        (λ (x y : Thread Place × Op). AreThreadsPaired (rules.pairs.places alike.paired.0) x.0 y.0 × (x.1 ≡ y.1))
+        (ready program state t) (ready program twin t)
     ready_alike alike program t =
         if_paired _ (is_some state.astray) (is_some twin.astray) _ _ (ap is_some alike.astray)
         (then_paired _ (AreThreadsPaired (rules.pairs.places alike.paired.0)) _ _
-        (λ thread other k. map_paired _ (λ op same. op ≡ same) (λ op. (thread, op)) (λ op. (other, op)) (λ op same is. (k, is)) (next_op program (finished_counts state.threads) t thread) (next_op program (finished_counts twin.threads) t other)
-        (held_same _ _ (next_same _ program t (finished_counts state.threads) (finished_counts twin.threads) thread other (counts_alike alike) k)))
-        (slice_get state.threads t) (slice_get twin.threads t) (zip_get _ state.threads twin.threads t (threads_paired alike)))
+        (λ thread other k. map_paired _ (λ op same. op ≡ same) (λ op. (thread, op)) (λ op. (other, op))
+        (λ op same is. (k, is)) (next_op program (finished_counts state.threads) t thread)
+        (next_op program (finished_counts twin.threads) t other)
+        (held_same _ _
+        (next_same _ program t (finished_counts state.threads) (finished_counts twin.threads) thread other
+        (counts_alike alike) k)))
+        (slice_get state.threads t) (slice_get twin.threads t)
+        (zip_get _ state.threads twin.threads t (threads_paired alike)))
 
     -- the same threads have steps, and these are alike
     pub alike_steps : AreLawful rules → AreStatesAlike rules state twin → (program : Program) (t : ℕ)
         → AreHeldPaired (AreStatesAlike rules) (step rules program state t) (step rules program twin t)
     alike_steps lawful alike program t =
-        map_paired (AreStatesAlike rules) (λ (x y : Thread Place × Op). AreThreadsPaired (rules.pairs.places alike.paired.0) x.0 y.0 × (x.1 ≡ y.1)) _ _
+        map_paired (AreStatesAlike rules)
+        (λ (x y : Thread Place × Op). AreThreadsPaired (rules.pairs.places alike.paired.0) x.0 y.0 × (x.1 ≡ y.1)) _
+        _
         (λ x y k. subst (λ op. AreStatesAlike rules (stepped rules state t x.1 x.0) (stepped rules twin t op y.0)) k.1
         (stepped_alike lawful.pairs_lawful alike.paired.0 alike.paired.1 (threads_paired alike) t x.1 x.0 y.0 k.0))
         (ready program state t) (ready program twin t) (ready_alike alike program t)
 
     -- a step of the one is alike to a step of the other
-    pub alike_step : AreLawful rules → AreStatesAlike rules state twin → (program : Program) (t : ℕ) (next : State Machine Memory Place Form) → step rules program state t ≡ Some next
-        → (other : State Machine Memory Place Form) × (step rules program twin t ≡ Some other) × AreStatesAlike rules next other
-    alike_step lawful alike program t next h = held_some _ (step rules program state t) (step rules program twin t) next (alike_steps lawful alike program t) h
+    pub alike_step : AreLawful rules → AreStatesAlike rules state twin
+        → (program : Program) (t : ℕ) (next : State Machine Memory Place Form) → step rules program state t ≡ Some next
+        → (other : State Machine Memory Place Form) × (step rules program twin t ≡ Some other)
+        × AreStatesAlike rules next other
+    alike_step lawful alike program t next h =
+        held_some _ (step rules program state t) (step rules program twin t) next (alike_steps lawful alike program t) h
 
-    pub alike_next : AreLawful rules → AreStatesAlike rules state twin → (program : Program) (t : ℕ) (next : State Machine Memory Place Form) → step rules program state t ≡ Some next
+    pub alike_next : AreLawful rules → AreStatesAlike rules state twin
+        → (program : Program) (t : ℕ) (next : State Machine Memory Place Form) → step rules program state t ≡ Some next
         → IsSomeAnd (step rules program twin t) (AreStatesAlike rules next)
-    alike_next lawful alike program t next h = held_some_and _ (step rules program state t) (step rules program twin t) next (alike_steps lawful alike program t) h
+    alike_next lawful alike program t next h =
+        held_some_and _ (step rules program state t) (step rules program twin t) next
+        (alike_steps lawful alike program t) h
 
     -- the same threads are enabled
-    pub alike_enabled : AreStatesAlike rules state twin → (program : Program) (t : ℕ) → IsEnabled program state t ↔ IsEnabled program twin t
+    pub alike_enabled : AreStatesAlike rules state twin → (program : Program) (t : ℕ) → IsEnabled program state t
+        ↔ IsEnabled program twin t
     alike_enabled alike program t =
         let same = held_are_some _ (ready program state t) (ready program twin t) (ready_alike alike program t) in
         ((λ enabled. sym same ∙ enabled), (λ enabled. same ∙ enabled))
 
-    pub alike_told : AreStatesAlike rules state twin → (program : Program) (t : ℕ) (told : Bool) → (IsTrue told ↔ IsEnabled program state t) → IsTrue told ↔ IsEnabled program twin t
+    pub alike_told : AreStatesAlike rules state twin → (program : Program) (t : ℕ) (told : Bool)
+        → (IsTrue told ↔ IsEnabled program state t) → IsTrue told ↔ IsEnabled program twin t
     alike_told alike program t told is =
         let same = alike_enabled alike program t in
         ((λ h. same.0 (is.0 h)), (λ enabled. is.1 (same.1 enabled)))
@@ -178,5 +229,7 @@ module _ {Machine Memory Place Form : Type 0} (rules : Rules Memory Place) where
         let notes = alike.notes in
         λ i. record { begun = all_named 0 (notes i); finished = all_named 0 (replies i) }
 
-    pub alike_ordered : AreLawful rules → AreStatesAlike rules state twin → rules.IsOrdered state.memory → rules.IsOrdered twin.memory
-    alike_ordered lawful alike = (lawful.pairs_lawful.ordered_paired alike.paired.0 state.memory twin.memory alike.paired.1).0
+    pub alike_ordered : AreLawful rules → AreStatesAlike rules state twin → rules.IsOrdered state.memory
+        → rules.IsOrdered twin.memory
+    alike_ordered lawful alike =
+        (lawful.pairs_lawful.ordered_paired alike.paired.0 state.memory twin.memory alike.paired.1).0

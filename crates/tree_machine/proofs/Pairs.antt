@@ -1,24 +1,28 @@
 -- Options and lists whose values are paired.
-use Rattle.std.proofs.Common.{◌≡◌, ℕ, zero, suc, if◌then◌else◌, List, [], ◌∷◌, Bool, true, false, Option, Some, None, option_and_then, refl, slice_get, slice_set}
+use Rattle.std.proofs.Common.{◌≡◌, ℕ, zero, suc, if◌then◌else◌, List, [], ◌∷◌, Bool, true, false, Option, Some, None}
+use Rattle.std.proofs.Common.{option_and_then, refl, slice_get, slice_set}
 use Rattle.std.specs.Prelude.{is_some, IsSomeAnd}
 use Rattle.std.specs.List.{AllZip}
 use Rattle.std.specs.Option.{option_map}
 use Rattle.tree_machine.specs.Pairing.{AreHeldPaired}
 
 module _ {A : Type 0} where
-  pub held_weaker : (P Q : A → A → Type 0) → ((x y : A) → P x y → Q x y) → (held twin : Option A) → AreHeldPaired P held twin → AreHeldPaired Q held twin
+  pub held_weaker : (P Q : A → A → Type 0) → ((x y : A) → P x y → Q x y) → (held twin : Option A)
+      → AreHeldPaired P held twin → AreHeldPaired Q held twin
   held_weaker P Q h None None k = tt
   held_weaker P Q h None (Some y) k = absurd k
   held_weaker P Q h (Some x) None k = absurd k
   held_weaker P Q h (Some x) (Some y) k = h x y k
 
-  pub zip_weaker : (P Q : A → A → Type 0) → ((x y : A) → P x y → Q x y) → (xs ys : List A) → AllZip P xs ys → AllZip Q xs ys
+  pub zip_weaker : (P Q : A → A → Type 0) → ((x y : A) → P x y → Q x y) → (xs ys : List A) → AllZip P xs ys
+      → AllZip Q xs ys
   zip_weaker P Q h [] [] z = tt
   zip_weaker P Q h [] (y ∷ ys) z = absurd z
   zip_weaker P Q h (x ∷ xs) [] z = absurd z
   zip_weaker P Q h (x ∷ xs) (y ∷ ys) z = (h x y z.0, zip_weaker P Q h xs ys z.1)
 
-  pub zip_set : (P : A → A → Type 0) (xs ys : List A) (t : ℕ) (a b : A) → AllZip P xs ys → P a b → AllZip P (slice_set xs t a) (slice_set ys t b)
+  pub zip_set : (P : A → A → Type 0) (xs ys : List A) (t : ℕ) (a b : A) → AllZip P xs ys → P a b
+      → AllZip P (slice_set xs t a) (slice_set ys t b)
   zip_set P [] [] t a b z p = tt
   zip_set P [] (y ∷ ys) t a b z p = absurd z
   zip_set P (x ∷ xs) [] t a b z p = absurd z
@@ -26,27 +30,31 @@ module _ {A : Type 0} where
   zip_set P (x ∷ xs) (y ∷ ys) (suc t) a b z p = (z.0, zip_set P xs ys t a b z.1 p)
 
   -- two paired lists have paired elements, or none in both
-  pub zip_get : (P : A → A → Type 0) (xs ys : List A) (t : ℕ) → AllZip P xs ys → AreHeldPaired P (slice_get xs t) (slice_get ys t)
+  pub zip_get : (P : A → A → Type 0) (xs ys : List A) (t : ℕ) → AllZip P xs ys
+      → AreHeldPaired P (slice_get xs t) (slice_get ys t)
   zip_get P [] [] t z = tt
   zip_get P [] (y ∷ ys) t z = absurd z
   zip_get P (x ∷ xs) [] t z = absurd z
   zip_get P (x ∷ xs) (y ∷ ys) zero z = z.0
   zip_get P (x ∷ xs) (y ∷ ys) (suc t) z = zip_get P xs ys t z.1
 
-  pub if_paired : (P : A → A → Type 0) (b c : Bool) (held twin : Option A) → b ≡ c → AreHeldPaired P held twin → AreHeldPaired P (if b then None else held) (if c then None else twin)
+  pub if_paired : (P : A → A → Type 0) (b c : Bool) (held twin : Option A) → b ≡ c → AreHeldPaired P held twin
+      → AreHeldPaired P (if b then None else held) (if c then None else twin)
   if_paired P true true held twin h k = tt
   if_paired P true false held twin h k = cc
   if_paired P false true held twin h k = cc
   if_paired P false false held twin h k = k
 
   -- what stands in two options that are paired
-  pub held_some : (P : A → A → Type 0) (held twin : Option A) (x : A) → AreHeldPaired P held twin → held ≡ Some x → (y : A) × (twin ≡ Some y) × P x y
+  pub held_some : (P : A → A → Type 0) (held twin : Option A) (x : A) → AreHeldPaired P held twin → held ≡ Some x
+      → (y : A) × (twin ≡ Some y) × P x y
   held_some P None None x k h = cc
   held_some P None (Some y) x k h = absurd k
   held_some P (Some a) None x k h = absurd k
   held_some P (Some a) (Some y) x k h = let same : a ≡ x = (cc) in (y, refl, rw same at k)
 
-  pub held_some_and : (P : A → A → Type 0) (held twin : Option A) (x : A) → AreHeldPaired P held twin → held ≡ Some x → IsSomeAnd twin (P x)
+  pub held_some_and : (P : A → A → Type 0) (held twin : Option A) (x : A) → AreHeldPaired P held twin → held ≡ Some x
+      → IsSomeAnd twin (P x)
   held_some_and P None None x k h = cc
   held_some_and P None (Some y) x k h = absurd k
   held_some_and P (Some a) None x k h = absurd k
@@ -59,21 +67,24 @@ module _ {A : Type 0} where
   held_same (Some x) (Some y) h = (cc)
 
   -- both options hold a value, or neither does
-  pub held_are_some : (P : A → A → Type 0) (held twin : Option A) → AreHeldPaired P held twin → is_some held ≡ is_some twin
+  pub held_are_some : (P : A → A → Type 0) (held twin : Option A) → AreHeldPaired P held twin
+      → is_some held ≡ is_some twin
   held_are_some P None None k = refl
   held_are_some P None (Some y) k = absurd k
   held_are_some P (Some x) None k = absurd k
   held_are_some P (Some x) (Some y) k = refl
 
 module _ {A B : Type 0} (Q : B → B → Type 0) where
-  pub then_paired : (P : A → A → Type 0) (f g : A → Option B) → ((x y : A) → P x y → AreHeldPaired Q (f x) (g y)) → (held twin : Option A)
+  pub then_paired : (P : A → A → Type 0) (f g : A → Option B) → ((x y : A) → P x y → AreHeldPaired Q (f x) (g y))
+      → (held twin : Option A)
       → AreHeldPaired P held twin → AreHeldPaired Q (option_and_then f held) (option_and_then g twin)
   then_paired P f g h None None k = tt
   then_paired P f g h None (Some y) k = absurd k
   then_paired P f g h (Some x) None k = absurd k
   then_paired P f g h (Some x) (Some y) k = h x y k
 
-  pub map_paired : (P : A → A → Type 0) (f g : A → B) → ((x y : A) → P x y → Q (f x) (g y)) → (held twin : Option A) → AreHeldPaired P held twin → AreHeldPaired Q (option_map f held) (option_map g twin)
+  pub map_paired : (P : A → A → Type 0) (f g : A → B) → ((x y : A) → P x y → Q (f x) (g y)) → (held twin : Option A)
+      → AreHeldPaired P held twin → AreHeldPaired Q (option_map f held) (option_map g twin)
   map_paired P f g h None None k = tt
   map_paired P f g h None (Some y) k = absurd k
   map_paired P f g h (Some x) None k = absurd k

@@ -1,11 +1,13 @@
--- Alike states, which differ in nothing but the numbers of nodes, of records and of steps taken; and the forms of states.
+-- Alike states, which differ in nothing but the numbers of nodes, of records and of steps taken; and the forms of
+-- states.
 use Rattle.std.specs.Prelude.{◌≡◌, Bool, ℕ, List, map, Option}
 use Rattle.tree_machine.specs.Pairing.{AreAlike}
 use Rattle.tree_machine.specs.Rules.{Rules}
 use Rattle.tree_machine.specs.declared.state.Thread.{Thread}
 use Rattle.tree_machine.specs.declared.state.State.{State}
 
--- what the form of a state tells: the machine's form of the memory and of what the threads hold, what the threads did, and who went astray
+-- what the form of a state tells: the machine's form of the memory and of what the threads hold, what the threads did,
+-- and who went astray
 pub record FormContent (Form : Type 0) : Type 0 where
   pub form : Form
   pub replies : List (List Bool)
@@ -26,7 +28,8 @@ module _ {Place : Type 0} where
   notes_of threads = map (λ thread. thread.notes) threads
 
 module _ {Machine Memory Place Form : Type 0} where
-  -- some pairing pairs the memories and what the threads hold, the threads did the same, and both are astray by the same thread or neither is
+  -- some pairing pairs the memories and what the threads hold, the threads did the same, and both are astray by the
+  -- same thread or neither is
   pub record AreStatesAlike (rules : Rules Memory Place) (state twin : State Machine Memory Place Form) : Type 0 where
     pub paired : AreAlike rules.pairs state.memory (places_of state.threads) twin.memory (places_of twin.threads)
     pub replies : replies_of state.threads ≡ replies_of twin.threads

@@ -1,5 +1,7 @@
--- Cells that refer to each other, and their canonical form: renumbered in the order in which a walk from the roots meets them.
-use Rattle.std.specs.Prelude.{◌≡◌, ℕ, zero, suc, ◌<◌, ⊤, if◌then◌else◌, ◌==◌, nat_eq, List, [], ◌∷◌, ◌++◌, map, length, slice_get, Option, Some, None, unwrap_or, IfSome}
+-- Cells that refer to each other, and their canonical form: renumbered in the order in which a walk from the roots
+-- meets them.
+use Rattle.std.specs.Prelude.{◌≡◌, ℕ, zero, suc, ◌<◌, ⊤, if◌then◌else◌, ◌==◌, nat_eq, List, [], ◌∷◌, ◌++◌, map, length}
+use Rattle.std.specs.Prelude.{slice_get, Option, Some, None, unwrap_or, IfSome}
 use Rattle.std.specs.List.{list_any, AllZip, All, IsDistinct}
 use Rattle.std.specs.Option.{option_map, option_and_then}
 use Rattle.tree_machine.specs.Pairing.{IsOneToOne, IsAmong}
@@ -27,7 +29,8 @@ IsPairedOrNone P (Some x) None = ⊥
 IsPairedOrNone P (Some x) (Some y) = P x y
 
 -- P pairs the roots place by place, and cells of equal facts whose refs it pairs place by place
-pub record IsPairing (P : ℕ → ℕ → Type 0) (cells : List Content) (roots : List ℕ) (others : List Content) (targets : List ℕ) : Type 0 where
+pub record IsPairing (P : ℕ → ℕ → Type 0) (cells : List Content) (roots : List ℕ) (others : List Content)
+    (targets : List ℕ) : Type 0 where
   pub one_to_one : IsOneToOne P
   pub in_range : (x y : ℕ) → P x y → (x < length cells) × (y < length others)
   pub roots_paired : AllZip P roots targets

@@ -20,7 +20,8 @@ astray_code (Some t) = 1 ∷ t ∷ []
 
 -- what the threads did, and who went astray
 abbrev pub deeds_code : List (List Bool) → List (List (List ℕ)) → Option ℕ → List ℕ
-deeds_code replies notes astray = list_code (list_code reply_code) replies ++ (list_code (list_code note_code) notes ++ astray_code astray)
+deeds_code replies notes astray =
+    list_code (list_code reply_code) replies ++ (list_code (list_code note_code) notes ++ astray_code astray)
 
 -- all of it: the machine's form stands last, since nothing tells where its bytes end
 abbrev pub content_code : {Form : Type 0} → (Form → List ℕ) → FormContent Form → List ℕ

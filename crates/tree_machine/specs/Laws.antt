@@ -2,6 +2,7 @@
 pub mod Atomic
 pub mod AtomicCode
 pub mod ByteLists
+pub mod CellLists
 pub mod CellOrder
 pub mod CellPlaces
 pub mod CellSteps
@@ -11,6 +12,7 @@ pub mod FormCode
 pub mod Graphs
 pub mod InitialKeys
 pub mod PairLists
+pub mod PartCells
 pub mod Parts
 pub mod SearchOrder
 pub mod SearchOrderPairs

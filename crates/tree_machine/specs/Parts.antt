@@ -1,5 +1,6 @@
 -- Nodes, records and what the threads hold, in parts, and their pairings.
-use Rattle.std.specs.Prelude.{◌≡◌, ℕ, ◌+◌, ◌<◌, ◌≤◌, List, [], ◌∷◌, ◌++◌, map, length, slice_get, unwrap_or, Option, IfSome}
+use Rattle.std.specs.Prelude.{◌≡◌, ℕ, ◌+◌, ◌<◌, ◌≤◌, List, [], ◌∷◌, ◌++◌, map, length, slice_get, unwrap_or, Option}
+use Rattle.std.specs.Prelude.{IfSome}
 use Rattle.std.specs.List.{AllZip, All}
 use Rattle.std.specs.Option.{option_map}
 use Rattle.tree_machine.specs.Cells.{Content, IsPairedOrNone}
@@ -57,7 +58,8 @@ pub record ArePartsInRange (fixed : ℕ) (s : Parts) : Type 0 where
 
 -- a part of this kind as a cell, where records stand behind n nodes
 abbrev pub part_cell : ℕ → ℕ → Part → Content
-part_cell n kind p = record { facts = kind ∷ length p.nodes ∷ p.facts; refs = p.nodes ++ map (option_map (λ x. n + x)) p.records }
+part_cell n kind p =
+    record { facts = kind ∷ length p.nodes ∷ p.facts; refs = p.nodes ++ map (option_map (λ x. n + x)) p.records }
 
 -- the nodes and the records as cells
 abbrev pub parts_graph : Parts → List Content
@@ -73,4 +75,5 @@ parts_form fixed s = graph_form fixed (parts_graph s) (parts_held s)
 
 -- some pairs of nodes and some pairs of records are a pairing
 abbrev pub CanPartsBePaired : ℕ → Parts → Parts → Type 0
-CanPartsBePaired fixed here there = (nodes : List (ℕ × ℕ)) × (records : List (ℕ × ℕ)) × IsPartsPairing (IsAmong nodes) (IsAmong records) fixed here there
+CanPartsBePaired fixed here there = (nodes : List (ℕ × ℕ)) × (records : List (ℕ × ℕ))
+    × IsPartsPairing (IsAmong nodes) (IsAmong records) fixed here there

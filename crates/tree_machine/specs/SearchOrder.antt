@@ -14,7 +14,8 @@ side_of k m = if nat_lt k m then Left else Right
 abbrev pub IsNodeOrdered : (ℕ → ℕ → ℕ → Type 0) → ℕ → ℕ → Option Shape → Type 0
 IsNodeOrdered IsOrderedBelow low high None = ⊥
 IsNodeOrdered IsOrderedBelow low high (Some (Leaf k)) = (low ≤ k) × (k < high)
-IsNodeOrdered IsOrderedBelow low high (Some (Internal m l r)) = IsOrderedBelow low (min m high) l × IsOrderedBelow (max m low) high r
+IsNodeOrdered IsOrderedBelow low high (Some (Internal m l r)) =
+    IsOrderedBelow low (min m high) l × IsOrderedBelow (max m low) high r
 
 -- node x is in order between low and high within so many levels
 abbrev pub IsOrderedWithin : (ℕ → Option Shape) → ℕ → ℕ → ℕ → ℕ → Type 0
@@ -39,4 +40,5 @@ went_down k below here (Some (Internal m l r)) = below (if nat_lt k m then l els
 -- where a search for key k ends that stands at node x below a parent, and goes down so many levels at most
 abbrev pub end_of : (ℕ → Option Shape) → ℕ → ℕ → ℕ → ℕ → End
 end_of shapes k zero parent x = record { parent = parent; leaf = x }
-end_of shapes k (suc levels) parent x = went_down k (end_of shapes k levels x) (record { parent = parent; leaf = x }) (shapes x)
+end_of shapes k (suc levels) parent x =
+    went_down k (end_of shapes k levels x) (record { parent = parent; leaf = x }) (shapes x)

@@ -14,7 +14,8 @@ pub record Written : Type 0 where
 
 -- the same once a cell is written: what it names is met, and it stands behind the bytes, with places for what it names
 abbrev pub with_cell : Written → Content → Written
-with_cell w c = record w { order = met_all w.order c.refs; bytes = w.bytes ++ cell_code (renamed (met_all w.order c.refs) c) }
+with_cell w c =
+    record w { order = met_all w.order c.refs; bytes = w.bytes ++ cell_code (renamed (met_all w.order c.refs) c) }
 
 -- the same once a part is written
 abbrev pub with_part : Written → Part → Written

@@ -1,5 +1,6 @@
 -- What clap's matches hold where it finds no fault: an argument that is set has a value, which its parser takes.
-use Rattle.std.proofs.Common.{◌≡◌, ◌∙◌, ◌&&◌, ◌||◌, ℕ, Bool, cond, true, false, not, refl, ap, subst, List, [], ◌∷◌, ◌++◌, ◌+◌, min, length, Option, Some, None}
+use Rattle.std.proofs.Common.{◌≡◌, ◌∙◌, ◌&&◌, ◌||◌, ℕ, Bool, cond, true, false, not, refl, ap, subst, List, [], ◌∷◌}
+use Rattle.std.proofs.Common.{◌++◌, ◌+◌, min, length, Option, Some, None}
 use Rattle.std.specs.Prelude.{⊤, fold, find, slice_get}
 use Rattle.std.specs.List.{list_any}
 use Rattle.std.specs.Option.{option_map_or}
@@ -8,13 +9,17 @@ use Rattle.std.proofs.lemmas.List.Folds.{list_any-append}
 use Rattle.clap.specs.Matches.{count_text}
 use Rattle.clap.proofs.SimpleLemmas.{is_nil}
 use Rattle.std.proofs.lemmas.Slice.Eq.{bytes_eq-Decides}
-use Rattle.clap.specs.Faults.{action_fault, default_fault, defaults_fault, given_default_fault, settle_fault, use_fault, values_fault}
+use Rattle.clap.specs.Faults.{action_fault, default_fault, defaults_fault, given_default_fault, settle_fault, use_fault}
+use Rattle.clap.specs.Faults.{values_fault}
 use Rattle.clap.specs.Facts.{explicit_source, parser_of_value, unwrap_or_range}
 use Rattle.clap.specs.Kinds.{Kinds, or_else, range_kinds, request_kinds, value_kinds}
 use Rattle.clap.specs.Takes.{is_given, value_passes}
 use Rattle.clap.specs.Values.{refused_kind}
 use Rattle.clap.specs.ValueTests.{accepts}
-use Rattle.clap.specs.Walk.{Held, Row, Rule, Text, action_of, arg_by_id, at_row, count_of, counted, default_rows, has_row, is_empty, more_values, most_values, new_count, reading_by, settled, settled_rows, stronger, used, used_as, used_by_id, values_or_missing, with_count, with_default, with_values, without}
+use Rattle.clap.specs.Walk.{Held, Row, Rule, Text, action_of, arg_by_id, at_row, count_of, counted, default_rows}
+use Rattle.clap.specs.Walk.{has_row, is_empty, more_values, most_values, new_count, reading_by, settled, settled_rows}
+use Rattle.clap.specs.Walk.{stronger, used, used_as, used_by_id, values_or_missing, with_count, with_default}
+use Rattle.clap.specs.Walk.{with_values, without}
 use Rattle.clap.specs.declared.builder.action.ArgAction.{ArgAction}
 use Rattle.clap.specs.declared.builder.action.ArgAction.TheVariants as action
 use Rattle.clap.specs.declared.error.kind.ErrorKind.{ErrorKind}
@@ -45,7 +50,8 @@ abbrev pub AreRegular : List Rule → List Rule → Type 0
 AreRegular c [] = ⊤
 AreRegular c (a ∷ rest) = IsRegular c a × AreRegular c rest
 
-pub found : (c : List Rule) (p : Rule → Bool) (rules : List Rule) (a : Rule) → AreRegular c rules → find p rules ≡ Some a → IsRegular c a
+pub found : (c : List Rule) (p : Rule → Bool) (rules : List Rule) (a : Rule) → AreRegular c rules
+    → find p rules ≡ Some a → IsRegular c a
 found c p [] a regular is = absurd (cc)
 found c p (x ∷ xs) a regular is = go (p x) refl (found c p xs a regular.1)
   where
@@ -71,7 +77,8 @@ none_unless true k h = refl
 none_unless false k h = absurd (cc)
 
 first_passes : (a : Rule) (v : Text) (vs : List Text) → values_fault a (v ∷ vs) ≡ [] → value_passes a v ≡ true
-first_passes a v vs h = none_unless (accepts a.ignore_case (parser_of_value a.parser) v) (refused_kind (parser_of_value a.parser))
+first_passes a v vs h =
+    none_unless (accepts a.ignore_case (parser_of_value a.parser) v) (refused_kind (parser_of_value a.parser))
     (none_of (value_kinds a.ignore_case (parser_of_value a.parser) v) _ h).0
 
 -- ---- a change of one row
@@ -81,7 +88,8 @@ appended c [] ys first rest = rest
 appended c (x ∷ xs) ys first rest = (first.0, appended c xs ys first.1 rest)
 
 changed : (c : List Rule) (id : Text) (change : Row → List Row) (missing rows : List Row)
-    → ((r : Row) → Suits c r → Suit c (change r)) → Suit c missing → Suit c rows → Suit c (at_row id change missing rows)
+    → ((r : Row) → Suits c r → Suit c (change r)) → Suit c missing → Suit c rows
+    → Suit c (at_row id change missing rows)
 changed c id change missing [] on_change new suit = new
 changed c id change missing (r ∷ rs) on_change new suit =
     go (bytes_eq r.id id) (changed c id change missing rs on_change new suit.1)
@@ -107,7 +115,12 @@ more_suits : (c : List Rule) (r : Row) (more : List Text) (count : Option ℕ) (
     → Suits c (record r { values = r.values ++ more; count = count; source = source })
 more_suits c r more count source suits a is set =
     let was = suits a is set in
-    record { reading = was.reading; text = was.text; first = first_stays r.values more was.text was.first; passes = was.passes }
+    record {
+      reading = was.reading;
+      text = was.text;
+      first = first_stays r.values more was.text was.first;
+      passes = was.passes;
+    }
 
 module _ (c : List Rule) (a : Rule) (own : arg_by_id c a.id ≡ Some a) where
   -- the values begin with one that the argument's parser takes
@@ -117,13 +130,15 @@ module _ (c : List Rule) (a : Rule) (own : arg_by_id c a.id ≡ Some a) where
   new_row : ValueSource → List Text → Option ℕ → Row
   new_row s values count = record { id = a.id; values = values; count = count; source = Some s; reading = reading_by a }
 
-  new_row_suits : (s : ValueSource) (values : List Text) (count : Option ℕ) → (action_of a ≡ action.Set → BeginsWell values)
+  new_row_suits : (s : ValueSource) (values : List Text) (count : Option ℕ)
+      → (action_of a ≡ action.Set → BeginsWell values)
       → Suits c (new_row s values count)
   unfolding new_row
   new_row_suits s values count value = new_suits c a (new_row s values count) own refl (λ set.
       let v = value set in record { reading = refl; text = v.0; first = v.1; passes = v.2 })
 
-  pub values_suit : (s : ValueSource) (values : List Text) (rows : List Row) → (action_of a ≡ action.Set → BeginsWell values)
+  pub values_suit : (s : ValueSource) (values : List Text) (rows : List Row)
+      → (action_of a ≡ action.Set → BeginsWell values)
       → Suit c rows → Suit c (with_values a.id (reading_by a) s values rows)
   unfolding new_row
   values_suit s values rows value suit =
@@ -152,8 +167,11 @@ module _ (c : List Rule) (again : Bool) (a : Rule) (regular : IsRegular c a) whe
       let bad = rw one at range in
       absurd (cc)
   set_begins (v ∷ vs) rows set none =
-      let acts = (none_of (range_kinds (unwrap_or_range a.range).start_inclusive (most_values a) (length (v ∷ vs))) _ none).1 in
-      let acts_set : action_fault action.Set again a (v ∷ vs) rows ≡ [] = subst (λ x. action_fault x again a (v ∷ vs) rows ≡ []) set acts in
+      let acts =
+      (none_of (range_kinds (unwrap_or_range a.range).start_inclusive (most_values a) (length (v ∷ vs))) _
+      none).1 in
+      let acts_set : action_fault action.Set again a (v ∷ vs) rows ≡ [] =
+      subst (λ x. action_fault x again a (v ∷ vs) rows ≡ []) set acts in
       (v, refl, first_passes a v vs (none_of _ (values_fault a (v ∷ vs)) acts_set).1)
 
   counted_suits : (values : List Text) (rows : List Row) → (action_of a ≡ action.Set → ⊥) → Suit c rows
@@ -166,13 +184,17 @@ module _ (c : List Rule) (again : Bool) (a : Rule) (regular : IsRegular c a) whe
       (without_suits c a regular.own rows suit)
 
   used_as_suits : (x : ArgAction) → action_of a ≡ x → (values : List Text) (rows : List Row)
-      → (x ≡ action.Set → BeginsWell c a regular.own values) → Suit c rows → Suit c (used_as x a.id (reading_by a) values rows)
+      → (x ≡ action.Set → BeginsWell c a regular.own values) → Suit c rows
+      → Suit c (used_as x a.id (reading_by a) values rows)
   used_as_suits action.Set is values rows value suit =
-      values_suit c a regular.own CommandLine values (without a.id rows) (λ set. value refl) (without_suits c a regular.own rows suit)
+      values_suit c a regular.own CommandLine values (without a.id rows) (λ set. value refl)
+      (without_suits c a regular.own rows suit)
   used_as_suits action.SetTrue is values rows value suit =
-      values_suit c a regular.own CommandLine values (without a.id rows) (λ set. absurd (cc)) (without_suits c a regular.own rows suit)
+      values_suit c a regular.own CommandLine values (without a.id rows) (λ set. absurd (cc))
+      (without_suits c a regular.own rows suit)
   used_as_suits action.SetFalse is values rows value suit =
-      values_suit c a regular.own CommandLine values (without a.id rows) (λ set. absurd (cc)) (without_suits c a regular.own rows suit)
+      values_suit c a regular.own CommandLine values (without a.id rows) (λ set. absurd (cc))
+      (without_suits c a regular.own rows suit)
   used_as_suits action.Append is values rows value suit =
       values_suit c a regular.own CommandLine values rows (λ set. absurd (cc)) suit
   used_as_suits action.Count is values rows value suit = counted_suits values rows (λ set. (cc)) suit
@@ -181,7 +203,8 @@ module _ (c : List Rule) (again : Bool) (a : Rule) (regular : IsRegular c a) whe
   used_as_suits action.HelpLong is values rows value suit = suit
   used_as_suits action.Version is values rows value suit = suit
 
-  pub used_suits : (values : List Text) (rows : List Row) → use_fault again a values rows ≡ [] → Suit c rows → Suit c (used a values rows)
+  pub used_suits : (values : List Text) (rows : List Row) → use_fault again a values rows ≡ [] → Suit c rows
+      → Suit c (used a values rows)
   used_suits values rows none suit =
       used_as_suits (action_of a) refl (values_or_missing a values) rows (λ set. set_begins values rows set none) suit
 
@@ -201,14 +224,17 @@ module _ (c : List Rule) (again : Bool) (regular : AreRegular c c) where
       by_id : (o : Option Rule) (id : Text) (values : List Text) → arg_by_id c id ≡ o
           → option_map_or (λ a. use_fault again a values h.rows) o [] ≡ [] → Suit c (used_by_id o values h.rows)
       by_id None id values is none = suit
-      by_id (Some a) id values is none = used_suits c again a (found c (λ x. bytes_eq x.id id) c a regular is) values h.rows none suit
+      by_id (Some a) id values is none =
+          used_suits c again a (found c (λ x. bytes_eq x.id id) c a regular is) values h.rows none suit
 
-      go : (p : Option (Text × List Text)) → option_map_or (λ q. option_map_or (λ a. use_fault again a q.1 h.rows) (arg_by_id c q.0) []) p [] ≡ []
+      go : (p : Option (Text × List Text))
+          → option_map_or (λ q. option_map_or (λ a. use_fault again a q.1 h.rows) (arg_by_id c q.0) []) p [] ≡ []
           → Suit c (settled_rows c p h.rows)
       go None none = suit
       go (Some q) none = by_id (arg_by_id c q.0) q.0 q.1 refl none
 
-  default_suits : (a : Rule) (rows : List Row) → IsRegular c a → default_fault rows a ≡ [] → Suit c rows → Suit c (with_default rows a)
+  default_suits : (a : Rule) (rows : List Row) → IsRegular c a → default_fault rows a ≡ [] → Suit c rows
+      → Suit c (with_default rows a)
   default_suits a rows own none suit = go (has_row a.id rows) none
     where
       given : (values : List Text) → cond (is_empty values) [] (given_default_fault a values) ≡ []
@@ -217,14 +243,21 @@ module _ (c : List Rule) (again : Bool) (regular : AreRegular c c) where
       given (v ∷ vs) fault =
           let some = not_empty v vs in
           let none : given_default_fault a (v ∷ vs) ≡ [] = rw some at fault in
-          values_suit c a own.own DefaultValue (v ∷ vs) rows (λ set. (v, refl, first_passes a v vs (none_of (request_kinds (action_of a)) (values_fault a (v ∷ vs)) none).1)) suit
+          values_suit c a own.own DefaultValue (v ∷ vs) rows
+          (λ set. (
+            v,
+            refl,
+            first_passes a v vs
+                (none_of (request_kinds (action_of a)) (values_fault a (v ∷ vs)) none).1,
+          )) suit
 
       go : (b : Bool) → cond (b || is_empty a.defaults) [] (given_default_fault a a.defaults) ≡ []
           → Suit c (cond b rows (default_rows a.id (reading_by a) a.defaults rows))
       go true none = suit
       go false none = given a.defaults none
 
-  pub defaults_suit : (rules : List Rule) (rows : List Row) → AreRegular c rules → defaults_fault rows rules ≡ [] → Suit c rows
+  pub defaults_suit : (rules : List Rule) (rows : List Row) → AreRegular c rules → defaults_fault rows rules ≡ []
+      → Suit c rows
       → Suit c (fold with_default rows rules)
   unfolding defaults_fault
   defaults_suit [] rows own none suit = suit
@@ -241,18 +274,22 @@ or_false false = refl
 has_id : (id : Text) → bytes_eq id id ≡ true
 has_id id = (bytes_eq-Decides id id).1 refl
 
-row_stays : (i id : Text) (change : Row → List Row) (missing rows : List Row) → ((r : Row) → list_any (λ x. bytes_eq x.id i) (change r) ≡ bytes_eq r.id i)
+row_stays : (i id : Text) (change : Row → List Row) (missing rows : List Row)
+    → ((r : Row) → list_any (λ x. bytes_eq x.id i) (change r) ≡ bytes_eq r.id i)
     → has_row i rows ≡ true → has_row i (at_row id change missing rows) ≡ true
 row_stays i id change missing [] same has = absurd (cc)
-row_stays i id change missing (r ∷ rs) same has = go (bytes_eq r.id id) (bytes_eq r.id i) refl (row_stays i id change missing rs same) has
+row_stays i id change missing (r ∷ rs) same has =
+    go (bytes_eq r.id id) (bytes_eq r.id i) refl (row_stays i id change missing rs same) has
   where
-    go : (b d : Bool) → bytes_eq r.id i ≡ d → (has_row i rs ≡ true → has_row i (at_row id change missing rs) ≡ true) → (d || has_row i rs) ≡ true
+    go : (b d : Bool) → bytes_eq r.id i ≡ d → (has_row i rs ≡ true → has_row i (at_row id change missing rs) ≡ true)
+        → (d || has_row i rs) ≡ true
         → has_row i (cond b (change r ++ rs) (r ∷ at_row id change missing rs)) ≡ true
     go true d e rest h = list_any-append (λ x. bytes_eq x.id i) (change r) rs ∙ rw (same r, e) h
     go false true e rest h = rw e refl
     go false false e rest h = rw e (rest h)
 
-row_made : (id : Text) (change : Row → List Row) (missing rows : List Row) → ((r : Row) → list_any (λ x. bytes_eq x.id id) (change r) ≡ bytes_eq r.id id)
+row_made : (id : Text) (change : Row → List Row) (missing rows : List Row)
+    → ((r : Row) → list_any (λ x. bytes_eq x.id id) (change r) ≡ bytes_eq r.id id)
     → has_row id missing ≡ true → has_row id (at_row id change missing rows) ≡ true
 row_made id change missing [] same made = made
 row_made id change missing (r ∷ rs) same made = go (bytes_eq r.id id) refl (row_made id change missing rs same made)
@@ -266,10 +303,12 @@ module _ (a : Rule) (rows : List Row) where
   default_keeps : (i : Text) → has_row i rows ≡ true → has_row i (with_default rows a) ≡ true
   default_keeps i has = go (has_row a.id rows) a.defaults
     where
-      go : (b : Bool) (values : List Text) → has_row i (cond b rows (default_rows a.id (reading_by a) values rows)) ≡ true
+      go : (b : Bool) (values : List Text)
+          → has_row i (cond b rows (default_rows a.id (reading_by a) values rows)) ≡ true
       go true values = has
       go false [] = has
-      go false (v ∷ vs) = row_stays i a.id (more_values DefaultValue (v ∷ vs)) _ rows (λ r. or_false (bytes_eq r.id i)) has
+      go false (v ∷ vs) =
+          row_stays i a.id (more_values DefaultValue (v ∷ vs)) _ rows (λ r. or_false (bytes_eq r.id i)) has
 
   default_made : is_empty a.defaults ≡ false → has_row a.id (with_default rows a) ≡ true
   default_made some = go (has_row a.id rows) a.defaults refl some
@@ -279,26 +318,31 @@ module _ (a : Rule) (rows : List Row) where
       go true values e some = e
       go false [] e some = absurd (cc)
       go false (v ∷ vs) e some =
-          row_made a.id (more_values DefaultValue (v ∷ vs)) _ rows (λ r. or_false (bytes_eq r.id a.id)) (rw (has_id a.id) refl)
+          row_made a.id (more_values DefaultValue (v ∷ vs)) _ rows (λ r. or_false (bytes_eq r.id a.id))
+          (rw (has_id a.id) refl)
 
 -- an argument of this id has default values
 abbrev pub has_default : Text → List Rule → Bool
 has_default i rules = list_any (λ a. bytes_eq a.id i && not (is_empty a.defaults)) rules
 
-defaults_keep : (i : Text) (rules : List Rule) (rows : List Row) → has_row i rows ≡ true → has_row i (fold with_default rows rules) ≡ true
+defaults_keep : (i : Text) (rules : List Rule) (rows : List Row) → has_row i rows ≡ true
+    → has_row i (fold with_default rows rules) ≡ true
 defaults_keep i [] rows has = has
 defaults_keep i (a ∷ rest) rows has = defaults_keep i rest (with_default rows a) (default_keeps a rows i has)
 
-pub default_given : (i : Text) (rules : List Rule) (rows : List Row) → has_default i rules ≡ true → has_row i (fold with_default rows rules) ≡ true
+pub default_given : (i : Text) (rules : List Rule) (rows : List Row) → has_default i rules ≡ true
+    → has_row i (fold with_default rows rules) ≡ true
 default_given i [] rows has = absurd (cc)
-default_given i (a ∷ rest) rows has = go (bytes_eq a.id i) (is_empty a.defaults) refl refl has (default_given i rest (with_default rows a))
+default_given i (a ∷ rest) rows has =
+    go (bytes_eq a.id i) (is_empty a.defaults) refl refl has (default_given i rest (with_default rows a))
   where
     go : (b d : Bool) → bytes_eq a.id i ≡ b → is_empty a.defaults ≡ d → ((b && not d) || has_default i rest) ≡ true
         → (has_default i rest ≡ true → has_row i (fold with_default (with_default rows a) rest) ≡ true)
         → has_row i (fold with_default (with_default rows a) rest) ≡ true
     go true false e some h later =
         let same : a.id ≡ i = (bytes_eq-Decides a.id i).0 e in
-        defaults_keep i rest (with_default rows a) (subst (λ id. has_row id (with_default rows a) ≡ true) same (default_made a rows some))
+        defaults_keep i rest (with_default rows a)
+        (subst (λ id. has_row id (with_default rows a) ≡ true) same (default_made a rows some))
     go true true e some h later = later h
     go false d e some h later = later h
 
@@ -306,7 +350,8 @@ pub given_has_row : (i : Text) (rows : List Row) → is_given i rows ≡ true �
 given_has_row i [] given = absurd (cc)
 given_has_row i (r ∷ rs) given = go (bytes_eq r.id i) given (given_has_row i rs)
   where
-    go : (b : Bool) → option_map_or (λ x. explicit_source x.source) (cond b (Some r) (find (λ x. bytes_eq x.id i) rs)) false ≡ true
+    go : (b : Bool) → option_map_or (λ x. explicit_source x.source) (cond b (Some r) (find (λ x. bytes_eq x.id i) rs))
+        false ≡ true
         → (is_given i rs ≡ true → has_row i rs ≡ true) → (b || has_row i rs) ≡ true
     go true h rest = refl
     go false h rest = rest h
@@ -317,12 +362,14 @@ pub required_given : (rows : List Row) (rules : List Rule) (i : Text) (a : Rule)
     → find (λ x. bytes_eq x.id i) rules ≡ Some a → a.required ≡ true → is_given i rows ≡ true
 required_given rows [] i a none is required = absurd (cc)
 required_given rows (x ∷ xs) i a none is required =
-    go (bytes_eq x.id i) refl x.required refl (is_given x.id rows) refl none is (λ n s. required_given rows xs i a n s required)
+    go (bytes_eq x.id i) refl x.required refl (is_given x.id rows) refl none is
+    (λ n s. required_given rows xs i a n s required)
   where
     go : (b : Bool) → bytes_eq x.id i ≡ b → (q : Bool) → x.required ≡ q → (g : Bool) → is_given x.id rows ≡ g
         → ((q && not g) || list_any (λ y. y.required && not (is_given y.id rows)) xs) ≡ false
         → cond b (Some x) (find (λ y. bytes_eq y.id i) xs) ≡ Some a
-        → (list_any (λ y. y.required && not (is_given y.id rows)) xs ≡ false → find (λ y. bytes_eq y.id i) xs ≡ Some a → is_given i rows ≡ true)
+        → (list_any (λ y. y.required && not (is_given y.id rows)) xs ≡ false → find (λ y. bytes_eq y.id i) xs ≡ Some a
+        → is_given i rows ≡ true)
         → is_given i rows ≡ true
     go true e true q true g h s rest = subst (λ id. is_given id rows ≡ true) ((bytes_eq-Decides x.id i).0 e) g
     go true e true q false g h s rest = absurd (cc)
@@ -332,7 +379,8 @@ required_given rows (x ∷ xs) i a none is required =
     go false e false q g gs h s rest = rest h s
 
 -- the row of an argument that is set holds a value of it
-pub filled : (c : List Rule) (rows : List Row) (i : Text) (a : Rule) → Suit c rows → has_row i rows ≡ true → arg_by_id c i ≡ Some a
+pub filled : (c : List Rule) (rows : List Row) (i : Text) (a : Rule) → Suit c rows → has_row i rows ≡ true
+    → arg_by_id c i ≡ Some a
     → action_of a ≡ action.Set → (r : Row) × (find (λ x. bytes_eq x.id i) rows ≡ Some r) × IsFilled a r
 filled c [] i a suit has is set = absurd (cc)
 filled c (r ∷ rs) i a suit has is set = go (bytes_eq r.id i) refl has (λ h. filled c rs i a suit.1 h is set)

@@ -19,17 +19,21 @@ use Rattle.treesched.specs.Serving.{IsChecked}
 use Rattle.treesched.specs.declared.serve.Output.{Output}
 
 -- the book of an answer for every schedule is closed, and all its entries are sound
-pub closed : {X S : Type 0} (m : StepMachine S) (book : Contents X S) (told : Answer) → TellsFirst m book.entries told → TellsClosed book told
+pub closed : {X S : Type 0} (m : StepMachine S) (book : Contents X S) (told : Answer) → TellsFirst m book.entries told
+    → TellsClosed book told
     → told ≡ answer.Every → IsClosed book × AreSound book.entries
 closed m book answer.Every first is e = (is, all_sound book.entries None (sym first) refl)
 closed m book (answer.Holds _) first is e = absurd (cc)
 closed m book (answer.Fault _ _) first is e = absurd (cc)
 closed m book (answer.Stopped _ _) first is e = absurd (cc)
 
-module _ (Machine Form : Type 0) {Memory Place : Type 0} (rules : Rules Memory Place) (program : Program) (bytes : List ℕ) where
+module _ (Machine Form : Type 0) {Memory Place : Type 0} (rules : Rules Memory Place) (program : Program)
+    (bytes : List ℕ) where
   -- the cause for which the bytes are refused is told
-  pub refused : {E : Type 0} (f : CheckFault) → (f ≡ check_fault.OutOfMemory) ⊎ IsRefusedFor Machine Form rules program bytes f → (r : Result Output E)
-      → IfOk r (λ output. (f ≢ check_fault.OutOfMemory) × IsRefusal 3 (codes "book refused: " ++ check_fault_text f) output)
+  pub refused : {E : Type 0} (f : CheckFault) → (f ≡ check_fault.OutOfMemory)
+      ⊎ IsRefusedFor Machine Form rules program bytes f → (r : Result Output E)
+      → IfOk r
+      (λ output. (f ≢ check_fault.OutOfMemory) × IsRefusal 3 (codes "book refused: " ++ check_fault_text f) output)
       → IfOk r (IsChecked Machine Form rules program bytes)
   refused f (inl e) r told = IfOk-weaker r _ _ (λ output h. absurd (h.0 e)) told
   refused f (inr is) r told = IfOk-weaker r _ _ (λ output h. inr (f, is, h.0, h.1)) told

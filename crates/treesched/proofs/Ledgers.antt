@@ -1,5 +1,6 @@
 -- The lines of one more worker.
-use Rattle.std.proofs.Common.{◌≡◌, ◌∙◌, ◌+◌, ◌++◌, ◌<◌, ℕ, List, [], ◌∷◌, length, take, get_or, codes, arith, sym, ap, append_assoc, append-nil}
+use Rattle.std.proofs.Common.{◌≡◌, ◌∙◌, ◌+◌, ◌++◌, ◌<◌, ℕ, List, [], ◌∷◌, length, take, get_or, codes, arith, sym, ap}
+use Rattle.std.proofs.Common.{append_assoc, append-nil}
 use Rattle.std.proofs.lemmas.List.{length-take-le, take_more}
 use Rattle.std.specs.Fmt.{decimal}
 use Rattle.crew.specs.declared.answer.Share.{Share}
@@ -19,10 +20,13 @@ workers_text-push first (x ∷ xs) s =
     ∙ sym (append_assoc (worker_text first x) (workers_text (first + 1) xs) (worker_text (first + length (x ∷ xs)) s))
 
 pub one_more_worker : (page : List ℕ) (shares : List Share) (i : ℕ) (s : Share) → i < length shares
-    → (page ++ workers_text 1 (take i shares)) ++ worker_text (i + 1) (get_or shares i s) ≡ page ++ workers_text 1 (take (i + 1) shares)
+    → (page ++ workers_text 1 (take i shares)) ++ worker_text (i + 1) (get_or shares i s) ≡ page
+    ++ workers_text 1 (take (i + 1) shares)
 one_more_worker page shares i s h =
     let taken : length (take i shares) ≡ i = length-take-le i shares (omega arith) in
-    let more : workers_text 1 (take (i + 1) shares) ≡ workers_text 1 (take i shares) ++ worker_text (i + 1) (get_or shares i s) =
+    let more : workers_text 1 (take (i + 1) shares) ≡ workers_text 1 (take i shares)
+    ++ worker_text (i + 1) (get_or shares i s) =
     ap (workers_text 1) (take_more shares i s h) ∙ workers_text-push 1 (take i shares) (get_or shares i s)
     ∙ ap (λ (n : ℕ). workers_text 1 (take i shares) ++ worker_text n (get_or shares i s)) (omega arith) in
-    append_assoc page (workers_text 1 (take i shares)) (worker_text (i + 1) (get_or shares i s)) ∙ sym (ap (λ l. page ++ l) more)
+    append_assoc page (workers_text 1 (take i shares)) (worker_text (i + 1) (get_or shares i s))
+    ∙ sym (ap (λ l. page ++ l) more)

@@ -1,5 +1,6 @@
 -- What is answered for what the readers gave.
-use Rattle.std.proofs.Common.{◌≡◌, ◌∙◌, ◌+◌, ◌++◌, ℕ, List, Option, Some, None, Result, Ok, Err, arith, inl, inr, refl, sym, ap, append-nil}
+use Rattle.std.proofs.Common.{◌≡◌, ◌∙◌, ◌+◌, ◌++◌, ℕ, List, Option, Some, None, Result, Ok, Err, arith, inl, inr, refl}
+use Rattle.std.proofs.Common.{sym, ap, append-nil}
 use Rattle.std.specs.Prelude.{IfOk, IfSome}
 use Rattle.std.specs.Io.KnownBytes.{Consumes, IsAtEnd}
 use Rattle.std.proofs.lemmas.Result.{IfOk-weaker}
@@ -16,15 +17,18 @@ use Rattle.treesched.specs.declared.serve.BookRead.TheVariants as book_read
 use Rattle.treesched.specs.declared.serve.Output.{Output}
 
 -- what was read up to the end is all that the reader had, where it says what that is
-all_read : (old new : Option (List ℕ)) (text : List ℕ) → Consumes old new text → IsAtEnd new → IfSome old (λ all. text ≡ all)
+all_read : (old new : Option (List ℕ)) (text : List ℕ) → Consumes old new text → IsAtEnd new
+    → IfSome old (λ all. text ≡ all)
 all_read None new text read end = tt
 all_read (Some xs) None text read end = absurd read
 all_read (Some xs) (Some ys) text read end = sym (read ∙ ap (λ zs. text ++ zs) end ∙ append-nil text)
 
-module _ {F E : Type 0} (remaining : F → Option (List ℕ)) (before after : Counted F) (Came : BookRead → Type 0) (asked : Request) (r : Result Output E) where
+module _ {F E : Type 0} (remaining : F → Option (List ℕ)) (before after : Counted F) (Came : BookRead → Type 0)
+    (asked : Request) (r : Result Output E) where
   -- a program was read, and then the book file where it is asked for
   pub loaded : (program : Program) → AnswersAllRead (remaining before.reader) (remaining after.reader) (Ok program)
-      → after.failures ≡ before.failures + failed_loads (Ok program) → (book : BookRead) → Came book → IsAsked asked book
+      → after.failures ≡ before.failures + failed_loads (Ok program) → (book : BookRead) → Came book
+      → IsAsked asked book
       → IfOk r (IsAnsweredBy program.tree program book asked) → IfOk r (IsServedFrom remaining before after Came asked)
   loaded program (inl e) count book came due answered = absurd (cc)
   loaded program (inr (text, read, end, told)) count book came due answered =
@@ -41,8 +45,10 @@ module _ {F E : Type 0} (remaining : F → Option (List ℕ)) (before after : Co
   pub unloaded : (f : LoadFault) → AnswersAllRead (remaining before.reader) (remaining after.reader) (Err f)
       → after.failures ≡ before.failures + failed_loads (Err f) → Came book_read.NotAsked
       → IfOk r (TellsUnloaded asked f) → IfOk r (IsServedFrom remaining before after Came asked)
-  unloaded load.Device read count came told = IfOk-weaker r _ _ (λ output h. (None, book_read.NotAsked, count, came, (refl, h))) told
-  unloaded (load.Program f) (inl e) count came told = IfOk-weaker r _ _ (λ output h. let q : f ≡ fault.OutOfMemory = cc in absurd (h.0 q)) told
+  unloaded load.Device read count came told =
+      IfOk-weaker r _ _ (λ output h. (None, book_read.NotAsked, count, came, (refl, h))) told
+  unloaded (load.Program f) (inl e) count came told =
+      IfOk-weaker r _ _ (λ output h. let q : f ≡ fault.OutOfMemory = cc in absurd (h.0 q)) told
   unloaded (load.Program f) (inr (text, read, end, answer)) count came told =
       let same : after.failures ≡ before.failures = omega arith in
       IfOk-weaker r _ _ (λ output h. (

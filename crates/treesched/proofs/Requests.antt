@@ -5,7 +5,8 @@ use Rattle.std.specs.Box.{box_value}
 use Rattle.clap.specs.Words.{App, HasKind, is_simple_and_free, kind_of}
 use Rattle.clap.specs.declared.error.Error.{Error}
 use Rattle.clap.specs.declared.error.kind.ErrorKind.TheVariants as kind
-use Rattle.clap.specs.Words.{HasMatchesOf, Row, Text, fault_of, found_of, matches_of, rows_of, subcommand_name_of, subcommand_of, subcommand_rows_of}
+use Rattle.clap.specs.Words.{HasMatchesOf, Row, Text, fault_of, found_of, matches_of, rows_of, subcommand_name_of}
+use Rattle.clap.specs.Words.{subcommand_of, subcommand_rows_of}
 use Rattle.clap.specs.declared.parser.matches.ArgMatches.{ArgMatches}
 use Rattle.clap.specs.declared.parser.matches.ArgMatches.TheViews.{out-ArgMatches, out-SubCommand}
 use Rattle.treesched.specs.Command.{AreMerges, Choices, IsCommandLine, command_line}
@@ -22,11 +23,14 @@ both f g same (Some b) x y n r =
 
 pub read : (words : List Text) (app : App) → IsCommandLine app → (m : ArgMatches) → HasMatchesOf app words m
     → (is_simple_and_free app ≡ true → fault_of app words ≡ []) → (name : Text) (rows : List Row)
-    → Some name ≡ subcommand_name_of m → Some rows ≡ option_map (λ p. p.1) (subcommand_rows_of m) → AreRead words name rows
+    → Some name ≡ subcommand_name_of m → Some rows ≡ option_map (λ p. p.1) (subcommand_rows_of m)
+    → AreRead words name rows
 read words app line m matches none name rows n r =
-    let found : (rows_of (found_of m) ≡ matches_of (command_line line.0) words) × (subcommand_rows_of m ≡ subcommand_of (command_line line.0) words) =
+    let found : (rows_of (found_of m) ≡ matches_of (command_line line.0) words)
+    × (subcommand_rows_of m ≡ subcommand_of (command_line line.0) words) =
     subst (λ (a : App). HasMatchesOf a words m) line.2 matches refl in
-    let taken : fault_of (command_line line.0) words ≡ [] = subst (λ (a : App). is_simple_and_free a ≡ true → fault_of a words ≡ []) line.2 none refl in (
+    let taken : fault_of (command_line line.0) words ≡ [] =
+    subst (λ (a : App). is_simple_and_free a ≡ true → fault_of a words ≡ []) line.2 none refl in (
       line.0,
       line.1,
       taken,
@@ -41,7 +45,8 @@ module _ (words : List Text) (name : Text) (rows : List Row) (are : AreRead word
   asked own named r is = (name, (rows, (are, subst (λ n. IsRequestOf n rows r) named is)))
 
   -- so is a request or a fault
-  pub asked_or_refused : (own : Text) → own ≡ name → (r : Result Request WordsFault) → MatchResult r (IsRequestOf own rows) (IsFaultOf own rows)
+  pub asked_or_refused : (own : Text) → own ≡ name → (r : Result Request WordsFault)
+      → MatchResult r (IsRequestOf own rows) (IsFaultOf own rows)
       → MatchResult r (AskFor words) (AreRefused words)
   asked_or_refused own named (Ok q) is = asked own named q is
   asked_or_refused own named (Err (fault.Usage help text)) is = absurd is
@@ -60,8 +65,10 @@ module _ (words : List Text) (error : Error) (choices : Choices) (merges : AreMe
   told_of (inr among) fault.BookMerge tells memory = absurd tells
   told_of (inr among) fault.OutOfMemory tells memory = tt
 
-pub told : (words : List Text) (error : Error) (app : App) → IsCommandLine app → (is_simple_and_free app ≡ true → HasKind (fault_of app words) error)
+pub told : (words : List Text) (error : Error) (app : App) → IsCommandLine app
+    → (is_simple_and_free app ≡ true → HasKind (fault_of app words) error)
     → (e : WordsFault) → Tells (kind_of error) e → (kind_of error ≡ kind.OutOfMemory → e ≡ fault.OutOfMemory)
     → AreRefused words e
 told words error app line kinds =
-    told_of words error line.0 line.1 (subst (λ a. is_simple_and_free a ≡ true → HasKind (fault_of a words) error) line.2 kinds refl)
+    told_of words error line.0 line.1
+    (subst (λ a. is_simple_and_free a ≡ true → HasKind (fault_of a words) error) line.2 kinds refl)

@@ -1,5 +1,6 @@
 -- What has been read of a schedule's text, and what is left of it.
-use Rattle.std.proofs.Common.{◌≡◌, ◌∙◌, ◌+◌, ◌-◌, ◌<◌, ◌≤◌, ◌++◌, ℕ, List, [], ◌∷◌, length, take, drop, slice_index_or, arith, refl, sym, ap, subst, append_assoc, append-nil, length-append}
+use Rattle.std.proofs.Common.{◌≡◌, ◌∙◌, ◌+◌, ◌-◌, ◌<◌, ◌≤◌, ◌++◌, ℕ, List, [], ◌∷◌, length, take, drop, slice_index_or}
+use Rattle.std.proofs.Common.{arith, refl, sym, ap, subst, append_assoc, append-nil, length-append}
 use Rattle.std.specs.List.{All}
 use Rattle.std.proofs.Math.Seq.{get_or-append_seam}
 use Rattle.std.proofs.lemmas.Bool.Decides.{nat_tests}
@@ -49,10 +50,13 @@ read_more text [] rest h f few = absurd (omega (arith, h.3))
 read_more text (x ∷ threads) rest h f few =
     let t = at rest 1 - 48 in
     let cut : rest ≡ (44 ∷ digit t ∷ []) ++ drop 2 rest = front rest f in
-    let split : text ≡ schedule_text (x ∷ threads) ++ ((44 ∷ digit t ∷ []) ++ drop 2 rest) = h.0 ∙ ap (λ r. schedule_text (x ∷ threads) ++ r) cut in
-    let joined : schedule_text (x ∷ threads ++ t ∷ []) ≡ schedule_text (x ∷ threads) ++ 44 ∷ digit t ∷ [] = ap (λ l. digit x ∷ l) (commaed-push threads t) in
+    let split : text ≡ schedule_text (x ∷ threads) ++ ((44 ∷ digit t ∷ []) ++ drop 2 rest) =
+    h.0 ∙ ap (λ r. schedule_text (x ∷ threads) ++ r) cut in
+    let joined : schedule_text (x ∷ threads ++ t ∷ []) ≡ schedule_text (x ∷ threads) ++ 44 ∷ digit t ∷ [] =
+    ap (λ l. digit x ∷ l) (commaed-push threads t) in
     let whole : text ≡ schedule_text (x ∷ threads ++ t ∷ []) ++ drop 2 rest =
-    split ∙ sym (append_assoc (schedule_text (x ∷ threads)) (44 ∷ digit t ∷ []) (drop 2 rest)) ∙ sym (ap (λ l. l ++ drop 2 rest) joined) in (
+    split ∙ sym (append_assoc (schedule_text (x ∷ threads)) (44 ∷ digit t ∷ []) (drop 2 rest))
+    ∙ sym (ap (λ l. l ++ drop 2 rest) joined) in (
       rw (take_rest rest 2) whole,
       All-append (λ t. t < 10) (x ∷ threads) (t ∷ []) h.1 (all_one t (omega (arith, f.2, f.3))),
       simp length-append (omega arith),
@@ -83,7 +87,8 @@ schedule_left text (d ∷ done) (t ∷ threads) rest h e =
     let (more, (split, left)) = commaed_left done threads rest tails in
     (more, (cc, left))
 
-follows : (done more rest : List ℕ) → rest ≡ commaed more → All (λ t. t < 10) (done ++ more) → 1 ≤ length rest → Follows rest
+follows : (done more rest : List ℕ) → rest ≡ commaed more → All (λ t. t < 10) (done ++ more) → 1 ≤ length rest
+    → Follows rest
 follows done [] rest e all some = absurd (omega (arith, ap length e))
 follows done (t ∷ more) rest e all some =
     let small : t < 10 = simp get_or-append_seam at (all (length done) 0 (simp length-append (omega arith))) in

@@ -1,5 +1,6 @@
 -- What an answer comes to.
-use Rattle.std.proofs.Common.{◌≡◌, ◌∙◌, ◌+◌, ◌<◌, ◌≤◌, ℕ, Bool, true, Option, None, List, length, take, nat_lt, false, subst, arith, refl, sym, ap, inl, inr, ◌⊎◌}
+use Rattle.std.proofs.Common.{◌≡◌, ◌∙◌, ◌+◌, ◌<◌, ◌≤◌, ℕ, Bool, true, Option, None, List, length, take, nat_lt, false}
+use Rattle.std.proofs.Common.{subst, arith, refl, sym, ap, inl, inr, ◌⊎◌}
 use Rattle.std.specs.Prelude.{IsSome}
 use Rattle.std.specs.Cmp.{IsEquivalence}
 use Rattle.std.proofs.lemmas.Bool.Decides.{nat_tests}
@@ -31,8 +32,10 @@ use Rattle.treesched.specs.declared.serve.Output.{Output}
 pub equality_of : {S : Type 0} (same : S → S → Bool) → IsExact same → IsEquivalence same → IsEquality same
 equality_of {S} same exact laws r s = (exact r s, λ e. subst (λ (x : S). same r x ≡ true) e (laws.refl r))
 
-module _ {Machine Memory Place Form : Type 0} (place_eq : Place → Place → Bool) (memory_eq : Memory → Memory → Bool) (form_eq : Form → Form → Bool)
-    (rules : Rules Memory Place) (form_of : Memory → List (Option Place) → Form) (forms : AreFormsExact rules form_of) (program : Program) where
+module _ {Machine Memory Place Form : Type 0} (place_eq : Place → Place → Bool) (memory_eq : Memory → Memory → Bool)
+    (form_eq : Form → Form → Bool)
+    (rules : Rules Memory Place) (form_of : Memory → List (Option Place) → Form) (forms : AreFormsExact rules form_of)
+    (program : Program) where
   pub counted : IsEquality (state_eq {Place = Place} place_eq {Machine = Machine} {Form = Form} memory_eq)
       → IsEquality (state_form_eq form_eq) → (merge : Merge)
       → CountsAsOne Machine Form rules program merge (counted_as_one place_eq memory_eq form_eq form_of merge)
@@ -58,24 +61,33 @@ module _ {S : Type 0} (m : StepMachine S) (schedule : List ℕ) where
       go true e = grind (arith, nat_tests)
       go false e = absurd (past (grind (arith, nat_tests)))
 
-module _ (Machine Form : Type 0) {Memory Place : Type 0} (rules : Rules Memory Place) (program : Program) (schedule : List ℕ) where
-  pub stuck : {E : Type 0} (f : ReplayFault) (n : ℕ) → f ≡ NotEnabled n → StopsAt (machine_of {Machine = Machine} {Form = Form} rules program) schedule f
+module _ (Machine Form : Type 0) {Memory Place : Type 0} (rules : Rules Memory Place) (program : Program)
+    (schedule : List ℕ) where
+  pub stuck : {E : Type 0} (f : ReplayFault) (n : ℕ) → f ≡ NotEnabled n
+      → StopsAt (machine_of {Machine = Machine} {Form = Form} rules program) schedule f
       → (r : Result Output E) → IfOk r (IsRefusal 4 (no_step_text n (get_or schedule (n - 1) 0)))
-      → IfOk r (λ output. IsReplayed Machine Form rules program schedule output ⊎ IsStuck Machine Form rules program schedule output)
+      → IfOk r
+      (λ output. IsReplayed Machine Form rules program schedule output
+      ⊎ IsStuck Machine Form rules program schedule output)
   stuck f n is stops r told =
-      let here : StopsAt (machine_of {Machine = Machine} {Form = Form} rules program) schedule (NotEnabled n) = subst (StopsAt (machine_of {Machine = Machine} {Form = Form} rules program) schedule) is stops in
-      let (i, (e, within)) = stops_within (machine_of {Machine = Machine} {Form = Form} rules program) schedule n here in
+      let here : StopsAt (machine_of {Machine = Machine} {Form = Form} rules program) schedule (NotEnabled n) =
+      subst (StopsAt (machine_of {Machine = Machine} {Form = Form} rules program) schedule) is stops in
+      let (i, (e, within)) =
+      stops_within (machine_of {Machine = Machine} {Form = Form} rules program) schedule n here in
       let place : n - 1 ≡ i = omega arith in
       IfOk-weaker r _ _ (λ output h. inr (record {
         before = i;
         thread = get_or schedule i 0;
-        stops = subst (λ (k : ℕ). StopsAt (machine_of {Machine = Machine} {Form = Form} rules program) schedule (NotEnabled k)) e here;
+        stops = subst
+            (λ (k : ℕ). StopsAt (machine_of {Machine = Machine} {Form = Form} rules program) schedule (NotEnabled k)) e
+            here;
         is_next = slice_get-get_or schedule i 0 within;
         told = subst (λ (k : ℕ). IsRefusal 4 (no_step_text k (get_or schedule i 0)) output) e
             (subst (λ (k : ℕ). IsRefusal 4 (no_step_text n (get_or schedule k 0)) output) place h);
       })) told
 
 -- what is kept of an output that is served for the request of the words answers them
-pub answers : (words : List Text) (asked : Request) → AskFor words asked → {E : Type 0} (served : Output) → IsServedBySome asked served
+pub answers : (words : List Text) (asked : Request) → AskFor words asked → {E : Type 0} (served : Output)
+    → IsServedBySome asked served
     → (r : Result Output E) → IfOk r (IsKept asked served) → IfOk r (IsAnswerTo words)
 answers words asked ask served some r kept = IfOk-weaker r _ _ (λ output h. inl (asked, ask, (served, some, h))) kept

@@ -8,9 +8,11 @@ use Rattle.clap.specs.Kinds.{Kinds, check_kinds, or_else}
 use Rattle.clap.specs.Simple.{Shape}
 use Rattle.clap.specs.Takes.{is_given, value_passes}
 use Rattle.clap.specs.Values.{read_as}
-use Rattle.clap.specs.Walk.{Names, Row, Rule, Text, action_of, arg_by_id, finished, first_of, nothing_held, one_of, reading_by, rows_after, settled, walk, walk_from}
+use Rattle.clap.specs.Walk.{Names, Row, Rule, Text, action_of, arg_by_id, finished, first_of, nothing_held, one_of}
+use Rattle.clap.specs.Walk.{reading_by, rows_after, settled, walk, walk_from}
 use Rattle.clap.specs.declared.builder.action.ArgAction.TheVariants.{Set}
-use Rattle.treesched.proofs.Accepted.{AreRegular, IsFilled, Suit, default_given, defaults_suit, filled, given_has_row, has_default, none_of, required_given, settled_suit}
+use Rattle.treesched.proofs.Accepted.{AreRegular, IsFilled, Suit, default_given, defaults_suit, filled, given_has_row}
+use Rattle.treesched.proofs.Accepted.{has_default, none_of, required_given, settled_suit}
 use Rattle.treesched.proofs.Entered.{Stands, is_help, walk_stands}
 
 -- an argument has a value, which its parser takes
@@ -20,7 +22,8 @@ pub record HasValue (a : Rule) (id : Text) (rows : List Row) : Type 0 where
   pub one : one_of id rows ≡ Some (read_as (reading_by a) text)
   pub passes : value_passes a text ≡ true
 
-has_value : (a : Rule) (id : Text) (rows : List Row) (r : Row) → find (λ x. bytes_eq x.id id) rows ≡ Some r → IsFilled a r → HasValue a id rows
+has_value : (a : Rule) (id : Text) (rows : List Row) (r : Row) → find (λ x. bytes_eq x.id id) rows ≡ Some r
+    → IsFilled a r → HasValue a id rows
 has_value a id rows r is row = record {
   text = row.text;
   first = rw is row.first;
@@ -28,17 +31,20 @@ has_value a id rows r is row = record {
   passes = row.passes;
 }
 
-none_wanted : (help subcommand argument : Bool) → check_kinds help subcommand argument ≡ [] → (subcommand ≡ false) × (argument ≡ false)
+none_wanted : (help subcommand argument : Bool) → check_kinds help subcommand argument ≡ [] → (subcommand ≡ false)
+    × (argument ≡ false)
 none_wanted true subcommand argument h = absurd (cc)
 none_wanted false true argument h = absurd (cc)
 none_wanted false false true h = absurd (cc)
 none_wanted false false false h = (refl, refl)
 
-module _ (s : Shape) (names : Names) (words : List Text) (has : Bool) (below : Kinds) (none : level_fault s names nothing_held words has below ≡ []) where
+module _ (s : Shape) (names : Names) (words : List Text) (has : Bool) (below : Kinds)
+    (none : level_fault s names nothing_held words has below ≡ []) where
   walk_passed : walk_fault s names (walk_from nothing_held) words ≡ []
   walk_passed = (none_of (walk_fault s names (walk_from nothing_held) words) _ none).0
 
-  after_walk : or_else below (or_else (settle_fault s.rules s.args_override_self (walk s.rules names nothing_held words).held)
+  after_walk : or_else below
+      (or_else (settle_fault s.rules s.args_override_self (walk s.rules names nothing_held words).held)
       (or_else (defaults_fault (settled s.rules (walk s.rules names nothing_held words).held).rows s.rules)
       (check_fault s (finished s.rules (walk s.rules names nothing_held words).held) has))) ≡ []
   after_walk = (none_of (walk_fault s names (walk_from nothing_held) words) _ none).1
@@ -53,17 +59,23 @@ module _ (s : Shape) (names : Names) (words : List Text) (has : Bool) (below : K
   after_below = (none_of below _ after_walk).1
 
   settle_passed : settle_fault s.rules s.args_override_self (walk s.rules names nothing_held words).held ≡ []
-  settle_passed = (none_of (settle_fault s.rules s.args_override_self (walk s.rules names nothing_held words).held) _ after_below).0
+  settle_passed =
+      (none_of (settle_fault s.rules s.args_override_self (walk s.rules names nothing_held words).held) _ after_below).0
 
   after_settle : or_else (defaults_fault (settled s.rules (walk s.rules names nothing_held words).held).rows s.rules)
       (check_fault s (finished s.rules (walk s.rules names nothing_held words).held) has) ≡ []
-  after_settle = (none_of (settle_fault s.rules s.args_override_self (walk s.rules names nothing_held words).held) _ after_below).1
+  after_settle =
+      (none_of (settle_fault s.rules s.args_override_self (walk s.rules names nothing_held words).held) _ after_below).1
 
   defaults_passed : defaults_fault (settled s.rules (walk s.rules names nothing_held words).held).rows s.rules ≡ []
-  defaults_passed = (none_of (defaults_fault (settled s.rules (walk s.rules names nothing_held words).held).rows s.rules) _ after_settle).0
+  defaults_passed =
+      (none_of (defaults_fault (settled s.rules (walk s.rules names nothing_held words).held).rows s.rules) _
+      after_settle).0
 
   check_passed : check_fault s (rows_after s.rules names words) has ≡ []
-  check_passed = (none_of (defaults_fault (settled s.rules (walk s.rules names nothing_held words).held).rows s.rules) _ after_settle).1
+  check_passed =
+      (none_of (defaults_fault (settled s.rules (walk s.rules names nothing_held words).held).rows s.rules) _
+      after_settle).1
 
   module _ (regular : AreRegular s.rules s.rules) where
     stands : Stands s regular (walk s.rules names nothing_held words)
@@ -74,22 +86,29 @@ module _ (s : Shape) (names : Names) (words : List Text) (has : Bool) (below : K
     no_help = stands.stopped
 
     suit : Suit s.rules (rows_after s.rules names words)
-    suit = defaults_suit s.rules s.args_override_self regular s.rules (settled s.rules (walk s.rules names nothing_held words).held).rows regular defaults_passed
-        (settled_suit s.rules s.args_override_self regular (walk s.rules names nothing_held words).held settle_passed stands.rows)
+    suit = defaults_suit s.rules s.args_override_self regular s.rules
+        (settled s.rules (walk s.rules names nothing_held words).held).rows regular defaults_passed
+        (settled_suit s.rules s.args_override_self regular (walk s.rules names nothing_held words).held settle_passed
+        stands.rows)
 
     -- an argument that is required, or has a default, has a value
-    pub required_value : s.subcommand_negates_reqs ≡ false → (id : Text) (a : Rule) → arg_by_id s.rules id ≡ Some a → action_of a ≡ Set
+    pub required_value : s.subcommand_negates_reqs ≡ false → (id : Text) (a : Rule) → arg_by_id s.rules id ≡ Some a
+        → action_of a ≡ Set
         → a.required ≡ true → HasValue a id (rows_after s.rules names words)
     required_value kept id a is set required =
         let argument = (none_wanted _ (not has && s.subcommand_required) _ check_passed).1 in
-        let missing : list_any (λ x. x.required && not (is_given x.id (rows_after s.rules names words))) s.rules ≡ false = rw kept at argument in
+        let missing : list_any (λ x. x.required && not (is_given x.id (rows_after s.rules names words))) s.rules
+        ≡ false = rw kept at argument in
         let given = required_given (rows_after s.rules names words) s.rules id a missing is required in
-        let row = filled s.rules (rows_after s.rules names words) id a suit (given_has_row id (rows_after s.rules names words) given) is set in
+        let row =
+        filled s.rules (rows_after s.rules names words) id a suit
+        (given_has_row id (rows_after s.rules names words) given) is set in
         has_value a id (rows_after s.rules names words) row.0 row.1 row.2
 
     pub default_value : (id : Text) (a : Rule) → arg_by_id s.rules id ≡ Some a → action_of a ≡ Set
         → has_default id s.rules ≡ true → HasValue a id (rows_after s.rules names words)
     default_value id a is set default =
-        let has = default_given id s.rules (settled s.rules (walk s.rules names nothing_held words).held).rows default in
+        let has =
+        default_given id s.rules (settled s.rules (walk s.rules names nothing_held words).held).rows default in
         let row = filled s.rules (rows_after s.rules names words) id a suit has is set in
         has_value a id (rows_after s.rules names words) row.0 row.1 row.2

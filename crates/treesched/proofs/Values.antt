@@ -1,5 +1,6 @@
 -- The values that the typed getters of clap's matches read.
-use Rattle.std.proofs.Common.{◌≡◌, ◌∙◌, ◌<◌, ◌^◌, ◌↔◌, ℕ, List, Bool, true, arith, refl, sym, ap, subst, codes, false, slice_index}
+use Rattle.std.proofs.Common.{◌≡◌, ◌∙◌, ◌<◌, ◌^◌, ◌↔◌, ℕ, List, Bool, true, arith, refl, sym, ap, subst, codes, false}
+use Rattle.std.proofs.Common.{slice_index}
 use Rattle.std.specs.Option.{option_eq}
 use mathlib.Core.Bool.{beq}
 use Rattle.std.specs.Prelude.{Option, Some, None, Ok, Err, Result, MatchOption}
@@ -40,5 +41,6 @@ flag_read E rows id (Some t) e (Some false) none value b is =
     let same : t ≡ codes "false" = value t refl in (
       λ h. absurd (cc),
       λ u. let other : t ≡ codes "true" = cc in
-          let heads : 102 ≡ 116 = ap (λ (l : List ℕ). slice_index l 0) (sym same ∙ other) in absurd (omega (arith, heads)),
+          let heads : 102 ≡ 116 = ap (λ (l : List ℕ). slice_index l 0) (sym same ∙ other) in
+          absurd (omega (arith, heads)),
     )

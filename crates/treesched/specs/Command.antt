@@ -71,7 +71,8 @@ book_file = record (new_rule (codes "book")) { value_names = 1; required = true 
 
 -- explore FILE --steps N [--workers W] [--states M] [--merge exact|names] [--ledger] [--book OUT]
 abbrev pub explore : Choices → App
-explore choices = with_rule (with_rule (with_rule (with_rule (with_rule (with_rule (with_rule (new_app (codes "explore"))
+explore choices =
+    with_rule (with_rule (with_rule (with_rule (with_rule (with_rule (with_rule (new_app (codes "explore"))
     file) steps) workers) states) (merge choices)) ledger) book_out
 
 abbrev pub IsExplore : App → Type 0

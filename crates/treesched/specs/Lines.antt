@@ -1,5 +1,6 @@
 -- What the program prints.
-use Rattle.std.specs.Prelude.{◌≡◌, ℕ, ◌+◌, Bool, true, false, List, [], ◌∷◌, ◌++◌, Option, Some, None, codes, length, if◌then◌else◌}
+use Rattle.std.specs.Prelude.{◌≡◌, ℕ, ◌+◌, Bool, true, false, List, [], ◌∷◌, ◌++◌, Option, Some, None, codes, length}
+use Rattle.std.specs.Prelude.{if◌then◌else◌}
 use Rattle.std.specs.Fmt.{decimal}
 use Rattle.std.specs.String.{string_bytes}
 use Rattle.std.specs.List.{flat_map}
@@ -96,7 +97,8 @@ workers_text first (s ∷ rest) = codes "worker " ++ decimal first ++ counts_tex
     ++ workers_text (first + 1) rest
 
 abbrev pub ledger_text : List Share → Totals → List ℕ
-ledger_text shares totals = workers_text 1 shares ++ codes "total" ++ counts_text totals.expanded totals.entered totals.met
+ledger_text shares totals =
+    workers_text 1 shares ++ codes "total" ++ counts_text totals.expanded totals.entered totals.met
 
 -- all lines of an exploration
 abbrev pub report_text : Bool → Answer → Totals → List Share → List ℕ

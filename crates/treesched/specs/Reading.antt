@@ -32,7 +32,8 @@ abbrev pub MergeIs : List Row → Merge → Type 0
 MergeIs rows merge.Exact = first_of (codes "merge") rows ≡ Some (codes "exact")
 MergeIs rows merge.Names = first_of (codes "merge") rows ≡ Some (codes "names")
 
--- the bounds are those that the options of `explore` write, and in range: 0 to 400 steps, 1 to 8 workers, 1 to 2,000,000 states
+-- the bounds are those that the options of `explore` write, and in range: 0 to 400 steps, 1 to 8 workers, 1 to
+-- 2,000,000 states
 pub record OptionsAre (rows : List Row) (settings : Settings) : Type 0 where
   pub steps : NumberIs rows (codes "steps") settings.steps
   pub workers : NumberIs rows (codes "workers") settings.workers

@@ -1,5 +1,6 @@
 -- Forms put into a set one after the other, and what the set tells of alike states.
-use Rattle.std.proofs.Common.{◌≡◌, ℕ, suc, ◌+◌, ◌<◌, ◌≤◌, inl, inr, get_or, take, Bool, true, false, cond, Option, Some, List, [], ◌∷◌, ◌++◌, length, refl, sym, ap, ◌∙◌, arith, slice_get, subst}
+use Rattle.std.proofs.Common.{◌≡◌, ℕ, suc, ◌+◌, ◌<◌, ◌≤◌, inl, inr, get_or, take, Bool, true, false, cond, Option, Some}
+use Rattle.std.proofs.Common.{List, [], ◌∷◌, ◌++◌, length, refl, sym, ap, ◌∙◌, arith, slice_get, subst}
 use Rattle.std.specs.Cmp.{IsEquivalence}
 use Rattle.std.proofs.lemmas.Bool.{true≢false, cases_lt}
 use Rattle.std.proofs.lemmas.Option.{slice_get_read, same_Some}
@@ -23,8 +24,10 @@ use Rattle.book.proofs.BookFile.Replayed.{last_item_or}
 
 module _ {F : Type 0} (eq : F → F → Bool) where
   -- the form of one more state is put in
-  pub more_forms : IsEquivalence eq → {S : Type 0} (form_of : S → F) (states : List S) (known more : F → Bool) (i : ℕ) (s : S) → i < length states → s ≡ get_or states i s
-      → ((f : F) → more f ≡ cond (eq (form_of s) f) true (known f)) → AreFormsOf eq form_of (take i states) known → AreFormsOf eq form_of (take (i + 1) states) more
+  pub more_forms : IsEquivalence eq → {S : Type 0} (form_of : S → F) (states : List S) (known more : F → Bool) (i : ℕ)
+      (s : S) → i < length states → s ≡ get_or states i s
+      → ((f : F) → more f ≡ cond (eq (form_of s) f) true (known f)) → AreFormsOf eq form_of (take i states) known
+      → AreFormsOf eq form_of (take (i + 1) states) more
   more_forms laws {S} form_of states known more i s less is put so =
       record {
         each = (λ j r at. last_item_or (λ _ (x : S). more (form_of x) ≡ true) (take i states) s
@@ -39,25 +42,42 @@ module _ {F : Type 0} (eq : F → F → Bool) where
       kept false c h = h
 
       longer : take (i + 1) states ≡ take i states ++ s ∷ []
-      longer = let one : i + 1 ≡ suc i = omega arith in ap (λ n. take n states) one ∙ take-suc states i s less ∙ ap (λ x. take i states ++ x ∷ []) (sym is)
+      longer = let one : i + 1 ≡ suc i = omega arith in
+          ap (λ n. take n states) one ∙ take-suc states i s less ∙ ap (λ x. take i states ++ x ∷ []) (sym is)
 
-      from : (g : F) (b : Bool) → eq (form_of s) g ≡ b → cond b true (known g) ≡ true → (j : ℕ) × (r : S) × (slice_get (take (i + 1) states) j ≡ Some r) × (eq g (form_of r) ≡ true)
-      from g true same h =
-          (length (take i states) + 0, s, subst (λ (xs : List S). slice_get xs (length (take i states) + 0) ≡ Some s) (sym longer) (get-append_right (take i states) (s ∷ []) 0 s refl), laws.symm g (form_of s) ∙ same)
+      from : (g : F) (b : Bool) → eq (form_of s) g ≡ b → cond b true (known g) ≡ true
+          → (j : ℕ) × (r : S) × (slice_get (take (i + 1) states) j ≡ Some r) × (eq g (form_of r) ≡ true)
+      from g true same h = (
+        length (take i states) + 0,
+        s,
+        subst (λ (xs : List S). slice_get xs (length (take i states) + 0) ≡ Some s)
+            (sym longer) (get-append_right (take i states) (s ∷ []) 0 s refl),
+        laws.symm g (form_of s) ∙ same,
+      )
       from g false other h =
-          let w = so.only g h in
-          (w.0, w.1, subst (λ (xs : List S). slice_get xs w.0 ≡ Some w.1) (sym longer) (get-append_left (take i states) (s ∷ []) w.0 w.1 w.2), w.3)
+          let w = so.only g h in (
+            w.0,
+            w.1,
+            subst (λ (xs : List S). slice_get xs w.0 ≡ Some w.1) (sym longer)
+                (get-append_left (take i states) (s ∷ []) w.0 w.1 w.2),
+            w.3,
+          )
 
 -- the steps of the first states lead to states with known forms
-abbrev pub AreKnownBelow : {Machine Memory Place Form : Type 0} (rules : Rules Memory Place) (program : Program) (form_of : Memory → List (Option Place) → Form)
+abbrev pub AreKnownBelow : {Machine Memory Place Form : Type 0} (rules : Rules Memory Place) (program : Program)
+    (form_of : Memory → List (Option Place) → Form)
     (states : List (State Machine Memory Place Form)) (known : FormContent Form → Bool) → ℕ → Type 0
 AreKnownBelow {Machine} {Memory} {Place} {Form} rules program form_of states known n =
-    (i : ℕ) (s : State Machine Memory Place Form) → i < n → slice_get states i ≡ Some s → AreStepsKnown rules program (state_form form_of) known s
+    (i : ℕ) (s : State Machine Memory Place Form) → i < n → slice_get states i ≡ Some s
+    → AreStepsKnown rules program (state_form form_of) known s
 
 -- .. and those of the next one too
-pub known_next : {Machine Memory Place Form : Type 0} (rules : Rules Memory Place) (program : Program) (form_of : Memory → List (Option Place) → Form)
-    (states : List (State Machine Memory Place Form)) (known : FormContent Form → Bool) (i : ℕ) (s : State Machine Memory Place Form) → i < length states → s ≡ get_or states i s
-    → AreStepsKnown rules program (state_form form_of) known s → AreKnownBelow rules program form_of states known i → AreKnownBelow rules program form_of states known (i + 1)
+pub known_next : {Machine Memory Place Form : Type 0} (rules : Rules Memory Place) (program : Program)
+    (form_of : Memory → List (Option Place) → Form)
+    (states : List (State Machine Memory Place Form)) (known : FormContent Form → Bool) (i : ℕ)
+    (s : State Machine Memory Place Form) → i < length states → s ≡ get_or states i s
+    → AreStepsKnown rules program (state_form form_of) known s → AreKnownBelow rules program form_of states known i
+    → AreKnownBelow rules program form_of states known (i + 1)
 known_next {Machine} {Memory} {Place} {Form} rules program form_of states known i s less is steps so j r below at =
     elim (cases_lt j i) [
       | inl l ↦ so j r l at
@@ -66,30 +86,44 @@ known_next {Machine} {Memory} {Place} {Form} rules program form_of states known 
           let here : slice_get states i ≡ Some s = slice_get_read states (length states) i s refl less is in
           let there : slice_get states i ≡ Some r = ap (slice_get states) same_place ∙ at in
           let same : s ≡ r = same_Some s r (sym here ∙ there) in
-          subst (λ (v : State Machine Memory Place Form). AreStepsKnown rules program (state_form form_of) known v) same steps)
+          subst (λ (v : State Machine Memory Place Form). AreStepsKnown rules program (state_form form_of) known v) same
+          steps)
     ]
 
-module _ {Machine Memory Place Form : Type 0} (rules : Rules Memory Place) (program : Program) (lawful : AreLawful rules) (limits : IsWithinLimits program)
+module _ {Machine Memory Place Form : Type 0} (rules : Rules Memory Place) (program : Program)
+    (lawful : AreLawful rules) (limits : IsWithinLimits program)
     (form_of : Memory → List (Option Place) → Form) (forms : AreFormsExact rules form_of)
     (eq : FormContent Form → FormContent Form → Bool) (exact : IsExact eq)
-    (states : List (State Machine Memory Place Form)) (fit : (i : ℕ) (s : State Machine Memory Place Form) → slice_get states i ≡ Some s → Fits rules program s)
+    (states : List (State Machine Memory Place Form))
+    (fit : (i : ℕ) (s : State Machine Memory Place Form) → slice_get states i ≡ Some s → Fits rules program s)
     (known : FormContent Form → Bool) (has : AreFormsOf eq (state_form form_of) states known) where
   machine : IsMachine (machine_of {Machine = Machine} {Form = Form} rules program)
   machine = is_machine rules program lawful limits
 
   -- one of the states is alike to a state that fits exactly if the form of this is known
-  known_alike : (s : State Machine Memory Place Form) → Fits rules program s → known (state_form form_of s) ≡ true → IsAlikeToOneOf (AreStatesAlike rules) states s
+  known_alike : (s : State Machine Memory Place Form) → Fits rules program s → known (state_form form_of s) ≡ true
+      → IsAlikeToOneOf (AreStatesAlike rules) states s
   known_alike s fits is =
       let w = has.only (state_form form_of s) is in
-      let w_fits = fit w.0 w.1 w.2 in
-      (w.0, w.1, w.2, alike_turned rules form_of forms program s w.1 fits w_fits ((forms_alike rules form_of forms program program s w.1 fits w_fits).0 (exact (state_form form_of s) (state_form form_of w.1) w.3)))
+      let w_fits = fit w.0 w.1 w.2 in (
+        w.0,
+        w.1,
+        w.2,
+        alike_turned rules form_of forms program s w.1 fits w_fits
+            ((forms_alike rules form_of forms program program s w.1 fits w_fits).0
+            (exact (state_form form_of s) (state_form form_of w.1) w.3)),
+      )
 
-  alike_known : (s : State Machine Memory Place Form) → Fits rules program s → IsAlikeToOneOf (AreStatesAlike rules) states s → known (state_form form_of s) ≡ true
+  alike_known : (s : State Machine Memory Place Form) → Fits rules program s
+      → IsAlikeToOneOf (AreStatesAlike rules) states s → known (state_form form_of s) ≡ true
   alike_known s fits among =
-      let same : state_form form_of among.1 ≡ state_form form_of s = (forms_alike rules form_of forms program program among.1 s (fit among.0 among.1 among.2) fits).1 among.3 in
+      let same : state_form form_of among.1
+      ≡ state_form form_of s =
+      (forms_alike rules form_of forms program program among.1 s (fit among.0 among.1 among.2) fits).1 among.3 in
       subst (λ (f : FormContent Form). known f ≡ true) same (has.each among.0 among.1 among.2)
 
-  pub open_next : (i : ℕ) (s : State Machine Memory Place Form) → i < length states → s ≡ get_or states i s → IsStepUnknown rules program (state_form form_of) known s → AreKnownBelow rules program form_of states known i
+  pub open_next : (i : ℕ) (s : State Machine Memory Place Form) → i < length states → s ≡ get_or states i s
+      → IsStepUnknown rules program (state_form form_of) known s → AreKnownBelow rules program form_of states known i
       → IsFirstOpen rules program states (Open (i + 2))
   open_next i s less is out so =
       let here : slice_get states i ≡ Some s = slice_get_read states (length states) i s refl less is in
@@ -98,31 +132,48 @@ module _ {Machine Memory Place Form : Type 0} (rules : Rules Memory Place) (prog
         state = s;
         at = here;
         told = refl;
-        leads_out = (out.0, out.1, out.2, (λ among. true≢false (sym (alike_known out.1 (machine.step_fits s out.1 out.0 (fit i s here) out.2) among) ∙ out.3)));
-        first = (λ j r below at out_of_r. out_of_r.3 (known_alike out_of_r.1 (machine.step_fits r out_of_r.1 out_of_r.0 (fit j r at) out_of_r.2) (so j r below at out_of_r.0 out_of_r.1 out_of_r.2)));
+        leads_out = (
+          out.0,
+          out.1,
+          out.2,
+          (λ among. true≢false (sym (alike_known out.1 (machine.step_fits s out.1 out.0 (fit i s here) out.2) among)
+              ∙ out.3)),
+        );
+        first = (λ j r below at out_of_r. out_of_r.3
+            (known_alike out_of_r.1 (machine.step_fits r out_of_r.1 out_of_r.0 (fit j r at) out_of_r.2)
+            (so j r below at out_of_r.0 out_of_r.1 out_of_r.2)));
       }
 
-  pub known_closed : AreKnownBelow rules program form_of states known (length states) → IsAlikeToOneOf (AreStatesAlike rules) states (start rules program) → AreClosed (machine_of rules program) (AreStatesAlike rules) states
+  pub known_closed : AreKnownBelow rules program form_of states known (length states)
+      → IsAlikeToOneOf (AreStatesAlike rules) states (start rules program)
+      → AreClosed (machine_of rules program) (AreStatesAlike rules) states
   known_closed so begins = record {
     fit = fit;
     start = begins;
-    steps = (λ i t s r at leads. known_alike r (machine.step_fits s r t (fit i s at) leads) (so i s (get_within states i s at) at t r leads));
+    steps = (λ i t s r at leads. known_alike r (machine.step_fits s r t (fit i s at) leads)
+        (so i s (get_within states i s at) at t r leads));
   }
 
 -- no thread but those of the program takes a step
-pub no_more_threads : {Machine Memory Place Form F : Type 0} (rules : Rules Memory Place) (program : Program) → AreLawful rules → IsWithinLimits program
-    → (form_of : State Machine Memory Place Form → F) (known : F → Bool) (s : State Machine Memory Place Form) (n : ℕ) → length program.threads ≤ n
-    → ((t : ℕ) (next : State Machine Memory Place Form) → t < n → step rules program s t ≡ Some next → known (form_of next) ≡ true) → AreStepsKnown rules program form_of known s
+pub no_more_threads : {Machine Memory Place Form F : Type 0} (rules : Rules Memory Place) (program : Program)
+    → AreLawful rules → IsWithinLimits program
+    → (form_of : State Machine Memory Place Form → F) (known : F → Bool) (s : State Machine Memory Place Form) (n : ℕ)
+    → length program.threads ≤ n
+    → ((t : ℕ) (next : State Machine Memory Place Form) → t < n → step rules program s t ≡ Some next
+    → known (form_of next) ≡ true) → AreStepsKnown rules program form_of known s
 no_more_threads {Machine} {Memory} {Place} {Form} rules program lawful limits form_of known s n many so t next leads =
-    let less : t < length program.threads = (is_machine {Machine = Machine} {Form = Form} rules program lawful limits).is_thread s next t leads in
+    let less : t < length program.threads =
+    (is_machine {Machine = Machine} {Form = Form} rules program lawful limits).is_thread s next t leads in
     so t next (omega arith) leads
 
 -- one more thread was tried
 pub one_more_thread : {Machine Memory Place Form F : Type 0} (rules : Rules Memory Place) (program : Program)
     (form_of : State Machine Memory Place Form → F) (known : F → Bool) (s : State Machine Memory Place Form) (n : ℕ)
     → ((next : State Machine Memory Place Form) → step rules program s n ≡ Some next → known (form_of next) ≡ true)
-    → ((t : ℕ) (next : State Machine Memory Place Form) → t < n → step rules program s t ≡ Some next → known (form_of next) ≡ true)
-    → (t : ℕ) (next : State Machine Memory Place Form) → t < n + 1 → step rules program s t ≡ Some next → known (form_of next) ≡ true
+    → ((t : ℕ) (next : State Machine Memory Place Form) → t < n → step rules program s t ≡ Some next
+    → known (form_of next) ≡ true)
+    → (t : ℕ) (next : State Machine Memory Place Form) → t < n + 1 → step rules program s t ≡ Some next
+    → known (form_of next) ≡ true
 one_more_thread rules program form_of known s n last so t next less leads =
     elim (cases_lt t n) [
       | inl l ↦ so t next l leads

@@ -1,5 +1,6 @@
 -- The lines of the entries of a lawful and sound book can be written.
-use Rattle.std.proofs.Common.{◌≡◌, ℕ, zero, suc, ◌+◌, ◌<◌, ◌≤◌, not, false, is_some, Option, None, Some, List, [], ◌∷◌, ◌++◌, ◌∙◌, length, position, take, All, true, refl, sym, ap, subst, arith}
+use Rattle.std.proofs.Common.{◌≡◌, ℕ, zero, suc, ◌+◌, ◌<◌, ◌≤◌, not, false, is_some, Option, None, Some, List, [], ◌∷◌}
+use Rattle.std.proofs.Common.{◌++◌, ◌∙◌, length, position, take, All, true, refl, sym, ap, subst, arith}
 use Rattle.std.specs.List.{AllZip}
 use Rattle.std.specs.Prelude.{IfSome}
 use Rattle.std.proofs.lemmas.Bool.{true≢false, not-false}
@@ -32,26 +33,38 @@ use Rattle.book.proofs.EntryLemmas.{get_within}
 use Rattle.book.proofs.Next.{first_passes, none_passes}
 
 -- the operations of an order that gives replies have small names
-given_names : (program : Program) → IsWithinLimits program → (history : History) (keys : Keys) (order : List OpId) → GivesReplies program history keys order → All IsName order
+given_names : (program : Program) → IsWithinLimits program → (history : History) (keys : Keys) (order : List OpId)
+    → GivesReplies program history keys order → All IsName order
 given_names program limits history keys [] given = All-nil IsName
 given_names program limits history keys (a ∷ rest) given =
-    let op = IsSomeAnd-value (op_at program a.thread a.index) (λ (o : Op). IfSome (reply history a) (λ r. r ≡ reply_on o keys) × GivesReplies program history (keys_after o keys) rest) given in
+    let op =
+    IsSomeAnd-value (op_at program a.thread a.index)
+    (λ (o : Op). IfSome (reply history a) (λ r. r ≡ reply_on o keys)
+    × GivesReplies program history (keys_after o keys) rest) given in
     let small = op_limited program limits a.thread a.index op.0 op.1 in
-    All-cons IsName a rest (record { thread = omega (arith, small.0); index = omega (arith, small.1) }) (given_names program limits history (keys_after op.0 keys) rest op.2.1)
+    All-cons IsName a rest (record { thread = omega (arith, small.0); index = omega (arith, small.1) })
+    (given_names program limits history (keys_after op.0 keys) rest op.2.1)
 
-module _ {Machine Memory Place Form : Type 0} (rules : Rules Memory Place) (program : Program) (limits : IsWithinLimits program) where
+module _ {Machine Memory Place Form : Type 0} (rules : Rules Memory Place) (program : Program)
+    (limits : IsWithinLimits program) where
   -- a sound finding has an order with such names
-  found_names : (s : State Machine Memory Place Form) (f : Finding) → IsFindingOf rules program s f → is_sound f ≡ true → (order : List OpId) × FindsOrder f order × All IsName order
+  found_names : (s : State Machine Memory Place Form) (f : Finding) → IsFindingOf rules program s f → is_sound f ≡ true
+      → (order : List OpId) × FindsOrder f order × All IsName order
   found_names s found.Astray right sound = absurd (true≢false (sym sound))
   found_names s found.Order right sound = absurd (true≢false (sym sound))
   found_names s found.History right sound = absurd (true≢false (sym sound))
-  found_names s (found.Sound linearization) right sound = (linearization, refl, given_names program limits (history_of s) _ linearization right.2.replies)
+  found_names s (found.Sound linearization) right sound =
+      (linearization, refl, given_names program limits (history_of s) _ linearization right.2.replies)
 
-  pub writable : (same : State Machine Memory Place Form → State Machine Memory Place Form → _) → IsMachine (machine_of {Machine = Machine} {Form = Form} rules program)
-      → (es : List (Entry (State Machine Memory Place Form))) → IsLawful (machine_of rules program) same (IsFindingOf rules program) es → length es ≤ 2000000 → AreSound es → AreWritable es
+  pub writable : (same : State Machine Memory Place Form → State Machine Memory Place Form → _)
+      → IsMachine (machine_of {Machine = Machine} {Form = Form} rules program)
+      → (es : List (Entry (State Machine Memory Place Form)))
+      → IsLawful (machine_of rules program) same (IsFindingOf rules program) es → length es ≤ 2000000 → AreSound es
+      → AreWritable es
   writable same machine es law few sound i e at some =
       let from = law.origins i e at some in
-      let thread : from.origin.thread < length program.threads = machine.is_thread from.parent.state e.state from.origin.thread from.step in
+      let thread : from.origin.thread < length program.threads =
+      machine.is_thread from.parent.state e.state from.origin.thread from.step in
       let within : i < length es = get_within es i e at in
       let threads : length program.threads ≤ 4 = limits.thread_count in
       let earlier : from.origin.parent < i = from.earlier in
@@ -62,12 +75,14 @@ module _ {Machine Memory Place Form : Type 0} (rules : Rules Memory Place) (prog
       )
 
 -- one more line
-pub lines_push : {S : Type 0} (es : List (Entry S)) (lines : List Line) (e : Entry S) (line : Line) → 1 ≤ length es → AreLinesOf es lines → IsLineOf e.origin e.finding line
+pub lines_push : {S : Type 0} (es : List (Entry S)) (lines : List Line) (e : Entry S) (line : Line) → 1 ≤ length es
+    → AreLinesOf es lines → IsLineOf e.origin e.finding line
     → AreLinesOf (es ++ e ∷ []) (lines ++ line ∷ [])
 lines_push [] lines e line some are is = absurd (omega arith)
 lines_push {S} (start ∷ es) lines e line some are is = push es lines are
   where
-    push : (fs : List (Entry S)) (ls : List Line) → AllZip (λ entry line. IsLineOf entry.origin entry.finding line) fs ls
+    push : (fs : List (Entry S)) (ls : List Line)
+        → AllZip (λ entry line. IsLineOf entry.origin entry.finding line) fs ls
         → AllZip (λ entry line. IsLineOf entry.origin entry.finding line) (fs ++ e ∷ []) (ls ++ line ∷ [])
     push [] [] z = (is, tt)
     push [] (l ∷ ls) z = absurd z
@@ -75,11 +90,13 @@ lines_push {S} (start ∷ es) lines e line some are is = push es lines are
     push (f ∷ fs) (l ∷ ls) z = (z.0, push fs ls z.1)
 
 -- there is one line less than entries
-pub lines_count : {S : Type 0} (es : List (Entry S)) (lines : List Line) → 1 ≤ length es → AreLinesOf es lines → length es ≡ length lines + 1
+pub lines_count : {S : Type 0} (es : List (Entry S)) (lines : List Line) → 1 ≤ length es → AreLinesOf es lines
+    → length es ≡ length lines + 1
 lines_count [] lines some are = absurd (omega arith)
 lines_count {S} (start ∷ es) lines some are = let e = count es lines are in omega arith
   where
-    count : (fs : List (Entry S)) (ls : List Line) → AllZip (λ entry line. IsLineOf entry.origin entry.finding line) fs ls → length fs ≡ length ls
+    count : (fs : List (Entry S)) (ls : List Line)
+        → AllZip (λ entry line. IsLineOf entry.origin entry.finding line) fs ls → length fs ≡ length ls
     count [] [] z = refl
     count [] (l ∷ ls) z = absurd z
     count (f ∷ fs) [] z = absurd z
@@ -104,26 +121,33 @@ pub record HasWritten {S : Type 0} (count : ℕ) (es : List (Entry S)) (text : L
   pub whole : text ≡ book_text count lines
 
 -- the line of the next entry is added
-pub written_next : {S : Type 0} (count : ℕ) (es : List (Entry S)) (i : ℕ) (e : Entry S) (line : Line) (text more : List ℕ) → At es i e → 0 < i → IsLineOf e.origin e.finding line → IsProper line
-    → more ≡ text ++ ended (text_of line ∷ []) → HasWritten count (take i es) text → HasWritten count (take (i + 1) es) more
+pub written_next : {S : Type 0} (count : ℕ) (es : List (Entry S)) (i : ℕ) (e : Entry S) (line : Line)
+    (text more : List ℕ) → At es i e → 0 < i → IsLineOf e.origin e.finding line → IsProper line
+    → more ≡ text ++ ended (text_of line ∷ []) → HasWritten count (take i es) text
+    → HasWritten count (take (i + 1) es) more
 written_next {S} count es i e line text more at some is proper added so =
     let one : i + 1 ≡ suc i = omega arith in
     let longer : take (i + 1) es ≡ take i es ++ e ∷ [] = ap (λ n. take n es) one ∙ take_more es i e at in
     record {
       lines = so.lines ++ line ∷ [];
-      of_entries = subst (λ (fs : List (Entry S)). AreLinesOf fs (so.lines ++ line ∷ [])) (sym longer) (lines_push (take i es) so.lines e line (some_taken es i e at some) so.of_entries is);
+      of_entries =
+          subst (λ (fs : List (Entry S)). AreLinesOf fs (so.lines ++ line ∷ [])) (sym longer)
+          (lines_push (take i es) so.lines e line (some_taken es i e at some) so.of_entries is);
       proper = All-push IsProper so.lines line so.proper proper;
-      whole = added ∙ ap (λ (t : List ℕ). t ++ ended (text_of line ∷ [])) so.whole ∙ sym (written_push count so.lines line);
+      whole = added ∙ ap (λ (t : List ℕ). t ++ ended (text_of line ∷ [])) so.whole
+          ∙ sym (written_push count so.lines line);
     }
 
 -- a head and the line of the first entry
-pub written_none : {S : Type 0} (count : ℕ) (es : List (Entry S)) (empty head text : List ℕ) → empty ≡ [] → head ≡ empty ++ ended (head_text count ∷ []) → text ≡ head ++ ended (start_text ∷ [])
+pub written_none : {S : Type 0} (count : ℕ) (es : List (Entry S)) (empty head text : List ℕ) → empty ≡ []
+    → head ≡ empty ++ ended (head_text count ∷ []) → text ≡ head ++ ended (start_text ∷ [])
     → HasWritten count (take 1 es) text
 written_none {S} count es empty head text is_empty is_head is = record {
   lines = [];
   of_entries = none es;
   proper = All-nil IsProper;
-  whole = is ∙ ap (λ (t : List ℕ). t ++ ended (start_text ∷ [])) (is_head ∙ ap (λ (t : List ℕ). t ++ ended (head_text count ∷ [])) is_empty) ∙ sym (written_start count);
+  whole = is ∙ ap (λ (t : List ℕ). t ++ ended (start_text ∷ []))
+      (is_head ∙ ap (λ (t : List ℕ). t ++ ended (head_text count ∷ [])) is_empty) ∙ sym (written_start count);
 }
   where
     none : (fs : List (Entry S)) → AreLinesOf (take 1 fs) []
@@ -131,23 +155,28 @@ written_none {S} count es empty head text is_empty is_head is = record {
     none (f ∷ fs) = tt
 
 -- all lines are written
-pub written_all : {S : Type 0} (es : List (Entry S)) (text : List ℕ) → 1 ≤ length es → length es ≤ 2000000 → HasWritten (length es) es text → IsFileOf es text
+pub written_all : {S : Type 0} (es : List (Entry S)) (text : List ℕ) → 1 ≤ length es → length es ≤ 2000000
+    → HasWritten (length es) es text → IsFileOf es text
 written_all es text some few so =
     let count : length es ≡ length so.lines + 1 = lines_count es so.lines some so.of_entries in
     let whole : text ≡ book_text (length so.lines + 1) so.lines = so.whole ∙ ap (λ n. book_text n so.lines) count in
     record {
       lines = so.lines;
       of_entries = so.of_entries;
-      whole = subst (λ (t : List ℕ). IsBookText t so.lines) (sym whole) (is_written so.lines (record { each = so.proper; few = omega arith }));
+      whole = subst (λ (t : List ℕ). IsBookText t so.lines) (sym whole)
+          (is_written so.lines (record { each = so.proper; few = omega arith }));
     }
 
 -- where no entry is the first that is not sound, all are sound
-pub all_sound : {S : Type 0} (es : List (Entry S)) (o : Option ℕ) → o ≡ position (λ e. not (is_sound e.finding)) es → is_some o ≡ false → AreSound es
-all_sound es None is none i e at = not-false (is_sound e.finding) (none_passes (λ (r : Entry _). not (is_sound r.finding)) es (sym is) i e at)
+pub all_sound : {S : Type 0} (es : List (Entry S)) (o : Option ℕ) → o ≡ position (λ e. not (is_sound e.finding)) es
+    → is_some o ≡ false → AreSound es
+all_sound es None is none i e at =
+    not-false (is_sound e.finding) (none_passes (λ (r : Entry _). not (is_sound r.finding)) es (sym is) i e at)
 all_sound es (Some k) is none i e at = absurd (true≢false none)
 
 -- and where one is, not all are
-pub one_unsound : {S : Type 0} (es : List (Entry S)) (o : Option ℕ) → o ≡ position (λ e. not (is_sound e.finding)) es → is_some o ≡ true → AreSound es → ⊥
+pub one_unsound : {S : Type 0} (es : List (Entry S)) (o : Option ℕ) → o ≡ position (λ e. not (is_sound e.finding)) es
+    → is_some o ≡ true → AreSound es → ⊥
 one_unsound es None is some sound = true≢false (sym some)
 one_unsound {S} es (Some i) is some sound =
     let f = first_passes (λ (r : Entry S). not (is_sound r.finding)) es i (sym is) in

@@ -1,5 +1,7 @@
 -- The lines that a closed and sound book writes pass.
-use Rattle.std.proofs.Common.{rules, ◌≡◌, ℕ, zero, suc, ◌+◌, ◌≤◌, Bool, true, Option, None, Some, List, [], ◌∷◌, ◌++◌, length, map, replicate, refl, sym, ap, ◌∙◌, arith, slice_get, subst, append_assoc, append-nil}
+use Rattle.std.proofs.Common.{rules, ◌≡◌, ℕ, zero, suc, ◌+◌, ◌≤◌, Bool, true, Option, None, Some, List, [], ◌∷◌, ◌++◌}
+use Rattle.std.proofs.Common.{length, map, replicate, refl, sym, ap, ◌∙◌, arith, slice_get, subst, append_assoc}
+use Rattle.std.proofs.Common.{append-nil}
 use Rattle.std.specs.List.{AllZip}
 use Rattle.std.proofs.lemmas.Bool.{true≢false}
 use Rattle.std.proofs.lemmas.List.{map-append, length_push}
@@ -52,111 +54,166 @@ none_explained program = record {
   replies = tt;
 }
 
-start_history : (Machine Form : Type 0) {Memory Place : Type 0} (rules : Rules Memory Place) (program : Program) → history_of (start {Machine = Machine} {Form = Form} rules program) ≡ record { begun = []; finished = [] }
+start_history : (Machine Form : Type 0) {Memory Place : Type 0} (rules : Rules Memory Place) (program : Program)
+    → history_of (start {Machine = Machine} {Form = Form} rules program) ≡ record { begun = []; finished = [] }
 start_history Machine Form {Memory} {Place} rules program =
     let n = length program.threads in
-    let notes : all_named 0 (map (λ (thread : Thread Place). thread.notes) (replicate n idle)) ≡ [] = ap (all_named 0) (map-replicate (λ (thread : Thread Place). thread.notes) n idle) ∙ none_named n 0 in
-    let replies : all_named 0 (map (λ (thread : Thread Place). thread.replies) (replicate n idle)) ≡ [] = ap (all_named 0) (map-replicate (λ (thread : Thread Place). thread.replies) n idle) ∙ none_named n 0 in
+    let notes : all_named 0 (map (λ (thread : Thread Place). thread.notes) (replicate n idle)) ≡ [] =
+    ap (all_named 0) (map-replicate (λ (thread : Thread Place). thread.notes) n idle) ∙ none_named n 0 in
+    let replies : all_named 0 (map (λ (thread : Thread Place). thread.replies) (replicate n idle)) ≡ [] =
+    ap (all_named 0) (map-replicate (λ (thread : Thread Place). thread.replies) n idle) ∙ none_named n 0 in
     λ i. record { begun = notes i; finished = replies i }
 
-start_explained : (Machine Form : Type 0) {Memory Place : Type 0} (rules : Rules Memory Place) (program : Program) → IsLinearization program (history_of (start {Machine = Machine} {Form = Form} rules program)) []
-start_explained Machine Form rules program = subst (λ h. IsLinearization program h []) (sym (start_history Machine Form rules program)) (none_explained program)
+start_explained : (Machine Form : Type 0) {Memory Place : Type 0} (rules : Rules Memory Place) (program : Program)
+    → IsLinearization program (history_of (start {Machine = Machine} {Form = Form} rules program)) []
+start_explained Machine Form rules program =
+    subst (λ h. IsLinearization program h []) (sym (start_history Machine Form rules program)) (none_explained program)
 
 module _ {Machine Memory Place Form : Type 0} (rules : Rules Memory Place) (program : Program) where
   -- the linearization that was found of a state shows it
-  found_shown : (s : State Machine Memory Place Form) (f : Finding) (order : List OpId) → IsFindingOf rules program s f → FindsOrder f order → IsShown rules program s order
+  found_shown : (s : State Machine Memory Place Form) (f : Finding) (order : List OpId) → IsFindingOf rules program s f
+      → FindsOrder f order → IsShown rules program s order
   found_shown s found.Astray order right finds = absurd finds
   found_shown s found.Order order right finds = absurd finds
   found_shown s found.History order right finds = absurd finds
-  found_shown s (found.Sound linearization) order right finds = ((right.0, right.1), subst (λ (names : List OpId). IsLinearization program (history_of s) names) finds right.2)
+  found_shown s (found.Sound linearization) order right finds =
+      ((right.0, right.1), subst (λ (names : List OpId). IsLinearization program (history_of s) names) finds right.2)
 
-  sound_well : (s : State Machine Memory Place Form) (f : Finding) → IsFindingOf rules program s f → is_sound f ≡ true → IsWell rules program s
+  sound_well : (s : State Machine Memory Place Form) (f : Finding) → IsFindingOf rules program s f → is_sound f ≡ true
+      → IsWell rules program s
   sound_well s found.Astray right sound = absurd (true≢false (sym sound))
   sound_well s found.Order right sound = absurd (true≢false (sym sound))
   sound_well s found.History right sound = absurd (true≢false (sym sound))
   sound_well s (found.Sound order) right sound = (right.0, right.1)
 
   module _ (same : State Machine Memory Place Form → State Machine Memory Place Form → Bool)
-      (machine : IsMachine (machine_of {Machine = Machine} {Form = Form} rules program)) (merges : Merges (machine_of {Machine = Machine} {Form = Form} rules program) same)
-      (sound_alike : (r s : State Machine Memory Place Form) → Fits rules program r → Fits rules program s → same r s ≡ true → IsSound (IsFindingOf rules program) r → IsSound (IsFindingOf rules program) s)
-      (alike : (r s : State Machine Memory Place Form) → Fits rules program r → Fits rules program s → same r s ≡ true → AreStatesAlike rules r s)
-      (es : List (Entry (State Machine Memory Place Form))) (law : IsLawful (machine_of rules program) same (IsFindingOf rules program) es) where
+      (machine : IsMachine (machine_of {Machine = Machine} {Form = Form} rules program))
+      (merges : Merges (machine_of {Machine = Machine} {Form = Form} rules program) same)
+      (sound_alike : (r s : State Machine Memory Place Form) → Fits rules program r → Fits rules program s
+      → same r s ≡ true → IsSound (IsFindingOf rules program) r → IsSound (IsFindingOf rules program) s)
+      (alike : (r s : State Machine Memory Place Form) → Fits rules program r → Fits rules program s → same r s ≡ true
+      → AreStatesAlike rules r s)
+      (es : List (Entry (State Machine Memory Place Form)))
+      (law : IsLawful (machine_of rules program) same (IsFindingOf rules program) es) where
     -- the line of the entry after some tells its state
-    line_tells : (front rest : List (Entry (State Machine Memory Place Form))) (e : Entry (State Machine Memory Place Form)) (line : Line) → es ≡ front ++ e ∷ rest → 1 ≤ length front → IsLineOf e.origin e.finding line
+    line_tells : (front rest : List (Entry (State Machine Memory Place Form)))
+        (e : Entry (State Machine Memory Place Form)) (line : Line) → es ≡ front ++ e ∷ rest → 1 ≤ length front
+        → IsLineOf e.origin e.finding line
         → Tells rules program (states front) line e.state
     line_tells front rest e line whole some of_e =
         let here : At (front ++ e ∷ rest) (length front + 0) e = get-append_right front (e ∷ rest) 0 e refl in
         let plain : length front + 0 ≡ length front = omega arith in
-        let at : At es (length front) e = ap (λ es. slice_get es (length front)) whole ∙ ap (slice_get (front ++ e ∷ rest)) (sym plain) ∙ here in
+        let at : At es (length front) e =
+        ap (λ es. slice_get es (length front)) whole ∙ ap (slice_get (front ++ e ∷ rest)) (sym plain) ∙ here in
         let from = law.origins (length front) e at some in
-        let same_origin : from.origin ≡ record { parent = line.parent; thread = line.thread } = same_Some from.origin (record { parent = line.parent; thread = line.thread }) (sym from.recorded ∙ of_e.step) in
+        let same_origin : from.origin ≡ record { parent = line.parent; thread = line.thread } =
+        same_Some from.origin (record { parent = line.parent; thread = line.thread })
+        (sym from.recorded ∙ of_e.step) in
         let number : line.parent ≡ from.origin.parent = sym (ap (λ (o : Origin). o.parent) same_origin) in
         let thread : line.thread ≡ from.origin.thread = sym (ap (λ (o : Origin). o.thread) same_origin) in
         let there = get_at front from.origin.parent from.earlier in
-        let parent : there.0 ≡ from.parent = same_Some there.0 from.parent (sym (get-append_left front (e ∷ rest) from.origin.parent there.0 there.1) ∙ sym (ap (λ es. slice_get es from.origin.parent) whole) ∙ from.entered) in
+        let parent : there.0 ≡ from.parent =
+        same_Some there.0 from.parent (sym (get-append_left front (e ∷ rest) from.origin.parent there.0 there.1)
+        ∙ sym (ap (λ es. slice_get es from.origin.parent) whole) ∙ from.entered) in
         let stands : slice_get (states front) line.parent ≡ Some from.parent.state =
-        ap (slice_get (states front)) number ∙ states-at front from.origin.parent from.parent (there.1 ∙ ap Some parent) in
-        let leads : step rules program from.parent.state line.thread ≡ Some e.state = ap (step rules program from.parent.state) thread ∙ from.step in
-        (record { parent = from.parent.state; at = stands; step = leads }, found_shown e.state e.finding line.order (law.findings (length front) e at) of_e.order)
+        ap (slice_get (states front)) number
+        ∙ states-at front from.origin.parent from.parent (there.1 ∙ ap Some parent) in
+        let leads : step rules program from.parent.state line.thread ≡ Some e.state =
+        ap (step rules program from.parent.state) thread ∙ from.step in (
+          record { parent = from.parent.state; at = stands; step = leads },
+          found_shown e.state e.finding line.order (law.findings (length front) e at) of_e.order,
+        )
 
-    written_continues : (front rest : List (Entry (State Machine Memory Place Form))) (lines : List Line) → es ≡ front ++ rest → 1 ≤ length front → AllZip (λ entry line. IsLineOf entry.origin entry.finding line) rest lines
+    written_continues : (front rest : List (Entry (State Machine Memory Place Form))) (lines : List Line)
+        → es ≡ front ++ rest → 1 ≤ length front
+        → AllZip (λ entry line. IsLineOf entry.origin entry.finding line) rest lines
         → Continues rules program (states front) lines (states es)
     written_continues front [] [] whole some z = ap states (whole ∙ append-nil front)
     written_continues front [] (line ∷ lines) whole some z = absurd z
     written_continues front (e ∷ rest) [] whole some z = absurd z
     written_continues front (e ∷ rest) (line ∷ lines) whole some z =
-        let joined : states front ++ e.state ∷ [] ≡ states (front ++ e ∷ []) = sym (map-append (λ (e : Entry (State Machine Memory Place Form)). e.state) front (e ∷ [])) in
+        let joined : states front ++ e.state ∷ [] ≡ states (front ++ e ∷ []) =
+        sym (map-append (λ (e : Entry (State Machine Memory Place Form)). e.state) front (e ∷ [])) in
         let longer : length (front ++ e ∷ []) ≡ length front + 1 = length_push front e in (
           e.state,
           line_tells front rest e line whole some z.0,
-          subst (λ (b : List (State Machine Memory Place Form)). Continues rules program b lines (states es)) (sym joined)
-              (written_continues (front ++ e ∷ []) rest lines (whole ∙ sym (append_assoc front (e ∷ []) rest)) (omega arith) z.1),
+          subst (λ (b : List (State Machine Memory Place Form)). Continues rules program b lines (states es))
+              (sym joined)
+              (written_continues (front ++ e ∷ []) rest lines (whole ∙ sym (append_assoc front (e ∷ []) rest))
+              (omega arith) z.1),
         )
 
     -- no step leads out of the states of a book with no entry left
     states_closed : IsWorkedOut es → AreClosed (machine_of rules program) (AreStatesAlike rules) (states es)
     states_closed out =
-        let closed = worked_out_closed (machine_of rules program) same (IsFindingOf rules program) machine merges sound_alike es law out in
+        let closed =
+        worked_out_closed (machine_of rules program) same (IsFindingOf rules program) machine merges sound_alike es
+        law out in
         record {
           fit = closed.fit;
-          start = (let w = closed.start in (w.0, w.1, w.2, alike w.1 (start rules program) (closed.fit w.0 w.1 w.2) machine.start_fits w.3));
+          start = (let w = closed.start in
+              (w.0, w.1, w.2, alike w.1 (start rules program) (closed.fit w.0 w.1 w.2) machine.start_fits w.3));
           steps = (λ i t s next at leads.
-              let w = closed.steps i t s next at leads in
-              (w.0, w.1, w.2, alike w.1 next (closed.fit w.0 w.1 w.2) (machine.step_fits s next t (closed.fit i s at) leads) w.3));
+              let w = closed.steps i t s next at leads in (
+                w.0,
+                w.1,
+                w.2,
+                alike w.1 next (closed.fit w.0 w.1 w.2)
+                    (machine.step_fits s next t (closed.fit i s at) leads) w.3,
+              ));
         }
 
     -- the lines of a closed and sound book pass
-    lines_pass : (lines : List Line) → AreLinesOf es lines → IsWorkedOut es → AreSound es → Pass Machine Form rules program lines
+    lines_pass : (lines : List Line) → AreLinesOf es lines → IsWorkedOut es → AreSound es
+        → Pass Machine Form rules program lines
     lines_pass lines of_book out sound = go es refl of_book
       where
-        go : (xs : List (Entry (State Machine Memory Place Form))) → es ≡ xs → AreLinesOf xs lines → Pass Machine Form rules program lines
-        go [] whole of_xs = absurd (let q : None ≡ Some law.start.0 = sym (ap (λ es. slice_get es 0) whole) ∙ law.start.1 in cc)
+        go : (xs : List (Entry (State Machine Memory Place Form))) → es ≡ xs → AreLinesOf xs lines
+            → Pass Machine Form rules program lines
+        go [] whole of_xs =
+            absurd (let q : None ≡ Some law.start.0 = sym (ap (λ es. slice_get es 0) whole) ∙ law.start.1 in cc)
         go (e ∷ rest) whole of_xs =
             let at : At es 0 e = ap (λ es. slice_get es 0) whole in
             let first : e ≡ law.start.0 = same_Some e law.start.0 (sym at ∙ law.start.1) in
-            let starts : e.state ≡ start rules program = ap (λ (x : Entry (State Machine Memory Place Form)). x.state) first ∙ law.start.2 in
-            let well : IsWell rules program e.state = sound_well e.state e.finding (law.findings 0 e at) (sound 0 e at) in (
+            let starts : e.state ≡ start rules program =
+            ap (λ (x : Entry (State Machine Memory Place Form)). x.state) first ∙ law.start.2 in
+            let well : IsWell rules program e.state =
+            sound_well e.state e.finding (law.findings 0 e at) (sound 0 e at) in (
               states es,
               (
-                (subst (λ (s : State Machine Memory Place Form). IsWell rules program s) starts well, start_explained Machine Form rules program),
-                subst (λ (s : State Machine Memory Place Form). Continues rules program (s ∷ []) lines (states es)) starts (written_continues (e ∷ []) rest lines whole (omega arith) of_xs),
+                (
+                  subst (λ (s : State Machine Memory Place Form). IsWell rules program s) starts well,
+                  start_explained Machine Form rules program,
+                ),
+                subst (λ (s : State Machine Memory Place Form). Continues rules program (s ∷ []) lines (states es))
+                    starts (written_continues (e ∷ []) rest lines whole (omega arith) of_xs),
               ),
               states_closed out,
             )
 
 -- the lines of a closed and sound book of a machine and a program pass
-pub written_pass : {Machine Memory Place Form : Type 0} (place_eq : Place → Place → Bool) (memory_eq : Memory → Memory → Bool) (form_eq : Form → Form → Bool)
-    (form_of : Machine → Memory → List (Option Place) → Form) (rules : Machine → Rules Memory Place) (book : Contents Machine (State Machine Memory Place Form))
+pub written_pass : {Machine Memory Place Form : Type 0} (place_eq : Place → Place → Bool)
+    (memory_eq : Memory → Memory → Bool) (form_eq : Form → Form → Bool)
+    (form_of : Machine → Memory → List (Option Place) → Form) (rules : Machine → Rules Memory Place)
+    (book : Contents Machine (State Machine Memory Place Form))
     → AreFormsExact (rules book.machine) (form_of book.machine) → IsExact (state_form_eq form_eq)
     → IsLawfulIn rules place_eq memory_eq form_eq form_of book → IsMachine (machine_in rules book)
     → Merges (machine_in rules book) (counted_as_one place_eq memory_eq form_eq (form_of book.machine) book.merge)
-    → ((r s : State Machine Memory Place Form) → Fits (rules book.machine) book.program r → Fits (rules book.machine) book.program s
-    → counted_as_one place_eq memory_eq form_eq (form_of book.machine) book.merge r s ≡ true → IsSound (right_in rules book) r → IsSound (right_in rules book) s)
-    → IsClosed book → AreSound book.entries → (lines : List Line) → AreLinesOf book.entries lines → Pass Machine Form (rules book.machine) book.program lines
-written_pass {Machine} {Memory} {Place} {Form} place_eq memory_eq form_eq form_of rules book forms exact law machine merges sound_alike closed sound lines of_book =
+    → ((r s : State Machine Memory Place Form) → Fits (rules book.machine) book.program r
+    → Fits (rules book.machine) book.program s
+    → counted_as_one place_eq memory_eq form_eq (form_of book.machine) book.merge r s ≡ true
+    → IsSound (right_in rules book) r → IsSound (right_in rules book) s)
+    → IsClosed book → AreSound book.entries → (lines : List Line) → AreLinesOf book.entries lines
+    → Pass Machine Form (rules book.machine) book.program lines
+written_pass {Machine} {Memory} {Place} {Form} place_eq memory_eq form_eq form_of rules book forms exact law machine
+    merges sound_alike closed sound lines of_book =
     let form = state_form {Machine = Machine} {Place = Place} (form_of book.machine) in
-    lines_pass (rules book.machine) book.program (counted_as_one place_eq memory_eq form_eq (form_of book.machine) book.merge) machine merges sound_alike
+    lines_pass (rules book.machine) book.program
+    (counted_as_one place_eq memory_eq form_eq (form_of book.machine) book.merge) machine merges sound_alike
     (λ r s r_fits s_fits same.
-    let named : state_form_eq form_eq (form r) (form s) ≡ true = sym (ap (λ merge. counted_as_one place_eq memory_eq form_eq (form_of book.machine) merge r s) closed.0) ∙ same in
-    (forms_alike (rules book.machine) (form_of book.machine) forms book.program book.program r s r_fits s_fits).0 (exact (form r) (form s) named))
+    let named : state_form_eq form_eq (form r) (form s) ≡ true =
+    sym (ap (λ merge. counted_as_one place_eq memory_eq form_eq (form_of book.machine) merge r s) closed.0)
+    ∙ same in
+    (forms_alike (rules book.machine) (form_of book.machine) forms book.program book.program r s r_fits s_fits).0
+    (exact (form r) (form s) named))
     book.entries law.law lines of_book closed.1 sound

@@ -1,5 +1,6 @@
 -- How many lines bytes are, counted by their line feeds.
-use Rattle.std.proofs.Common.{◌≡◌, ◌≢◌, ℕ, ◌+◌, ◌≤◌, Bool, true, false, List, [], ◌∷◌, ◌++◌, ◌∙◌, length, MatchBool, refl, sym, ap, arith}
+use Rattle.std.proofs.Common.{◌≡◌, ◌≢◌, ℕ, ◌+◌, ◌≤◌, Bool, true, false, List, [], ◌∷◌, ◌++◌, ◌∙◌, length, MatchBool}
+use Rattle.std.proofs.Common.{refl, sym, ap, arith}
 use Rattle.std.proofs.lemmas.List.{append_assoc, append-nil, length-append}
 use Rattle.std.specs.List.{AllByRecursion}
 use Rattle.book.specs.Text.Files.{ended, AreLines}
@@ -18,7 +19,8 @@ pub record HasCounted (bytes : List ℕ) (count : ℕ) (is_ended : Bool) : Type 
 pub counted_none : HasCounted [] 0 true
 counted_none = record { texts = []; rest = []; whole = refl; bare = tt; rest_bare = tt; counted = refl; ends = refl }
 
-pub counted_feed : (bytes : List ℕ) (count : ℕ) (is_ended : Bool) (b : ℕ) → HasCounted bytes count is_ended → b ≡ 10 → HasCounted (bytes ++ b ∷ []) (count + 1) true
+pub counted_feed : (bytes : List ℕ) (count : ℕ) (is_ended : Bool) (b : ℕ) → HasCounted bytes count is_ended → b ≡ 10
+    → HasCounted (bytes ++ b ∷ []) (count + 1) true
 counted_feed bytes count is_ended b has is = record {
   texts = has.texts ++ has.rest ∷ [];
   rest = [];
@@ -31,7 +33,8 @@ counted_feed bytes count is_ended b has is = record {
   ends = refl;
 }
 
-pub counted_other : (bytes : List ℕ) (count : ℕ) (is_ended : Bool) (b : ℕ) → HasCounted bytes count is_ended → b ≢ 10 → HasCounted (bytes ++ b ∷ []) count false
+pub counted_other : (bytes : List ℕ) (count : ℕ) (is_ended : Bool) (b : ℕ) → HasCounted bytes count is_ended → b ≢ 10
+    → HasCounted (bytes ++ b ∷ []) count false
 counted_other bytes count is_ended b has other = record {
   texts = has.texts;
   rest = has.rest ++ b ∷ [];
@@ -42,23 +45,31 @@ counted_other bytes count is_ended b has other = record {
   ends = omega (arith, length-append has.rest (b ∷ []));
 }
 
-pub counted_lines : (bytes : List ℕ) (count : ℕ) → HasCounted bytes count true → (texts : List (List ℕ)) × AreLines bytes texts × (length texts ≡ count)
+pub counted_lines : (bytes : List ℕ) (count : ℕ) → HasCounted bytes count true → (texts : List (List ℕ))
+    × AreLines bytes texts × (length texts ≡ count)
 counted_lines bytes count has =
     let whole = has.whole ∙ ap (λ (l : List ℕ). ended has.texts ++ l) has.ends ∙ append-nil (ended has.texts) in
     (has.texts, record { whole = whole; bare = has.bare }, has.counted)
 
 -- where lines are other lines and some bytes, there are no such bytes
 no_rest : (texts others : List (List ℕ)) (rest : List ℕ) → ended others ≡ ended texts ++ rest
-    → AllByRecursion (AllByRecursion (λ b. b ≢ 10)) texts → AllByRecursion (AllByRecursion (λ b. b ≢ 10)) others → AllByRecursion (λ b. b ≢ 10) rest
+    → AllByRecursion (AllByRecursion (λ b. b ≢ 10)) texts → AllByRecursion (AllByRecursion (λ b. b ≢ 10)) others
+    → AllByRecursion (λ b. b ≢ 10) rest
     → rest ≡ []
 no_rest [] [] rest e bare also none = sym e
-no_rest [] (other ∷ others) rest e bare also none = absurd (no_cut (λ b. b ≢ 10) rest other 10 (ended others) (sym e) none feed_fails)
-no_rest (text ∷ texts) [] rest e bare also none = absurd (not_nil text 10 (ended texts ++ rest) (e ∙ append_assoc text (10 ∷ ended texts) rest))
+no_rest [] (other ∷ others) rest e bare also none =
+    absurd (no_cut (λ b. b ≢ 10) rest other 10 (ended others) (sym e) none feed_fails)
+no_rest (text ∷ texts) [] rest e bare also none =
+    absurd (not_nil text 10 (ended texts ++ rest) (e ∙ append_assoc text (10 ∷ ended texts) rest))
 no_rest (text ∷ texts) (other ∷ others) rest e bare also none =
-    let same = same_cut (λ b. b ≢ 10) other 10 (ended others) text 10 (ended texts ++ rest) (e ∙ append_assoc text (10 ∷ ended texts) rest) also.0 feed_fails bare.0 feed_fails in
+    let same =
+    same_cut (λ b. b ≢ 10) other 10 (ended others) text 10 (ended texts ++ rest)
+    (e ∙ append_assoc text (10 ∷ ended texts) rest) also.0 feed_fails bare.0 feed_fails in
     no_rest texts others rest same.2 bare.1 also.1 none
 
-pub counted_no_lines : (bytes : List ℕ) (count : ℕ) → HasCounted bytes count false → (texts : List (List ℕ)) → ¬ AreLines bytes texts
+pub counted_no_lines : (bytes : List ℕ) (count : ℕ) → HasCounted bytes count false → (texts : List (List ℕ))
+    → ¬ AreLines bytes texts
 counted_no_lines bytes count has texts are =
-    let none : has.rest ≡ [] = no_rest has.texts texts has.rest (sym are.whole ∙ has.whole) has.bare are.bare has.rest_bare in
+    let none : has.rest ≡ [] =
+    no_rest has.texts texts has.rest (sym are.whole ∙ has.whole) has.bare are.bare has.rest_bare in
     omega (arith, has.ends, ap length none)

@@ -10,17 +10,22 @@ use Rattle.book.proofs.Text.OneReading.{no_space, space_fails, same_lengths, ent
 
 -- a text without a space is no entry's line
 pub no_pieces : (text : List ℕ) → AllByRecursion (λ b. b ≢ 32) text → ¬ IsEntryText text
-no_pieces text none (line, is) = no_cut (λ b. b ≢ 32) text is.parent 32 ((48 + line.thread) ∷ 32 ∷ is.order) is.whole none space_fails
+no_pieces text none (line, is) =
+    no_cut (λ b. b ≢ 32) text is.parent 32 ((48 + line.thread) ∷ 32 ∷ is.order) is.whole none space_fails
 
--- what stands before the first space of an entry's line is the parent's number, and what follows are the thread and the order
-entry_pieces : (text parent rest : List ℕ) (line : Line) → text ≡ parent ++ 32 ∷ rest → AllByRecursion (λ b. b ≢ 32) parent → (is : IsEntryLine text line)
+-- what stands before the first space of an entry's line is the parent's number, and what follows are the thread and the
+-- order
+entry_pieces : (text parent rest : List ℕ) (line : Line) → text ≡ parent ++ 32 ∷ rest
+    → AllByRecursion (λ b. b ≢ 32) parent → (is : IsEntryLine text line)
     → (is.parent ≡ parent) × (rest ≡ (48 + line.thread) ∷ 32 ∷ is.order)
 entry_pieces text parent rest line e none is =
-    let same = same_cut (λ b. b ≢ 32) is.parent 32 ((48 + line.thread) ∷ 32 ∷ is.order) parent 32 rest (sym is.whole ∙ e)
+    let same =
+    same_cut (λ b. b ≢ 32) is.parent 32 ((48 + line.thread) ∷ 32 ∷ is.order) parent 32 rest (sym is.whole ∙ e)
     (no_space is.parent is.is_number.digits.1) space_fails none space_fails in
     (same.0, sym same.2)
 
-pub no_parent : (text parent rest : List ℕ) → text ≡ parent ++ 32 ∷ rest → AllByRecursion (λ b. b ≢ 32) parent → ((number : ℕ) → ¬ IsNumber parent number)
+pub no_parent : (text parent rest : List ℕ) → text ≡ parent ++ 32 ∷ rest → AllByRecursion (λ b. b ≢ 32) parent
+    → ((number : ℕ) → ¬ IsNumber parent number)
     → ¬ IsEntryText text
 no_parent text parent rest e none not (line, is) =
     let pieces = entry_pieces text parent rest line e none is in
@@ -32,7 +37,8 @@ no_thread text parent rest e none not (line, is) =
     let pieces = entry_pieces text parent rest line e none is in
     not line.thread is.order is.thread pieces.1
 
-pub no_order : (text parent rest : List ℕ) (thread : ℕ) (order : List ℕ) → text ≡ parent ++ 32 ∷ rest → AllByRecursion (λ b. b ≢ 32) parent
+pub no_order : (text parent rest : List ℕ) (thread : ℕ) (order : List ℕ) → text ≡ parent ++ 32 ∷ rest
+    → AllByRecursion (λ b. b ≢ 32) parent
     → rest ≡ (48 + thread) ∷ 32 ∷ order → ((names : _) → ¬ IsOrder order names) → ¬ IsEntryText text
 no_order text parent rest thread order e none split not (line, is) =
     let pieces = entry_pieces text parent rest line e none is in
@@ -49,17 +55,20 @@ pub record HasReadLines (bytes : List ℕ) (lines : List Line) (rest : List ℕ)
   pub each : AllZip IsEntryLine done lines
   pub few : length (done ++ ahead) < 2000000
 
-pub lines_none : (bytes : List ℕ) (texts : List (List ℕ)) → AreLines bytes texts → length texts < 2000000 → HasReadLines bytes [] bytes
+pub lines_none : (bytes : List ℕ) (texts : List (List ℕ)) → AreLines bytes texts → length texts < 2000000
+    → HasReadLines bytes [] bytes
 lines_none bytes texts are few = record { done = []; ahead = texts; whole = are; left = are; each = tt; few = few }
 
-zip_push : (texts : List (List ℕ)) (lines : List Line) (text : List ℕ) (line : Line) → AllZip IsEntryLine texts lines → IsEntryLine text line
+zip_push : (texts : List (List ℕ)) (lines : List Line) (text : List ℕ) (line : Line) → AllZip IsEntryLine texts lines
+    → IsEntryLine text line
     → AllZip IsEntryLine (texts ++ text ∷ []) (lines ++ line ∷ [])
 zip_push [] [] text line are is = (is, tt)
 zip_push [] (other ∷ lines) text line are is = absurd are
 zip_push (first ∷ texts) [] text line are is = absurd are
 zip_push (first ∷ texts) (other ∷ lines) text line are is = (are.0, zip_push texts lines text line are.1 is)
 
-pub lines_push : (bytes : List ℕ) (lines : List Line) (rest text tail : List ℕ) (line : Line) → HasReadLines bytes lines rest → rest ≡ text ++ 10 ∷ tail
+pub lines_push : (bytes : List ℕ) (lines : List Line) (rest text tail : List ℕ) (line : Line)
+    → HasReadLines bytes lines rest → rest ≡ text ++ 10 ∷ tail
     → AllByRecursion (λ b. b ≢ 10) text → IsEntryLine text line → HasReadLines bytes (lines ++ line ∷ []) tail
 lines_push bytes lines rest text tail line has e bare is =
     let (later, split, left) = next_line rest text tail has.ahead has.left e bare in
@@ -74,17 +83,22 @@ lines_push bytes lines rest text tail line has e bare is =
       few = subst (λ (ts : List (List ℕ)). length ts < 2000000) same has.few;
     }
 
-pub lines_all : (bytes : List ℕ) (lines : List Line) (rest : List ℕ) → HasReadLines bytes lines rest → AllByRecursion (λ b. b ≢ 10) rest
+pub lines_all : (bytes : List ℕ) (lines : List Line) (rest : List ℕ) → HasReadLines bytes lines rest
+    → AllByRecursion (λ b. b ≢ 10) rest
     → (texts : List (List ℕ)) × AreLines bytes texts × AllZip IsEntryLine texts lines
 lines_all bytes lines rest has bare =
     let none : has.ahead ≡ [] = no_line rest has.ahead has.left bare in
-    let same : has.done ++ has.ahead ≡ has.done = ap (λ (ts : List (List ℕ)). has.done ++ ts) none ∙ append-nil has.done in
+    let same : has.done ++ has.ahead ≡ has.done =
+    ap (λ (ts : List (List ℕ)). has.done ++ ts) none ∙ append-nil has.done in
     (has.done, subst (AreLines bytes) same has.whole, has.each)
 
-pub lines_few : (bytes : List ℕ) (lines : List Line) (rest : List ℕ) → HasReadLines bytes lines rest → length lines < 2000000
-lines_few bytes lines rest has = omega (arith, has.few, length-append has.done has.ahead, same_lengths has.done lines has.each)
+pub lines_few : (bytes : List ℕ) (lines : List Line) (rest : List ℕ) → HasReadLines bytes lines rest
+    → length lines < 2000000
+lines_few bytes lines rest has =
+    omega (arith, has.few, length-append has.done has.ahead, same_lengths has.done lines has.each)
 
-pub lines_fault : (bytes : List ℕ) (lines : List Line) (rest text tail : List ℕ) → HasReadLines bytes lines rest → rest ≡ text ++ 10 ∷ tail
+pub lines_fault : (bytes : List ℕ) (lines : List Line) (rest text tail : List ℕ) → HasReadLines bytes lines rest
+    → rest ≡ text ++ 10 ∷ tail
     → AllByRecursion (λ b. b ≢ 10) text → ¬ IsEntryText text → IsEntriesFault bytes (fault.Form (length lines + 3))
 lines_fault bytes lines rest text tail has e bare not =
     let (later, split, left) = next_line rest text tail has.ahead has.left e bare in

@@ -1,21 +1,25 @@
 -- The head of a book file, and what follows it.
-use Rattle.std.proofs.Common.{◌≡◌, ◌≢◌, ℕ, ◌<◌, List, [], ◌∷◌, ◌++◌, ◌∙◌, length, codes, refl, sym, ap, subst, arith, inl, inr}
+use Rattle.std.proofs.Common.{◌≡◌, ◌≢◌, ℕ, ◌<◌, List, [], ◌∷◌, ◌++◌, ◌∙◌, length, codes, refl, sym, ap, subst, arith}
+use Rattle.std.proofs.Common.{inl, inr}
 use Rattle.std.proofs.lemmas.List.{append_cancel_left}
 use Rattle.std.specs.List.{AllByRecursion, AllZip}
 use Rattle.book.specs.declared.file.line.FormFault.{FormFault}
 use Rattle.book.specs.declared.file.line.FormFault.TheVariants as fault
 use Rattle.book.specs.declared.file.line.Line.{Line}
-use Rattle.book.specs.Text.Files.{ended, AreLines, IsNumber, IsEntryLine, IsHead, start_text, HasHead, IsBookText, IsFirstMisformed, IsEntriesFault, IsFormFault}
+use Rattle.book.specs.Text.Files.{ended, AreLines, IsNumber, IsEntryLine, IsHead, start_text, HasHead, IsBookText}
+use Rattle.book.specs.Text.Files.{IsFirstMisformed, IsEntriesFault, IsFormFault}
 use Rattle.book.proofs.Text.Cuts.{next_line, no_line, same_lines}
 use Rattle.book.proofs.Text.OneReading.{same_number}
 
 -- a text is the head of a file of so many entries only
 pub same_head : (text : List ℕ) (m n : ℕ) → IsHead text m → IsHead text n → m ≡ n
 same_head text m n is also =
-    let same : is.number ≡ also.number = append_cancel_left (codes "treesched book 1 entries ") is.number also.number (sym is.whole ∙ also.whole) in
+    let same : is.number ≡ also.number =
+    append_cancel_left (codes "treesched book 1 entries ") is.number also.number (sym is.whole ∙ also.whole) in
     same_number also.number m n (subst (λ (t : List ℕ). IsNumber t m) same is.is_number) also.is_number
 
-pub has_head : (bytes head rest : List ℕ) (entries : ℕ) (texts : List (List ℕ)) → bytes ≡ head ++ 10 ∷ rest → AllByRecursion (λ b. b ≢ 10) head
+pub has_head : (bytes head rest : List ℕ) (entries : ℕ) (texts : List (List ℕ)) → bytes ≡ head ++ 10 ∷ rest
+    → AllByRecursion (λ b. b ≢ 10) head
     → IsHead head entries → AreLines rest texts → length texts ≡ entries → HasHead bytes texts
 has_head bytes head rest entries texts e bare is are count = record {
   head = head;
@@ -24,7 +28,8 @@ has_head bytes head rest entries texts e bare is are count = record {
 }
 
 -- the head stands before the first line feed
-pub head_pieces : (bytes head rest : List ℕ) (texts : List (List ℕ)) → bytes ≡ head ++ 10 ∷ rest → AllByRecursion (λ b. b ≢ 10) head → HasHead bytes texts
+pub head_pieces : (bytes head rest : List ℕ) (texts : List (List ℕ)) → bytes ≡ head ++ 10 ∷ rest
+    → AllByRecursion (λ b. b ≢ 10) head → HasHead bytes texts
     → IsHead head (length texts) × AreLines rest texts
 head_pieces bytes head rest texts e bare has =
     let (later, split, are) = next_line bytes head rest (has.head ∷ texts) has.are_lines e bare in
@@ -33,9 +38,11 @@ head_pieces bytes head rest texts e bare has =
     (subst (λ (t : List ℕ). IsHead t (length texts)) same has.is_head, subst (AreLines rest) others are)
 
 pub no_head : (bytes : List ℕ) (texts : List (List ℕ)) → AllByRecursion (λ b. b ≢ 10) bytes → ¬ HasHead bytes texts
-no_head bytes texts bare has = let none : has.head ∷ texts ≡ [] = no_line bytes (has.head ∷ texts) has.are_lines bare in cc
+no_head bytes texts bare has = let none : has.head ∷ texts ≡ [] = no_line bytes (has.head ∷ texts) has.are_lines bare in
+    cc
 
-pub other_count : (bytes head rest : List ℕ) (entries count : ℕ) (lines texts : List (List ℕ)) → bytes ≡ head ++ 10 ∷ rest → AllByRecursion (λ b. b ≢ 10) head
+pub other_count : (bytes head rest : List ℕ) (entries count : ℕ) (lines texts : List (List ℕ))
+    → bytes ≡ head ++ 10 ∷ rest → AllByRecursion (λ b. b ≢ 10) head
     → IsHead head entries → AreLines rest lines → length lines ≡ count → count ≢ entries → ¬ HasHead bytes texts
 other_count bytes head rest entries count lines texts e bare is are counted differs has =
     let pieces = head_pieces bytes head rest texts e bare has in
@@ -47,21 +54,25 @@ pub start_bare : AllByRecursion (λ b. b ≢ 10) start_text
 start_bare = search arith
 
 -- what follows the start's line are lines, fewer than the most entries
-pub after_start : (bytes rest tail : List ℕ) (texts : List (List ℕ)) → HasHead bytes texts → AreLines rest texts → rest ≡ start_text ++ 10 ∷ tail
+pub after_start : (bytes rest tail : List ℕ) (texts : List (List ℕ)) → HasHead bytes texts → AreLines rest texts
+    → rest ≡ start_text ++ 10 ∷ tail
     → (later : List (List ℕ)) × (texts ≡ start_text ∷ later) × AreLines tail later × (length later < 2000000)
 after_start bytes rest tail texts has are e =
     let (later, split, left) = next_line rest start_text tail texts are e start_bare in
     (later, split, left, omega (arith, has.is_head.few, ap length split))
 
 -- bytes with a head, the start's line and the lines of entries are a book's text
-pub is_book : (bytes rest tail : List ℕ) (texts : List (List ℕ)) (lines : List Line) → HasHead bytes texts → AreLines rest texts → rest ≡ start_text ++ 10 ∷ tail
+pub is_book : (bytes rest tail : List ℕ) (texts : List (List ℕ)) (lines : List Line) → HasHead bytes texts
+    → AreLines rest texts → rest ≡ start_text ++ 10 ∷ tail
     → (others : List (List ℕ)) × AreLines tail others × AllZip IsEntryLine others lines → IsBookText bytes lines
 is_book bytes rest tail texts lines has are e (others, lie, each) =
     let (later, split, left, few) = after_start bytes rest tail texts has are e in
-    let same : texts ≡ start_text ∷ others = split ∙ ap (λ (ts : List (List ℕ)). start_text ∷ ts) (same_lines tail later others left lie) in
+    let same : texts ≡ start_text ∷ others =
+    split ∙ ap (λ (ts : List (List ℕ)). start_text ∷ ts) (same_lines tail later others left lie) in
     record { texts = others; has_head = subst (HasHead bytes) same has; each = each }
 
-pub entries_fault : (bytes rest tail : List ℕ) (texts : List (List ℕ)) (told : FormFault) → HasHead bytes texts → AreLines rest texts → rest ≡ start_text ++ 10 ∷ tail
+pub entries_fault : (bytes rest tail : List ℕ) (texts : List (List ℕ)) (told : FormFault) → HasHead bytes texts
+    → AreLines rest texts → rest ≡ start_text ++ 10 ∷ tail
     → IsEntriesFault tail told → IsFormFault bytes told
 entries_fault bytes rest tail texts fault.OutOfMemory has are e is = tt
 entries_fault bytes rest tail texts (fault.Form number) has are e (earlier, text, later, lie, formed, not, place) =
@@ -83,5 +94,6 @@ pub start_fault : (bytes rest : List ℕ) (texts : List (List ℕ)) → HasHead 
     → ((tail : List ℕ) → rest ≢ start_text ++ 10 ∷ tail) → IsFirstMisformed bytes 2
 start_fault bytes rest [] has are none = absurd (omega (arith, has.is_head.some))
 start_fault bytes rest (text ∷ later) has are none =
-    let differs : text ≢ start_text = λ same. none (ended later) (are.whole ∙ ap (λ (t : List ℕ). t ++ 10 ∷ ended later) same) in
+    let differs : text ≢ start_text =
+    λ same. none (ended later) (are.whole ∙ ap (λ (t : List ℕ). t ++ 10 ∷ ended later) same) in
     inr (inl (record { text = text; later = later; has_head = has; misformed = differs; place = refl }))

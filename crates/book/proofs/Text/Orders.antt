@@ -1,5 +1,6 @@
 -- What has been read of an order's text, and what is left of it.
-use Rattle.std.proofs.Common.{◌≡◌, ◌≢◌, ℕ, ◌+◌, ◌≤◌, List, [], ◌∷◌, ◌++◌, ◌∙◌, length, get_or, codes, refl, sym, ap, subst, arith}
+use Rattle.std.proofs.Common.{◌≡◌, ◌≢◌, ℕ, ◌+◌, ◌≤◌, List, [], ◌∷◌, ◌++◌, ◌∙◌, length, get_or, codes, refl, sym, ap}
+use Rattle.std.proofs.Common.{subst, arith}
 use Rattle.std.proofs.lemmas.List.{append_assoc, append-nil, length-append}
 use Rattle.std.specs.List.{AllByRecursion}
 use Rattle.sched_program.specs.declared.operation.OpId.{OpId}
@@ -13,27 +14,32 @@ pub record HasOrder (text : List ℕ) (order : List OpId) (rest : List ℕ) : Ty
   pub some : 1 ≤ length order
   pub whole : text ≡ order_text order ++ rest
 
-pub order_first : (text : List ℕ) (id : OpId) (rest : List ℕ) → text ≡ name_text id ++ rest → IsName id → HasOrder text (id ∷ []) rest
+pub order_first : (text : List ℕ) (id : OpId) (rest : List ℕ) → text ≡ name_text id ++ rest → IsName id
+    → HasOrder text (id ∷ []) rest
 order_first text id rest e is = record { names = (is, tt); some = omega arith; whole = e }
 
 commaed_push : (order : List OpId) (id : OpId) → commaed (order ++ id ∷ []) ≡ commaed order ++ 44 ∷ name_text id
 commaed_push [] id = refl
 commaed_push (first ∷ order) id = ap (λ (l : List ℕ). 44 ∷ name_text first ++ l) (commaed_push order id)
 
-order_text_push : (order : List OpId) (id : OpId) → 1 ≤ length order → order_text (order ++ id ∷ []) ≡ order_text order ++ 44 ∷ name_text id
+order_text_push : (order : List OpId) (id : OpId) → 1 ≤ length order
+    → order_text (order ++ id ∷ []) ≡ order_text order ++ 44 ∷ name_text id
 order_text_push [] id some = absurd (omega arith)
 order_text_push (first ∷ order) id some = ap (λ (l : List ℕ). name_text first ++ l) (commaed_push order id)
 
-pub order_push : (text : List ℕ) (order : List OpId) (rest tail : List ℕ) (id : OpId) (later : List ℕ) → HasOrder text order rest
+pub order_push : (text : List ℕ) (order : List OpId) (rest tail : List ℕ) (id : OpId) (later : List ℕ)
+    → HasOrder text order rest
     → rest ≡ 44 ∷ tail → tail ≡ name_text id ++ later → IsName id → HasOrder text (order ++ id ∷ []) later
 order_push text order rest tail id later has comma e is = record {
   names = all_append IsName order (id ∷ []) has.names (is, tt);
   some = omega (arith, length-append order (id ∷ []));
   whole = has.whole ∙ ap (λ (l : List ℕ). order_text order ++ l) (comma ∙ ap (λ (l : List ℕ). 44 ∷ l) e)
-      ∙ sym (append_assoc (order_text order) (44 ∷ name_text id) later) ∙ ap (λ (l : List ℕ). l ++ later) (sym (order_text_push order id has.some));
+      ∙ sym (append_assoc (order_text order) (44 ∷ name_text id) later)
+      ∙ ap (λ (l : List ℕ). l ++ later) (sym (order_text_push order id has.some));
 }
 
-pub order_whole : (text : List ℕ) (order : List OpId) (rest : List ℕ) → HasOrder text order rest → length rest ≡ 0 → IsOrder text order
+pub order_whole : (text : List ℕ) (order : List OpId) (rest : List ℕ) → HasOrder text order rest → length rest ≡ 0
+    → IsOrder text order
 order_whole text order [] has none = record { names = has.names; whole = has.whole ∙ append-nil (order_text order) }
 order_whole text order (b ∷ rest) has none = absurd (omega arith)
 
@@ -41,7 +47,8 @@ order_whole text order (b ∷ rest) has none = absurd (omega arith)
 abbrev pub GoesOn : List OpId → List OpId → List ℕ → Type 0
 GoesOn order other rest = (more : List OpId) × (other ≡ order ++ more) × (rest ≡ commaed more)
 
-commaed_left : (order other : List OpId) (rest : List ℕ) → commaed other ≡ commaed order ++ rest → GoesOn order other rest
+commaed_left : (order other : List OpId) (rest : List ℕ) → commaed other ≡ commaed order ++ rest
+    → GoesOn order other rest
 commaed_left [] other rest e = (other, refl, sym e)
 commaed_left (id ∷ order) [] rest e = cc
 commaed_left (id ∷ order) (first ∷ other) rest e =
@@ -52,7 +59,8 @@ commaed_left (id ∷ order) (first ∷ other) rest e =
     let (more, split, left) = commaed_left order other rest tails in
     (more, cc, left)
 
-order_left : (text : List ℕ) (order other : List OpId) (rest : List ℕ) → HasOrder text order rest → IsOrder text other → GoesOn order other rest
+order_left : (text : List ℕ) (order other : List OpId) (rest : List ℕ) → HasOrder text order rest → IsOrder text other
+    → GoesOn order other rest
 order_left text [] other rest has is = absurd (omega (arith, has.some))
 order_left text (id ∷ order) [] rest has is =
     absurd (omega (arith, ap (λ (l : List ℕ). get_or l 0 0) (sym is.whole ∙ has.whole)))
@@ -66,7 +74,8 @@ order_left text (id ∷ order) (first ∷ other) rest has is =
     (more, cc, left)
 
 -- a text that is no dash and begins with no name is no order
-pub no_first : (text : List ℕ) → text ≢ codes "-" → ((id : OpId) (rest : List ℕ) → IsName id → text ≢ name_text id ++ rest)
+pub no_first : (text : List ℕ) → text ≢ codes "-"
+    → ((id : OpId) (rest : List ℕ) → IsName id → text ≢ name_text id ++ rest)
     → (other : List OpId) → ¬ IsOrder text other
 no_first text dash none [] is = dash is.whole
 no_first text dash none (id ∷ other) is = none id (commaed other) is.names.0 is.whole
@@ -77,7 +86,8 @@ among (first ∷ order) id more all = among order id more all.1
 
 -- nor is one where no name follows a comma
 pub no_name : (text : List ℕ) (order : List OpId) (rest tail : List ℕ) → HasOrder text order rest → rest ≡ 44 ∷ tail
-    → ((id : OpId) (later : List ℕ) → IsName id → tail ≢ name_text id ++ later) → (other : List OpId) → ¬ IsOrder text other
+    → ((id : OpId) (later : List ℕ) → IsName id → tail ≢ name_text id ++ later) → (other : List OpId)
+    → ¬ IsOrder text other
 no_name text order rest tail has comma none other is =
     let (more, split, left) = order_left text order other rest has is in
     go more split left

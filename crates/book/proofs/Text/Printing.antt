@@ -1,5 +1,6 @@
 -- What is written line by line is a book's text.
-use Rattle.std.proofs.Common.{◌≡◌, ◌≢◌, ℕ, zero, suc, ◌+◌, ◌<◌, ◌≤◌, ◌^◌, List, [], ◌∷◌, ◌++◌, ◌∙◌, length, map, get_or, codes, refl, sym, ap, subst, arith}
+use Rattle.std.proofs.Common.{◌≡◌, ◌≢◌, ℕ, zero, suc, ◌+◌, ◌<◌, ◌≤◌, ◌^◌, List, [], ◌∷◌, ◌++◌, ◌∙◌, length, map, get_or}
+use Rattle.std.proofs.Common.{codes, refl, sym, ap, subst, arith}
 use Rattle.std.proofs.lemmas.Fmt.{decimal_is_IsNumeral, first_decimal, decimal_digit}
 use Rattle.std.proofs.lemmas.List.{append_assoc, map_push, length-map}
 use Rattle.std.proofs.lemmas.List.Elements.{recursion_from_All, All-from_recursion, All-head, All-tail}
@@ -9,7 +10,8 @@ use Rattle.std.specs.List.{All, AllByRecursion, AllZip}
 use Rattle.std.specs.Str.Parse.{AllDigits}
 use Rattle.sched_program.specs.declared.operation.OpId.{OpId}
 use Rattle.book.specs.declared.file.line.Line.{Line}
-use Rattle.book.specs.Text.Files.{ended, IsNumber, IsName, name_text, commaed, order_text, IsEntryLine, IsHead, start_text, IsBookText}
+use Rattle.book.specs.Text.Files.{ended, IsNumber, IsName, name_text, commaed, order_text, IsEntryLine, IsHead}
+use Rattle.book.specs.Text.Files.{start_text, IsBookText}
 use Rattle.book.specs.Text.Written.{head_text, line_text, book_text, IsProper, AreProper}
 use Rattle.book.proofs.Text.Cuts.{all_append, ended_append}
 use Rattle.book.proofs.Text.Heads.{start_bare}
@@ -20,16 +22,20 @@ text_of line = line_text line.parent line.thread line.order
 
 -- four pieces, written one by one
 pub pieces : (old words number feed : List ℕ) → ((old ++ words) ++ number) ++ feed ≡ old ++ ((words ++ number) ++ feed)
-pieces old words number feed = append_assoc (old ++ words) number feed ∙ append_assoc old words (number ++ feed) ∙ ap (λ (l : List ℕ). old ++ l) (sym (append_assoc words number feed))
+pieces old words number feed = append_assoc (old ++ words) number feed ∙ append_assoc old words (number ++ feed)
+    ∙ ap (λ (l : List ℕ). old ++ l) (sym (append_assoc words number feed))
 
 -- what is written of a head
-pub head_written : (old : List ℕ) (entries : ℕ) → ((old ++ codes "treesched book 1 entries ") ++ decimal entries) ++ 10 ∷ [] ≡ old ++ ended (head_text entries ∷ [])
+pub head_written : (old : List ℕ) (entries : ℕ) → ((old ++ codes "treesched book 1 entries ") ++ decimal entries)
+    ++ 10 ∷ [] ≡ old ++ ended (head_text entries ∷ [])
 unfolding head_text
 head_written old entries = pieces old (codes "treesched book 1 entries ") (decimal entries) (10 ∷ [])
 
 -- what is written of an order
-pub order_written : (old : List ℕ) (order : List OpId) (first : OpId) (rest : List OpId) → order ≡ first ∷ rest → (old ++ name_text first) ++ commaed rest ≡ old ++ order_text order
-order_written old order first rest is = append_assoc old (name_text first) (commaed rest) ∙ ap (λ (ids : List OpId). old ++ order_text ids) (sym is)
+pub order_written : (old : List ℕ) (order : List OpId) (first : OpId) (rest : List OpId) → order ≡ first ∷ rest
+    → (old ++ name_text first) ++ commaed rest ≡ old ++ order_text order
+order_written old order first rest is =
+    append_assoc old (name_text first) (commaed rest) ∙ ap (λ (ids : List OpId). old ++ order_text ids) (sym is)
 
 -- what decimal writes is the number
 is_number : (n : ℕ) → n < 2 ^ 64 → IsNumber (decimal n) n
@@ -43,7 +49,14 @@ is_number n small =
 
 is_head : (entries : ℕ) → 1 ≤ entries → entries ≤ 2000000 → IsHead (head_text entries) entries
 unfolding head_text
-is_head entries some few = record { number = decimal entries; is_number = is_number entries (omega arith); some = some; few = few; whole = refl }
+is_head entries some few =
+    record {
+      number = decimal entries;
+      is_number = is_number entries (omega arith);
+      some = some;
+      few = few;
+      whole = refl;
+    }
 
 is_entry_line : (line : Line) → IsProper line → IsEntryLine (text_of line) line
 unfolding line_text
@@ -76,9 +89,11 @@ order_bare (id ∷ ids) = (omega arith, (omega arith, (omega arith, commaed_bare
 
 entry_bare : (text : List ℕ) (line : Line) → IsEntryLine text line → AllByRecursion (λ b. b ≢ 10) text
 entry_bare text line is =
-    let order : AllByRecursion (λ b. b ≢ 10) is.order = subst (AllByRecursion (λ b. b ≢ 10)) (sym is.is_order.whole) (order_bare line.order) in
+    let order : AllByRecursion (λ b. b ≢ 10) is.order =
+    subst (AllByRecursion (λ b. b ≢ 10)) (sym is.is_order.whole) (order_bare line.order) in
     subst (AllByRecursion (λ b. b ≢ 10)) (sym is.whole)
-    (all_append (λ b. b ≢ 10) is.parent (32 ∷ (48 + line.thread) ∷ 32 ∷ is.order) (number_bare is.parent is.number is.is_number)
+    (all_append (λ b. b ≢ 10) is.parent (32 ∷ (48 + line.thread) ∷ 32 ∷ is.order)
+    (number_bare is.parent is.number is.is_number)
     (omega arith, (omega arith, (omega arith, order))))
 
 words_bare : AllByRecursion (λ b. b ≢ 10) (codes "treesched book 1 entries ")
@@ -87,13 +102,18 @@ words_bare = search arith
 head_bare : (entries : ℕ) → entries < 2 ^ 64 → AllByRecursion (λ b. b ≢ 10) (head_text entries)
 unfolding head_text
 head_bare entries small =
-    all_append (λ b. b ≢ 10) (codes "treesched book 1 entries ") (decimal entries) words_bare (number_bare (decimal entries) entries (is_number entries small))
+    all_append (λ b. b ≢ 10) (codes "treesched book 1 entries ") (decimal entries) words_bare
+    (number_bare (decimal entries) entries (is_number entries small))
 
 entries_each : (lines : List Line) → All IsProper lines → AllZip IsEntryLine (map text_of lines) lines
 entries_each [] all = tt
-entries_each (line ∷ lines) all = (is_entry_line line (All-head IsProper line lines all), entries_each lines (All-tail IsProper line lines all))
+entries_each (line ∷ lines) all = (
+  is_entry_line line (All-head IsProper line lines all),
+  entries_each lines (All-tail IsProper line lines all),
+)
 
-entries_bare : (texts : List (List ℕ)) (lines : List Line) → AllZip IsEntryLine texts lines → AllByRecursion (AllByRecursion (λ b. b ≢ 10)) texts
+entries_bare : (texts : List (List ℕ)) (lines : List Line) → AllZip IsEntryLine texts lines
+    → AllByRecursion (AllByRecursion (λ b. b ≢ 10)) texts
 entries_bare [] lines are = tt
 entries_bare (text ∷ texts) [] are = absurd are
 entries_bare (text ∷ texts) (line ∷ lines) are = (entry_bare text line are.0, entries_bare texts lines are.1)
@@ -110,28 +130,43 @@ is_written lines are =
         head = head_text (length lines + 1);
         are_lines = record {
           whole = refl;
-          bare = (head_bare (length lines + 1) (omega (arith, are.few)), (start_bare, entries_bare (map text_of lines) lines each));
+          bare = (
+            head_bare (length lines + 1) (omega (arith, are.few)),
+            (start_bare, entries_bare (map text_of lines) lines each),
+          );
         };
-        is_head = subst (IsHead (head_text (length lines + 1))) count (is_head (length lines + 1) (omega arith) (omega (arith, are.few)));
+        is_head =
+            subst (IsHead (head_text (length lines + 1))) count
+            (is_head (length lines + 1) (omega arith) (omega (arith, are.few)));
       };
       each = each;
     }
 
-proper_each : (texts : List (List ℕ)) (lines : List Line) → AllZip IsEntryLine texts lines → AllByRecursion IsProper lines
+proper_each : (texts : List (List ℕ)) (lines : List Line) → AllZip IsEntryLine texts lines
+    → AllByRecursion IsProper lines
 proper_each [] [] are = tt
 proper_each [] (line ∷ lines) are = absurd are
 proper_each (text ∷ texts) [] are = absurd are
 proper_each (text ∷ texts) (line ∷ lines) are = (
-  record { parent = omega (arith, are.0.counted); thread = are.0.thread; names = All-from_recursion IsName line.order are.0.is_order.names },
+  record {
+    parent = omega (arith, are.0.counted);
+    thread = are.0.thread;
+    names = All-from_recursion IsName line.order are.0.is_order.names;
+  },
   proper_each texts lines are.1,
 )
 
 -- what a text has can be written
 pub is_proper : (bytes : List ℕ) (lines : List Line) → IsBookText bytes lines → AreProper lines
-is_proper bytes lines is = record { each = All-from_recursion IsProper lines (proper_each is.texts lines is.each); few = omega (arith, is.has_head.is_head.few, same_lengths is.texts lines is.each) }
+is_proper bytes lines is =
+    record {
+      each = All-from_recursion IsProper lines (proper_each is.texts lines is.each);
+      few = omega (arith, is.has_head.is_head.few, same_lengths is.texts lines is.each);
+    }
 
 -- one more line
-pub written_push : (entries : ℕ) (lines : List Line) (line : Line) → book_text entries (lines ++ line ∷ []) ≡ book_text entries lines ++ ended (text_of line ∷ [])
+pub written_push : (entries : ℕ) (lines : List Line) (line : Line)
+    → book_text entries (lines ++ line ∷ []) ≡ book_text entries lines ++ ended (text_of line ∷ [])
 unfolding book_text
 written_push entries lines line =
     ap (λ (texts : List (List ℕ)). ended (head_text entries ∷ start_text ∷ texts)) (map_push text_of lines line)

@@ -16,19 +16,23 @@ use Rattle.book.specs.BookFile.Closing.{IsFirstOpen}
 module _ (Machine Form : Type 0) {Memory Place : Type 0} (rules : Rules Memory Place) (program : Program) where
   -- the lines tell states, each shown by its order, and no step leads out of them
   abbrev pub Pass : List Line → Type 0
-  Pass lines = (states : List (State Machine Memory Place Form)) × AreReplayed rules program lines states × AreClosed (machine_of rules program) (AreStatesAlike rules) states
+  Pass lines = (states : List (State Machine Memory Place Form)) × AreReplayed rules program lines states
+      × AreClosed (machine_of rules program) (AreStatesAlike rules) states
 
-  -- something is amiss with an entry, and this is the first such; or nothing is, and this tells the first entry with a step that leads out
+  -- something is amiss with an entry, and this is the first such; or nothing is, and this tells the first entry with a
+  -- step that leads out
   abbrev pub AreRefused : List Line → CheckFault → Type 0
   AreRefused lines fault =
       IsFirstAmiss Machine Form rules program lines fault
-      ⊎ ((states : List (State Machine Memory Place Form)) × AreReplayed rules program lines states × IsFirstOpen rules program states fault)
+      ⊎ ((states : List (State Machine Memory Place Form)) × AreReplayed rules program lines states
+      × IsFirstOpen rules program states fault)
 
   -- the bytes are a book file with so many entries, whose lines pass
   abbrev pub PassAs : List ℕ → ℕ → Type 0
   PassAs bytes entries = (lines : List Line) × IsBookText bytes lines × Pass lines × (entries ≡ length lines + 1)
 
-  -- what bytes are refused for: their first line that is not in the form; or they are in it, and what their lines are refused for
+  -- what bytes are refused for: their first line that is not in the form; or they are in it, and what their lines are
+  -- refused for
   abbrev pub IsRefusedFor : List ℕ → CheckFault → Type 0
   IsRefusedFor bytes fault =
       ((number : ℕ) × (fault ≡ refusal.Form number) × IsFirstMisformed bytes number)

@@ -12,7 +12,8 @@ use Rattle.book.specs.declared.file.fault.CheckFault.TheVariants.{Open}
 module _ {Machine Memory Place Form : Type 0} (rules : Rules Memory Place) (program : Program) where
   -- some step of the state leads to one that none of the states is alike to
   abbrev pub IsOpenAt : List (State Machine Memory Place Form) → State Machine Memory Place Form → Type 0
-  IsOpenAt states state = (t : ℕ) × (next : State Machine Memory Place Form) × (step rules program state t ≡ Some next) × (IsAlikeToOneOf (AreStatesAlike rules) states next → ⊥)
+  IsOpenAt states state = (t : ℕ) × (next : State Machine Memory Place Form) × (step rules program state t ≡ Some next)
+      × (IsAlikeToOneOf (AreStatesAlike rules) states next → ⊥)
 
   -- the fault tells the line of the first of the states with such a step; entry 0 stands on line 2
   pub record IsFirstOpen (states : List (State Machine Memory Place Form)) (fault : CheckFault) : Type 0 where
@@ -21,4 +22,5 @@ module _ {Machine Memory Place Form : Type 0} (rules : Rules Memory Place) (prog
     pub at : slice_get states index ≡ Some state
     pub told : fault ≡ Open (index + 2)
     pub leads_out : IsOpenAt states state
-    pub first : (i : ℕ) (earlier : State Machine Memory Place Form) → i < index → slice_get states i ≡ Some earlier → IsOpenAt states earlier → ⊥
+    pub first : (i : ℕ) (earlier : State Machine Memory Place Form) → i < index → slice_get states i ≡ Some earlier
+        → IsOpenAt states earlier → ⊥

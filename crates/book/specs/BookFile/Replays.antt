@@ -20,14 +20,16 @@ module _ {Machine Memory Place Form : Type 0} (rules : Rules Memory Place) (prog
   abbrev pub IsShown : State Machine Memory Place Form → List OpId → Type 0
   IsShown state order = IsWell state × IsLinearization program (history_of state) order
 
-  -- what an order leaves amiss with a state whose entry stands on this line: the state is not well, or the order does not explain its history
+  -- what an order leaves amiss with a state whose entry stands on this line: the state is not well, or the order does
+  -- not explain its history
   abbrev pub IsUnshown : State Machine Memory Place Form → List OpId → ℕ → CheckFault → Type 0
   IsUnshown state order number fault =
       ((fault ≡ Fault number) × (IsWell state → ⊥))
       ⊎ ((fault ≡ History number) × IsWell state × (IsLinearization program (history_of state) order → ⊥))
 
   -- after these states, the line tells the step of one of them by its thread, which leads to this state
-  pub record Reaches (before : List (State Machine Memory Place Form)) (line : Line) (state : State Machine Memory Place Form) : Type 0 where
+  pub record Reaches (before : List (State Machine Memory Place Form)) (line : Line)
+      (state : State Machine Memory Place Form) : Type 0 where
     pub parent : State Machine Memory Place Form
     pub at : slice_get before line.parent ≡ Some parent
     pub step : step rules program parent line.thread ≡ Some state
@@ -38,33 +40,42 @@ module _ {Machine Memory Place Form : Type 0} (rules : Rules Memory Place) (prog
 
   -- the thread is not enabled in the parent's state
   abbrev pub IsStuck : List (State Machine Memory Place Form) → Line → Type 0
-  IsStuck before line = (parent : State Machine Memory Place Form) × (slice_get before line.parent ≡ Some parent) × (step rules program parent line.thread ≡ None)
+  IsStuck before line = (parent : State Machine Memory Place Form) × (slice_get before line.parent ≡ Some parent)
+      × (step rules program parent line.thread ≡ None)
 
-  -- what is amiss with the line of the entry after these states, which stands on line `length before + 2`:
-  -- its parent is none of them, or its thread is not enabled there, or its order leaves something amiss with the state that it leads to
+  -- what is amiss with the line of the entry after these states, which stands on line `length before + 2`: its parent
+  -- is none of them, or its thread is not enabled there, or its order leaves something amiss with the state that it
+  -- leads to
   abbrev pub IsAmiss : List (State Machine Memory Place Form) → Line → CheckFault → Type 0
   IsAmiss before line fault =
       ((fault ≡ Parent (length before + 2)) × (length before ≤ line.parent))
       ⊎ ((fault ≡ Step (length before + 2)) × IsStuck before line)
-      ⊎ ((state : State Machine Memory Place Form) × Reaches before line state × IsUnshown state line.order (length before + 2) fault)
+      ⊎ ((state : State Machine Memory Place Form) × Reaches before line state
+      × IsUnshown state line.order (length before + 2) fault)
 
   -- after these states the lines tell further ones, up to all of `states`
-  abbrev pub Continues : List (State Machine Memory Place Form) → List Line → List (State Machine Memory Place Form) → Type 0
+  abbrev pub Continues : List (State Machine Memory Place Form) → List Line → List (State Machine Memory Place Form)
+      → Type 0
   Continues before [] states = states ≡ before
-  Continues before (line ∷ rest) states = (state : State Machine Memory Place Form) × Tells before line state × Continues (before ++ state ∷ []) rest states
+  Continues before (line ∷ rest) states = (state : State Machine Memory Place Form) × Tells before line state
+      × Continues (before ++ state ∷ []) rest states
 
   -- after these states this is the first that is amiss with a line
   abbrev pub FirstAmiss : List (State Machine Memory Place Form) → List Line → CheckFault → Type 0
   FirstAmiss before [] fault = ⊥
   FirstAmiss before (line ∷ rest) fault =
-      IsAmiss before line fault ⊎ ((state : State Machine Memory Place Form) × Tells before line state × FirstAmiss (before ++ state ∷ []) rest fault)
+      IsAmiss before line fault
+      ⊎ ((state : State Machine Memory Place Form) × Tells before line state
+      × FirstAmiss (before ++ state ∷ []) rest fault)
 
   -- the entries' states, the start's first: the empty order shows the start, and the lines tell the others
   abbrev pub AreReplayed : List Line → List (State Machine Memory Place Form) → Type 0
   AreReplayed lines states = IsShown (start rules program) [] × Continues (start rules program ∷ []) lines states
 
 -- the first that is amiss with an entry; the start stands on line 2
-abbrev pub IsFirstAmiss : (Machine Form : Type 0) {Memory Place : Type 0} → Rules Memory Place → Program → List Line → CheckFault → Type 0
+abbrev pub IsFirstAmiss : (Machine Form : Type 0) {Memory Place : Type 0} → Rules Memory Place → Program → List Line
+    → CheckFault → Type 0
 IsFirstAmiss Machine Form {Memory} {Place} rules program lines fault =
     let first : State Machine Memory Place Form = start rules program in
-    IsUnshown rules program first [] 2 fault ⊎ (IsShown rules program first [] × FirstAmiss rules program (first ∷ []) lines fault)
+    IsUnshown rules program first [] 2 fault
+    ⊎ (IsShown rules program first [] × FirstAmiss rules program (first ∷ []) lines fault)

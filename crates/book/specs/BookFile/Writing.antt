@@ -13,7 +13,8 @@ abbrev pub FindsOrder : Finding → List OpId → Type 0
 FindsOrder (found.Sound linearization) order = linearization ≡ order
 FindsOrder _ order = ⊥
 
--- the line of an entry with this origin and this finding: it has the parent, the thread and the linearization that was found
+-- the line of an entry with this origin and this finding: it has the parent, the thread and the linearization that was
+-- found
 pub record IsLineOf (origin : Option Origin) (finding : Finding) (line : Line) : Type 0 where
   pub step : origin ≡ Some (record { parent = line.parent; thread = line.thread })
   pub order : FindsOrder finding line.order

@@ -8,7 +8,8 @@ use Rattle.book.specs.BookFile.Writing.{IsLineOf, AreLinesOf}
 
 -- each entry after the first has a line that can be written
 abbrev pub AreWritable : {S : Type 0} → List (Entry S) → Type 0
-AreWritable {S} entries = (i : ℕ) (e : Entry S) → At entries i e → 0 < i → (line : Line) × IsLineOf e.origin e.finding line × IsProper line
+AreWritable {S} entries = (i : ℕ) (e : Entry S) → At entries i e → 0 < i
+    → (line : Line) × IsLineOf e.origin e.finding line × IsProper line
 
 -- the text is that of a book file with the lines of the entries
 pub record IsFileOf {S : Type 0} (entries : List (Entry S)) (text : List ℕ) : Type 0 where

@@ -16,7 +16,8 @@ module _ {S F : Type 0} (state_eq : S → S → Bool) (form_eq : F → F → Boo
     same_turned None (Some g) r s = refl
     same_turned None None r s = states.symm r s
 
-    same_through : (o p q : Option F) (r s u : S) → same_by state_eq form_eq o p r s ≡ true → same_by state_eq form_eq o q r u ≡ same_by state_eq form_eq p q s u
+    same_through : (o p q : Option F) (r s u : S) → same_by state_eq form_eq o p r s ≡ true
+        → same_by state_eq form_eq o q r u ≡ same_by state_eq form_eq p q s u
     same_through (Some f) (Some g) (Some h) r s u e = forms.congr f g h e
     same_through (Some f) (Some g) None r s u e = refl
     same_through None None (Some h) r s u e = refl
@@ -32,13 +33,16 @@ module _ {S F : Type 0} (state_eq : S → S → Bool) (form_eq : F → F → Boo
     }
 
   module _ (state_input : S → List (List ℕ)) (form_input : F → List (List ℕ))
-      (states : (r s : S) → state_eq r s ≡ true → state_input r ≡ state_input s) (forms : (f g : F) → form_eq f g ≡ true → form_input f ≡ form_input g) where
-    same_input_by : (o p : Option F) (r s : S) → same_by state_eq form_eq o p r s ≡ true → input_by state_input form_input o r ≡ input_by state_input form_input p s
+      (states : (r s : S) → state_eq r s ≡ true → state_input r ≡ state_input s)
+      (forms : (f g : F) → form_eq f g ≡ true → form_input f ≡ form_input g) where
+    same_input_by : (o p : Option F) (r s : S) → same_by state_eq form_eq o p r s ≡ true
+        → input_by state_input form_input o r ≡ input_by state_input form_input p s
     same_input_by (Some f) (Some g) r s e = forms f g e
     same_input_by (Some f) None r s e = cc
     same_input_by None (Some g) r s e = cc
     same_input_by None None r s e = states r s e
 
     -- equal labels are written alike
-    pub same_input : (a b : Labelled S F) → same_label state_eq form_eq a b ≡ true → input_by state_input form_input a.form a.state ≡ input_by state_input form_input b.form b.state
+    pub same_input : (a b : Labelled S F) → same_label state_eq form_eq a b ≡ true
+        → input_by state_input form_input a.form a.state ≡ input_by state_input form_input b.form b.state
     same_input a b e = same_input_by a.form b.form a.state b.state e

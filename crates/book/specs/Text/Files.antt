@@ -61,7 +61,8 @@ pub record IsOrder (text : List ℕ) (order : List OpId) : Type 0 where
   pub names : AllByRecursion IsName order
   pub whole : text ≡ order_text order
 
--- the text of the line of an entry after the first. A parent's number from 2,000,000 on counts as that, since no entry has it
+-- the text of the line of an entry after the first. A parent's number from 2,000,000 on counts as that, since no entry
+-- has it
 pub record IsEntryLine (text : List ℕ) (line : Line) : Type 0 where
   pub parent : List ℕ
   pub number : ℕ
@@ -84,7 +85,8 @@ pub record IsHead (text : List ℕ) (entries : ℕ) : Type 0 where
 abbrev pub start_text : List ℕ
 start_text = codes "- - -"
 
--- the bytes are a head and these texts, a line each: the head tells how many texts there are, and nothing follows the last line
+-- the bytes are a head and these texts, a line each: the head tells how many texts there are, and nothing follows the
+-- last line
 pub record HasHead (bytes : List ℕ) (texts : List (List ℕ)) : Type 0 where
   pub head : List ℕ
   pub are_lines : AreLines bytes (head ∷ texts)
@@ -125,7 +127,8 @@ pub record IsEntryMisformed (bytes : List ℕ) (number : ℕ) : Type 0 where
 
 -- line `number`, counted from 1, is the first that is not in the form
 abbrev pub IsFirstMisformed : List ℕ → ℕ → Type 0
-IsFirstMisformed bytes number = IsHeadMisformed bytes number ⊎ IsStartMisformed bytes number ⊎ IsEntryMisformed bytes number
+IsFirstMisformed bytes number =
+    IsHeadMisformed bytes number ⊎ IsStartMisformed bytes number ⊎ IsEntryMisformed bytes number
 
 -- what a refusal says of the bytes. Memory may be refused whatever they are
 abbrev pub IsFormFault : List ℕ → FormFault → Type 0
@@ -135,5 +138,6 @@ IsFormFault bytes fault.OutOfMemory = Unit {0}
 -- the same of the bytes from the third line on, which are lines
 abbrev pub IsEntriesFault : List ℕ → FormFault → Type 0
 IsEntriesFault bytes (fault.Form number) = (earlier : List (List ℕ)) × (text : List ℕ) × (later : List (List ℕ))
-    × AreLines bytes (earlier ++ text ∷ later) × AllByRecursion IsEntryText earlier × ¬ IsEntryText text × (number ≡ length earlier + 3)
+    × AreLines bytes (earlier ++ text ∷ later) × AllByRecursion IsEntryText earlier × ¬ IsEntryText text
+    × (number ≡ length earlier + 3)
 IsEntriesFault bytes fault.OutOfMemory = Unit {0}

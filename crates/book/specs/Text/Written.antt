@@ -15,9 +15,11 @@ line_text parent thread order = decimal parent ++ space ∷ digit thread ∷ spa
 
 -- the head of a file of so many entries, the line of the first, and these lines of entries after it
 unfoldable pub book_text : ℕ → List Line → List ℕ
-book_text entries lines = ended (head_text entries ∷ start_text ∷ map (λ line. line_text line.parent line.thread line.order) lines)
+book_text entries lines =
+    ended (head_text entries ∷ start_text ∷ map (λ line. line_text line.parent line.thread line.order) lines)
 
--- a line that a file can have, as it is counted: no parent is greater than the most entries, and each thread and index is one digit
+-- a line that a file can have, as it is counted: no parent is greater than the most entries, and each thread and index
+-- is one digit
 pub record IsProper (line : Line) : Type 0 where
   pub parent : line.parent ≤ 2000000
   pub thread : line.thread < 10

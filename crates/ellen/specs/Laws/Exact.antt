@@ -23,7 +23,8 @@ use Rattle.ellen.specs.declared.memory.Record.TheVariants.{Ins, Del}
 use Rattle.ellen.specs.declared.place.Base.TheVariants.{Again, Insert, Delete}
 use Rattle.ellen.specs.declared.place.EllenLoc.TheVariants.{Search, Help}
 use Rattle.ellen.specs.declared.place.SearchLoc.TheVariants.{Update, Child, IFlag, InsOnly, DFlag}
-use Rattle.ellen.specs.declared.place.HelpLoc.TheVariants.{InsChild, InsClean, Mark, Right, Other, Splice, DelClean, Back}
+use Rattle.ellen.specs.declared.place.HelpLoc.TheVariants.{InsChild, InsClean, Mark, Right, Other, Splice, DelClean}
+use Rattle.ellen.specs.declared.place.HelpLoc.TheVariants.{Back}
 
 pub machine_exact : IsExact machine_eq.it
 machine_exact a b h =

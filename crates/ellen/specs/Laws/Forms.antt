@@ -16,10 +16,15 @@ use Rattle.ellen.specs.Laws.Parts.{parts_alike}
 use Rattle.ellen.specs.Laws.PartsRange.{parts_in_range}
 
 -- two forms are equal exactly if some pairing pairs what they are of
-pub ellen_forms : (machine : Ellen) (memory other : EllenMem) (held others : List (Option EllenLoc)) → IsInRange memory → ArePlacesInRange (ellen_rules machine) memory held → IsInRange other → ArePlacesInRange (ellen_rules machine) other others →
-    length held ≡ length others → (ellen_form memory held ≡ ellen_form other others) ↔ AreAlike ellen_pairs memory held other others
+pub ellen_forms : (machine : Ellen) (memory other : EllenMem) (held others : List (Option EllenLoc)) → IsInRange memory
+    → ArePlacesInRange (ellen_rules machine) memory held → IsInRange other
+    → ArePlacesInRange (ellen_rules machine) other others →
+    length held ≡ length others → (ellen_form memory held ≡ ellen_form other others)
+    ↔ AreAlike ellen_pairs memory held other others
 ellen_forms machine memory other held others memory_in held_in other_in others_in same =
     let lengths = length-map held held_part ∙ (same ∙ sym (length-map others held_part)) in
-    let exact = flat_forms_exact 1 (ellen_parts memory held) (ellen_parts other others) (parts_in_range memory held memory_in held_in) (parts_in_range other others other_in others_in) lengths in
+    let exact =
+    flat_forms_exact 1 (ellen_parts memory held) (ellen_parts other others)
+    (parts_in_range memory held memory_in held_in) (parts_in_range other others other_in others_in) lengths in
     let alike = parts_alike memory other held others in
     (λ e. alike.0 (exact.0 e), λ a. exact.1 (alike.1 a))

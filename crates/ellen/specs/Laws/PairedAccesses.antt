@@ -1,5 +1,6 @@
 -- Each kind of access keeps a pairing.
-use Rattle.std.specs.Prelude.{◌≡◌, ℕ, zero, suc, ◌<◌, Bool, true, false, cond, nat_eq, List, [], ◌∷◌, ◌++◌, length, slice_get, slice_set, Option, Some, None, unwrap_or, ◌⊎◌, refl}
+use Rattle.std.specs.Prelude.{◌≡◌, ℕ, zero, suc, ◌<◌, Bool, true, false, cond, nat_eq, List, [], ◌∷◌, ◌++◌, length}
+use Rattle.std.specs.Prelude.{slice_get, slice_set, Option, Some, None, unwrap_or, ◌⊎◌, refl}
 use Rattle.std.proofs.Common.{sym, ◌∙◌, ap, subst, inl, inr, arith, length-set}
 use Rattle.std.proofs.lemmas.Bool.Decides.{eqb_tells}
 use Rattle.tree_machine.specs.Pairing.{IsAmong, IsOneToOne, Pairing, Extends, AreOutcomesPaired, AreStepsPaired}
@@ -19,7 +20,8 @@ use Rattle.ellen.specs.declared.memory.Record.TheVariants.{Ins, Del}
 use Rattle.ellen.specs.declared.memory.EllenMem.{EllenMem}
 use Rattle.ellen.specs.declared.place.EllenLoc.{EllenLoc}
 use Rattle.ellen.specs.Memory.{key_in, update_of, child_on, with_update, with_child, is_word, node_at, key_at, set_node}
-use Rattle.ellen.specs.Table.{After, found, read_update, read_child, exchange_update, exchange_child, with_insert, with_delete}
+use Rattle.ellen.specs.Table.{After, found, read_update, read_child, exchange_update, exchange_child, with_insert}
+use Rattle.ellen.specs.Table.{with_delete}
 use Rattle.ellen.specs.Pairs.{AreBoth, AreWordsPaired, AreNodesPaired, AreRecordsPaired, AreMemoriesPaired, ellen_pairs}
 
 -- ---- equal tests
@@ -28,7 +30,8 @@ module _ (R : ℕ → ℕ → Type 0) (one : IsOneToOne R) where
   pub same_number : (x y a b : ℕ) → R x y → R a b → nat_eq x a ≡ nat_eq y b
   same_number x y a b p q = go (eqb_tells x a) (eqb_tells y b)
     where
-      go : ((nat_eq x a ≡ true) × (x ≡ a)) ⊎ ((nat_eq x a ≡ false) × (x ≡ a → ⊥)) → ((nat_eq y b ≡ true) × (y ≡ b)) ⊎ ((nat_eq y b ≡ false) × (y ≡ b → ⊥)) → nat_eq x a ≡ nat_eq y b
+      go : ((nat_eq x a ≡ true) × (x ≡ a)) ⊎ ((nat_eq x a ≡ false) × (x ≡ a → ⊥)) → ((nat_eq y b ≡ true) × (y ≡ b))
+          ⊎ ((nat_eq y b ≡ false) × (y ≡ b → ⊥)) → nat_eq x a ≡ nat_eq y b
       go (inl e) (inl f) = e.0 ∙ sym f.0
       go (inl e) (inr f) = absurd (f.1 ((one x y a b p q).0 e.1))
       go (inr e) (inl f) = absurd (e.1 ((one x y a b p q).1 f.1))
@@ -42,7 +45,8 @@ module _ (R : ℕ → ℕ → Type 0) (one : IsOneToOne R) where
   untouched_compared (word.Mark t) (word.Mark w) q = refl
   untouched_compared _ _ q = absurd q
 
-  clean_compared : (r s : ℕ) (f g : UpdateWord) → R r s → AreWordsPaired R f g → is_word (word.Clean r) f ≡ is_word (word.Clean s) g
+  clean_compared : (r s : ℕ) (f g : UpdateWord) → R r s → AreWordsPaired R f g
+      → is_word (word.Clean r) f ≡ is_word (word.Clean s) g
   clean_compared r s word.Untouched word.Untouched p q = refl
   clean_compared r s (word.Clean t) (word.Clean w) p q = same_number r s t w p q
   clean_compared r s (word.InsertFlag t) (word.InsertFlag w) p q = refl
@@ -50,7 +54,8 @@ module _ (R : ℕ → ℕ → Type 0) (one : IsOneToOne R) where
   clean_compared r s (word.Mark t) (word.Mark w) p q = refl
   clean_compared r s _ _ p q = absurd q
 
-  insert_flag_compared : (r s : ℕ) (f g : UpdateWord) → R r s → AreWordsPaired R f g → is_word (word.InsertFlag r) f ≡ is_word (word.InsertFlag s) g
+  insert_flag_compared : (r s : ℕ) (f g : UpdateWord) → R r s → AreWordsPaired R f g
+      → is_word (word.InsertFlag r) f ≡ is_word (word.InsertFlag s) g
   insert_flag_compared r s word.Untouched word.Untouched p q = refl
   insert_flag_compared r s (word.Clean t) (word.Clean w) p q = refl
   insert_flag_compared r s (word.InsertFlag t) (word.InsertFlag w) p q = same_number r s t w p q
@@ -58,7 +63,8 @@ module _ (R : ℕ → ℕ → Type 0) (one : IsOneToOne R) where
   insert_flag_compared r s (word.Mark t) (word.Mark w) p q = refl
   insert_flag_compared r s _ _ p q = absurd q
 
-  delete_flag_compared : (r s : ℕ) (f g : UpdateWord) → R r s → AreWordsPaired R f g → is_word (word.DeleteFlag r) f ≡ is_word (word.DeleteFlag s) g
+  delete_flag_compared : (r s : ℕ) (f g : UpdateWord) → R r s → AreWordsPaired R f g
+      → is_word (word.DeleteFlag r) f ≡ is_word (word.DeleteFlag s) g
   delete_flag_compared r s word.Untouched word.Untouched p q = refl
   delete_flag_compared r s (word.Clean t) (word.Clean w) p q = refl
   delete_flag_compared r s (word.InsertFlag t) (word.InsertFlag w) p q = refl
@@ -66,7 +72,8 @@ module _ (R : ℕ → ℕ → Type 0) (one : IsOneToOne R) where
   delete_flag_compared r s (word.Mark t) (word.Mark w) p q = refl
   delete_flag_compared r s _ _ p q = absurd q
 
-  mark_compared : (r s : ℕ) (f g : UpdateWord) → R r s → AreWordsPaired R f g → is_word (word.Mark r) f ≡ is_word (word.Mark s) g
+  mark_compared : (r s : ℕ) (f g : UpdateWord) → R r s → AreWordsPaired R f g
+      → is_word (word.Mark r) f ≡ is_word (word.Mark s) g
   mark_compared r s word.Untouched word.Untouched p q = refl
   mark_compared r s (word.Clean t) (word.Clean w) p q = refl
   mark_compared r s (word.InsertFlag t) (word.InsertFlag w) p q = refl
@@ -105,55 +112,70 @@ module _ (P R : ℕ → ℕ → Type 0) where
   children_paired : (c d : Side) (a b : Node) → c ≡ d → AreNodesPaired P R a b → AreBoth P (child_on c a) (child_on d b)
   children_paired c d a b e h = subst (λ s. AreBoth P (child_on c a) (child_on s b)) e (child_paired c a b h)
 
-  with_update_paired : (u v : UpdateWord) (a b : Node) → AreWordsPaired R u v → AreNodesPaired P R a b → AreNodesPaired P R (with_update u a) (with_update v b)
+  with_update_paired : (u v : UpdateWord) (a b : Node) → AreWordsPaired R u v → AreNodesPaired P R a b
+      → AreNodesPaired P R (with_update u a) (with_update v b)
   with_update_paired u v (Leaf k) (Leaf j) g h = h
   with_update_paired u v (Internal k w l r) (Internal j z m s) g h = (h.0, g, h.2, h.3)
   with_update_paired u v _ _ g h = absurd h
 
-  with_child_paired : (s : Side) (x y : ℕ) (a b : Node) → P x y → AreNodesPaired P R a b → AreNodesPaired P R (with_child s x a) (with_child s y b)
+  with_child_paired : (s : Side) (x y : ℕ) (a b : Node) → P x y → AreNodesPaired P R a b
+      → AreNodesPaired P R (with_child s x a) (with_child s y b)
   with_child_paired s x y (Leaf k) (Leaf j) p h = h
   with_child_paired side.Left x y (Internal k u l r) (Internal j v m s) p h = (h.0, h.1, p, h.3)
   with_child_paired side.Right x y (Internal k u l r) (Internal j v m s) p h = (h.0, h.1, h.2, p)
   with_child_paired _ x y _ _ p h = absurd h
 
-  with_children_paired : (c d : Side) (x y : ℕ) (a b : Node) → c ≡ d → P x y → AreNodesPaired P R a b → AreNodesPaired P R (with_child c x a) (with_child d y b)
-  with_children_paired c d x y a b e p h = subst (λ s. AreNodesPaired P R (with_child c x a) (with_child s y b)) e (with_child_paired c x y a b p h)
+  with_children_paired : (c d : Side) (x y : ℕ) (a b : Node) → c ≡ d → P x y → AreNodesPaired P R a b
+      → AreNodesPaired P R (with_child c x a) (with_child d y b)
+  with_children_paired c d x y a b e p h =
+      subst (λ s. AreNodesPaired P R (with_child c x a) (with_child s y b)) e (with_child_paired c x y a b p h)
 
 -- ---- a node is replaced on both sides
 
-node_set_same : (nodes : List Node) (x : ℕ) (a : Node) → x < length nodes → unwrap_or (slice_get (slice_set nodes x a) x) (Leaf 0) ≡ a
+node_set_same : (nodes : List Node) (x : ℕ) (a : Node) → x < length nodes
+    → unwrap_or (slice_get (slice_set nodes x a) x) (Leaf 0) ≡ a
 node_set_same [] x a l = absurd (omega arith)
 node_set_same (b ∷ nodes) zero a l = refl
 node_set_same (b ∷ nodes) (suc x) a l = node_set_same nodes x a (omega arith)
 
-node_set_other : (nodes : List Node) (x y : ℕ) (a : Node) → (y ≡ x → ⊥) → unwrap_or (slice_get (slice_set nodes x a) y) (Leaf 0) ≡ unwrap_or (slice_get nodes y) (Leaf 0)
+node_set_other : (nodes : List Node) (x y : ℕ) (a : Node) → (y ≡ x → ⊥)
+    → unwrap_or (slice_get (slice_set nodes x a) y) (Leaf 0) ≡ unwrap_or (slice_get nodes y) (Leaf 0)
 node_set_other [] x y a n = refl
 node_set_other (b ∷ nodes) zero zero a n = absurd (n refl)
 node_set_other (b ∷ nodes) zero (suc y) a n = refl
 node_set_other (b ∷ nodes) (suc x) zero a n = refl
 node_set_other (b ∷ nodes) (suc x) (suc y) a n = node_set_other nodes x y a (λ e. n (ap suc e))
 
-replace_node : (P R : ℕ → ℕ → Type 0) (memory other : EllenMem) (x y : ℕ) (a b : Node) → AreMemoriesPaired P R memory other → P x y → AreNodesPaired P R a b → AreMemoriesPaired P R (set_node memory x a) (set_node other y b)
+replace_node : (P R : ℕ → ℕ → Type 0) (memory other : EllenMem) (x y : ℕ) (a b : Node)
+    → AreMemoriesPaired P R memory other → P x y → AreNodesPaired P R a b
+    → AreMemoriesPaired P R (set_node memory x a) (set_node other y b)
 replace_node P R memory other x y a b h p g = record {
   nodes_one_to_one = h.nodes_one_to_one;
   records_one_to_one = h.records_one_to_one;
   root = h.root;
-  nodes_in_range = λ v w q. let r = h.nodes_in_range v w q in (subst (λ n. v < n) (sym (length-set memory.nodes x a)) r.0, subst (λ n. w < n) (sym (length-set other.nodes y b)) r.1);
+  nodes_in_range =
+      λ v w q. let r = h.nodes_in_range v w q in (
+        subst (λ n. v < n) (sym (length-set memory.nodes x a)) r.0,
+        subst (λ n. w < n) (sym (length-set other.nodes y b)) r.1,
+      );
   records_in_range = h.records_in_range;
   nodes = λ v w q. go v w q (eqb_tells v x);
   records = h.records;
 }
   where
-    go : (v w : ℕ) → P v w → ((nat_eq v x ≡ true) × (v ≡ x)) ⊎ ((nat_eq v x ≡ false) × (v ≡ x → ⊥)) → AreNodesPaired P R (node_at (set_node memory x a) v) (node_at (set_node other y b) w)
+    go : (v w : ℕ) → P v w → ((nat_eq v x ≡ true) × (v ≡ x)) ⊎ ((nat_eq v x ≡ false) × (v ≡ x → ⊥))
+        → AreNodesPaired P R (node_at (set_node memory x a) v) (node_at (set_node other y b) w)
     go v w q (inl e) =
         let f = (h.nodes_one_to_one v w x y q p).0 e.1 in
         let r = h.nodes_in_range x y p in
         subst (λ c. AreNodesPaired P R (node_at (set_node memory x a) c) (node_at (set_node other y b) w)) (sym e.1)
         (subst (λ c. AreNodesPaired P R (node_at (set_node memory x a) x) (node_at (set_node other y b) c)) (sym f)
-        (subst (λ c. AreNodesPaired P R c (node_at (set_node other y b) y)) (sym (node_set_same memory.nodes x a r.0)) (subst (λ c. AreNodesPaired P R a c) (sym (node_set_same other.nodes y b r.1)) g)))
+        (subst (λ c. AreNodesPaired P R c (node_at (set_node other y b) y)) (sym (node_set_same memory.nodes x a r.0))
+        (subst (λ c. AreNodesPaired P R a c) (sym (node_set_same other.nodes y b r.1)) g)))
     go v w q (inr e) =
         subst (λ c. AreNodesPaired P R c (node_at (set_node other y b) w)) (sym (node_set_other memory.nodes x v a e.1))
-        (subst (λ c. AreNodesPaired P R (node_at memory v) c) (sym (node_set_other other.nodes y w b (λ f. e.1 ((h.nodes_one_to_one v w x y q p).1 f)))) (h.nodes v w q))
+        (subst (λ c. AreNodesPaired P R (node_at memory v) c)
+        (sym (node_set_other other.nodes y w b (λ f. e.1 ((h.nodes_one_to_one v w x y q p).1 f)))) (h.nodes v w q))
 
 -- ---- more pairs
 
@@ -185,21 +207,33 @@ module _ (p : Pairing) (m o : EllenMem) (h : ellen_pairs.memories p m o) where
 
   -- the memories stay as they are
   stay : (a b : Outcome EllenLoc) → Outcomes a b → Steps (m, a) (o, b)
-  stay a b k = record { then = p; extends = record { nodes = λ x y q. q; records = λ x y q. q }; memories_paired = h; outcomes_paired = k }
+  stay a b k =
+      record {
+        then = p;
+        extends = record { nodes = λ x y q. q; records = λ x y q. q };
+        memories_paired = h;
+        outcomes_paired = k;
+      }
 
-  found_keeps : {A : Type 0} (T : A → A → Type 0) (x y : Option A) (f g : A → After) → AreBoth T x y → ((a b : A) → T a b → Steps (f a) (g b)) → Steps (found m x f) (found o y g)
+  found_keeps : {A : Type 0} (T : A → A → Type 0) (x y : Option A) (f g : A → After) → AreBoth T x y
+      → ((a b : A) → T a b → Steps (f a) (g b)) → Steps (found m x f) (found o y g)
   found_keeps T None None f g t k = stay Astray Astray tt
   found_keeps T (Some a) (Some b) f g t k = k a b t
   found_keeps T None (Some b) f g t k = absurd t
   found_keeps T (Some a) None f g t k = absurd t
 
-  pub read_update_keeps : (x y : ℕ) (f g : UpdateWord → Outcome EllenLoc) → P x y → ((u v : UpdateWord) → AreWordsPaired R u v → Outcomes (f u) (g v)) → Steps (read_update m x f) (read_update o y g)
+  pub read_update_keeps : (x y : ℕ) (f g : UpdateWord → Outcome EllenLoc) → P x y
+      → ((u v : UpdateWord) → AreWordsPaired R u v → Outcomes (f u) (g v))
+      → Steps (read_update m x f) (read_update o y g)
   read_update_keeps x y f g q k =
-      found_keeps (AreWordsPaired R) (update_of (node_at m x)) (update_of (node_at o y)) _ _ (update_paired P R _ _ (h.nodes x y q)) (λ u v w. stay (f u) (g v) (k u v w))
+      found_keeps (AreWordsPaired R) (update_of (node_at m x)) (update_of (node_at o y)) _ _
+      (update_paired P R _ _ (h.nodes x y q)) (λ u v w. stay (f u) (g v) (k u v w))
 
-  pub read_child_keeps : (x y : ℕ) (c d : Side) (f g : ℕ → Outcome EllenLoc) → P x y → c ≡ d → ((a b : ℕ) → P a b → Outcomes (f a) (g b)) → Steps (read_child m x c f) (read_child o y d g)
+  pub read_child_keeps : (x y : ℕ) (c d : Side) (f g : ℕ → Outcome EllenLoc) → P x y → c ≡ d
+      → ((a b : ℕ) → P a b → Outcomes (f a) (g b)) → Steps (read_child m x c f) (read_child o y d g)
   read_child_keeps x y c d f g q e k =
-      found_keeps P (child_on c (node_at m x)) (child_on d (node_at o y)) _ _ (children_paired P R c d _ _ e (h.nodes x y q)) (λ a b w. stay (f a) (g b) (k a b w))
+      found_keeps P (child_on c (node_at m x)) (child_on d (node_at o y)) _ _
+      (children_paired P R c d _ _ e (h.nodes x y q)) (λ a b w. stay (f a) (g b) (k a b w))
 
   cond_keeps : (b c : Bool) (s t u v : After) → b ≡ c → Steps s u → Steps t v → Steps (cond b s t) (cond c u v)
   cond_keeps true true s t u v e k l = k
@@ -208,7 +242,8 @@ module _ (p : Pairing) (m o : EllenMem) (h : ellen_pairs.memories p m o) where
   cond_keeps false true s t u v e k l = cc
 
   -- an exchange, where a and b are the memories with what is new, which these pairs of nodes and of records pair
-  module _ (nodes records : List (ℕ × ℕ)) (a b : EllenMem) (after : ellen_pairs.memories (with_pairs nodes records p) a b) where
+  module _ (nodes records : List (ℕ × ℕ)) (a b : EllenMem)
+      (after : ellen_pairs.memories (with_pairs nodes records p) a b) where
     abbrev Q : ℕ → ℕ → Type 0
     Q = IsAmong (nodes ++ p.nodes)
 
@@ -218,41 +253,56 @@ module _ (p : Pairing) (m o : EllenMem) (h : ellen_pairs.memories p m o) where
     abbrev Later : Outcome EllenLoc → Outcome EllenLoc → Type 0
     Later left right = AreOutcomesPaired (ellen_pairs.places (with_pairs nodes records p)) left right
 
-    pub exchange_update_keeps : (x y : ℕ) (e f d g : UpdateWord) (s t : Outcome EllenLoc) (k l : UpdateWord → Outcome EllenLoc) → P x y → AreWordsPaired R e f → AreWordsPaired S d g →
-        Later s t → ((u v : UpdateWord) → AreWordsPaired R u v → Outcomes (k u) (l v)) → Steps (exchange_update m x e d a s k) (exchange_update o y f g b t l)
+    pub exchange_update_keeps : (x y : ℕ) (e f d g : UpdateWord) (s t : Outcome EllenLoc)
+        (k l : UpdateWord → Outcome EllenLoc) → P x y → AreWordsPaired R e f → AreWordsPaired S d g →
+        Later s t → ((u v : UpdateWord) → AreWordsPaired R u v → Outcomes (k u) (l v))
+        → Steps (exchange_update m x e d a s k) (exchange_update o y f g b t l)
     exchange_update_keeps x y e f d g s t k l q same new won lost =
-        found_keeps (AreWordsPaired R) (update_of (node_at m x)) (update_of (node_at o y)) _ _ (update_paired P R _ _ (h.nodes x y q))
+        found_keeps (AreWordsPaired R) (update_of (node_at m x)) (update_of (node_at o y)) _ _
+        (update_paired P R _ _ (h.nodes x y q))
         (λ u v w. cond_keeps (is_word u e) (is_word v f) _ _ _ _ (words_compared R h.records_one_to_one u v e f w same)
         (record {
           then = with_pairs nodes records p;
           extends = extends nodes records p;
-          memories_paired = replace_node Q S a b x y _ _ after (behind nodes p.nodes x y q) (with_update_paired Q S d g _ _ new (after.nodes x y (behind nodes p.nodes x y q)));
+          memories_paired =
+              replace_node Q S a b x y _ _ after (behind nodes p.nodes x y q)
+              (with_update_paired Q S d g _ _ new (after.nodes x y (behind nodes p.nodes x y q)));
           outcomes_paired = won;
         })
         (stay (k u) (l v) (lost u v w)))
 
-    pub exchange_child_keeps : (x y c d n i : ℕ) (s t k l : Outcome EllenLoc) → P x y → P c d → Q n i → Later s t → Outcomes k l → Steps (exchange_child m x c n a s k) (exchange_child o y d i b t l)
+    pub exchange_child_keeps : (x y c d n i : ℕ) (s t k l : Outcome EllenLoc) → P x y → P c d → Q n i → Later s t
+        → Outcomes k l → Steps (exchange_child m x c n a s k) (exchange_child o y d i b t l)
     exchange_child_keeps x y c d n i s t k l q same new won lost =
         let sides : side_of (key_at a n) (key_at m x) ≡ side_of (key_at b i) (key_at o y) =
-        ap (λ j. side_of j (key_at m x)) (key_paired Q S _ _ (after.nodes n i new)) ∙ ap (side_of (key_at b i)) (key_paired P R _ _ (h.nodes x y q)) in
-        found_keeps P (child_on (side_of (key_at a n) (key_at m x)) (node_at m x)) (child_on (side_of (key_at b i) (key_at o y)) (node_at o y)) _ _ (children_paired P R _ _ _ _ sides (h.nodes x y q))
+        ap (λ j. side_of j (key_at m x)) (key_paired Q S _ _ (after.nodes n i new))
+        ∙ ap (side_of (key_at b i)) (key_paired P R _ _ (h.nodes x y q)) in
+        found_keeps P (child_on (side_of (key_at a n) (key_at m x)) (node_at m x))
+        (child_on (side_of (key_at b i) (key_at o y)) (node_at o y)) _ _
+        (children_paired P R _ _ _ _ sides (h.nodes x y q))
         (λ u v w. cond_keeps (nat_eq u c) (nat_eq v d) _ _ _ _ (same_number P h.nodes_one_to_one u v c d w same)
         (record {
           then = with_pairs nodes records p;
           extends = extends nodes records p;
-          memories_paired = replace_node Q S a b x y _ _ after (behind nodes p.nodes x y q) (with_children_paired Q S _ _ n i _ _ sides new (after.nodes x y (behind nodes p.nodes x y q)));
+          memories_paired =
+              replace_node Q S a b x y _ _ after (behind nodes p.nodes x y q)
+              (with_children_paired Q S _ _ n i _ _ sides new (after.nodes x y (behind nodes p.nodes x y q)));
           outcomes_paired = won;
         })
         (stay k l lost))
 
   -- the record that a row wants is there, of that kind, on both sides, or the row goes astray on both
-  pub with_insert_keeps : (x y : Option Record) (f g : InsertRecord → After) → AreBoth (AreRecordsPaired P R) x y → ((i j : InsertRecord) → AreRecordsPaired P R (Ins i) (Ins j) → Steps (f i) (g j)) → Steps (with_insert m x f) (with_insert o y g)
+  pub with_insert_keeps : (x y : Option Record) (f g : InsertRecord → After) → AreBoth (AreRecordsPaired P R) x y
+      → ((i j : InsertRecord) → AreRecordsPaired P R (Ins i) (Ins j) → Steps (f i) (g j))
+      → Steps (with_insert m x f) (with_insert o y g)
   with_insert_keeps None None f g t k = stay Astray Astray tt
   with_insert_keeps (Some (Ins i)) (Some (Ins j)) f g t k = k i j t
   with_insert_keeps (Some (Del i)) (Some (Del j)) f g t k = stay Astray Astray tt
   with_insert_keeps _ _ f g t k = absurd t
 
-  pub with_delete_keeps : (x y : Option Record) (f g : DeleteRecord → After) → AreBoth (AreRecordsPaired P R) x y → ((i j : DeleteRecord) → AreRecordsPaired P R (Del i) (Del j) → Steps (f i) (g j)) → Steps (with_delete m x f) (with_delete o y g)
+  pub with_delete_keeps : (x y : Option Record) (f g : DeleteRecord → After) → AreBoth (AreRecordsPaired P R) x y
+      → ((i j : DeleteRecord) → AreRecordsPaired P R (Del i) (Del j) → Steps (f i) (g j))
+      → Steps (with_delete m x f) (with_delete o y g)
   with_delete_keeps None None f g t k = stay Astray Astray tt
   with_delete_keeps (Some (Ins i)) (Some (Ins j)) f g t k = stay Astray Astray tt
   with_delete_keeps (Some (Del i)) (Some (Del j)) f g t k = k i j t

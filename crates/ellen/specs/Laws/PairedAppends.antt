@@ -1,5 +1,6 @@
 -- More pairs pair what fewer do, and new nodes and records, paired under fresh numbers, keep a pairing.
-use Rattle.std.specs.Prelude.{◌≡◌, ℕ, zero, suc, ◌+◌, ◌<◌, Bool, true, false, cond, nat_lt, List, [], ◌∷◌, ◌++◌, length, slice_get, Option, Some, None, unwrap_or, refl}
+use Rattle.std.specs.Prelude.{◌≡◌, ℕ, zero, suc, ◌+◌, ◌<◌, Bool, true, false, cond, nat_lt, List, [], ◌∷◌, ◌++◌, length}
+use Rattle.std.specs.Prelude.{slice_get, Option, Some, None, unwrap_or, refl}
 use Rattle.std.specs.List.{AllZip}
 use Rattle.std.proofs.Common.{sym, ◌∙◌, ap, subst, inl, inr, arith, length-append}
 use Rattle.tree_machine.specs.Pairing.{IsAmong, IsOneToOne, Pairing}
@@ -14,16 +15,19 @@ use Rattle.ellen.specs.declared.place.Above.{Above}
 use Rattle.ellen.specs.declared.place.SearchLoc.{SearchLoc}
 use Rattle.ellen.specs.declared.place.SearchLoc.TheVariants.{Update, Child, IFlag, InsOnly, DFlag}
 use Rattle.ellen.specs.declared.place.HelpLoc.{HelpLoc}
-use Rattle.ellen.specs.declared.place.HelpLoc.TheVariants.{InsChild, InsClean, Mark, Right, Other, Splice, DelClean, Back}
+use Rattle.ellen.specs.declared.place.HelpLoc.TheVariants.{InsChild, InsClean, Mark, Right, Other, Splice, DelClean}
+use Rattle.ellen.specs.declared.place.HelpLoc.TheVariants.{Back}
 use Rattle.ellen.specs.declared.place.EllenLoc.{EllenLoc}
 use Rattle.ellen.specs.declared.place.EllenLoc.TheVariants.{Search, Help}
 use Rattle.ellen.specs.Memory.{node_at, key_at, internal_over, with_internal, add_record}
-use Rattle.ellen.specs.Pairs.{AreBoth, AreWordsPaired, AreNodesPaired, AreRecordsPaired, AreAbovesPaired, AreSearchesPaired, AreHelpsPaired, ArePlacesPaired, AreMemoriesPaired, ellen_pairs}
+use Rattle.ellen.specs.Pairs.{AreBoth, AreWordsPaired, AreNodesPaired, AreRecordsPaired, AreAbovesPaired}
+use Rattle.ellen.specs.Pairs.{AreSearchesPaired, AreHelpsPaired, ArePlacesPaired, AreMemoriesPaired, ellen_pairs}
 use Rattle.ellen.specs.Laws.PairedAccesses.{key_paired, with_pairs}
 
 -- ---- more pairs
 
-both_weaker : {A : Type 0} (S T : A → A → Type 0) → ((a b : A) → S a b → T a b) → (x y : Option A) → AreBoth S x y → AreBoth T x y
+both_weaker : {A : Type 0} (S T : A → A → Type 0) → ((a b : A) → S a b → T a b) → (x y : Option A) → AreBoth S x y
+    → AreBoth T x y
 both_weaker S T f None None h = tt
 both_weaker S T f (Some a) (Some b) h = f a b h
 both_weaker S T f _ _ h = absurd h
@@ -44,15 +48,22 @@ module _ (P Q R S : ℕ → ℕ → Type 0) (f : (x y : ℕ) → P x y → Q x y
 
   records_weaker : (a b : Record) → AreRecordsPaired P R a b → AreRecordsPaired Q S a b
   records_weaker (Ins i) (Ins j) h = (f i.parent j.parent h.0, f i.leaf j.leaf h.1, f i.new j.new h.2)
-  records_weaker (Del d) (Del e) h = (f d.grandparent e.grandparent h.0, f d.parent e.parent h.1, f d.leaf e.leaf h.2, words_weaker d.parent_update e.parent_update h.3)
+  records_weaker (Del d) (Del e) h = (
+    f d.grandparent e.grandparent h.0,
+    f d.parent e.parent h.1,
+    f d.leaf e.leaf h.2,
+    words_weaker d.parent_update e.parent_update h.3,
+  )
   records_weaker _ _ h = absurd h
 
   above_weaker : (a b : Above) → AreAbovesPaired P R a b → AreAbovesPaired Q S a b
   above_weaker a b h = (f a.node b.node h.0, words_weaker a.update b.update h.1)
 
   search_weaker : (a b : SearchLoc) → AreSearchesPaired P R a b → AreSearchesPaired Q S a b
-  search_weaker (Update a p) (Update b q) h = (both_weaker (AreAbovesPaired P R) (AreAbovesPaired Q S) above_weaker a b h.0, f p q h.1)
-  search_weaker (Child a p u) (Child b q v) h = (both_weaker (AreAbovesPaired P R) (AreAbovesPaired Q S) above_weaker a b h.0, f p q h.1, words_weaker u v h.2)
+  search_weaker (Update a p) (Update b q) h =
+      (both_weaker (AreAbovesPaired P R) (AreAbovesPaired Q S) above_weaker a b h.0, f p q h.1)
+  search_weaker (Child a p u) (Child b q v) h =
+      (both_weaker (AreAbovesPaired P R) (AreAbovesPaired Q S) above_weaker a b h.0, f p q h.1, words_weaker u v h.2)
   search_weaker (IFlag p u l) (IFlag q v m) h = (f p q h.0, words_weaker u v h.1, f l m h.2)
   search_weaker (InsOnly p l) (InsOnly q m) h = (f p q h.0, f l m h.1)
   search_weaker (DFlag a p u l) (DFlag b q v m) h = (above_weaker a b h.0, f p q h.1, words_weaker u v h.2, f l m h.3)
@@ -94,53 +105,70 @@ get_last (b ∷ xs) a = get_last xs a
 abbrev AreInRange : List (ℕ × ℕ) → ℕ → ℕ → Type 0
 AreInRange pairs n m = (x y : ℕ) → IsAmong pairs x y → (x < n) × (y < m)
 
-fresh_one : (pairs : List (ℕ × ℕ)) (n m : ℕ) → IsOneToOne (IsAmong pairs) → AreInRange pairs n m → IsOneToOne (IsAmong ((n, m) ∷ pairs))
+fresh_one : (pairs : List (ℕ × ℕ)) (n m : ℕ) → IsOneToOne (IsAmong pairs) → AreInRange pairs n m
+    → IsOneToOne (IsAmong ((n, m) ∷ pairs))
 fresh_one pairs n m one range x y v w (inl e) (inl f) = (λ d. sym e.1 ∙ f.1, λ d. sym e.0 ∙ f.0)
-fresh_one pairs n m one range x y v w (inl e) (inr q) = let r = range v w q in let c = e.0 in let d = e.1 in (λ k. absurd (omega arith), λ k. absurd (omega arith))
-fresh_one pairs n m one range x y v w (inr p) (inl e) = let r = range x y p in let c = e.0 in let d = e.1 in (λ k. absurd (omega arith), λ k. absurd (omega arith))
+fresh_one pairs n m one range x y v w (inl e) (inr q) = let r = range v w q in let c = e.0 in
+    let d = e.1 in (λ k. absurd (omega arith), λ k. absurd (omega arith))
+fresh_one pairs n m one range x y v w (inr p) (inl e) = let r = range x y p in let c = e.0 in
+    let d = e.1 in (λ k. absurd (omega arith), λ k. absurd (omega arith))
 fresh_one pairs n m one range x y v w (inr p) (inr q) = one x y v w p q
 
-module _ {A : Type 0} (pairs : List (ℕ × ℕ)) (xs ys : List A) (a b : A) (range : AreInRange pairs (length xs) (length ys)) where
+module _ {A : Type 0} (pairs : List (ℕ × ℕ)) (xs ys : List A) (a b : A)
+    (range : AreInRange pairs (length xs) (length ys)) where
   fresh_range : AreInRange ((length xs, length ys) ∷ pairs) (length (xs ++ a ∷ [])) (length (ys ++ b ∷ []))
-  fresh_range x y (inl e) = let c = e.0 in let d = e.1 in (omega (arith, length-append xs (a ∷ [])), omega (arith, length-append ys (b ∷ [])))
-  fresh_range x y (inr p) = let r = range x y p in (omega (arith, length-append xs (a ∷ [])), omega (arith, length-append ys (b ∷ [])))
+  fresh_range x y (inl e) = let c = e.0 in
+      let d = e.1 in (omega (arith, length-append xs (a ∷ [])), omega (arith, length-append ys (b ∷ [])))
+  fresh_range x y (inr p) =
+      let r = range x y p in (omega (arith, length-append xs (a ∷ [])), omega (arith, length-append ys (b ∷ [])))
 
-  fresh_at : (T : Option A → Option A → Type 0) → T (Some a) (Some b) → ((x y : ℕ) → IsAmong pairs x y → T (slice_get xs x) (slice_get ys y)) →
-      (x y : ℕ) → IsAmong ((length xs, length ys) ∷ pairs) x y → T (slice_get (xs ++ a ∷ []) x) (slice_get (ys ++ b ∷ []) y)
+  fresh_at : (T : Option A → Option A → Type 0) → T (Some a) (Some b)
+      → ((x y : ℕ) → IsAmong pairs x y → T (slice_get xs x) (slice_get ys y)) →
+      (x y : ℕ) → IsAmong ((length xs, length ys) ∷ pairs) x y
+      → T (slice_get (xs ++ a ∷ []) x) (slice_get (ys ++ b ∷ []) y)
   fresh_at T t old x y (inl e) =
       subst (λ z. T (slice_get (xs ++ a ∷ []) z) (slice_get (ys ++ b ∷ []) y)) e.0
       (subst (λ z. T (slice_get (xs ++ a ∷ []) (length xs)) (slice_get (ys ++ b ∷ []) z)) e.1
-      (subst (λ c. T c (slice_get (ys ++ b ∷ []) (length ys))) (sym (get_last xs a)) (subst (λ c. T (Some a) c) (sym (get_last ys b)) t)))
+      (subst (λ c. T c (slice_get (ys ++ b ∷ []) (length ys))) (sym (get_last xs a))
+      (subst (λ c. T (Some a) c) (sym (get_last ys b)) t)))
   fresh_at T t old x y (inr p) =
       let r = range x y p in
-      subst (λ c. T c (slice_get (ys ++ b ∷ []) y)) (sym (get_front xs (a ∷ []) x r.0)) (subst (λ c. T (slice_get xs x) c) (sym (get_front ys (b ∷ []) y r.1)) (old x y p))
+      subst (λ c. T c (slice_get (ys ++ b ∷ []) y)) (sym (get_front xs (a ∷ []) x r.0))
+      (subst (λ c. T (slice_get xs x) c) (sym (get_front ys (b ∷ []) y r.1)) (old x y p))
 
 -- a new record on both sides
-pub append_record : (ps rs : List (ℕ × ℕ)) (memory other : EllenMem) (a b : Record) → AreMemoriesPaired (IsAmong ps) (IsAmong rs) memory other →
+pub append_record : (ps rs : List (ℕ × ℕ)) (memory other : EllenMem) (a b : Record)
+    → AreMemoriesPaired (IsAmong ps) (IsAmong rs) memory other →
     AreRecordsPaired (IsAmong ps) (IsAmong ((length memory.records, length other.records) ∷ rs)) a b →
-    AreMemoriesPaired (IsAmong ps) (IsAmong ((length memory.records, length other.records) ∷ rs)) (add_record memory a) (add_record other b)
+    AreMemoriesPaired (IsAmong ps) (IsAmong ((length memory.records, length other.records) ∷ rs)) (add_record memory a)
+    (add_record other b)
 append_record ps rs memory other a b h g =
     let P : ℕ → ℕ → Type 0 = IsAmong ps in
     let R : ℕ → ℕ → Type 0 = IsAmong rs in
     let S : ℕ → ℕ → Type 0 = IsAmong ((length memory.records, length other.records) ∷ rs) in
     record {
       nodes_one_to_one = h.nodes_one_to_one;
-      records_one_to_one = fresh_one rs (length memory.records) (length other.records) h.records_one_to_one h.records_in_range;
+      records_one_to_one =
+          fresh_one rs (length memory.records) (length other.records) h.records_one_to_one h.records_in_range;
       root = h.root;
       nodes_in_range = h.nodes_in_range;
       records_in_range = fresh_range rs memory.records other.records a b h.records_in_range;
-      nodes = λ x y p. nodes_weaker P P R S (λ v w q. q) (λ v w q. inr q) (node_at memory x) (node_at other y) (h.nodes x y p);
+      nodes = λ x y p. nodes_weaker P P R S (λ v w q. q) (λ v w q. inr q) (node_at memory x) (node_at other y)
+          (h.nodes x y p);
       records = fresh_at rs memory.records other.records a b h.records_in_range (AreBoth (AreRecordsPaired P S)) g
-          (λ x y p. both_weaker (AreRecordsPaired P R) (AreRecordsPaired P S) (records_weaker P P R S (λ v w q. q) (λ v w q. inr q)) _ _ (h.records x y p));
+          (λ x y p. both_weaker (AreRecordsPaired P R) (AreRecordsPaired P S)
+          (records_weaker P P R S (λ v w q. q) (λ v w q. inr q)) _ _ (h.records x y p));
     }
 
 abbrev add_node : EllenMem → Node → EllenMem
 add_node m a = record { nodes = m.nodes ++ a ∷ []; records = m.records }
 
 -- a new node on both sides
-append_node : (ps rs : List (ℕ × ℕ)) (memory other : EllenMem) (a b : Node) → AreMemoriesPaired (IsAmong ps) (IsAmong rs) memory other →
+append_node : (ps rs : List (ℕ × ℕ)) (memory other : EllenMem) (a b : Node)
+    → AreMemoriesPaired (IsAmong ps) (IsAmong rs) memory other →
     AreNodesPaired (IsAmong ((length memory.nodes, length other.nodes) ∷ ps)) (IsAmong rs) a b →
-    AreMemoriesPaired (IsAmong ((length memory.nodes, length other.nodes) ∷ ps)) (IsAmong rs) (add_node memory a) (add_node other b)
+    AreMemoriesPaired (IsAmong ((length memory.nodes, length other.nodes) ∷ ps)) (IsAmong rs) (add_node memory a)
+    (add_node other b)
 append_node ps rs memory other a b h g =
     let P : ℕ → ℕ → Type 0 = IsAmong ps in
     let R : ℕ → ℕ → Type 0 = IsAmong rs in
@@ -151,19 +179,26 @@ append_node ps rs memory other a b h g =
       root = inr h.root;
       nodes_in_range = fresh_range ps memory.nodes other.nodes a b h.nodes_in_range;
       records_in_range = h.records_in_range;
-      nodes = fresh_at ps memory.nodes other.nodes a b h.nodes_in_range (λ x y. AreNodesPaired Q R (unwrap_or x (Leaf 0)) (unwrap_or y (Leaf 0))) g
-          (λ x y p. nodes_weaker P Q R R (λ v w q. inr q) (λ v w q. q) (node_at memory x) (node_at other y) (h.nodes x y p));
-      records = λ x y p. both_weaker (AreRecordsPaired P R) (AreRecordsPaired Q R) (records_weaker P Q R R (λ v w q. inr q) (λ v w q. q)) _ _ (h.records x y p);
+      nodes = fresh_at ps memory.nodes other.nodes a b h.nodes_in_range
+          (λ x y. AreNodesPaired Q R (unwrap_or x (Leaf 0)) (unwrap_or y (Leaf 0))) g
+          (λ x y p. nodes_weaker P Q R R (λ v w q. inr q) (λ v w q. q) (node_at memory x) (node_at other y)
+          (h.nodes x y p));
+      records =
+          λ x y p. both_weaker (AreRecordsPaired P R) (AreRecordsPaired Q R)
+          (records_weaker P Q R R (λ v w q. inr q) (λ v w q. q)) _ _ (h.records x y p);
     }
 
 three_nodes : (xs : List Node) (a b c : Node) → ((xs ++ a ∷ []) ++ b ∷ []) ++ c ∷ [] ≡ xs ++ a ∷ b ∷ c ∷ []
 three_nodes [] a b c = refl
 three_nodes (x ∷ xs) a b c = ap (λ ys. x ∷ ys) (three_nodes xs a b c)
 
-internal_paired : (P R : ℕ → ℕ → Type 0) (k j i x y v w : ℕ) → j ≡ i → P x v → P y w → AreNodesPaired P R (internal_over k j x y) (internal_over k i v w)
-internal_paired P R k j i x y v w e p q = subst (λ z. AreNodesPaired P R (internal_over k j x y) (internal_over k z v w)) e (go (nat_lt k j))
+internal_paired : (P R : ℕ → ℕ → Type 0) (k j i x y v w : ℕ) → j ≡ i → P x v → P y w
+    → AreNodesPaired P R (internal_over k j x y) (internal_over k i v w)
+internal_paired P R k j i x y v w e p q =
+    subst (λ z. AreNodesPaired P R (internal_over k j x y) (internal_over k z v w)) e (go (nat_lt k j))
   where
-    go : (b : Bool) → AreNodesPaired P R (cond b (Internal j word.Untouched x y) (Internal k word.Untouched y x)) (cond b (Internal j word.Untouched v w) (Internal k word.Untouched w v))
+    go : (b : Bool) → AreNodesPaired P R (cond b (Internal j word.Untouched x y) (Internal k word.Untouched y x))
+        (cond b (Internal j word.Untouched v w) (Internal k word.Untouched w v))
     go true = (refl, tt, p, q)
     go false = (refl, tt, q, p)
 
@@ -172,9 +207,11 @@ renumber T a b c d e f t = subst (λ z. T (c, z)) f (subst (λ z. T (z, b)) e t)
 
 -- the fresh pairs of a new internal node, its own first
 abbrev pub fresh_nodes : EllenMem → EllenMem → List (ℕ × ℕ)
-fresh_nodes m o = (length m.nodes + 2, length o.nodes + 2) ∷ (length m.nodes + 1, length o.nodes + 1) ∷ (length m.nodes, length o.nodes) ∷ []
+fresh_nodes m o = (length m.nodes + 2, length o.nodes + 2) ∷ (length m.nodes + 1, length o.nodes + 1)
+    ∷ (length m.nodes, length o.nodes) ∷ []
 
--- the memory with the new leaf of key k, with the copy of the leaf l behind it, and with the new internal node behind these
+-- the memory with the new leaf of key k, with the copy of the leaf l behind it, and with the new internal node behind
+-- these
 abbrev with_leaf : EllenMem → ℕ → EllenMem
 with_leaf m k = add_node m (Leaf k)
 
@@ -191,9 +228,11 @@ one_more : (m : EllenMem) (k : ℕ) → length (with_leaf m k).nodes ≡ length 
 one_more m k = length-append m.nodes (Leaf k ∷ [])
 
 two_more : (m : EllenMem) (k l : ℕ) → length (with_leaves m k l).nodes ≡ length m.nodes + 2
-two_more m k l = let one = one_more m k in omega (arith, length-append (m.nodes ++ Leaf k ∷ []) (Leaf (key_at m l) ∷ []))
+two_more m k l = let one = one_more m k in
+    omega (arith, length-append (m.nodes ++ Leaf k ∷ []) (Leaf (key_at m l) ∷ []))
 
-module _ (p : Pairing) (m o : EllenMem) (k l n : ℕ) (h : ellen_pairs.memories p m o) (leaves : IsAmong p.nodes l n) where
+module _ (p : Pairing) (m o : EllenMem) (k l n : ℕ) (h : ellen_pairs.memories p m o)
+    (leaves : IsAmong p.nodes l n) where
   abbrev one_pair : List (ℕ × ℕ)
   one_pair = (length m.nodes, length o.nodes) ∷ p.nodes
 
@@ -208,17 +247,26 @@ module _ (p : Pairing) (m o : EllenMem) (k l n : ℕ) (h : ellen_pairs.memories 
 
   both_leaves : AreMemoriesPaired (IsAmong two_pairs) (IsAmong p.records) (with_leaves m k l) (with_leaves o k n)
   both_leaves =
-      renumber (λ z. AreMemoriesPaired (IsAmong (z ∷ one_pair)) (IsAmong p.records) (with_leaves m k l) (with_leaves o k n)) _ _ _ _ (one_more m k) (one_more o k)
-      (append_node one_pair p.records (with_leaf m k) (with_leaf o k) (Leaf (key_at m l)) (Leaf (key_at o n)) first_leaf same_keys)
+      renumber
+      (λ z. AreMemoriesPaired (IsAmong (z ∷ one_pair)) (IsAmong p.records) (with_leaves m k l) (with_leaves o k n))
+      _ _ _ _ (one_more m k) (one_more o k)
+      (append_node one_pair p.records (with_leaf m k) (with_leaf o k) (Leaf (key_at m l)) (Leaf (key_at o n)) first_leaf
+      same_keys)
 
-  all_three : AreMemoriesPaired (IsAmong (fresh_nodes m o ++ p.nodes)) (IsAmong p.records) (with_all m k l) (with_all o k n)
+  all_three : AreMemoriesPaired (IsAmong (fresh_nodes m o ++ p.nodes)) (IsAmong p.records) (with_all m k l)
+      (with_all o k n)
   all_three =
-      renumber (λ z. AreMemoriesPaired (IsAmong (z ∷ two_pairs)) (IsAmong p.records) (with_all m k l) (with_all o k n)) _ _ _ _ (two_more m k l) (two_more o k n)
+      renumber (λ z. AreMemoriesPaired (IsAmong (z ∷ two_pairs)) (IsAmong p.records) (with_all m k l) (with_all o k n))
+      _ _ _ _ (two_more m k l) (two_more o k n)
       (append_node two_pairs p.records (with_leaves m k l) (with_leaves o k n) _ _ both_leaves
-      (internal_paired (IsAmong ((length (with_leaves m k l).nodes, length (with_leaves o k n).nodes) ∷ two_pairs)) (IsAmong p.records) k _ _ _ _ _ _ same_keys (inr (inr (inl (refl, refl)))) (inr (inl (refl, refl)))))
+      (internal_paired (IsAmong ((length (with_leaves m k l).nodes, length (with_leaves o k n).nodes) ∷ two_pairs))
+      (IsAmong p.records) k _ _ _ _ _ _ same_keys (inr (inr (inl (refl, refl)))) (inr (inl (refl, refl)))))
 
   -- a new internal node on both sides
-  pub append_internal : ellen_pairs.memories (with_pairs (fresh_nodes m o) [] p) (with_internal m k l) (with_internal o k n)
+  pub append_internal : ellen_pairs.memories (with_pairs (fresh_nodes m o) [] p) (with_internal m k l)
+      (with_internal o k n)
   append_internal =
-      subst (λ z. AreMemoriesPaired (IsAmong (fresh_nodes m o ++ p.nodes)) (IsAmong p.records) z (with_internal o k n)) (one_by_one m k l)
-      (subst (λ z. AreMemoriesPaired (IsAmong (fresh_nodes m o ++ p.nodes)) (IsAmong p.records) (with_all m k l) z) (one_by_one o k n) all_three)
+      subst (λ z. AreMemoriesPaired (IsAmong (fresh_nodes m o ++ p.nodes)) (IsAmong p.records) z (with_internal o k n))
+      (one_by_one m k l)
+      (subst (λ z. AreMemoriesPaired (IsAmong (fresh_nodes m o ++ p.nodes)) (IsAmong p.records) (with_all m k l) z)
+      (one_by_one o k n) all_three)

@@ -1,5 +1,6 @@
 -- Accesses of paired places to paired memories keep a pairing, row by row of the place table.
-use Rattle.std.specs.Prelude.{◌≡◌, ℕ, Bool, true, false, cond, nat_eq, List, [], ◌∷◌, ◌++◌, length, Option, Some, None, refl}
+use Rattle.std.specs.Prelude.{◌≡◌, ℕ, Bool, true, false, cond, nat_eq, List, [], ◌∷◌, ◌++◌, length, Option, Some, None}
+use Rattle.std.specs.Prelude.{refl}
 use Rattle.std.specs.List.{AllZip}
 use Rattle.std.proofs.Common.{ap, subst, inl, inr}
 use Rattle.sched_program.specs.Program.{key_of}
@@ -22,14 +23,19 @@ use Rattle.ellen.specs.declared.place.Resume.{Resume}
 use Rattle.ellen.specs.declared.place.SearchLoc.{SearchLoc}
 use Rattle.ellen.specs.declared.place.SearchLoc.TheVariants.{Update, Child, IFlag, InsOnly, DFlag}
 use Rattle.ellen.specs.declared.place.HelpLoc.{HelpLoc}
-use Rattle.ellen.specs.declared.place.HelpLoc.TheVariants.{InsChild, InsClean, Mark, Right, Other, Splice, DelClean, Back}
+use Rattle.ellen.specs.declared.place.HelpLoc.TheVariants.{InsChild, InsClean, Mark, Right, Other, Splice, DelClean}
+use Rattle.ellen.specs.declared.place.HelpLoc.TheVariants.{Back}
 use Rattle.ellen.specs.declared.place.EllenLoc.{EllenLoc}
 use Rattle.ellen.specs.declared.place.EllenLoc.TheVariants.{Search, Help}
 use Rattle.ellen.specs.declared.machine.Ellen.{Ellen}
 use Rattle.ellen.specs.Memory.{is_word, is_clean, with_internal, new_internal}
-use Rattle.ellen.specs.Table.{After, with_base, settled, top_taken, unwound, returned, marking, help, help_first, flagging, decide, arrived, search_act, help_act, act}
-use Rattle.ellen.specs.Pairs.{AreBoth, AreWordsPaired, AreNodesPaired, AreAbovesPaired, AreSearchesPaired, AreHelpsPaired, AreResumesPaired, ellen_pairs}
-use Rattle.ellen.specs.Laws.PairedAccesses.{same_number, words_compared, key_paired, with_pairs, read_update_keeps, read_child_keeps, exchange_update_keeps, exchange_child_keeps, with_insert_keeps, with_delete_keeps}
+use Rattle.ellen.specs.Table.{After, with_base, settled, top_taken, unwound, returned, marking, help, help_first}
+use Rattle.ellen.specs.Table.{flagging, decide, arrived, search_act, help_act, act}
+use Rattle.ellen.specs.Pairs.{AreBoth, AreWordsPaired, AreNodesPaired, AreAbovesPaired, AreSearchesPaired}
+use Rattle.ellen.specs.Pairs.{AreHelpsPaired, AreResumesPaired, ellen_pairs}
+use Rattle.ellen.specs.Laws.PairedAccesses.{same_number, words_compared, key_paired, with_pairs, read_update_keeps}
+use Rattle.ellen.specs.Laws.PairedAccesses.{read_child_keeps, exchange_update_keeps, exchange_child_keeps}
+use Rattle.ellen.specs.Laws.PairedAccesses.{with_insert_keeps, with_delete_keeps}
 use Rattle.ellen.specs.Laws.PairedAppends.{words_weaker, append_record, append_internal, fresh_nodes}
 
 -- ---- where operations go, from paired places
@@ -44,7 +50,8 @@ module _ (p : Pairing) (root : IsAmong p.nodes 0 0) where
   abbrev Outcomes : Outcome EllenLoc → Outcome EllenLoc → Type 0
   Outcomes a b = AreOutcomesPaired (ellen_pairs.places p) a b
 
-  either : (b c : Bool) (s t u v : Outcome EllenLoc) → b ≡ c → Outcomes s u → Outcomes t v → Outcomes (cond b s t) (cond c u v)
+  either : (b c : Bool) (s t u v : Outcome EllenLoc) → b ≡ c → Outcomes s u → Outcomes t v
+      → Outcomes (cond b s t) (cond c u v)
   either true true s t u v e k l = k
   either false false s t u v e k l = l
   either true false s t u v e k l = cc
@@ -56,20 +63,25 @@ module _ (p : Pairing) (root : IsAmong p.nodes 0 0) where
   settled_paired true base.Delete = refl
   settled_paired false base.Delete = (tt, root)
 
-  tops_paired : (r s : ℕ) (y z : List ℕ) → R r s → AllZip R y z → AllZip R (top_taken r y).0 (top_taken s z).0 × R (top_taken r y).1 (top_taken s z).1
+  tops_paired : (r s : ℕ) (y z : List ℕ) → R r s → AllZip R y z → AllZip R (top_taken r y).0 (top_taken s z).0
+      × R (top_taken r y).1 (top_taken s z).1
   tops_paired r s [] [] h k = (tt, h)
   tops_paired r s [] (b ∷ z) h k = absurd k
   tops_paired r s (a ∷ y) [] h k = absurd k
   tops_paired r s (a ∷ y) (b ∷ z) h k = let t = tops_paired a b y z k.0 k.1 in ((h, t.0), t.1)
 
-  unwound_paired : (done : Bool) (b : Base) (y z : List ℕ) → AllZip R y z → Outcomes (unwound done b y) (unwound done b z)
+  unwound_paired : (done : Bool) (b : Base) (y z : List ℕ) → AllZip R y z
+      → Outcomes (unwound done b y) (unwound done b z)
   unwound_paired done b [] [] k = settled_paired done b
   unwound_paired done b [] (s ∷ z) k = absurd k
   unwound_paired done b (r ∷ y) [] k = absurd k
   unwound_paired done b (r ∷ y) (s ∷ z) k = let t = tops_paired r s y z k.0 k.1 in (t.1, (t.0, refl))
 
-  returned_paired : (done : Bool) (y z : Resume) → AreResumesPaired P R y z → Outcomes (returned done y) (returned done z)
-  returned_paired done y z k = subst (λ b. Outcomes (unwound done y.base y.stack) (unwound done b z.stack)) k.1 (unwound_paired done y.base y.stack z.stack k.0)
+  returned_paired : (done : Bool) (y z : Resume) → AreResumesPaired P R y z
+      → Outcomes (returned done y) (returned done z)
+  returned_paired done y z k =
+      subst (λ b. Outcomes (unwound done y.base y.stack) (unwound done b z.stack)) k.1
+      (unwound_paired done y.base y.stack z.stack k.0)
 
   stacks_paired : (r s : ℕ) (y z : List ℕ) → R r s → AllZip R y z → AllZip R (y ++ r ∷ []) (z ++ s ∷ [])
   stacks_paired r s [] [] h k = (h, tt)
@@ -78,9 +90,15 @@ module _ (p : Pairing) (root : IsAmong p.nodes 0 0) where
   stacks_paired r s (a ∷ y) (b ∷ z) h k = (k.0, stacks_paired r s y z h k.1)
 
   marking_paired : (machine : Ellen) (r s : ℕ) → R r s → AreHelpsPaired P R (marking machine r) (marking machine s)
-  marking_paired machine r s h = elim machine.mark as (λ b. AreHelpsPaired P R (cond b (Mark r) (Right r)) (cond b (Mark s) (Right s))) [ true ↦ h | false ↦ h ]
+  marking_paired machine r s h =
+      elim machine.mark as (λ b. AreHelpsPaired P R (cond b (Mark r) (Right r)) (cond b (Mark s) (Right s))) [
+        | true
+            ↦ h
+        | false ↦ h
+      ]
 
-  help_paired : (machine : Ellen) (u v : UpdateWord) (y z : Resume) → AreWordsPaired R u v → AreResumesPaired P R y z → Outcomes (help machine u y) (help machine v z)
+  help_paired : (machine : Ellen) (u v : UpdateWord) (y z : Resume) → AreWordsPaired R u v → AreResumesPaired P R y z
+      → Outcomes (help machine u y) (help machine v z)
   help_paired machine word.Untouched word.Untouched y z h k = returned_paired true y z k
   help_paired machine (word.Clean r) (word.Clean s) y z h k = returned_paired true y z k
   help_paired machine (word.InsertFlag r) (word.InsertFlag s) y z h k = (h, k)
@@ -88,7 +106,8 @@ module _ (p : Pairing) (root : IsAmong p.nodes 0 0) where
   help_paired machine (word.Mark r) (word.Mark s) y z h k = (h, k)
   help_paired machine _ _ y z h k = absurd h
 
-  help_first_paired : (machine : Ellen) (u v : UpdateWord) → AreWordsPaired R u v → Outcomes (help_first machine u) (help_first machine v)
+  help_first_paired : (machine : Ellen) (u v : UpdateWord) → AreWordsPaired R u v
+      → Outcomes (help_first machine u) (help_first machine v)
   help_first_paired machine u v h = help_paired machine u v (with_base base.Again) (with_base base.Again) h (tt, refl)
 
   clean_paired : (u v : UpdateWord) → AreWordsPaired R u v → is_clean u ≡ is_clean v
@@ -99,17 +118,26 @@ module _ (p : Pairing) (root : IsAmong p.nodes 0 0) where
   clean_paired (word.Mark r) (word.Mark s) h = refl
   clean_paired _ _ h = absurd h
 
-  flagging_paired : (machine : Ellen) (x y : ℕ) (u v : UpdateWord) (l n : ℕ) → P x y → AreWordsPaired R u v → P l n → AreSearchesPaired P R (flagging machine x u l) (flagging machine y v n)
+  flagging_paired : (machine : Ellen) (x y : ℕ) (u v : UpdateWord) (l n : ℕ) → P x y → AreWordsPaired R u v → P l n
+      → AreSearchesPaired P R (flagging machine x u l) (flagging machine y v n)
   flagging_paired machine x y u v l n h w k =
-      elim machine.iflag as (λ b. AreSearchesPaired P R (cond b (IFlag x u l) (InsOnly x l)) (cond b (IFlag y v n) (InsOnly y n))) [ true ↦ (h, w, k) | false ↦ (h, k) ]
+      elim machine.iflag as
+      (λ b. AreSearchesPaired P R (cond b (IFlag x u l) (InsOnly x l)) (cond b (IFlag y v n) (InsOnly y n))) [
+        | true
+            ↦ (h, w, k)
+        | false ↦ (h, k)
+      ]
 
-  decide_paired : (machine : Ellen) (op : Op) (a b : Option Above) (x y : ℕ) (u v : UpdateWord) (l n j i : ℕ) → AreBoth (AreAbovesPaired P R) a b → P x y → AreWordsPaired R u v → P l n → j ≡ i →
+  decide_paired : (machine : Ellen) (op : Op) (a b : Option Above) (x y : ℕ) (u v : UpdateWord) (l n j i : ℕ)
+      → AreBoth (AreAbovesPaired P R) a b → P x y → AreWordsPaired R u v → P l n → j ≡ i →
       Outcomes (decide machine op a x u l j) (decide machine op b y v n i)
   decide_paired machine (Find k) a b x y u v l n j i ha h w hl e = ap (λ z. nat_eq z k) e
   decide_paired machine (Insert k) a b x y u v l n j i ha h w hl e =
       either (nat_eq j k) (nat_eq i k) _ _ _ _ (ap (λ z. nat_eq z k) e) refl
-      (either (is_clean u) (is_clean v) _ _ _ _ (clean_paired u v w) (flagging_paired machine x y u v l n h w hl) (help_first_paired machine u v w))
-  decide_paired machine (Delete k) None None x y u v l n j i ha h w hl e = either (nat_eq j k) (nat_eq i k) _ _ _ _ (ap (λ z. nat_eq z k) e) tt refl
+      (either (is_clean u) (is_clean v) _ _ _ _ (clean_paired u v w) (flagging_paired machine x y u v l n h w hl)
+      (help_first_paired machine u v w))
+  decide_paired machine (Delete k) None None x y u v l n j i ha h w hl e =
+      either (nat_eq j k) (nat_eq i k) _ _ _ _ (ap (λ z. nat_eq z k) e) tt refl
   decide_paired machine (Delete k) (Some a) (Some b) x y u v l n j i ha h w hl e =
       either (nat_eq j k) (nat_eq i k) _ _ _ _ (ap (λ z. nat_eq z k) e)
       (either (is_clean a.update) (is_clean b.update) _ _ _ _ (clean_paired a.update b.update ha.1)
@@ -119,9 +147,11 @@ module _ (p : Pairing) (root : IsAmong p.nodes 0 0) where
   decide_paired machine (Delete k) None (Some b) x y u v l n j i ha h w hl e = absurd ha
   decide_paired machine (Delete k) (Some a) None x y u v l n j i ha h w hl e = absurd ha
 
-  arrived_paired : (machine : Ellen) (op : Op) (a b : Option Above) (x y : ℕ) (u v : UpdateWord) (l n : ℕ) (c d : Node) → AreBoth (AreAbovesPaired P R) a b → P x y → AreWordsPaired R u v → P l n → AreNodesPaired P R c d →
+  arrived_paired : (machine : Ellen) (op : Op) (a b : Option Above) (x y : ℕ) (u v : UpdateWord) (l n : ℕ) (c d : Node)
+      → AreBoth (AreAbovesPaired P R) a b → P x y → AreWordsPaired R u v → P l n → AreNodesPaired P R c d →
       Outcomes (arrived machine op a x u l c) (arrived machine op b y v n d)
-  arrived_paired machine op a b x y u v l n (Leaf j) (Leaf i) ha h w hl k = decide_paired machine op a b x y u v l n j i ha h w hl k
+  arrived_paired machine op a b x y u v l n (Leaf j) (Leaf i) ha h w hl k =
+      decide_paired machine op a b x y u v l n j i ha h w hl k
   arrived_paired machine op a b x y u v l n (Internal j s c d) (Internal i t e f) ha h w hl k = ((h, w), hl)
   arrived_paired machine op a b x y u v l n _ _ ha h w hl k = absurd k
 
@@ -140,40 +170,59 @@ module _ (machine : Ellen) (op : Op) (p : Pairing) (m o : EllenMem) (h : ellen_p
   abbrev Steps : After → After → Type 0
   Steps left right = AreStepsPaired ellen_pairs p left right
 
-  update_keeps : (a b : Option Above) (x y : ℕ) → AreSearchesPaired Nodes Records (Update a x) (Update b y) → Steps (search_act machine op (Update a x) m) (search_act machine op (Update b y) o)
+  update_keeps : (a b : Option Above) (x y : ℕ) → AreSearchesPaired Nodes Records (Update a x) (Update b y)
+      → Steps (search_act machine op (Update a x) m) (search_act machine op (Update b y) o)
   update_keeps a b x y g = read_update_keeps p m o h x y _ _ g.1 (λ u v w. (g.0, g.1, w))
 
-  child_keeps : (a b : Option Above) (x y : ℕ) (u v : UpdateWord) → AreSearchesPaired Nodes Records (Child a x u) (Child b y v) → Steps (search_act machine op (Child a x u) m) (search_act machine op (Child b y v) o)
+  child_keeps : (a b : Option Above) (x y : ℕ) (u v : UpdateWord)
+      → AreSearchesPaired Nodes Records (Child a x u) (Child b y v)
+      → Steps (search_act machine op (Child a x u) m) (search_act machine op (Child b y v) o)
   child_keeps a b x y u v g =
-      read_child_keeps p m o h x y _ _ _ _ g.1 (ap (side_of (key_of op)) (key_paired Nodes Records _ _ (h.nodes x y g.1)))
+      read_child_keeps p m o h x y _ _ _ _ g.1
+      (ap (side_of (key_of op)) (key_paired Nodes Records _ _ (h.nodes x y g.1)))
       (λ c d w. arrived_paired p h.root machine op a b x y u v c d _ _ g.0 g.1 g.2 w (h.nodes c d w))
 
   -- the exchange of an insert's flag: three nodes and a record are new
-  insert_flag_keeps : (x y : ℕ) (u v : UpdateWord) (l n : ℕ) → AreSearchesPaired Nodes Records (IFlag x u l) (IFlag y v n) → Steps (search_act machine op (IFlag x u l) m) (search_act machine op (IFlag y v n) o)
+  insert_flag_keeps : (x y : ℕ) (u v : UpdateWord) (l n : ℕ)
+      → AreSearchesPaired Nodes Records (IFlag x u l) (IFlag y v n)
+      → Steps (search_act machine op (IFlag x u l) m) (search_act machine op (IFlag y v n) o)
   insert_flag_keeps x y u v l n g =
       exchange_update_keeps p m o h (fresh_nodes m o) fresh_record _ _
-      (append_record (fresh_nodes m o ++ p.nodes) p.records (with_internal m (key_of op) l) (with_internal o (key_of op) n)
-      (Ins (record { parent = x; leaf = l; new = new_internal m })) (Ins (record { parent = y; leaf = n; new = new_internal o }))
+      (append_record (fresh_nodes m o ++ p.nodes) p.records (with_internal m (key_of op) l)
+      (with_internal o (key_of op) n)
+      (Ins (record { parent = x; leaf = l; new = new_internal m }))
+      (Ins (record { parent = y; leaf = n; new = new_internal o }))
       (append_internal p m o (key_of op) l n h g.2) (inr (inr (inr g.0)), inr (inr (inr g.2)), inl (refl, refl)))
-      x y u v _ _ _ _ _ _ g.0 g.1 (inl (refl, refl)) (inl (refl, refl), (tt, refl)) (λ w z k. help_first_paired p h.root machine w z k)
+      x y u v _ _ _ _ _ _ g.0 g.1 (inl (refl, refl)) (inl (refl, refl), (tt, refl))
+      (λ w z k. help_first_paired p h.root machine w z k)
 
-  insert_only_keeps : (x y l n : ℕ) → AreSearchesPaired Nodes Records (InsOnly x l) (InsOnly y n) → Steps (search_act machine op (InsOnly x l) m) (search_act machine op (InsOnly y n) o)
+  insert_only_keeps : (x y l n : ℕ) → AreSearchesPaired Nodes Records (InsOnly x l) (InsOnly y n)
+      → Steps (search_act machine op (InsOnly x l) m) (search_act machine op (InsOnly y n) o)
   insert_only_keeps x y l n g =
       exchange_child_keeps p m o h (fresh_nodes m o) [] _ _ (append_internal p m o (key_of op) l n h g.1)
       x y l n (new_internal m) (new_internal o) _ _ _ _ g.0 g.1 (inl (refl, refl)) refl (tt, h.root)
 
   -- the exchange of a delete's flag: a record is new, which the grandparent's update word names
-  delete_flag_keeps : (a b : Above) (x y : ℕ) (u v : UpdateWord) (l n : ℕ) → AreSearchesPaired Nodes Records (DFlag a x u l) (DFlag b y v n) →
+  delete_flag_keeps : (a b : Above) (x y : ℕ) (u v : UpdateWord) (l n : ℕ)
+      → AreSearchesPaired Nodes Records (DFlag a x u l) (DFlag b y v n) →
       Steps (search_act machine op (DFlag a x u l) m) (search_act machine op (DFlag b y v n) o)
   delete_flag_keeps a b x y u v l n g =
-      let more = words_weaker Nodes Nodes Records (IsAmong (fresh_record ++ p.records)) (λ x y k. k) (λ x y k. inr k) u v g.2 in
+      let more =
+      words_weaker Nodes Nodes Records (IsAmong (fresh_record ++ p.records)) (λ x y k. k) (λ x y k. inr k) u v
+      g.2 in
       exchange_update_keeps p m o h [] fresh_record _ _
-      (append_record p.nodes p.records m o (Del (record { grandparent = a.node; parent = x; leaf = l; parent_update = u })) (Del (record { grandparent = b.node; parent = y; leaf = n; parent_update = v })) h (g.0.0, g.1, g.3, more))
-      a.node b.node a.update b.update _ _ _ _ _ _ g.0.0 g.0.1 (inl (refl, refl))
-      (marking_paired (with_pairs [] fresh_record p) h.root machine (length m.records) (length o.records) (inl (refl, refl)), (tt, refl))
+      (append_record p.nodes p.records m o
+      (Del (record { grandparent = a.node; parent = x; leaf = l; parent_update = u }))
+      (Del (record { grandparent = b.node; parent = y; leaf = n; parent_update = v })) h (g.0.0, g.1, g.3, more))
+      a.node b.node a.update b.update _ _ _ _ _ _ g.0.0 g.0.1 (inl (refl, refl)) (
+        marking_paired (with_pairs [] fresh_record p) h.root machine (length m.records) (length o.records)
+            (inl (refl, refl)),
+        (tt, refl),
+      )
       (λ w z k. help_first_paired p h.root machine w z k)
 
-  search_keeps : (at twin : SearchLoc) → AreSearchesPaired Nodes Records at twin → Steps (search_act machine op at m) (search_act machine op twin o)
+  search_keeps : (at twin : SearchLoc) → AreSearchesPaired Nodes Records at twin
+      → Steps (search_act machine op at m) (search_act machine op twin o)
   search_keeps (Update a x) (Update b y) g = update_keeps a b x y g
   search_keeps (Child a x u) (Child b y v) g = child_keeps a b x y u v g
   search_keeps (IFlag x u l) (IFlag y v n) g = insert_flag_keeps x y u v l n g
@@ -182,50 +231,72 @@ module _ (machine : Ellen) (op : Op) (p : Pairing) (m o : EllenMem) (h : ellen_p
   search_keeps _ _ g = absurd g
 
   module _ (y z : Resume) (rest : AreResumesPaired Nodes Records y z) where
-    insert_child_keeps : (r s : ℕ) → Records r s → Steps (help_act machine (InsChild r) y m) (help_act machine (InsChild s) z o)
+    insert_child_keeps : (r s : ℕ) → Records r s
+        → Steps (help_act machine (InsChild r) y m) (help_act machine (InsChild s) z o)
     insert_child_keeps r s g =
-        with_insert_keeps p m o h _ _ _ _ (h.records r s g) (λ i j k. exchange_child_keeps p m o h [] [] m o h i.parent j.parent i.leaf j.leaf i.new j.new _ _ _ _ k.0 k.1 k.2 (g, rest) (g, rest))
+        with_insert_keeps p m o h _ _ _ _ (h.records r s g)
+        (λ i j k. exchange_child_keeps p m o h [] [] m o h i.parent j.parent i.leaf j.leaf i.new j.new _ _ _ _ k.0
+        k.1 k.2 (g, rest) (g, rest))
 
-    insert_clean_keeps : (r s : ℕ) → Records r s → Steps (help_act machine (InsClean r) y m) (help_act machine (InsClean s) z o)
+    insert_clean_keeps : (r s : ℕ) → Records r s
+        → Steps (help_act machine (InsClean r) y m) (help_act machine (InsClean s) z o)
     insert_clean_keeps r s g =
-        with_insert_keeps p m o h _ _ _ _ (h.records r s g) (λ i j k. exchange_update_keeps p m o h [] [] m o h i.parent j.parent _ _ _ _ _ _ _ _ k.0 g g (returned_paired p h.root true y z rest) (λ u v w. returned_paired p h.root true y z rest))
+        with_insert_keeps p m o h _ _ _ _ (h.records r s g)
+        (λ i j k. exchange_update_keeps p m o h [] [] m o h i.parent j.parent _ _ _ _ _ _ _ _ k.0 g g
+        (returned_paired p h.root true y z rest) (λ u v w. returned_paired p h.root true y z rest))
 
     mark_keeps : (r s : ℕ) → Records r s → Steps (help_act machine (Mark r) y m) (help_act machine (Mark s) z o)
     mark_keeps r s g =
-        with_delete_keeps p m o h _ _ _ _ (h.records r s g) (λ i j k. exchange_update_keeps p m o h [] [] m o h i.parent j.parent _ _ _ _ _ _ _ _ k.1 k.3 g (g, rest)
-        (λ u v w. either p h.root (is_word u (word.Mark r)) (is_word v (word.Mark s)) _ _ _ _ (words_compared Records h.records_one_to_one u v (word.Mark r) (word.Mark s) w g) (g, rest)
+        with_delete_keeps p m o h _ _ _ _ (h.records r s g)
+        (λ i j k. exchange_update_keeps p m o h [] [] m o h i.parent j.parent _ _ _ _ _ _ _ _ k.1 k.3 g (g, rest)
+        (λ u v w. either p h.root (is_word u (word.Mark r)) (is_word v (word.Mark s)) _ _ _ _
+        (words_compared Records h.records_one_to_one u v (word.Mark r) (word.Mark s) w g) (g, rest)
         (help_paired p h.root machine u v _ _ w (stacks_paired p h.root r s y.stack z.stack g rest.0, rest.1))))
 
     right_keeps : (r s : ℕ) → Records r s → Steps (help_act machine (Right r) y m) (help_act machine (Right s) z o)
     right_keeps r s g =
-        with_delete_keeps p m o h _ _ _ _ (h.records r s g) (λ i j k. read_child_keeps p m o h i.parent j.parent side.Right side.Right _ _ k.1 refl
-        (λ c d w. either p h.root (nat_eq c i.leaf) (nat_eq d j.leaf) _ _ _ _ (same_number Nodes h.nodes_one_to_one c d i.leaf j.leaf w k.2) ((g, refl), rest) ((g, refl), rest)))
+        with_delete_keeps p m o h _ _ _ _ (h.records r s g)
+        (λ i j k. read_child_keeps p m o h i.parent j.parent side.Right side.Right _ _ k.1 refl
+        (λ c d w. either p h.root (nat_eq c i.leaf) (nat_eq d j.leaf) _ _ _ _
+        (same_number Nodes h.nodes_one_to_one c d i.leaf j.leaf w k.2) ((g, refl), rest) ((g, refl), rest)))
 
-    splice_keeps : (r s x t : ℕ) → Records r s → Nodes x t → Steps (help_act machine (Splice r x) y m) (help_act machine (Splice s t) z o)
+    splice_keeps : (r s x t : ℕ) → Records r s → Nodes x t
+        → Steps (help_act machine (Splice r x) y m) (help_act machine (Splice s t) z o)
     splice_keeps r s x t g n =
-        with_delete_keeps p m o h _ _ _ _ (h.records r s g) (λ i j k. exchange_child_keeps p m o h [] [] m o h i.grandparent j.grandparent i.parent j.parent x t _ _ _ _ k.0 k.1 n (g, rest) (g, rest))
+        with_delete_keeps p m o h _ _ _ _ (h.records r s g)
+        (λ i j k. exchange_child_keeps p m o h [] [] m o h i.grandparent j.grandparent i.parent j.parent x t _ _ _ _
+        k.0 k.1 n (g, rest) (g, rest))
 
-    delete_clean_keeps : (r s : ℕ) → Records r s → Steps (help_act machine (DelClean r) y m) (help_act machine (DelClean s) z o)
+    delete_clean_keeps : (r s : ℕ) → Records r s
+        → Steps (help_act machine (DelClean r) y m) (help_act machine (DelClean s) z o)
     delete_clean_keeps r s g =
-        with_delete_keeps p m o h _ _ _ _ (h.records r s g) (λ i j k. exchange_update_keeps p m o h [] [] m o h i.grandparent j.grandparent _ _ _ _ _ _ _ _ k.0 g g (returned_paired p h.root true y z rest) (λ u v w. returned_paired p h.root true y z rest))
+        with_delete_keeps p m o h _ _ _ _ (h.records r s g)
+        (λ i j k. exchange_update_keeps p m o h [] [] m o h i.grandparent j.grandparent _ _ _ _ _ _ _ _ k.0 g g
+        (returned_paired p h.root true y z rest) (λ u v w. returned_paired p h.root true y z rest))
 
     back_keeps : (r s : ℕ) → Records r s → Steps (help_act machine (Back r) y m) (help_act machine (Back s) z o)
     back_keeps r s g =
-        with_delete_keeps p m o h _ _ _ _ (h.records r s g) (λ i j k. exchange_update_keeps p m o h [] [] m o h i.grandparent j.grandparent _ _ _ _ _ _ _ _ k.0 g g (returned_paired p h.root false y z rest) (λ u v w. returned_paired p h.root false y z rest))
+        with_delete_keeps p m o h _ _ _ _ (h.records r s g)
+        (λ i j k. exchange_update_keeps p m o h [] [] m o h i.grandparent j.grandparent _ _ _ _ _ _ _ _ k.0 g g
+        (returned_paired p h.root false y z rest) (λ u v w. returned_paired p h.root false y z rest))
 
-    help_keeps : (at twin : HelpLoc) → AreHelpsPaired Nodes Records at twin → Steps (help_act machine at y m) (help_act machine twin z o)
+    help_keeps : (at twin : HelpLoc) → AreHelpsPaired Nodes Records at twin
+        → Steps (help_act machine at y m) (help_act machine twin z o)
     help_keeps (InsChild r) (InsChild s) g = insert_child_keeps r s g
     help_keeps (InsClean r) (InsClean s) g = insert_clean_keeps r s g
     help_keeps (Mark r) (Mark s) g = mark_keeps r s g
     help_keeps (Right r) (Right s) g = right_keeps r s g
-    help_keeps (Other r c) (Other s d) g = with_delete_keeps p m o h _ _ _ _ (h.records r s g.0) (λ i j k. read_child_keeps p m o h i.parent j.parent c d _ _ k.1 g.1 (λ a b w. ((g.0, w), rest)))
+    help_keeps (Other r c) (Other s d) g =
+        with_delete_keeps p m o h _ _ _ _ (h.records r s g.0)
+        (λ i j k. read_child_keeps p m o h i.parent j.parent c d _ _ k.1 g.1 (λ a b w. ((g.0, w), rest)))
     help_keeps (Splice r x) (Splice s t) g = splice_keeps r s x t g.0 g.1
     help_keeps (DelClean r) (DelClean s) g = delete_clean_keeps r s g
     help_keeps (Back r) (Back s) g = back_keeps r s g
     help_keeps _ _ g = absurd g
 
   -- accesses of paired places keep a pairing
-  pub act_keeps : (place twin : EllenLoc) → ellen_pairs.places p place twin → Steps (act machine op place m) (act machine op twin o)
+  pub act_keeps : (place twin : EllenLoc) → ellen_pairs.places p place twin
+      → Steps (act machine op place m) (act machine op twin o)
   act_keeps (Search at) (Search twin) g = search_keeps at twin g
   act_keeps (Help at y) (Help twin z) g = help_keeps y z g.1 at twin g.0
   act_keeps _ _ g = absurd g

@@ -1,5 +1,5 @@
--- What the pairings of the machine owe: operations begin at paired places, more pairs pair the places that fewer do, of paired
--- memories both keep search order or neither does, and accesses of paired places keep a pairing.
+-- What the pairings of the machine owe: operations begin at paired places, more pairs pair the places that fewer do, of
+-- paired memories both keep search order or neither does, and accesses of paired places keep a pairing.
 use Rattle.std.specs.Prelude.{◌≡◌, ◌↔◌, ℕ, zero, suc, ◌<◌, List, [], ◌∷◌, length, slice_get, Some, unwrap_or, refl}
 use Rattle.std.specs.Option.{option_map}
 use Rattle.std.proofs.Common.{arith, sym, subst}
@@ -18,7 +18,8 @@ use Rattle.ellen.specs.Laws.PairedSteps.{act_keeps}
 
 -- ---- search order
 
-pub node_there : (nodes : List Node) (x : ℕ) → x < length nodes → slice_get nodes x ≡ Some (unwrap_or (slice_get nodes x) (Leaf 0))
+pub node_there : (nodes : List Node) (x : ℕ) → x < length nodes
+    → slice_get nodes x ≡ Some (unwrap_or (slice_get nodes x) (Leaf 0))
 node_there [] x below = absurd (omega arith)
 node_there (node ∷ nodes) zero below = refl
 node_there (node ∷ nodes) (suc x) below = node_there nodes x (omega arith)
@@ -33,18 +34,24 @@ module _ (P R : ℕ → ℕ → Type 0) where
     seen : (x y : ℕ) → P x y → AreShapesPaired P (shapes memory x) (shapes other y)
     seen x y p =
         let below = h.nodes_in_range x y p in
-        subst (λ node. AreShapesPaired P (option_map shape_in node) (shapes other y)) (sym (node_there memory.nodes x below.0))
-        (subst (λ node. AreShapesPaired P (Some (shape_in (node_at memory x))) (option_map shape_in node)) (sym (node_there other.nodes y below.1)) (shapes_paired (node_at memory x) (node_at other y) (h.nodes x y p)))
+        subst (λ node. AreShapesPaired P (option_map shape_in node) (shapes other y))
+        (sym (node_there memory.nodes x below.0))
+        (subst (λ node. AreShapesPaired P (Some (shape_in (node_at memory x))) (option_map shape_in node))
+        (sym (node_there other.nodes y below.1))
+        (shapes_paired (node_at memory x) (node_at other y) (h.nodes x y p)))
 
     ordered_paired : KeepsSearchOrder (shapes memory) ↔ KeepsSearchOrder (shapes other)
     ordered_paired = search_order_paired P (shapes memory) (shapes other) seen h.root
 
 -- ---- the laws
 
-pub ellen_pairs_lawful : (machine : Ellen) → ArePairsLawful ellen_pairs (λ _. first_place) (act machine) (λ memory. KeepsSearchOrder (shapes memory))
+pub ellen_pairs_lawful : (machine : Ellen)
+    → ArePairsLawful ellen_pairs (λ _. first_place) (act machine) (λ memory. KeepsSearchOrder (shapes memory))
 ellen_pairs_lawful machine = record {
   first_paired = λ op p memory twin h. (tt, h.root);
-  places_extend = λ p q place twin more h. places_weaker (IsAmong p.nodes) (IsAmong q.nodes) (IsAmong p.records) (IsAmong q.records) more.nodes more.records place twin h;
+  places_extend =
+      λ p q place twin more h. places_weaker (IsAmong p.nodes) (IsAmong q.nodes) (IsAmong p.records)
+      (IsAmong q.records) more.nodes more.records place twin h;
   ordered_paired = λ p memory twin h. ordered_paired (IsAmong p.nodes) (IsAmong p.records) memory twin h;
   act_paired = λ op p place twin memory other h g. act_keeps machine op p memory other h place twin g;
 }

@@ -1,5 +1,6 @@
 -- Parts are paired exactly where what they are of is paired.
-use Rattle.std.specs.Prelude.{◌≡◌, ◌↔◌, ℕ, zero, suc, ◌<◌, List, [], ◌∷◌, map, length, slice_get, Option, Some, None, unwrap_or, refl}
+use Rattle.std.specs.Prelude.{◌≡◌, ◌↔◌, ℕ, zero, suc, ◌<◌, List, [], ◌∷◌, map, length, slice_get, Option, Some, None}
+use Rattle.std.specs.Prelude.{unwrap_or, refl}
 use Rattle.std.specs.List.{AllZip}
 use Rattle.std.proofs.Common.{arith, ap, sym, subst, ◌∙◌}
 use Rattle.std.proofs.lemmas.List.{length-map}
@@ -21,12 +22,16 @@ use Rattle.ellen.specs.declared.place.Base.TheVariants.{Again, Insert, Delete}
 use Rattle.ellen.specs.declared.place.SearchLoc.{SearchLoc}
 use Rattle.ellen.specs.declared.place.SearchLoc.TheVariants.{Update, Child, IFlag, InsOnly, DFlag}
 use Rattle.ellen.specs.declared.place.HelpLoc.{HelpLoc}
-use Rattle.ellen.specs.declared.place.HelpLoc.TheVariants.{InsChild, InsClean, Mark, Right, Other, Splice, DelClean, Back}
+use Rattle.ellen.specs.declared.place.HelpLoc.TheVariants.{InsChild, InsClean, Mark, Right, Other, Splice, DelClean}
+use Rattle.ellen.specs.declared.place.HelpLoc.TheVariants.{Back}
 use Rattle.ellen.specs.declared.place.EllenLoc.{EllenLoc}
 use Rattle.ellen.specs.declared.place.EllenLoc.TheVariants.{Search, Help}
 use Rattle.ellen.specs.Memory.{node_at, record_at}
-use Rattle.ellen.specs.Pairs.{AreBoth, AreWordsPaired, AreNodesPaired, AreRecordsPaired, AreAbovesPaired, AreSearchesPaired, AreHelpsPaired, ArePlacesPaired, AreMemoriesPaired, ellen_pairs}
-use Rattle.ellen.specs.Parts.{word_number, word_record, node_part, record_part, above_number, above_node, above_record, search_part, help_number, side_number, help_side, help_record, help_node, base_number, place_part, held_part, ellen_parts}
+use Rattle.ellen.specs.Pairs.{AreBoth, AreWordsPaired, AreNodesPaired, AreRecordsPaired, AreAbovesPaired}
+use Rattle.ellen.specs.Pairs.{AreSearchesPaired, AreHelpsPaired, ArePlacesPaired, AreMemoriesPaired, ellen_pairs}
+use Rattle.ellen.specs.Parts.{word_number, word_record, node_part, record_part, above_number, above_node, above_record}
+use Rattle.ellen.specs.Parts.{search_part, help_number, side_number, help_side, help_record, help_node, base_number}
+use Rattle.ellen.specs.Parts.{place_part, held_part, ellen_parts}
 
 module _ (P R : ℕ → ℕ → Type 0) where
   abbrev Parted : Part → Part → Type 0
@@ -34,7 +39,8 @@ module _ (P R : ℕ → ℕ → Type 0) where
 
   -- ---- update words
 
-  word_to : (u v : UpdateWord) → AreWordsPaired R u v → (word_number u ≡ word_number v) × IsPairedOrNone R (word_record u) (word_record v)
+  word_to : (u v : UpdateWord) → AreWordsPaired R u v → (word_number u ≡ word_number v)
+      × IsPairedOrNone R (word_record u) (word_record v)
   word_to word.Untouched word.Untouched h = (refl, tt)
   word_to (word.Clean r) (word.Clean s) h = (refl, h)
   word_to (word.InsertFlag r) (word.InsertFlag s) h = (refl, h)
@@ -42,7 +48,8 @@ module _ (P R : ℕ → ℕ → Type 0) where
   word_to (word.Mark r) (word.Mark s) h = (refl, h)
   word_to _ _ h = absurd h
 
-  word_from : (u v : UpdateWord) → word_number u ≡ word_number v → IsPairedOrNone R (word_record u) (word_record v) → AreWordsPaired R u v
+  word_from : (u v : UpdateWord) → word_number u ≡ word_number v → IsPairedOrNone R (word_record u) (word_record v)
+      → AreWordsPaired R u v
   word_from word.Untouched word.Untouched e h = tt
   word_from (word.Clean r) (word.Clean s) e h = h
   word_from (word.InsertFlag r) (word.InsertFlag s) e h = h
@@ -54,43 +61,51 @@ module _ (P R : ℕ → ℕ → Type 0) where
 
   node_to : (a b : Node) → AreNodesPaired P R a b → Parted (node_part a) (node_part b)
   node_to (Leaf k) (Leaf j) h = record { facts = ap (λ x. 0 ∷ x ∷ []) h; nodes = tt; records = tt }
-  node_to (Internal k u l r) (Internal j v m s) h = let key = h.0 in let w = word_to u v h.1 in let kind = w.0 in record { facts = cc; nodes = (h.2, (h.3, tt)); records = (w.1, tt) }
+  node_to (Internal k u l r) (Internal j v m s) h = let key = h.0 in let w = word_to u v h.1 in
+      let kind = w.0 in record { facts = cc; nodes = (h.2, (h.3, tt)); records = (w.1, tt) }
   node_to _ _ h = absurd h
 
   node_from : (a b : Node) → Parted (node_part a) (node_part b) → AreNodesPaired P R a b
   node_from (Leaf k) (Leaf j) h = let f = h.facts in cc
-  node_from (Internal k u l r) (Internal j v m s) h = let f = h.facts in ((let e : k ≡ j = cc in e), word_from u v (cc) h.records.0, h.nodes.0, h.nodes.1.0)
+  node_from (Internal k u l r) (Internal j v m s) h =
+      let f = h.facts in ((let e : k ≡ j = cc in e), word_from u v (cc) h.records.0, h.nodes.0, h.nodes.1.0)
   node_from _ _ h = let f = h.facts in cc
 
   record_to : (a b : Record) → AreRecordsPaired P R a b → Parted (record_part a) (record_part b)
   record_to (Ins i) (Ins j) h = record { facts = refl; nodes = (h.0, (h.1, (h.2, tt))); records = tt }
-  record_to (Del d) (Del e) h = let w = word_to d.parent_update e.parent_update h.3 in record { facts = ap (λ x. 1 ∷ x ∷ []) w.0; nodes = (h.0, (h.1, (h.2, tt))); records = (w.1, tt) }
+  record_to (Del d) (Del e) h = let w = word_to d.parent_update e.parent_update h.3 in
+      record { facts = ap (λ x. 1 ∷ x ∷ []) w.0; nodes = (h.0, (h.1, (h.2, tt))); records = (w.1, tt) }
   record_to _ _ h = absurd h
 
   record_from : (a b : Record) → Parted (record_part a) (record_part b) → AreRecordsPaired P R a b
   record_from (Ins i) (Ins j) h = (h.nodes.0, h.nodes.1.0, h.nodes.1.1.0)
-  record_from (Del d) (Del e) h = let f = h.facts in (h.nodes.0, h.nodes.1.0, h.nodes.1.1.0, word_from d.parent_update e.parent_update (cc) h.records.0)
+  record_from (Del d) (Del e) h = let f = h.facts in
+      (h.nodes.0, h.nodes.1.0, h.nodes.1.1.0, word_from d.parent_update e.parent_update (cc) h.records.0)
   record_from _ _ h = let f = h.facts in cc
 
   -- ---- places of a search
 
-  above_to : (a b : Option Above) → AreBoth (AreAbovesPaired P R) a b → (above_number a ≡ above_number b) × IsPairedOrNone P (above_node a) (above_node b) × IsPairedOrNone R (above_record a) (above_record b)
+  above_to : (a b : Option Above) → AreBoth (AreAbovesPaired P R) a b → (above_number a ≡ above_number b)
+      × IsPairedOrNone P (above_node a) (above_node b) × IsPairedOrNone R (above_record a) (above_record b)
   above_to None None h = (refl, tt, tt)
   above_to (Some a) (Some b) h = let w = word_to a.update b.update h.1 in (ap suc w.0, h.0, w.1)
   above_to _ _ h = absurd h
 
-  above_from : (a b : Option Above) → above_number a ≡ above_number b → IsPairedOrNone P (above_node a) (above_node b) → IsPairedOrNone R (above_record a) (above_record b) → AreBoth (AreAbovesPaired P R) a b
+  above_from : (a b : Option Above) → above_number a ≡ above_number b → IsPairedOrNone P (above_node a) (above_node b)
+      → IsPairedOrNone R (above_record a) (above_record b) → AreBoth (AreAbovesPaired P R) a b
   above_from None None e n r = tt
   above_from (Some a) (Some b) e n r = (n, word_from a.update b.update (omega arith) r)
   above_from None (Some b) e n r = absurd n
   above_from (Some a) None e n r = absurd n
 
   search_to : (a b : SearchLoc) → AreSearchesPaired P R a b → Parted (search_part a) (search_part b)
-  search_to (Update a p) (Update b q) h = let t = above_to a b h.0 in record { facts = ap (λ x. 0 ∷ x ∷ []) t.0; nodes = (t.1, (h.1, tt)); records = (t.2, tt) }
+  search_to (Update a p) (Update b q) h = let t = above_to a b h.0 in
+      record { facts = ap (λ x. 0 ∷ x ∷ []) t.0; nodes = (t.1, (h.1, tt)); records = (t.2, tt) }
   search_to (Child a p u) (Child b q v) h =
       let t = above_to a b h.0 in let w = word_to u v h.2 in let e = t.0 in let f = w.0 in
       record { facts = cc; nodes = (t.1, (h.1, tt)); records = (t.2, (w.1, tt)) }
-  search_to (IFlag p u l) (IFlag q v m) h = let w = word_to u v h.1 in record { facts = ap (λ x. 2 ∷ x ∷ []) w.0; nodes = (h.0, (h.2, tt)); records = (w.1, tt) }
+  search_to (IFlag p u l) (IFlag q v m) h = let w = word_to u v h.1 in
+      record { facts = ap (λ x. 2 ∷ x ∷ []) w.0; nodes = (h.0, (h.2, tt)); records = (w.1, tt) }
   search_to (InsOnly p l) (InsOnly q m) h = record { facts = refl; nodes = (h.0, (h.1, tt)); records = tt }
   search_to (DFlag a p u l) (DFlag b q v m) h =
       let t = word_to a.update b.update h.0.1 in let w = word_to u v h.2 in let e = t.0 in let f = w.0 in
@@ -99,16 +114,24 @@ module _ (P R : ℕ → ℕ → Type 0) where
 
   search_from : (a b : SearchLoc) → Parted (search_part a) (search_part b) → AreSearchesPaired P R a b
   search_from (Update a p) (Update b q) h = let f = h.facts in (above_from a b (cc) h.nodes.0 h.records.0, h.nodes.1.0)
-  search_from (Child a p u) (Child b q v) h = let f = h.facts in (above_from a b (cc) h.nodes.0 h.records.0, h.nodes.1.0, word_from u v (cc) h.records.1.0)
-  search_from (IFlag p u l) (IFlag q v m) h = let f = h.facts in (h.nodes.0, word_from u v (cc) h.records.0, h.nodes.1.0)
+  search_from (Child a p u) (Child b q v) h =
+      let f = h.facts in (above_from a b (cc) h.nodes.0 h.records.0, h.nodes.1.0, word_from u v (cc) h.records.1.0)
+  search_from (IFlag p u l) (IFlag q v m) h =
+      let f = h.facts in (h.nodes.0, word_from u v (cc) h.records.0, h.nodes.1.0)
   search_from (InsOnly p l) (InsOnly q m) h = (h.nodes.0, h.nodes.1.0)
   search_from (DFlag a p u l) (DFlag b q v m) h =
-      let f = h.facts in ((h.nodes.0, word_from a.update b.update (cc) h.records.0), h.nodes.1.0, word_from u v (cc) h.records.1.0, h.nodes.1.1.0)
+      let f = h.facts in (
+        (h.nodes.0, word_from a.update b.update (cc) h.records.0),
+        h.nodes.1.0,
+        word_from u v (cc) h.records.1.0,
+        h.nodes.1.1.0,
+      )
   search_from _ _ h = let f = h.facts in cc
 
   -- ---- places of a help
 
-  help_to : (a b : HelpLoc) → AreHelpsPaired P R a b → (help_number a ≡ help_number b) × (help_side a ≡ help_side b) × IsPairedOrNone P (help_node a) (help_node b) × R (help_record a) (help_record b)
+  help_to : (a b : HelpLoc) → AreHelpsPaired P R a b → (help_number a ≡ help_number b) × (help_side a ≡ help_side b)
+      × IsPairedOrNone P (help_node a) (help_node b) × R (help_record a) (help_record b)
   help_to (InsChild r) (InsChild s) h = (refl, refl, tt, h)
   help_to (InsClean r) (InsClean s) h = (refl, refl, tt, h)
   help_to (Mark r) (Mark s) h = (refl, refl, tt, h)
@@ -124,7 +147,8 @@ module _ (P R : ℕ → ℕ → Type 0) where
   side_from side.Right side.Right e = refl
   side_from _ _ e = absurd (omega arith)
 
-  help_from : (a b : HelpLoc) → help_number a ≡ help_number b → help_side a ≡ help_side b → IsPairedOrNone P (help_node a) (help_node b) → R (help_record a) (help_record b) → AreHelpsPaired P R a b
+  help_from : (a b : HelpLoc) → help_number a ≡ help_number b → help_side a ≡ help_side b
+      → IsPairedOrNone P (help_node a) (help_node b) → R (help_record a) (help_record b) → AreHelpsPaired P R a b
   help_from (InsChild r) (InsChild s) e f n h = h
   help_from (InsClean r) (InsClean s) e f n h = h
   help_from (Mark r) (Mark s) e f n h = h
@@ -171,7 +195,10 @@ module _ (P R : ℕ → ℕ → Type 0) where
 
   place_from : (a b : EllenLoc) → Parted (place_part a) (place_part b) → ArePlacesPaired P R a b
   place_from (Search a) (Search b) h = search_from a b h
-  place_from (Help a y) (Help b z) h = let f = h.facts in (help_from a b (cc) (cc) h.nodes.0 h.records.0, (stack_from y.stack z.stack h.records.1, base_from y.base z.base (cc)))
+  place_from (Help a y) (Help b z) h = let f = h.facts in (
+    help_from a b (cc) (cc) h.nodes.0 h.records.0,
+    (stack_from y.stack z.stack h.records.1, base_from y.base z.base (cc)),
+  )
   place_from (Search a) (Help b z) h = search_apart a _ _ h.facts
   place_from (Help a y) (Search b) h = search_apart b _ _ (sym h.facts)
 
@@ -194,13 +221,15 @@ module _ (P R : ℕ → ℕ → Type 0) where
   held_from None (Some b) h = place_is_some b (sym h.facts)
   held_from (Some a) None h = place_is_some a h.facts
 
-  all_held_to : (a b : List (Option EllenLoc)) → AllZip (AreHeldPaired (ArePlacesPaired P R)) a b → AllZip Parted (map held_part a) (map held_part b)
+  all_held_to : (a b : List (Option EllenLoc)) → AllZip (AreHeldPaired (ArePlacesPaired P R)) a b
+      → AllZip Parted (map held_part a) (map held_part b)
   all_held_to [] [] h = tt
   all_held_to [] (s ∷ z) h = absurd h
   all_held_to (r ∷ y) [] h = absurd h
   all_held_to (r ∷ y) (s ∷ z) h = (held_to r s h.0, all_held_to y z h.1)
 
-  all_held_from : (a b : List (Option EllenLoc)) → AllZip Parted (map held_part a) (map held_part b) → AllZip (AreHeldPaired (ArePlacesPaired P R)) a b
+  all_held_from : (a b : List (Option EllenLoc)) → AllZip Parted (map held_part a) (map held_part b)
+      → AllZip (AreHeldPaired (ArePlacesPaired P R)) a b
   all_held_from [] [] h = tt
   all_held_from [] (s ∷ z) h = absurd h
   all_held_from (r ∷ y) [] h = absurd h
@@ -220,39 +249,60 @@ module _ {A : Type 0} where
   part_there f (b ∷ xs) (suc x) a e = part_there f xs x a e
 
 -- parts of the nodes and the records in range
-part_of_node : (memory : EllenMem) (x : ℕ) → x < length memory.nodes → part_at (map node_part memory.nodes) x ≡ node_part (node_at memory x)
+part_of_node : (memory : EllenMem) (x : ℕ) → x < length memory.nodes
+    → part_at (map node_part memory.nodes) x ≡ node_part (node_at memory x)
 part_of_node memory x below =
     let t = there memory.nodes x below in
     part_there node_part memory.nodes x t.0 t.1 ∙ ap (λ o. node_part (unwrap_or o (Leaf 0))) (sym t.1)
 
 module _ (P R : ℕ → ℕ → Type 0) (memory other : EllenMem) (held others : List (Option EllenLoc)) where
-  pairing_to : AreMemoriesPaired P R memory other → AllZip (AreHeldPaired (ArePlacesPaired P R)) held others → IsPartsPairing P R 1 (ellen_parts memory held) (ellen_parts other others)
+  pairing_to : AreMemoriesPaired P R memory other → AllZip (AreHeldPaired (ArePlacesPaired P R)) held others
+      → IsPartsPairing P R 1 (ellen_parts memory held) (ellen_parts other others)
   pairing_to h k = record {
     nodes_one_to_one = h.nodes_one_to_one;
     records_one_to_one = h.records_one_to_one;
     fixed_paired = λ x below. let zeroth : 0 ≡ x = omega arith in subst (λ y. P y y) zeroth h.root;
-    nodes_in_range = λ x y p. let r = h.nodes_in_range x y p in (subst (λ n. x < n) (sym (length-map memory.nodes node_part)) r.0, subst (λ n. y < n) (sym (length-map other.nodes node_part)) r.1);
-    records_in_range = λ x y p. let r = h.records_in_range x y p in (subst (λ n. x < n) (sym (length-map memory.records record_part)) r.0, subst (λ n. y < n) (sym (length-map other.records record_part)) r.1);
+    nodes_in_range =
+        λ x y p. let r = h.nodes_in_range x y p in (
+          subst (λ n. x < n) (sym (length-map memory.nodes node_part)) r.0,
+          subst (λ n. y < n) (sym (length-map other.nodes node_part)) r.1,
+        );
+    records_in_range =
+        λ x y p. let r = h.records_in_range x y p in (
+          subst (λ n. x < n) (sym (length-map memory.records record_part)) r.0,
+          subst (λ n. y < n) (sym (length-map other.records record_part)) r.1,
+        );
     nodes_paired = λ x y p.
         let r = h.nodes_in_range x y p in
         subst (λ c. ArePartsPaired P R c (part_at (map node_part other.nodes) y)) (sym (part_of_node memory x r.0))
-        (subst (λ c. ArePartsPaired P R (node_part (node_at memory x)) c) (sym (part_of_node other y r.1)) (node_to P R _ _ (h.nodes x y p)));
+        (subst (λ c. ArePartsPaired P R (node_part (node_at memory x)) c) (sym (part_of_node other y r.1))
+        (node_to P R _ _ (h.nodes x y p)));
     records_paired = λ x y p.
         let r = h.records_in_range x y p in
         let s = there memory.records x r.0 in
         let t = there other.records y r.1 in
-        subst (λ c. ArePartsPaired P R c (part_at (map record_part other.records) y)) (sym (part_there record_part memory.records x s.0 s.1))
+        subst (λ c. ArePartsPaired P R c (part_at (map record_part other.records) y))
+        (sym (part_there record_part memory.records x s.0 s.1))
         (subst (λ c. ArePartsPaired P R (record_part s.0) c) (sym (part_there record_part other.records y t.0 t.1))
-        (record_to P R s.0 t.0 (subst (λ c. AreBoth (AreRecordsPaired P R) (Some s.0) c) t.1 (subst (λ c. AreBoth (AreRecordsPaired P R) c (record_at other y)) s.1 (h.records x y p)))));
+        (record_to P R s.0 t.0
+        (subst (λ c. AreBoth (AreRecordsPaired P R) (Some s.0) c) t.1
+        (subst (λ c. AreBoth (AreRecordsPaired P R) c (record_at other y)) s.1 (h.records x y p)))));
     held_paired = all_held_to P R held others k;
   }
 
-  memories_from : IsPartsPairing P R 1 (ellen_parts memory held) (ellen_parts other others) → AreMemoriesPaired P R memory other
+  memories_from : IsPartsPairing P R 1 (ellen_parts memory held) (ellen_parts other others)
+      → AreMemoriesPaired P R memory other
   memories_from h =
       let nodes_below : (x y : ℕ) → P x y → (x < length memory.nodes) × (y < length other.nodes) =
-      λ x y p. let r = h.nodes_in_range x y p in (subst (λ n. x < n) (length-map memory.nodes node_part) r.0, subst (λ n. y < n) (length-map other.nodes node_part) r.1) in
+      λ x y p. let r = h.nodes_in_range x y p in (
+        subst (λ n. x < n) (length-map memory.nodes node_part) r.0,
+        subst (λ n. y < n) (length-map other.nodes node_part) r.1,
+      ) in
       let records_below : (x y : ℕ) → R x y → (x < length memory.records) × (y < length other.records) =
-      λ x y p. let r = h.records_in_range x y p in (subst (λ n. x < n) (length-map memory.records record_part) r.0, subst (λ n. y < n) (length-map other.records record_part) r.1) in
+      λ x y p. let r = h.records_in_range x y p in (
+        subst (λ n. x < n) (length-map memory.records record_part) r.0,
+        subst (λ n. y < n) (length-map other.records record_part) r.1,
+      ) in
       record {
         nodes_one_to_one = h.nodes_one_to_one;
         records_one_to_one = h.records_one_to_one;
@@ -263,7 +313,8 @@ module _ (P R : ℕ → ℕ → Type 0) (memory other : EllenMem) (held others :
             let r = nodes_below x y p in
             node_from P R _ _
             (subst (λ c. ArePartsPaired P R c (node_part (node_at other y))) (part_of_node memory x r.0)
-            (subst (λ c. ArePartsPaired P R (part_at (map node_part memory.nodes) x) c) (part_of_node other y r.1) (h.nodes_paired x y p)));
+            (subst (λ c. ArePartsPaired P R (part_at (map node_part memory.nodes) x) c) (part_of_node other y r.1)
+            (h.nodes_paired x y p)));
         records = λ x y p.
             let r = records_below x y p in
             let s = there memory.records x r.0 in
@@ -272,12 +323,24 @@ module _ (P R : ℕ → ℕ → Type 0) (memory other : EllenMem) (held others :
             (subst (λ c. AreBoth (AreRecordsPaired P R) (Some s.0) c) (sym t.1)
             (record_from P R s.0 t.0
             (subst (λ c. ArePartsPaired P R c (record_part t.0)) (part_there record_part memory.records x s.0 s.1)
-            (subst (λ c. ArePartsPaired P R (part_at (map record_part memory.records) x) c) (part_there record_part other.records y t.0 t.1) (h.records_paired x y p)))));
+            (subst (λ c. ArePartsPaired P R (part_at (map record_part memory.records) x) c)
+            (part_there record_part other.records y t.0 t.1) (h.records_paired x y p)))));
       }
 
 -- some pairing pairs the parts exactly if one pairs the memories and what the threads hold
-pub parts_alike : (memory other : EllenMem) (held others : List (Option EllenLoc)) → CanPartsBePaired 1 (ellen_parts memory held) (ellen_parts other others) ↔ AreAlike ellen_pairs memory held other others
+pub parts_alike : (memory other : EllenMem) (held others : List (Option EllenLoc))
+    → CanPartsBePaired 1 (ellen_parts memory held) (ellen_parts other others)
+    ↔ AreAlike ellen_pairs memory held other others
 parts_alike memory other held others = (
-  (λ h. (record { nodes = h.0; records = h.1 }, memories_from (IsAmong h.0) (IsAmong h.1) memory other held others h.2, all_held_from (IsAmong h.0) (IsAmong h.1) held others h.2.held_paired)),
-  (λ h. (h.0.nodes, h.0.records, pairing_to (IsAmong h.0.nodes) (IsAmong h.0.records) memory other held others h.1 h.2)),
+  (λ h. (
+    record { nodes = h.0; records = h.1 },
+    memories_from (IsAmong h.0) (IsAmong h.1) memory other held others h.2,
+    all_held_from (IsAmong h.0) (IsAmong h.1) held others h.2.held_paired,
+  )),
+  (λ h. (
+    h.0.nodes,
+    h.0.records,
+    pairing_to (IsAmong h.0.nodes) (IsAmong h.0.records) memory other held others h.1
+        h.2,
+  )),
 )

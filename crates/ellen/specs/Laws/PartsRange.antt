@@ -15,11 +15,14 @@ use Rattle.ellen.specs.declared.place.Above.{Above}
 use Rattle.ellen.specs.declared.place.SearchLoc.{SearchLoc}
 use Rattle.ellen.specs.declared.place.SearchLoc.TheVariants.{Update, Child, IFlag, InsOnly, DFlag}
 use Rattle.ellen.specs.declared.place.HelpLoc.{HelpLoc}
-use Rattle.ellen.specs.declared.place.HelpLoc.TheVariants.{InsChild, InsClean, Mark, Right, Other, Splice, DelClean, Back}
+use Rattle.ellen.specs.declared.place.HelpLoc.TheVariants.{InsChild, InsClean, Mark, Right, Other, Splice, DelClean}
+use Rattle.ellen.specs.declared.place.HelpLoc.TheVariants.{Back}
 use Rattle.ellen.specs.declared.place.EllenLoc.{EllenLoc}
 use Rattle.ellen.specs.declared.place.EllenLoc.TheVariants.{Search, Help}
-use Rattle.ellen.specs.Range.{IsWordIn, IsNodeIn, IsRecordIn, IsAboveIn, IsSearchIn, IsHelpIn, IsPlaceIn, IsInRange, IsPlaceInRange}
-use Rattle.ellen.specs.Parts.{word_record, node_part, record_part, above_node, above_record, search_part, help_record, help_node, place_part, held_part, ellen_parts}
+use Rattle.ellen.specs.Range.{IsWordIn, IsNodeIn, IsRecordIn, IsAboveIn, IsSearchIn, IsHelpIn, IsPlaceIn, IsInRange}
+use Rattle.ellen.specs.Range.{IsPlaceInRange}
+use Rattle.ellen.specs.Parts.{word_record, node_part, record_part, above_node, above_record, search_part, help_record}
+use Rattle.ellen.specs.Parts.{help_node, place_part, held_part, ellen_parts}
 
 module _ (n : ℕ) where
   abbrev Below : Option ℕ → Type 0
@@ -60,22 +63,33 @@ module _ (n m : ℕ) where
 
   node_below : (node : Node) → IsNodeIn n m node → IsPartBelow n m (node_part node)
   node_below (Leaf k) h = record { nodes = none n; records = none m }
-  node_below (Internal k u l r) h = record { nodes = two (Some l) (Some r) h.1 h.2; records = one_record (word_record u) (word_below m u h.0) }
+  node_below (Internal k u l r) h =
+      record { nodes = two (Some l) (Some r) h.1 h.2; records = one_record (word_record u) (word_below m u h.0) }
 
   record_below : (each : Record) → IsRecordIn n m each → IsPartBelow n m (record_part each)
-  record_below (Ins i) h = record { nodes = three (Some i.parent) (Some i.leaf) (Some i.new) h.0 h.1 h.2; records = none m }
+  record_below (Ins i) h =
+      record { nodes = three (Some i.parent) (Some i.leaf) (Some i.new) h.0 h.1 h.2; records = none m }
   record_below (Del d) h =
-      record { nodes = three (Some d.grandparent) (Some d.parent) (Some d.leaf) h.0 h.1 h.2; records = one_record (word_record d.parent_update) (word_below m d.parent_update h.3) }
+      record {
+        nodes = three (Some d.grandparent) (Some d.parent) (Some d.leaf) h.0 h.1 h.2;
+        records = one_record (word_record d.parent_update) (word_below m d.parent_update h.3);
+      }
 
   above_below : (a : Option Above) → IfSome a (IsAboveIn n m) → Below n (above_node a) × Below m (above_record a)
   above_below None h = (tt, tt)
   above_below (Some a) h = (h.0, word_below m a.update h.1)
 
   search_below : (at : SearchLoc) → IsSearchIn n m at → IsPartBelow n m (search_part at)
-  search_below (Update a p) h = let t = above_below a h.0 in record { nodes = two (above_node a) (Some p) t.0 h.1; records = one_record (above_record a) t.1 }
+  search_below (Update a p) h = let t = above_below a h.0 in
+      record { nodes = two (above_node a) (Some p) t.0 h.1; records = one_record (above_record a) t.1 }
   search_below (Child a p u) h =
-      let t = above_below a h.0 in record { nodes = two (above_node a) (Some p) t.0 h.1; records = two_records (above_record a) (word_record u) t.1 (word_below m u h.2) }
-  search_below (IFlag p u l) h = record { nodes = two (Some p) (Some l) h.0 h.2; records = one_record (word_record u) (word_below m u h.1) }
+      let t = above_below a h.0 in
+      record {
+        nodes = two (above_node a) (Some p) t.0 h.1;
+        records = two_records (above_record a) (word_record u) t.1 (word_below m u h.2);
+      }
+  search_below (IFlag p u l) h =
+      record { nodes = two (Some p) (Some l) h.0 h.2; records = one_record (word_record u) (word_below m u h.1) }
   search_below (InsOnly p l) h = record { nodes = two (Some p) (Some l) h.0 h.1; records = none m }
   search_below (DFlag a p u l) h =
       record {
@@ -97,18 +111,25 @@ module _ (n m : ℕ) where
   place_below (Search at) h = search_below at h
   place_below (Help at resume) h =
       let t = help_below at h.0 in
-      record { nodes = one (help_node at) t.0; records = next m (Some (help_record at)) (map Some resume.stack) t.1 (stack_below m resume.stack h.1) }
+      record {
+        nodes = one (help_node at) t.0;
+        records = next m (Some (help_record at)) (map Some resume.stack) t.1 (stack_below m resume.stack h.1);
+      }
 
   held_below : (held : Option EllenLoc) → IfSome held (IsPlaceIn n m) → IsPartBelow n m (held_part held)
   held_below None h = record { nodes = none n; records = none m }
   held_below (Some place) h = place_below place h
 
 -- as many parts as there are elements, each with its numbers below these
-all_below : {A : Type 0} (f : A → Part) (P : A → Type 0) (n m i j : ℕ) → i ≡ n → j ≡ m → ((a : A) → P a → IsPartBelow n m (f a)) → (xs : List A) → All P xs → All (IsPartBelow i j) (map f xs)
+all_below : {A : Type 0} (f : A → Part) (P : A → Type 0) (n m i j : ℕ) → i ≡ n → j ≡ m
+    → ((a : A) → P a → IsPartBelow n m (f a)) → (xs : List A) → All P xs → All (IsPartBelow i j) (map f xs)
 all_below f P n m i j e d below xs h =
-    subst (λ a. All (IsPartBelow a j) (map f xs)) (sym e) (subst (λ b. All (IsPartBelow n b) (map f xs)) (sym d) (All-map (IsPartBelow n m) f xs (All-weaker P (λ x. IsPartBelow n m (f x)) below xs h)))
+    subst (λ a. All (IsPartBelow a j) (map f xs)) (sym e)
+    (subst (λ b. All (IsPartBelow n b) (map f xs)) (sym d)
+    (All-map (IsPartBelow n m) f xs (All-weaker P (λ x. IsPartBelow n m (f x)) below xs h)))
 
-pub parts_in_range : (memory : EllenMem) (held : List (Option EllenLoc)) → IsInRange memory → All (λ place. IfSome place (IsPlaceInRange memory)) held → ArePartsInRange 1 (ellen_parts memory held)
+pub parts_in_range : (memory : EllenMem) (held : List (Option EllenLoc)) → IsInRange memory
+    → All (λ place. IfSome place (IsPlaceInRange memory)) held → ArePartsInRange 1 (ellen_parts memory held)
 parts_in_range memory held h at =
     let n = length memory.nodes in
     let m = length memory.records in
@@ -117,6 +138,7 @@ parts_in_range memory held h at =
     record {
       fixed_in_range = let root = h.root in omega arith;
       nodes = all_below node_part (IsNodeIn n m) n m _ _ nodes records (node_below n m) memory.nodes h.nodes;
-      records = all_below record_part (IsRecordIn n m) n m _ _ nodes records (record_below n m) memory.records h.records;
+      records =
+          all_below record_part (IsRecordIn n m) n m _ _ nodes records (record_below n m) memory.records h.records;
       held = all_below held_part (λ place. IfSome place (IsPlaceIn n m)) n m _ _ nodes records (held_below n m) held at;
     }

@@ -1,8 +1,10 @@
 -- Each kind of access keeps the numbers of nodes and records in range.
-use Rattle.std.specs.Prelude.{◌≡◌, ℕ, zero, suc, ◌+◌, ◌<◌, ◌≤◌, Bool, true, false, if◌then◌else◌, nat_eq, nat_lt, List, [], ◌∷◌, length, refl, Option, Some, None, IfSome, unwrap_or, slice_get, slice_set, All}
+use Rattle.std.specs.Prelude.{◌≡◌, ℕ, zero, suc, ◌+◌, ◌<◌, ◌≤◌, Bool, true, false, if◌then◌else◌, nat_eq, nat_lt, List}
+use Rattle.std.specs.Prelude.{[], ◌∷◌, length, refl, Option, Some, None, IfSome, unwrap_or, slice_get, slice_set, All}
 use Rattle.std.proofs.Common.{arith, sym, subst, length-append}
 use Rattle.std.proofs.lemmas.List.{length-set}
-use Rattle.std.proofs.lemmas.List.Elements.{All-nil, All-cons, All-head, All-tail, All-append, All-set, All-push, All-weaker}
+use Rattle.std.proofs.lemmas.List.Elements.{All-nil, All-cons, All-head, All-tail, All-append, All-set, All-push}
+use Rattle.std.proofs.lemmas.List.Elements.{All-weaker}
 use Rattle.sched_program.specs.declared.operation.Op.{Op}
 use Rattle.sched_program.specs.declared.operation.Op.TheVariants.{Insert, Delete, Find}
 use Rattle.tree_machine.specs.declared.machine.Outcome.{Outcome}
@@ -28,11 +30,16 @@ use Rattle.ellen.specs.declared.place.EllenLoc.TheVariants.{Search, Help}
 use Rattle.ellen.specs.declared.place.SearchLoc.{SearchLoc}
 use Rattle.ellen.specs.declared.place.SearchLoc.TheVariants.{Update, Child, IFlag, InsOnly, DFlag}
 use Rattle.ellen.specs.declared.place.HelpLoc.{HelpLoc}
-use Rattle.ellen.specs.declared.place.HelpLoc.TheVariants.{InsChild, InsClean, Mark, Right, Other, Splice, DelClean, Back}
+use Rattle.ellen.specs.declared.place.HelpLoc.TheVariants.{InsChild, InsClean, Mark, Right, Other, Splice, DelClean}
+use Rattle.ellen.specs.declared.place.HelpLoc.TheVariants.{Back}
 use Rattle.ellen.specs.declared.machine.Ellen.{Ellen}
-use Rattle.ellen.specs.Memory.{update_of, child_on, with_update, with_child, is_word, is_clean, node_at, record_at, key_at, set_node, set_update, set_child, internal_over, with_internal, add_record}
-use Rattle.ellen.specs.Table.{After, found, read_update, read_child, exchange_update, exchange_child, with_insert, with_delete, with_base, settled, top_taken, unwound, returned, marking, help, help_first, flagging, decide, arrived}
-use Rattle.ellen.specs.Range.{IsWordIn, IsResumeIn, IsNodeIn, IsRecordIn, IsAboveIn, IsSearchIn, IsHelpIn, IsPlaceIn, IsInRange}
+use Rattle.ellen.specs.Memory.{update_of, child_on, with_update, with_child, is_word, is_clean, node_at, record_at}
+use Rattle.ellen.specs.Memory.{key_at, set_node, set_update, set_child, internal_over, with_internal, add_record}
+use Rattle.ellen.specs.Table.{After, found, read_update, read_child, exchange_update, exchange_child, with_insert}
+use Rattle.ellen.specs.Table.{with_delete, with_base, settled, top_taken, unwound, returned, marking, help, help_first}
+use Rattle.ellen.specs.Table.{flagging, decide, arrived}
+use Rattle.ellen.specs.Range.{IsWordIn, IsResumeIn, IsNodeIn, IsRecordIn, IsAboveIn, IsSearchIn, IsHelpIn, IsPlaceIn}
+use Rattle.ellen.specs.Range.{IsInRange}
 
 -- ---- what is in range stays so where there are more nodes and records
 
@@ -49,11 +56,13 @@ stack_more m more le stack h = All-weaker (λ r. r < m) (λ r. r < more) (λ r b
 module _ (n m nodes records : ℕ) (len : n ≤ nodes) (lem : m ≤ records) where
   node_more : (node : Node) → IsNodeIn n m node → IsNodeIn nodes records node
   node_more (Leaf k) h = tt
-  node_more (Internal k u l r) h = let a = h.1 in let b = h.2 in (word_more m records lem u h.0, omega arith, omega arith)
+  node_more (Internal k u l r) h = let a = h.1 in
+      let b = h.2 in (word_more m records lem u h.0, omega arith, omega arith)
 
   record_more : (one : Record) → IsRecordIn n m one → IsRecordIn nodes records one
   record_more (Ins i) h = let a = h.0 in let b = h.1 in let c = h.2 in (omega arith, omega arith, omega arith)
-  record_more (Del d) h = let a = h.0 in let b = h.1 in let c = h.2 in (omega arith, omega arith, omega arith, word_more m records lem d.parent_update h.3)
+  record_more (Del d) h = let a = h.0 in let b = h.1 in
+      let c = h.2 in (omega arith, omega arith, omega arith, word_more m records lem d.parent_update h.3)
 
   above_more : (above : Above) → IsAboveIn n m above → IsAboveIn nodes records above
   above_more above h = let a = h.0 in (omega arith, word_more m records lem above.update h.1)
@@ -67,7 +76,8 @@ module _ (n m nodes records : ℕ) (len : n ≤ nodes) (lem : m ≤ records) whe
   search_more (Child above p u) h = let a = h.1 in (above_more_if above h.0, omega arith, word_more m records lem u h.2)
   search_more (IFlag p u l) h = let a = h.0 in let b = h.2 in (omega arith, word_more m records lem u h.1, omega arith)
   search_more (InsOnly p l) h = let a = h.0 in let b = h.1 in (omega arith, omega arith)
-  search_more (DFlag above p u l) h = let a = h.1 in let b = h.3 in (above_more above h.0, omega arith, word_more m records lem u h.2, omega arith)
+  search_more (DFlag above p u l) h = let a = h.1 in
+      let b = h.3 in (above_more above h.0, omega arith, word_more m records lem u h.2, omega arith)
 
   help_more : (at : HelpLoc) → IsHelpIn n m at → IsHelpIn nodes records at
   help_more (InsChild r) h = omega arith
@@ -97,13 +107,15 @@ module _ (n m : ℕ) (root : 0 < n) where
   settled_in true base.Delete = tt
   settled_in false base.Delete = (tt, root)
 
-  top_in : (r : ℕ) (stack : List ℕ) → All (λ s. s < m) (r ∷ stack) → All (λ s. s < m) (top_taken r stack).0 × ((top_taken r stack).1 < m)
+  top_in : (r : ℕ) (stack : List ℕ) → All (λ s. s < m) (r ∷ stack) → All (λ s. s < m) (top_taken r stack).0
+      × ((top_taken r stack).1 < m)
   top_in r [] h = (All-nil (λ s. s < m), All-head (λ s. s < m) r [] h)
   top_in r (s ∷ stack) h =
       let rest = top_in s stack (All-tail (λ s. s < m) r (s ∷ stack) h) in
       (All-cons (λ s. s < m) r (top_taken s stack).0 (All-head (λ s. s < m) r (s ∷ stack) h) rest.0, rest.1)
 
-  unwound_in : (done : Bool) (b : Base) (stack : List ℕ) → All (λ s. s < m) stack → IsOutcomeIn n m (unwound done b stack)
+  unwound_in : (done : Bool) (b : Base) (stack : List ℕ) → All (λ s. s < m) stack
+      → IsOutcomeIn n m (unwound done b stack)
   unwound_in done b [] h = settled_in done b
   unwound_in done b (r ∷ stack) h = let t = top_in r stack h in (t.1, t.0)
 
@@ -111,9 +123,11 @@ module _ (n m : ℕ) (root : 0 < n) where
   returned_in done resume h = unwound_in done resume.base resume.stack h
 
   pub marking_in : (machine : Ellen) (r : ℕ) → r < m → IsHelpIn n m (marking machine r)
-  marking_in machine r below = elim machine.mark as (λ b. IsHelpIn n m (if b then Mark r else Right r)) [ true ↦ below | false ↦ below ]
+  marking_in machine r below =
+      elim machine.mark as (λ b. IsHelpIn n m (if b then Mark r else Right r)) [ true ↦ below | false ↦ below ]
 
-  pub help_in : (machine : Ellen) (u : UpdateWord) (resume : Resume) → IsWordIn m u → IsResumeIn m resume → IsOutcomeIn n m (help machine u resume)
+  pub help_in : (machine : Ellen) (u : UpdateWord) (resume : Resume) → IsWordIn m u → IsResumeIn m resume
+      → IsOutcomeIn n m (help machine u resume)
   help_in machine word.Untouched resume w h = returned_in true resume h
   help_in machine (word.Clean r) resume w h = returned_in true resume h
   help_in machine (word.InsertFlag r) resume w h = (w, h)
@@ -123,22 +137,35 @@ module _ (n m : ℕ) (root : 0 < n) where
   pub help_first_in : (machine : Ellen) (u : UpdateWord) → IsWordIn m u → IsOutcomeIn n m (help_first machine u)
   help_first_in machine u w = help_in machine u (with_base base.Again) w (All-nil (λ r. r < m))
 
-  flagging_in : (machine : Ellen) (p : ℕ) (u : UpdateWord) (l : ℕ) → p < n → IsWordIn m u → l < n → IsSearchIn n m (flagging machine p u l)
-  flagging_in machine p u l a w b = elim machine.iflag as (λ c. IsSearchIn n m (if c then IFlag p u l else InsOnly p l)) [ true ↦ (a, w, b) | false ↦ (a, b) ]
+  flagging_in : (machine : Ellen) (p : ℕ) (u : UpdateWord) (l : ℕ) → p < n → IsWordIn m u → l < n
+      → IsSearchIn n m (flagging machine p u l)
+  flagging_in machine p u l a w b =
+      elim machine.iflag as (λ c. IsSearchIn n m (if c then IFlag p u l else InsOnly p l)) [
+        | true ↦ (a, w, b)
+        | false
+            ↦ (a, b)
+      ]
 
-  pub either : (b : Bool) (first second : Outcome EllenLoc) → IsOutcomeIn n m first → IsOutcomeIn n m second → IsOutcomeIn n m (if b then first else second)
+  pub either : (b : Bool) (first second : Outcome EllenLoc) → IsOutcomeIn n m first → IsOutcomeIn n m second
+      → IsOutcomeIn n m (if b then first else second)
   either true first second h k = h
   either false first second h k = k
 
-  decide_in : (machine : Ellen) (op : Op) (above : Option Above) (p : ℕ) (u : UpdateWord) (l j : ℕ) → IfSome above (IsAboveIn n m) → p < n → IsWordIn m u → l < n → IsOutcomeIn n m (decide machine op above p u l j)
+  decide_in : (machine : Ellen) (op : Op) (above : Option Above) (p : ℕ) (u : UpdateWord) (l j : ℕ)
+      → IfSome above (IsAboveIn n m) → p < n → IsWordIn m u → l < n → IsOutcomeIn n m (decide machine op above p u l j)
   decide_in machine (Find k) above p u l j a b w c = tt
   decide_in machine (Insert k) above p u l j a b w c =
       either (nat_eq j k) _ _ tt (either (is_clean u) _ _ (flagging_in machine p u l b w c) (help_first_in machine u w))
   decide_in machine (Delete k) None p u l j a b w c = either (nat_eq j k) Astray (Replies false) tt tt
   decide_in machine (Delete k) (Some above) p u l j a b w c =
-      either (nat_eq j k) _ _ (either (is_clean above.update) _ _ (either (is_clean u) (Goes (Search (DFlag above p u l))) _ (a, b, w, c) (help_first_in machine u w)) (help_first_in machine above.update a.1)) tt
+      either (nat_eq j k) _ _
+      (either (is_clean above.update) _ _
+      (either (is_clean u) (Goes (Search (DFlag above p u l))) _ (a, b, w, c) (help_first_in machine u w))
+      (help_first_in machine above.update a.1)) tt
 
-  pub arrived_in : (machine : Ellen) (op : Op) (above : Option Above) (p : ℕ) (u : UpdateWord) (c : ℕ) (node : Node) → IfSome above (IsAboveIn n m) → p < n → IsWordIn m u → c < n → IsOutcomeIn n m (arrived machine op above p u c node)
+  pub arrived_in : (machine : Ellen) (op : Op) (above : Option Above) (p : ℕ) (u : UpdateWord) (c : ℕ) (node : Node)
+      → IfSome above (IsAboveIn n m) → p < n → IsWordIn m u → c < n
+      → IsOutcomeIn n m (arrived machine op above p u c node)
   arrived_in machine op above p u c (Internal j v l r) a b w d = ((b, w), d)
   arrived_in machine op above p u c (Leaf j) a b w d = decide_in machine op above p u c j a b w d
 
@@ -163,16 +190,19 @@ child_in n m s (Leaf k) c h e = cc
 child_in n m side.Left (Internal k v l r) c h e = let same : l ≡ c = cc in subst (λ x. x < n) same h.1
 child_in n m side.Right (Internal k v l r) c h e = let same : r ≡ c = cc in subst (λ x. x < n) same h.2
 
-with_update_in : (n m : ℕ) (u : UpdateWord) (node : Node) → IsNodeIn n m node → IsWordIn m u → IsNodeIn n m (with_update u node)
+with_update_in : (n m : ℕ) (u : UpdateWord) (node : Node) → IsNodeIn n m node → IsWordIn m u
+    → IsNodeIn n m (with_update u node)
 with_update_in n m u (Leaf k) h w = tt
 with_update_in n m u (Internal k v l r) h w = (w, h.1, h.2)
 
-pub with_child_in : (n m : ℕ) (s : Side) (c : ℕ) (node : Node) → IsNodeIn n m node → c < n → IsNodeIn n m (with_child s c node)
+pub with_child_in : (n m : ℕ) (s : Side) (c : ℕ) (node : Node) → IsNodeIn n m node → c < n
+    → IsNodeIn n m (with_child s c node)
 with_child_in n m s c (Leaf k) h b = tt
 with_child_in n m side.Left c (Internal k v l r) h b = (h.0, b, h.2)
 with_child_in n m side.Right c (Internal k v l r) h b = (h.0, h.1, b)
 
-pub node_in : (memory : EllenMem) (x : ℕ) → IsInRange memory → IsNodeIn (length memory.nodes) (length memory.records) (node_at memory x)
+pub node_in : (memory : EllenMem) (x : ℕ) → IsInRange memory
+    → IsNodeIn (length memory.nodes) (length memory.records) (node_at memory x)
 node_in memory x h = at_all (IsNodeIn (length memory.nodes) (length memory.records)) memory.nodes x (Leaf 0) h.nodes tt
 
 -- ---- what an access leaves
@@ -183,10 +213,12 @@ pub record IsKept (memory : EllenMem) (after : After) : Type 0 where
   pub memory_in : IsInRange after.0
   pub outcome_in : IsOutcomeIn (length after.0.nodes) (length after.0.records) after.1
 
-stays : (memory : EllenMem) (outcome : Outcome EllenLoc) → IsInRange memory → IsOutcomeIn (length memory.nodes) (length memory.records) outcome → IsKept memory (memory, outcome)
+stays : (memory : EllenMem) (outcome : Outcome EllenLoc) → IsInRange memory
+    → IsOutcomeIn (length memory.nodes) (length memory.records) outcome → IsKept memory (memory, outcome)
 stays memory outcome h o = record { nodes = omega arith; records = omega arith; memory_in = h; outcome_in = o }
 
-pub set_in : (memory : EllenMem) (x : ℕ) (node : Node) → IsInRange memory → IsNodeIn (length memory.nodes) (length memory.records) node → IsInRange (set_node memory x node)
+pub set_in : (memory : EllenMem) (x : ℕ) (node : Node) → IsInRange memory
+    → IsNodeIn (length memory.nodes) (length memory.records) node → IsInRange (set_node memory x node)
 set_in memory x node h k =
     let same : length (slice_set memory.nodes x node) ≡ length memory.nodes = length-set memory.nodes x node in
     let all = All-set (IsNodeIn (length memory.nodes) (length memory.records)) memory.nodes x node k h.nodes in
@@ -198,7 +230,8 @@ set_in memory x node h k =
 
 set_kept : (memory appended : EllenMem) (x : ℕ) (node : Node) (outcome : Outcome EllenLoc)
     → length memory.nodes ≤ length appended.nodes → length memory.records ≤ length appended.records
-    → IsInRange appended → IsNodeIn (length appended.nodes) (length appended.records) node → IsOutcomeIn (length appended.nodes) (length appended.records) outcome
+    → IsInRange appended → IsNodeIn (length appended.nodes) (length appended.records) node
+    → IsOutcomeIn (length appended.nodes) (length appended.records) outcome
     → IsKept memory (set_node appended x node, outcome)
 set_kept memory appended x node outcome more_nodes more_records h k o =
     let same : length (slice_set appended.nodes x node) ≡ length appended.nodes = length-set appended.nodes x node in
@@ -209,69 +242,104 @@ set_kept memory appended x node outcome more_nodes more_records h k o =
       outcome_in = subst (λ n. IsOutcomeIn n (length appended.records) outcome) (sym same) o;
     }
 
-found_kept : {A : Type 0} (memory : EllenMem) (o : Option A) (goes : A → After) → IsInRange memory → ((a : A) → o ≡ Some a → IsKept memory (goes a)) → IsKept memory (found memory o goes)
+found_kept : {A : Type 0} (memory : EllenMem) (o : Option A) (goes : A → After) → IsInRange memory
+    → ((a : A) → o ≡ Some a → IsKept memory (goes a)) → IsKept memory (found memory o goes)
 found_kept memory None goes h f = stays memory Astray h tt
 found_kept memory (Some a) goes h f = f a refl
 
-cond_kept : (memory : EllenMem) (b : Bool) (first second : After) → IsKept memory first → IsKept memory second → IsKept memory (if b then first else second)
+cond_kept : (memory : EllenMem) (b : Bool) (first second : After) → IsKept memory first → IsKept memory second
+    → IsKept memory (if b then first else second)
 cond_kept memory true first second h k = h
 cond_kept memory false first second h k = k
 
 module _ (memory : EllenMem) (h : IsInRange memory) where
-  pub read_update_kept : (x : ℕ) (goes : UpdateWord → Outcome EllenLoc) → ((u : UpdateWord) → IsWordIn (length memory.records) u → IsOutcomeIn (length memory.nodes) (length memory.records) (goes u)) → IsKept memory (read_update memory x goes)
+  pub read_update_kept : (x : ℕ) (goes : UpdateWord → Outcome EllenLoc)
+      → ((u : UpdateWord) → IsWordIn (length memory.records) u
+      → IsOutcomeIn (length memory.nodes) (length memory.records) (goes u)) → IsKept memory (read_update memory x goes)
   read_update_kept x goes f =
       found_kept memory (update_of (node_at memory x)) (λ u. (memory, goes u)) h
-      (λ u e. stays memory (goes u) h (f u (word_in (length memory.nodes) (length memory.records) (node_at memory x) u (node_in memory x h) e)))
+      (λ u e. stays memory (goes u) h
+      (f u (word_in (length memory.nodes) (length memory.records) (node_at memory x) u (node_in memory x h) e)))
 
-  pub read_child_kept : (x : ℕ) (s : Side) (goes : ℕ → Outcome EllenLoc) → ((c : ℕ) → c < length memory.nodes → IsOutcomeIn (length memory.nodes) (length memory.records) (goes c)) → IsKept memory (read_child memory x s goes)
+  pub read_child_kept : (x : ℕ) (s : Side) (goes : ℕ → Outcome EllenLoc)
+      → ((c : ℕ) → c < length memory.nodes → IsOutcomeIn (length memory.nodes) (length memory.records) (goes c))
+      → IsKept memory (read_child memory x s goes)
   read_child_kept x s goes f =
       found_kept memory (child_on s (node_at memory x)) (λ c. (memory, goes c)) h
-      (λ c e. stays memory (goes c) h (f c (child_in (length memory.nodes) (length memory.records) s (node_at memory x) c (node_in memory x h) e)))
+      (λ c e. stays memory (goes c) h
+      (f c (child_in (length memory.nodes) (length memory.records) s (node_at memory x) c (node_in memory x h) e)))
 
-  pub with_insert_kept : (r : ℕ) (row : InsertRecord → After) → ((i : InsertRecord) → IsRecordIn (length memory.nodes) (length memory.records) (Ins i) → IsKept memory (row i)) → IsKept memory (with_insert memory (record_at memory r) row)
+  pub with_insert_kept : (r : ℕ) (row : InsertRecord → After)
+      → ((i : InsertRecord) → IsRecordIn (length memory.nodes) (length memory.records) (Ins i) → IsKept memory (row i))
+      → IsKept memory (with_insert memory (record_at memory r) row)
   with_insert_kept r row f = go (record_at memory r) refl
     where
       go : (o : Option Record) → record_at memory r ≡ o → IsKept memory (with_insert memory o row)
       go None e = stays memory Astray h tt
-      go (Some (Ins i)) e = f i (get_all (IsRecordIn (length memory.nodes) (length memory.records)) memory.records r (Ins i) h.records e)
+      go (Some (Ins i)) e =
+          f i (get_all (IsRecordIn (length memory.nodes) (length memory.records)) memory.records r (Ins i) h.records e)
       go (Some (Del d)) e = stays memory Astray h tt
 
-  pub with_delete_kept : (r : ℕ) (row : DeleteRecord → After) → ((d : DeleteRecord) → IsRecordIn (length memory.nodes) (length memory.records) (Del d) → IsKept memory (row d)) → IsKept memory (with_delete memory (record_at memory r) row)
+  pub with_delete_kept : (r : ℕ) (row : DeleteRecord → After)
+      → ((d : DeleteRecord) → IsRecordIn (length memory.nodes) (length memory.records) (Del d) → IsKept memory (row d))
+      → IsKept memory (with_delete memory (record_at memory r) row)
   with_delete_kept r row f = go (record_at memory r) refl
     where
       go : (o : Option Record) → record_at memory r ≡ o → IsKept memory (with_delete memory o row)
       go None e = stays memory Astray h tt
       go (Some (Ins i)) e = stays memory Astray h tt
-      go (Some (Del d)) e = f d (get_all (IsRecordIn (length memory.nodes) (length memory.records)) memory.records r (Del d) h.records e)
+      go (Some (Del d)) e =
+          f d (get_all (IsRecordIn (length memory.nodes) (length memory.records)) memory.records r (Del d) h.records e)
 
-  module _ (appended : EllenMem) (more_nodes : length memory.nodes ≤ length appended.nodes) (more_records : length memory.records ≤ length appended.records) (k : IsInRange appended) where
-    pub exchange_update_kept : (x : ℕ) (expected desired : UpdateWord) (success : Outcome EllenLoc) (failure : UpdateWord → Outcome EllenLoc)
-        → IsWordIn (length appended.records) desired → IsOutcomeIn (length appended.nodes) (length appended.records) success
-        → ((w : UpdateWord) → IsWordIn (length memory.records) w → IsOutcomeIn (length memory.nodes) (length memory.records) (failure w))
+  module _ (appended : EllenMem) (more_nodes : length memory.nodes ≤ length appended.nodes)
+      (more_records : length memory.records ≤ length appended.records) (k : IsInRange appended) where
+    pub exchange_update_kept : (x : ℕ) (expected desired : UpdateWord) (success : Outcome EllenLoc)
+        (failure : UpdateWord → Outcome EllenLoc)
+        → IsWordIn (length appended.records) desired
+        → IsOutcomeIn (length appended.nodes) (length appended.records) success
+        → ((w : UpdateWord) → IsWordIn (length memory.records) w
+        → IsOutcomeIn (length memory.nodes) (length memory.records) (failure w))
         → IsKept memory (exchange_update memory x expected desired appended success failure)
     exchange_update_kept x expected desired success failure d o f =
-        found_kept memory (update_of (node_at memory x)) (λ w. if is_word w expected then (set_update appended x desired, success) else (memory, failure w)) h
+        found_kept memory (update_of (node_at memory x))
+        (λ w. if is_word w expected then (set_update appended x desired, success) else (memory, failure w)) h
         (λ w e. cond_kept memory (is_word w expected) (set_update appended x desired, success) (memory, failure w)
-        (set_kept memory appended x (with_update desired (node_at appended x)) success more_nodes more_records k (with_update_in (length appended.nodes) (length appended.records) desired (node_at appended x) (node_in appended x k) d) o)
-        (stays memory (failure w) h (f w (word_in (length memory.nodes) (length memory.records) (node_at memory x) w (node_in memory x h) e))))
+        (set_kept memory appended x (with_update desired (node_at appended x)) success more_nodes more_records k
+        (with_update_in (length appended.nodes) (length appended.records) desired (node_at appended x)
+        (node_in appended x k) d) o)
+        (stays memory (failure w) h
+        (f w (word_in (length memory.nodes) (length memory.records) (node_at memory x) w (node_in memory x h) e))))
 
     pub exchange_child_kept : (x a b : ℕ) (success failure : Outcome EllenLoc)
-        → b < length appended.nodes → IsOutcomeIn (length appended.nodes) (length appended.records) success → IsOutcomeIn (length memory.nodes) (length memory.records) failure
+        → b < length appended.nodes → IsOutcomeIn (length appended.nodes) (length appended.records) success
+        → IsOutcomeIn (length memory.nodes) (length memory.records) failure
         → IsKept memory (exchange_child memory x a b appended success failure)
     exchange_child_kept x a b success failure d o f =
         let s = side_of (key_at appended b) (key_at memory x) in
-        found_kept memory (child_on s (node_at memory x)) (λ c. if nat_eq c a then (set_child appended x s b, success) else (memory, failure)) h
+        found_kept memory (child_on s (node_at memory x))
+        (λ c. if nat_eq c a then (set_child appended x s b, success) else (memory, failure)) h
         (λ c e. cond_kept memory (nat_eq c a) (set_child appended x s b, success) (memory, failure)
-        (set_kept memory appended x (with_child s b (node_at appended x)) success more_nodes more_records k (with_child_in (length appended.nodes) (length appended.records) s b (node_at appended x) (node_in appended x k) d) o)
+        (set_kept memory appended x (with_child s b (node_at appended x)) success more_nodes more_records k
+        (with_child_in (length appended.nodes) (length appended.records) s b (node_at appended x)
+        (node_in appended x k) d) o)
         (stays memory failure h f))
 
 -- ---- what is appended
 
 over_in : (n m k j x y : ℕ) → x < n → y < n → IsNodeIn n m (internal_over k j x y)
-over_in n m k j x y a b = elim (nat_lt k j) as (λ c. IsNodeIn n m (if c then Internal j word.Untouched x y else Internal k word.Untouched y x)) [ true ↦ (tt, a, b) | false ↦ (tt, b, a) ]
+over_in n m k j x y a b =
+    elim (nat_lt k j) as
+    (λ c. IsNodeIn n m (if c then Internal j word.Untouched x y else Internal k word.Untouched y x)) [
+      | true
+          ↦ (tt, a, b)
+      | false ↦ (tt, b, a)
+    ]
 
 pub three_more : (memory : EllenMem) (k l : ℕ) → length (with_internal memory k l).nodes ≡ length memory.nodes + 3
-three_more memory k l = length-append memory.nodes (Leaf k ∷ Leaf (key_at memory l) ∷ internal_over k (key_at memory l) (length memory.nodes) (length memory.nodes + 1) ∷ [])
+three_more memory k l =
+    length-append memory.nodes
+    (Leaf k ∷ Leaf (key_at memory l) ∷ internal_over k (key_at memory l) (length memory.nodes) (length memory.nodes + 1)
+    ∷ [])
 
 pub with_internal_in : (memory : EllenMem) (k l : ℕ) → IsInRange memory → IsInRange (with_internal memory k l)
 with_internal_in memory k l h =
@@ -280,11 +348,17 @@ with_internal_in memory k l h =
     let new = internal_over k (key_at memory l) n (n + 1) in
     let P = IsNodeIn (n + 3) m in
     let same : length (with_internal memory k l).nodes ≡ n + 3 = three_more memory k l in
-    let old : All P memory.nodes = All-weaker (IsNodeIn n m) P (node_more n m (n + 3) m (omega arith) (omega arith)) memory.nodes h.nodes in
+    let old : All P memory.nodes =
+    All-weaker (IsNodeIn n m) P (node_more n m (n + 3) m (omega arith) (omega arith)) memory.nodes h.nodes in
     let fresh : All P (Leaf k ∷ Leaf (key_at memory l) ∷ new ∷ []) =
-    All-cons P (Leaf k) (Leaf (key_at memory l) ∷ new ∷ []) tt (All-cons P (Leaf (key_at memory l)) (new ∷ []) tt (All-cons P new [] (over_in (n + 3) m k (key_at memory l) n (n + 1) (omega arith) (omega arith)) (All-nil P))) in
+    All-cons P (Leaf k) (Leaf (key_at memory l) ∷ new ∷ []) tt
+    (All-cons P (Leaf (key_at memory l)) (new ∷ []) tt
+    (All-cons P new [] (over_in (n + 3) m k (key_at memory l) n (n + 1) (omega arith) (omega arith))
+    (All-nil P))) in
     let both = All-append P memory.nodes (Leaf k ∷ Leaf (key_at memory l) ∷ new ∷ []) old fresh in
-    let records = All-weaker (IsRecordIn n m) (IsRecordIn (n + 3) m) (record_more n m (n + 3) m (omega arith) (omega arith)) memory.records h.records in
+    let records =
+    All-weaker (IsRecordIn n m) (IsRecordIn (n + 3) m) (record_more n m (n + 3) m (omega arith) (omega arith))
+    memory.records h.records in
     record {
       root = subst (λ c. 0 < c) (sym same) (omega arith);
       nodes = subst (λ c. All (IsNodeIn c m) (with_internal memory k l).nodes) (sym same) both;
@@ -294,13 +368,18 @@ with_internal_in memory k l h =
 pub one_more : (memory : EllenMem) (new : Record) → length (add_record memory new).records ≡ length memory.records + 1
 one_more memory new = length-append memory.records (new ∷ [])
 
-pub add_record_in : (memory : EllenMem) (new : Record) → IsInRange memory → IsRecordIn (length memory.nodes) (length memory.records + 1) new → IsInRange (add_record memory new)
+pub add_record_in : (memory : EllenMem) (new : Record) → IsInRange memory
+    → IsRecordIn (length memory.nodes) (length memory.records + 1) new → IsInRange (add_record memory new)
 add_record_in memory new h k =
     let n = length memory.nodes in
     let m = length memory.records in
     let same : length (add_record memory new).records ≡ m + 1 = one_more memory new in
-    let nodes = All-weaker (IsNodeIn n m) (IsNodeIn n (m + 1)) (node_more n m n (m + 1) (omega arith) (omega arith)) memory.nodes h.nodes in
-    let old = All-weaker (IsRecordIn n m) (IsRecordIn n (m + 1)) (record_more n m n (m + 1) (omega arith) (omega arith)) memory.records h.records in
+    let nodes =
+    All-weaker (IsNodeIn n m) (IsNodeIn n (m + 1)) (node_more n m n (m + 1) (omega arith) (omega arith))
+    memory.nodes h.nodes in
+    let old =
+    All-weaker (IsRecordIn n m) (IsRecordIn n (m + 1)) (record_more n m n (m + 1) (omega arith) (omega arith))
+    memory.records h.records in
     let records = All-push (IsRecordIn n (m + 1)) memory.records new old k in
     record {
       root = h.root;

@@ -20,15 +20,22 @@ use Rattle.ellen.specs.declared.place.EllenLoc.TheVariants.{Search, Help}
 use Rattle.ellen.specs.declared.place.SearchLoc.{SearchLoc}
 use Rattle.ellen.specs.declared.place.SearchLoc.TheVariants.{Update, Child, IFlag, InsOnly, DFlag}
 use Rattle.ellen.specs.declared.place.HelpLoc.{HelpLoc}
-use Rattle.ellen.specs.declared.place.HelpLoc.TheVariants.{InsChild, InsClean, Mark, Right, Other, Splice, DelClean, Back}
+use Rattle.ellen.specs.declared.place.HelpLoc.TheVariants.{InsChild, InsClean, Mark, Right, Other, Splice, DelClean}
+use Rattle.ellen.specs.declared.place.HelpLoc.TheVariants.{Back}
 use Rattle.ellen.specs.declared.machine.Ellen.{Ellen}
 use Rattle.ellen.specs.Memory.{is_word, node_at, with_internal, new_internal, add_record}
-use Rattle.ellen.specs.Table.{exchange_update, exchange_child, first_place, with_base, awaiting, returned, marking, help, help_first, search_act, help_act, act}
+use Rattle.ellen.specs.Table.{exchange_update, exchange_child, first_place, with_base, awaiting, returned, marking}
+use Rattle.ellen.specs.Table.{help, help_first, search_act, help_act, act}
 use Rattle.ellen.specs.Range.{IsWordIn, IsResumeIn, IsSearchIn, IsHelpIn, IsInRange, IsPlaceInRange}
-use Rattle.ellen.specs.Laws.Range.{word_more, IsOutcomeIn, returned_in, marking_in, help_in, help_first_in, either, arrived_in, read_update_kept, read_child_kept, with_insert_kept, with_delete_kept, exchange_update_kept, exchange_child_kept, one_more, add_record_in, IsKept, three_more, with_internal_in}
+use Rattle.ellen.specs.Laws.Range.{word_more, IsOutcomeIn, returned_in, marking_in, help_in, help_first_in, either}
+use Rattle.ellen.specs.Laws.Range.{arrived_in, read_update_kept, read_child_kept, with_insert_kept, with_delete_kept}
+use Rattle.ellen.specs.Laws.Range.{exchange_update_kept, exchange_child_kept, one_more, add_record_in, IsKept}
+use Rattle.ellen.specs.Laws.Range.{three_more, with_internal_in}
 
 module _ (machine : Ellen) (op : Op) (memory : EllenMem) (h : IsInRange memory) where
-  insert_flag_kept : (p : ℕ) (u : UpdateWord) (l : ℕ) → IsSearchIn (length memory.nodes) (length memory.records) (IFlag p u l) → IsKept memory (search_act machine op (IFlag p u l) memory)
+  insert_flag_kept : (p : ℕ) (u : UpdateWord) (l : ℕ)
+      → IsSearchIn (length memory.nodes) (length memory.records) (IFlag p u l)
+      → IsKept memory (search_act machine op (IFlag p u l) memory)
   insert_flag_kept p u l at =
       let n = length memory.nodes in
       let m = length memory.records in
@@ -40,17 +47,22 @@ module _ (machine : Ellen) (op : Op) (memory : EllenMem) (h : IsInRange memory) 
       let more : length appended.nodes ≡ n + 3 = three_more memory (key_of op) l in
       let one : length appended.records ≡ m + 1 = one_more nodes new in
       let below : m < length appended.records = omega arith in
-      let in_range : IsInRange appended = add_record_in nodes new (with_internal_in memory (key_of op) l h) (omega arith, omega arith, omega arith) in
-      exchange_update_kept memory h appended (omega arith) (omega arith) in_range p u (word.InsertFlag m) (Goes (Help (InsChild m) (with_base base.Insert))) (λ w. help_first machine w)
+      let in_range : IsInRange appended =
+      add_record_in nodes new (with_internal_in memory (key_of op) l h) (omega arith, omega arith, omega arith) in
+      exchange_update_kept memory h appended (omega arith) (omega arith) in_range p u (word.InsertFlag m)
+      (Goes (Help (InsChild m) (with_base base.Insert))) (λ w. help_first machine w)
       below (below, All-nil (λ r. r < length appended.records)) (λ w k. help_first_in n m h.root machine w k)
 
   insert_only_kept : (p l : ℕ) → IsKept memory (search_act machine op (InsOnly p l) memory)
   insert_only_kept p l =
       let more = three_more memory (key_of op) l in
-      exchange_child_kept memory h (with_internal memory (key_of op) l) (omega arith) (omega arith) (with_internal_in memory (key_of op) l h) p l (new_internal memory) (Replies true) (Goes first_place)
+      exchange_child_kept memory h (with_internal memory (key_of op) l) (omega arith) (omega arith)
+      (with_internal_in memory (key_of op) l h) p l (new_internal memory) (Replies true) (Goes first_place)
       (omega arith) tt (tt, h.root)
 
-  delete_flag_kept : (above : Above) (p : ℕ) (u : UpdateWord) (l : ℕ) → IsSearchIn (length memory.nodes) (length memory.records) (DFlag above p u l) → IsKept memory (search_act machine op (DFlag above p u l) memory)
+  delete_flag_kept : (above : Above) (p : ℕ) (u : UpdateWord) (l : ℕ)
+      → IsSearchIn (length memory.nodes) (length memory.records) (DFlag above p u l)
+      → IsKept memory (search_act machine op (DFlag above p u l) memory)
   delete_flag_kept above p u l at =
       let n = length memory.nodes in
       let m = length memory.records in
@@ -58,28 +70,38 @@ module _ (machine : Ellen) (op : Op) (memory : EllenMem) (h : IsInRange memory) 
       let appended = add_record memory new in
       let one : length appended.records ≡ m + 1 = one_more memory new in
       let below : m < length appended.records = omega arith in
-      let in_range : IsInRange appended = add_record_in memory new h (at.0.0, at.1, at.3, word_more m (m + 1) (omega arith) u at.2) in
-      exchange_update_kept memory h appended (omega arith) (omega arith) in_range above.node above.update (word.DeleteFlag m) (Goes (Help (marking machine m) (with_base base.Delete))) (λ w. help_first machine w)
-      below (marking_in n (length appended.records) h.root machine m below, All-nil (λ r. r < length appended.records)) (λ w k. help_first_in n m h.root machine w k)
+      let in_range : IsInRange appended =
+      add_record_in memory new h (at.0.0, at.1, at.3, word_more m (m + 1) (omega arith) u at.2) in
+      exchange_update_kept memory h appended (omega arith) (omega arith) in_range above.node above.update
+      (word.DeleteFlag m) (Goes (Help (marking machine m) (with_base base.Delete))) (λ w. help_first machine w)
+      below (marking_in n (length appended.records) h.root machine m below, All-nil (λ r. r < length appended.records))
+      (λ w k. help_first_in n m h.root machine w k)
 
-  search_kept : (at : SearchLoc) → IsSearchIn (length memory.nodes) (length memory.records) at → IsKept memory (search_act machine op at memory)
+  search_kept : (at : SearchLoc) → IsSearchIn (length memory.nodes) (length memory.records) at
+      → IsKept memory (search_act machine op at memory)
   search_kept (Update above p) at = read_update_kept memory h p _ (λ u w. (at.0, at.1, w))
   search_kept (Child above p u) at =
-      read_child_kept memory h p _ _ (λ c below. arrived_in (length memory.nodes) (length memory.records) h.root machine op above p u c (node_at memory c) at.0 at.1 at.2 below)
+      read_child_kept memory h p _ _
+      (λ c below. arrived_in (length memory.nodes) (length memory.records) h.root machine op above p u c
+      (node_at memory c) at.0 at.1 at.2 below)
   search_kept (IFlag p u l) at = insert_flag_kept p u l at
   search_kept (InsOnly p l) at = insert_only_kept p l
   search_kept (DFlag above p u l) at = delete_flag_kept above p u l at
 
-module _ (machine : Ellen) (memory : EllenMem) (h : IsInRange memory) (resume : Resume) (held : IsResumeIn (length memory.records) resume) where
+module _ (machine : Ellen) (memory : EllenMem) (h : IsInRange memory) (resume : Resume)
+    (held : IsResumeIn (length memory.records) resume) where
   -- an exchange that appends nothing
-  update_kept : (x : ℕ) (expected desired : UpdateWord) (success : Outcome EllenLoc) (failure : UpdateWord → Outcome EllenLoc)
+  update_kept : (x : ℕ) (expected desired : UpdateWord) (success : Outcome EllenLoc)
+      (failure : UpdateWord → Outcome EllenLoc)
       → IsWordIn (length memory.records) desired → IsOutcomeIn (length memory.nodes) (length memory.records) success
-      → ((w : UpdateWord) → IsWordIn (length memory.records) w → IsOutcomeIn (length memory.nodes) (length memory.records) (failure w))
+      → ((w : UpdateWord) → IsWordIn (length memory.records) w
+      → IsOutcomeIn (length memory.nodes) (length memory.records) (failure w))
       → IsKept memory (exchange_update memory x expected desired memory success failure)
   update_kept = exchange_update_kept memory h memory (omega arith) (omega arith) h
 
   child_kept : (x a b : ℕ) (success failure : Outcome EllenLoc)
-      → b < length memory.nodes → IsOutcomeIn (length memory.nodes) (length memory.records) success → IsOutcomeIn (length memory.nodes) (length memory.records) failure
+      → b < length memory.nodes → IsOutcomeIn (length memory.nodes) (length memory.records) success
+      → IsOutcomeIn (length memory.nodes) (length memory.records) failure
       → IsKept memory (exchange_child memory x a b memory success failure)
   child_kept = exchange_child_kept memory h memory (omega arith) (omega arith) h
 
@@ -91,33 +113,52 @@ module _ (machine : Ellen) (memory : EllenMem) (h : IsInRange memory) (resume : 
       let n = length memory.nodes in
       let m = length memory.records in
       with_delete_kept memory h r _ (λ d in_range.
-      update_kept d.parent d.parent_update (word.Mark r) (Goes (Help (Right r) resume)) (λ w. if is_word w (word.Mark r) then Goes (Help (Right r) resume) else help machine w (awaiting r resume))
+      update_kept d.parent d.parent_update (word.Mark r) (Goes (Help (Right r) resume))
+      (λ w. if is_word w (word.Mark r) then Goes (Help (Right r) resume) else help machine w (awaiting r resume))
       at (at, held)
-      (λ w k. either n m h.root (is_word w (word.Mark r)) (Goes (Help (Right r) resume)) (help machine w (awaiting r resume)) (at, held)
+      (λ w k. either n m h.root (is_word w (word.Mark r)) (Goes (Help (Right r) resume))
+      (help machine w (awaiting r resume)) (at, held)
       (help_in n m h.root machine w (awaiting r resume) k (All-push (λ s. s < m) resume.stack r held at))))
 
   right_kept : (r : ℕ) → r < length memory.records → IsKept memory (help_act machine (Right r) resume memory)
   right_kept r at =
       with_delete_kept memory h r _ (λ d in_range.
-      read_child_kept memory h d.parent side.Right (λ c. if nat_eq c d.leaf then Goes (Help (Other r side.Left) resume) else Goes (Help (Other r side.Right) resume))
-      (λ c below. either (length memory.nodes) (length memory.records) h.root (nat_eq c d.leaf) (Goes (Help (Other r side.Left) resume)) (Goes (Help (Other r side.Right) resume)) (at, held) (at, held)))
+      read_child_kept memory h d.parent side.Right
+      (λ c. if nat_eq c d.leaf then Goes (Help (Other r side.Left) resume) else Goes
+      (Help (Other r side.Right) resume))
+      (λ c below. either (length memory.nodes) (length memory.records) h.root (nat_eq c d.leaf)
+      (Goes (Help (Other r side.Left) resume)) (Goes (Help (Other r side.Right) resume)) (at, held) (at, held)))
 
-  help_kept : (at : HelpLoc) → IsHelpIn (length memory.nodes) (length memory.records) at → IsKept memory (help_act machine at resume memory)
+  help_kept : (at : HelpLoc) → IsHelpIn (length memory.nodes) (length memory.records) at
+      → IsKept memory (help_act machine at resume memory)
   help_kept (InsChild r) at =
-      with_insert_kept memory h r _ (λ i in_range. child_kept i.parent i.leaf i.new (Goes (Help (InsClean r) resume)) (Goes (Help (InsClean r) resume)) in_range.2 (at, held) (at, held))
+      with_insert_kept memory h r _
+      (λ i in_range. child_kept i.parent i.leaf i.new (Goes (Help (InsClean r) resume))
+      (Goes (Help (InsClean r) resume)) in_range.2 (at, held) (at, held))
   help_kept (InsClean r) at =
-      with_insert_kept memory h r _ (λ i in_range. update_kept i.parent (word.InsertFlag r) (word.Clean r) (returned true resume) (λ w. returned true resume) at (back_in true) (λ w k. back_in true))
+      with_insert_kept memory h r _
+      (λ i in_range. update_kept i.parent (word.InsertFlag r) (word.Clean r) (returned true resume)
+      (λ w. returned true resume) at (back_in true) (λ w k. back_in true))
   help_kept (Mark r) at = mark_kept r at
   help_kept (Right r) at = right_kept r at
   help_kept (Other r s) at =
-      with_delete_kept memory h r _ (λ d in_range. read_child_kept memory h d.parent s (λ o. Goes (Help (Splice r o) resume)) (λ o below. ((at, below), held)))
+      with_delete_kept memory h r _
+      (λ d in_range. read_child_kept memory h d.parent s (λ o. Goes (Help (Splice r o) resume))
+      (λ o below. ((at, below), held)))
   help_kept (Splice r o) at =
-      with_delete_kept memory h r _ (λ d in_range. child_kept d.grandparent d.parent o (Goes (Help (DelClean r) resume)) (Goes (Help (DelClean r) resume)) at.1 (at.0, held) (at.0, held))
+      with_delete_kept memory h r _
+      (λ d in_range. child_kept d.grandparent d.parent o (Goes (Help (DelClean r) resume))
+      (Goes (Help (DelClean r) resume)) at.1 (at.0, held) (at.0, held))
   help_kept (DelClean r) at =
-      with_delete_kept memory h r _ (λ d in_range. update_kept d.grandparent (word.DeleteFlag r) (word.Clean r) (returned true resume) (λ w. returned true resume) at (back_in true) (λ w k. back_in true))
+      with_delete_kept memory h r _
+      (λ d in_range. update_kept d.grandparent (word.DeleteFlag r) (word.Clean r) (returned true resume)
+      (λ w. returned true resume) at (back_in true) (λ w k. back_in true))
   help_kept (Back r) at =
-      with_delete_kept memory h r _ (λ d in_range. update_kept d.grandparent (word.DeleteFlag r) (word.Clean r) (returned false resume) (λ w. returned false resume) at (back_in false) (λ w k. back_in false))
+      with_delete_kept memory h r _
+      (λ d in_range. update_kept d.grandparent (word.DeleteFlag r) (word.Clean r) (returned false resume)
+      (λ w. returned false resume) at (back_in false) (λ w k. back_in false))
 
-pub act_kept : (machine : Ellen) (op : Op) (memory : EllenMem) → IsInRange memory → (place : EllenLoc) → IsPlaceInRange memory place → IsKept memory (act machine op place memory)
+pub act_kept : (machine : Ellen) (op : Op) (memory : EllenMem) → IsInRange memory → (place : EllenLoc)
+    → IsPlaceInRange memory place → IsKept memory (act machine op place memory)
 act_kept machine op memory h (Search at) in_range = search_kept machine op memory h at in_range
 act_kept machine op memory h (Help at resume) in_range = help_kept machine memory h resume in_range.1 at in_range.0

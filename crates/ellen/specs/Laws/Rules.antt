@@ -15,7 +15,9 @@ ellen_lawful machine = record {
   first_in_range = λ op memory h. (tt, h.root);
   act_in_range = λ op place memory h at. (act_kept machine op memory h place at).memory_in;
   outcome_in_range = λ op place memory h at. (act_kept machine op memory h place at).outcome_in;
-  others_in_range = λ op place other memory h at held. let kept = act_kept machine op memory h place at in place_more _ _ _ _ kept.nodes kept.records other held;
+  others_in_range =
+      λ op place other memory h at held. let kept = act_kept machine op memory h place at in
+      place_more _ _ _ _ kept.nodes kept.records other held;
   astray_unchanged = astray_unchanged machine;
   pairs_lawful = ellen_pairs_lawful machine;
 }

@@ -12,7 +12,8 @@ use Rattle.natmit.specs.contracts.place.NatMitLocPartialEq.TheImpl.{eq-value as 
 use Rattle.natmit.specs.contracts.machine.NatMitPartialEq.TheImpl.{eq-value as machine_eq}
 use Rattle.natmit.specs.declared.memory.Node.TheVariants.{Leaf, Internal}
 use Rattle.natmit.specs.declared.place.Mode.TheVariants.{Plain, Owner}
-use Rattle.natmit.specs.declared.place.NatMitLoc.TheVariants.{Begin, Down, Put, Flag, Look, CleanRead, Tag, Sibling, Swing}
+use Rattle.natmit.specs.declared.place.NatMitLoc.TheVariants.{Begin, Down, Put, Flag, Look, CleanRead, Tag, Sibling}
+use Rattle.natmit.specs.declared.place.NatMitLoc.TheVariants.{Swing}
 
 pub word_exact : IsExact word_eq.it
 word_exact a b h =
@@ -36,7 +37,8 @@ node_exact (Internal k l r) (Internal j m s) h =
     cc
 
 pub memory_exact : IsExact memory_eq.it
-memory_exact a b h = let nodes : a.nodes ≡ b.nodes = list_exact node_exact a.nodes b.nodes h in λ i. record { nodes = nodes i }
+memory_exact a b h = let nodes : a.nodes ≡ b.nodes = list_exact node_exact a.nodes b.nodes h in
+    λ i. record { nodes = nodes i }
 
 pub mode_exact : IsExact mode_eq.it
 mode_exact Plain Plain h = refl

@@ -15,12 +15,16 @@ use Rattle.natmit.specs.NatMitRules.{natmit_rules}
 use Rattle.natmit.specs.Laws.Parts.{parts_exactly}
 use Rattle.natmit.specs.Laws.PartsRange.{parts_in_range}
 
-forms_exact : (memory other : NatMitMem) (held others : List (Option NatMitLoc)) → IsInRange memory → All (λ place. IfSome place (IsPlaceInRange memory)) held
+forms_exact : (memory other : NatMitMem) (held others : List (Option NatMitLoc)) → IsInRange memory
+    → All (λ place. IfSome place (IsPlaceInRange memory)) held
     → IsInRange other → All (λ place. IfSome place (IsPlaceInRange other)) others → length held ≡ length others
     → (natmit_form memory held ≡ natmit_form other others) ↔ AreAlike natmit_pairs memory held other others
 forms_exact memory other held others h places k other_places same =
-    let lengths : length (map held_part held) ≡ length (map held_part others) = length-map held held_part ∙ (same ∙ sym (length-map others held_part)) in
-    let exact = flat_forms_exact 2 (natmit_parts memory held) (natmit_parts other others) (parts_in_range memory held h places) (parts_in_range other others k other_places) lengths in
+    let lengths : length (map held_part held) ≡ length (map held_part others) =
+    length-map held held_part ∙ (same ∙ sym (length-map others held_part)) in
+    let exact =
+    flat_forms_exact 2 (natmit_parts memory held) (natmit_parts other others) (parts_in_range memory held h places)
+    (parts_in_range other others k other_places) lengths in
     let alike = parts_exactly memory other held others in
     ((λ e. alike.0 (exact.0 e)), (λ a. exact.1 (alike.1 a)))
 

@@ -1,5 +1,6 @@
 -- What is read of paired memories is paired, and each kind of access keeps a pairing.
-use Rattle.std.specs.Prelude.{◌≡◌, ℕ, ◌<◌, true, false, not, ◌&&◌, if◌then◌else◌, nat_eq, length, refl, Option, Some, None, unwrap_or, Bool}
+use Rattle.std.specs.Prelude.{◌≡◌, ℕ, ◌<◌, true, false, not, ◌&&◌, if◌then◌else◌, nat_eq, length, refl, Option, Some}
+use Rattle.std.specs.Prelude.{None, unwrap_or, Bool}
 use Rattle.std.proofs.Common.{sym, ◌∙◌, ap, subst, inl, inr}
 use Rattle.std.proofs.lemmas.Bool.Decides.{eqb_tells}
 use Rattle.std.proofs.lemmas.List.{length-set}
@@ -39,7 +40,8 @@ module _ (P : ℕ → ℕ → Type 0) where
   word_paired Right (Internal k l r) (Internal j m s) h = h.2
   word_paired _ _ _ h = absurd h
 
-  with_word_paired : (d : Side) (v w : Word) (a b : Node) → AreNodesPaired P a b → AreWordsPaired P v w → AreNodesPaired P (with_word d v a) (with_word d w b)
+  with_word_paired : (d : Side) (v w : Word) (a b : Node) → AreNodesPaired P a b → AreWordsPaired P v w
+      → AreNodesPaired P (with_word d v a) (with_word d w b)
   with_word_paired d v w (Leaf k) (Leaf j) h g = h
   with_word_paired Left v w (Internal k l r) (Internal j m s) h g = (h.0, g, h.2)
   with_word_paired Right v w (Internal k l r) (Internal j m s) h g = (h.0, h.1, g)
@@ -67,18 +69,21 @@ module _ (P : ℕ → ℕ → Type 0) where
 node_set_same : (memory : NatMitMem) (x : ℕ) (a : Node) → x < length memory.nodes → node_at (set_node memory x a) x ≡ a
 node_set_same memory x a h = ap (λ o. unwrap_or o (Leaf 0)) (get-set_same memory.nodes x a h)
 
-node_set_other : (memory : NatMitMem) (x y : ℕ) (a : Node) → (y ≡ x → ⊥) → node_at (set_node memory x a) y ≡ node_at memory y
+node_set_other : (memory : NatMitMem) (x y : ℕ) (a : Node) → (y ≡ x → ⊥)
+    → node_at (set_node memory x a) y ≡ node_at memory y
 node_set_other memory x y a h = ap (λ o. unwrap_or o (Leaf 0)) (get-set_other memory.nodes x y a h)
 
 module _ (P : ℕ → ℕ → Type 0) (memory twin : NatMitMem) (h : AreMemoriesPaired P memory twin) where
   pub side_paired : (k x y : ℕ) → P x y → side_at k memory x ≡ side_at k twin y
   side_paired k x y p = ap (side_of k) (key_paired P (node_at memory x) (node_at twin y) (h.nodes_paired x y p))
 
-  pub reads_paired : (d : Side) (x y : ℕ) → P x y → AreReadsPaired P (word_on d (node_at memory x)) (word_on d (node_at twin y))
+  pub reads_paired : (d : Side) (x y : ℕ) → P x y
+      → AreReadsPaired P (word_on d (node_at memory x)) (word_on d (node_at twin y))
   reads_paired d x y p = word_paired P d (node_at memory x) (node_at twin y) (h.nodes_paired x y p)
 
   -- paired nodes are exchanged for paired nodes
-  set_paired : (x y : ℕ) (a b : Node) → P x y → AreNodesPaired P a b → AreMemoriesPaired P (set_node memory x a) (set_node twin y b)
+  set_paired : (x y : ℕ) (a b : Node) → P x y → AreNodesPaired P a b
+      → AreMemoriesPaired P (set_node memory x a) (set_node twin y b)
   set_paired x y a b p g = record {
     one_to_one = h.one_to_one;
     root_paired = h.root_paired;
@@ -93,19 +98,25 @@ module _ (P : ℕ → ℕ → Type 0) (memory twin : NatMitMem) (h : AreMemories
     ];
   }
     where
-      same : (v w : ℕ) → v ≡ x → w ≡ y → AreNodesPaired P (node_at (set_node memory x a) v) (node_at (set_node twin y b) w)
+      same : (v w : ℕ) → v ≡ x → w ≡ y → AreNodesPaired P (node_at (set_node memory x a) v)
+          (node_at (set_node twin y b) w)
       same v w e f =
           let r = h.in_range x y p in
-          let left : node_at (set_node memory x a) v ≡ a = ap (node_at (set_node memory x a)) e ∙ node_set_same memory x a r.0 in
-          let right : node_at (set_node twin y b) w ≡ b = ap (node_at (set_node twin y b)) f ∙ node_set_same twin y b r.1 in
-          subst (λ n. AreNodesPaired P n (node_at (set_node twin y b) w)) (sym left) (subst (AreNodesPaired P a) (sym right) g)
+          let left : node_at (set_node memory x a) v ≡ a =
+          ap (node_at (set_node memory x a)) e ∙ node_set_same memory x a r.0 in
+          let right : node_at (set_node twin y b) w ≡ b =
+          ap (node_at (set_node twin y b)) f ∙ node_set_same twin y b r.1 in
+          subst (λ n. AreNodesPaired P n (node_at (set_node twin y b) w)) (sym left)
+          (subst (AreNodesPaired P a) (sym right) g)
 
-      other : (v w : ℕ) → P v w → (v ≡ x → ⊥) → (w ≡ y → ⊥) → AreNodesPaired P (node_at (set_node memory x a) v) (node_at (set_node twin y b) w)
+      other : (v w : ℕ) → P v w → (v ≡ x → ⊥) → (w ≡ y → ⊥)
+          → AreNodesPaired P (node_at (set_node memory x a) v) (node_at (set_node twin y b) w)
       other v w q e f =
           subst (λ n. AreNodesPaired P n (node_at (set_node twin y b) w)) (sym (node_set_other memory x v a e))
           (subst (AreNodesPaired P (node_at memory v)) (sym (node_set_other twin y w b f)) (h.nodes_paired v w q))
 
-  pub set_word_paired : (x y : ℕ) (d : Side) (v w : Word) → P x y → AreWordsPaired P v w → AreMemoriesPaired P (set_word memory x d v) (set_word twin y d w)
+  pub set_word_paired : (x y : ℕ) (d : Side) (v w : Word) → P x y → AreWordsPaired P v w
+      → AreMemoriesPaired P (set_word memory x d v) (set_word twin y d w)
   set_word_paired x y d v w p g =
       set_paired x y (with_word d v (node_at memory x)) (with_word d w (node_at twin y)) p
       (with_word_paired P d v w (node_at memory x) (node_at twin y) (h.nodes_paired x y p) g)
@@ -128,47 +139,74 @@ module _ (p : Pairing) (memory twin : NatMitMem) (h : AreMemoriesPaired (IsAmong
   stays : (o q : Outcome NatMitLoc) → AreGoingAlike P o q → AreAccessesPaired (memory, o) (twin, q)
   stays o q g = record { then = p; extends = kept; memories_paired = h; outcomes_paired = g }
 
-  found_paired : (v w : Option Word) (f g : Word → After) → AreReadsPaired P v w → ((v w : Word) → AreWordsPaired P v w → AreAccessesPaired (f v) (g w)) → AreAccessesPaired (found memory v f) (found twin w g)
+  found_paired : (v w : Option Word) (f g : Word → After) → AreReadsPaired P v w
+      → ((v w : Word) → AreWordsPaired P v w → AreAccessesPaired (f v) (g w))
+      → AreAccessesPaired (found memory v f) (found twin w g)
   found_paired None None f g r both = stays Astray Astray tt
   found_paired (Some v) (Some w) f g r both = both v w r
   found_paired _ _ f g r both = absurd r
 
   -- the words of paired nodes on one side
-  at_paired : (x y : ℕ) (d e : Side) → P x y → d ≡ e → AreReadsPaired P (word_on d (node_at memory x)) (word_on e (node_at twin y))
-  at_paired x y d e at same = subst (λ z. AreReadsPaired P (word_on d (node_at memory x)) (word_on z (node_at twin y))) same (reads_paired P memory twin h d x y at)
+  at_paired : (x y : ℕ) (d e : Side) → P x y → d ≡ e
+      → AreReadsPaired P (word_on d (node_at memory x)) (word_on e (node_at twin y))
+  at_paired x y d e at same =
+      subst (λ z. AreReadsPaired P (word_on d (node_at memory x)) (word_on z (node_at twin y))) same
+      (reads_paired P memory twin h d x y at)
 
-  pub read_keeps : (x y : ℕ) (d e : Side) (f g : Word → Outcome NatMitLoc) → P x y → d ≡ e → ((v w : Word) → AreWordsPaired P v w → AreGoingAlike P (f v) (g w))
+  pub read_keeps : (x y : ℕ) (d e : Side) (f g : Word → Outcome NatMitLoc) → P x y → d ≡ e
+      → ((v w : Word) → AreWordsPaired P v w → AreGoingAlike P (f v) (g w))
       → AreAccessesPaired (after_read memory x d f) (after_read twin y e g)
   read_keeps x y d e f g at same both =
-      found_paired (word_on d (node_at memory x)) (word_on e (node_at twin y)) (λ w. (memory, f w)) (λ w. (twin, g w)) (at_paired x y d e at same)
+      found_paired (word_on d (node_at memory x)) (word_on e (node_at twin y)) (λ w. (memory, f w)) (λ w. (twin, g w))
+      (at_paired x y d e at same)
       (λ v w r. stays (f v) (g w) (both v w r))
 
   -- what is written may name new nodes, which further pairs then pair
-  written : (q : Pairing) → Extends p q → (grown grown_twin : NatMitMem) → AreMemoriesPaired (IsAmong q.nodes) grown grown_twin → (x y : ℕ) (d e : Side) (v w : Word) (o r : Outcome NatMitLoc)
-      → P x y → d ≡ e → AreWordsPaired (IsAmong q.nodes) v w → AreGoingAlike (IsAmong q.nodes) o r → AreAccessesPaired (set_word grown x d v, o) (set_word grown_twin y e w, r)
+  written : (q : Pairing) → Extends p q → (grown grown_twin : NatMitMem)
+      → AreMemoriesPaired (IsAmong q.nodes) grown grown_twin
+      → (x y : ℕ) (d e : Side) (v w : Word) (o r : Outcome NatMitLoc)
+      → P x y → d ≡ e → AreWordsPaired (IsAmong q.nodes) v w → AreGoingAlike (IsAmong q.nodes) o r
+      → AreAccessesPaired (set_word grown x d v, o) (set_word grown_twin y e w, r)
   written q more grown grown_twin k x y d e v w o r at same words goes = record {
     then = q;
     extends = more;
-    memories_paired = subst (λ z. AreMemoriesPaired (IsAmong q.nodes) (set_word grown x d v) (set_word grown_twin y z w)) same (set_word_paired (IsAmong q.nodes) grown grown_twin k x y d v w (more.nodes x y at) words);
+    memories_paired =
+        subst (λ z. AreMemoriesPaired (IsAmong q.nodes) (set_word grown x d v) (set_word grown_twin y z w)) same
+        (set_word_paired (IsAmong q.nodes) grown grown_twin k x y d v w (more.nodes x y at) words);
     outcomes_paired = goes;
   }
 
-  pub exchange_keeps : (q : Pairing) → Extends p q → (grown grown_twin : NatMitMem) → AreMemoriesPaired (IsAmong q.nodes) grown grown_twin → (x y : ℕ) (d e : Side) (l k : ℕ) (desired desired_twin : Word) (success failure success_twin failure_twin : Outcome NatMitLoc)
-      → P x y → d ≡ e → P l k → AreWordsPaired (IsAmong q.nodes) desired desired_twin → AreGoingAlike (IsAmong q.nodes) success success_twin → AreGoingAlike P failure failure_twin
-      → AreAccessesPaired (after_exchange memory x d l grown desired success failure) (after_exchange twin y e k grown_twin desired_twin success_twin failure_twin)
-  exchange_keeps q more grown grown_twin grow x y d e l k desired desired_twin success failure success_twin failure_twin at same expected words won lost =
+  pub exchange_keeps : (q : Pairing) → Extends p q → (grown grown_twin : NatMitMem)
+      → AreMemoriesPaired (IsAmong q.nodes) grown grown_twin
+      → (x y : ℕ) (d e : Side) (l k : ℕ) (desired desired_twin : Word)
+      (success failure success_twin failure_twin : Outcome NatMitLoc)
+      → P x y → d ≡ e → P l k → AreWordsPaired (IsAmong q.nodes) desired desired_twin
+      → AreGoingAlike (IsAmong q.nodes) success success_twin → AreGoingAlike P failure failure_twin
+      → AreAccessesPaired (after_exchange memory x d l grown desired success failure)
+      (after_exchange twin y e k grown_twin desired_twin success_twin failure_twin)
+  exchange_keeps q more grown grown_twin grow x y d e l k desired desired_twin success failure success_twin failure_twin
+      at same expected words won lost =
       found_paired (word_on d (node_at memory x)) (word_on e (node_at twin y))
-      (λ w. if is_plain l w then (set_word grown x d desired, success) else (memory, failure)) (λ w. if is_plain k w then (set_word grown_twin y e desired_twin, success_twin) else (twin, failure_twin))
-      (at_paired x y d e at same) (λ v w r. either (is_plain l v) (is_plain k w) (plain_paired P h.one_to_one l k v w expected r))
+      (λ w. if is_plain l w then (set_word grown x d desired, success) else (memory, failure))
+      (λ w. if is_plain k w then (set_word grown_twin y e desired_twin, success_twin) else (twin, failure_twin))
+      (at_paired x y d e at same)
+      (λ v w r. either (is_plain l v) (is_plain k w) (plain_paired P h.one_to_one l k v w expected r))
     where
-      either : (b c : Bool) → b ≡ c → AreAccessesPaired (if b then (set_word grown x d desired, success) else (memory, failure)) (if c then (set_word grown_twin y e desired_twin, success_twin) else (twin, failure_twin))
-      either true true agree = written q more grown grown_twin grow x y d e desired desired_twin success success_twin at same words won
+      either : (b c : Bool) → b ≡ c
+          → AreAccessesPaired (if b then (set_word grown x d desired, success) else (memory, failure))
+          (if c then (set_word grown_twin y e desired_twin, success_twin) else (twin, failure_twin))
+      either true true agree =
+          written q more grown grown_twin grow x y d e desired desired_twin success success_twin at same words won
       either true false agree = cc
       either false true agree = cc
       either false false agree = stays failure failure_twin lost
 
-  pub tag_keeps : (x y : ℕ) (d e : Side) (goes goes_twin : Outcome NatMitLoc) → P x y → d ≡ e → AreGoingAlike P goes goes_twin → AreAccessesPaired (after_tag memory x d goes) (after_tag twin y e goes_twin)
+  pub tag_keeps : (x y : ℕ) (d e : Side) (goes goes_twin : Outcome NatMitLoc) → P x y → d ≡ e
+      → AreGoingAlike P goes goes_twin → AreAccessesPaired (after_tag memory x d goes) (after_tag twin y e goes_twin)
   tag_keeps x y d e goes goes_twin at same going =
       found_paired (word_on d (node_at memory x)) (word_on e (node_at twin y))
-      (λ w. (set_word memory x d (record { flag = w.flag; tag = true; node = w.node }), goes)) (λ w. (set_word twin y e (record { flag = w.flag; tag = true; node = w.node }), goes_twin)) (at_paired x y d e at same)
-      (λ v w r. written p kept memory twin h x y d e (record { flag = v.flag; tag = true; node = v.node }) (record { flag = w.flag; tag = true; node = w.node }) goes goes_twin at same (r.0, refl, r.2) going)
+      (λ w. (set_word memory x d (record { flag = w.flag; tag = true; node = w.node }), goes))
+      (λ w. (set_word twin y e (record { flag = w.flag; tag = true; node = w.node }), goes_twin))
+      (at_paired x y d e at same)
+      (λ v w r. written p kept memory twin h x y d e (record { flag = v.flag; tag = true; node = v.node })
+      (record { flag = w.flag; tag = true; node = w.node }) goes goes_twin at same (r.0, refl, r.2) going)

@@ -1,5 +1,5 @@
--- What the pairings of the machine owe: operations begin at paired places, more pairs pair the places that fewer do, of paired
--- memories both keep search order or neither does, and accesses of paired places keep a pairing.
+-- What the pairings of the machine owe: operations begin at paired places, more pairs pair the places that fewer do, of
+-- paired memories both keep search order or neither does, and accesses of paired places keep a pairing.
 use Rattle.std.specs.Prelude.{◌≡◌, ℕ, ◌<◌, length, Some, unwrap_or, ◌↔◌}
 use Rattle.std.proofs.Common.{sym, ◌∙◌, ap, subst}
 use Rattle.tree_machine.specs.SearchOrder.{KeepsSearchOrder}
@@ -25,12 +25,14 @@ module _ (p : Pairing) (memory twin : NatMitMem) (h : AreMemoriesPaired (IsAmong
   abbrev P : ℕ → ℕ → Type 0
   P = IsAmong p.nodes
 
-  shape_at : (memory : NatMitMem) (x : ℕ) → x < length memory.nodes → shapes memory x ≡ Some (shape_in (node_at memory x))
+  shape_at : (memory : NatMitMem) (x : ℕ) → x < length memory.nodes
+      → shapes memory x ≡ Some (shape_in (node_at memory x))
   shape_at memory x below =
       let t = get_at memory.nodes x below in
       ap (option_map shape_in) t.1 ∙ ap (λ o. Some (shape_in (unwrap_or o (Leaf 0)))) (sym t.1)
 
-  shapes_paired : (node node_twin : Node) → AreNodesPaired P node node_twin → AreShapesPaired P (Some (shape_in node)) (Some (shape_in node_twin))
+  shapes_paired : (node node_twin : Node) → AreNodesPaired P node node_twin
+      → AreShapesPaired P (Some (shape_in node)) (Some (shape_in node_twin))
   shapes_paired (Leaf k) (Leaf j) g = g
   shapes_paired (Internal k l r) (Internal j m s) g = (g.0, g.1.2, g.2.2)
   shapes_paired _ _ g = absurd g
@@ -39,14 +41,16 @@ module _ (p : Pairing) (memory twin : NatMitMem) (h : AreMemoriesPaired (IsAmong
   seen x y at =
       let within = h.in_range x y at in
       subst (λ shape. AreShapesPaired P shape (shapes twin y)) (sym (shape_at memory x within.0))
-      (subst (AreShapesPaired P (Some (shape_in (node_at memory x)))) (sym (shape_at twin y within.1)) (shapes_paired (node_at memory x) (node_at twin y) (h.nodes_paired x y at)))
+      (subst (AreShapesPaired P (Some (shape_in (node_at memory x)))) (sym (shape_at twin y within.1))
+      (shapes_paired (node_at memory x) (node_at twin y) (h.nodes_paired x y at)))
 
   ordered_paired : KeepsSearchOrder (shapes memory) ↔ KeepsSearchOrder (shapes twin)
   ordered_paired = search_order_paired P (shapes memory) (shapes twin) seen h.root_paired
 
 -- ---- what the machine owes
 
-pub natmit_pairs_lawful : (machine : NatMit) → ArePairsLawful natmit_pairs (λ _. Begin Plain) (act machine) (λ memory. KeepsSearchOrder (shapes memory))
+pub natmit_pairs_lawful : (machine : NatMit)
+    → ArePairsLawful natmit_pairs (λ _. Begin Plain) (act machine) (λ memory. KeepsSearchOrder (shapes memory))
 natmit_pairs_lawful machine = record {
   first_paired = λ op p memory twin h. tt;
   places_extend = λ p q place twin more g. places_extend (IsAmong p.nodes) (IsAmong q.nodes) more.nodes place twin g;

@@ -1,5 +1,6 @@
 -- Parts are paired exactly if the nodes and what the threads hold are.
-use Rattle.std.specs.Prelude.{◌≡◌, ℕ, zero, suc, ◌<◌, ◌↔◌, Bool, true, false, List, [], ◌∷◌, map, length, refl, Option, Some, None, unwrap_or}
+use Rattle.std.specs.Prelude.{◌≡◌, ℕ, zero, suc, ◌<◌, ◌↔◌, Bool, true, false, List, [], ◌∷◌, map, length, refl, Option}
+use Rattle.std.specs.Prelude.{Some, None, unwrap_or}
 use Rattle.std.specs.List.{AllZip}
 use Rattle.std.proofs.Common.{arith, sym, ◌∙◌, ap, subst}
 use Rattle.std.proofs.lemmas.List.{length-map}
@@ -15,7 +16,8 @@ use Rattle.natmit.specs.declared.memory.NatMitMem.{NatMitMem}
 use Rattle.natmit.specs.declared.place.Mode.{Mode}
 use Rattle.natmit.specs.declared.place.Mode.TheVariants.{Plain, Owner}
 use Rattle.natmit.specs.declared.place.NatMitLoc.{NatMitLoc}
-use Rattle.natmit.specs.declared.place.NatMitLoc.TheVariants.{Begin, Down, Put, Flag, Look, CleanRead, Tag, Sibling, Swing}
+use Rattle.natmit.specs.declared.place.NatMitLoc.TheVariants.{Begin, Down, Put, Flag, Look, CleanRead, Tag, Sibling}
+use Rattle.natmit.specs.declared.place.NatMitLoc.TheVariants.{Swing}
 use Rattle.natmit.specs.Memory.{node_at}
 use Rattle.natmit.specs.Pairs.{AreNodesPaired, AreModesPaired, ArePlacesPaired, AreMemoriesPaired, natmit_pairs}
 use Rattle.natmit.specs.Parts.{bit, side_number, owned, part_of, node_part, place_part, held_part, natmit_parts}
@@ -43,7 +45,11 @@ module _ (P R : ℕ → ℕ → Type 0) where
       let key : k ≡ j = h.0 in
       let left : (l.flag ≡ m.flag) × (l.tag ≡ m.tag) × P l.node m.node = h.1 in
       let right : (r.flag ≡ s.flag) × (r.tag ≡ s.tag) × P r.node s.node = h.2 in
-      record { facts = λ i. 1 ∷ key i ∷ bit (left.0 i) ∷ bit (left.1 i) ∷ bit (right.0 i) ∷ bit (right.1 i) ∷ []; nodes = (left.2, (right.2, tt)); records = tt }
+      record {
+        facts = λ i. 1 ∷ key i ∷ bit (left.0 i) ∷ bit (left.1 i) ∷ bit (right.0 i) ∷ bit (right.1 i) ∷ [];
+        nodes = (left.2, (right.2, tt));
+        records = tt;
+      }
   parts_of_nodes _ _ h = absurd h
 
   nodes_of_parts : (a b : Node) → ArePartsPaired P R (node_part a) (node_part b) → AreNodesPaired P a b
@@ -66,26 +72,54 @@ module _ (P R : ℕ → ℕ → Type 0) where
   modes_paired (Owner x) (Owner y) h = h
   modes_paired _ _ h = absurd h
 
-  parts_of_places : (place twin : NatMitLoc) → ArePlacesPaired P place twin → ArePartsPaired P R (place_part place) (place_part twin)
+  parts_of_places : (place twin : NatMitLoc) → ArePlacesPaired P place twin
+      → ArePartsPaired P R (place_part place) (place_part twin)
   parts_of_places (Begin m) (Begin o) h = record { facts = refl; nodes = (owned_paired m o h, tt); records = tt }
-  parts_of_places (Down a s p l t m) (Down b u q k v o) h = record { facts = ap (λ c. 2 ∷ bit c ∷ []) h.4; nodes = (h.0, (h.1, (h.2, (h.3, (owned_paired m o h.5, tt))))); records = tt }
-  parts_of_places (Put a s p l) (Put b u q k) h = record { facts = refl; nodes = (h.0, (h.1, (h.2, (h.3, tt)))); records = tt }
-  parts_of_places (Flag a s p l) (Flag b u q k) h = record { facts = refl; nodes = (h.0, (h.1, (h.2, (h.3, tt)))); records = tt }
-  parts_of_places (Look a s p l) (Look b u q k) h = record { facts = refl; nodes = (h.0, (h.1, (h.2, (h.3, tt)))); records = tt }
-  parts_of_places (CleanRead a s p m) (CleanRead b u q o) h = record { facts = refl; nodes = (h.0, (h.1, (h.2, (owned_paired m o h.3, tt)))); records = tt }
-  parts_of_places (Tag a s p d m) (Tag b u q e o) h = record { facts = ap (λ c. 7 ∷ side_number c ∷ []) h.3; nodes = (h.0, (h.1, (h.2, (owned_paired m o h.4, tt)))); records = tt }
-  parts_of_places (Sibling a s p d m) (Sibling b u q e o) h = record { facts = ap (λ c. 8 ∷ side_number c ∷ []) h.3; nodes = (h.0, (h.1, (h.2, (owned_paired m o h.4, tt)))); records = tt }
-  parts_of_places (Swing a s f x m) (Swing b u g y o) h = record { facts = ap (λ c. 9 ∷ bit c ∷ []) h.2; nodes = (h.0, (h.1, (h.3, (owned_paired m o h.4, tt)))); records = tt }
+  parts_of_places (Down a s p l t m) (Down b u q k v o) h =
+      record {
+        facts = ap (λ c. 2 ∷ bit c ∷ []) h.4;
+        nodes = (h.0, (h.1, (h.2, (h.3, (owned_paired m o h.5, tt)))));
+        records = tt;
+      }
+  parts_of_places (Put a s p l) (Put b u q k) h =
+      record { facts = refl; nodes = (h.0, (h.1, (h.2, (h.3, tt)))); records = tt }
+  parts_of_places (Flag a s p l) (Flag b u q k) h =
+      record { facts = refl; nodes = (h.0, (h.1, (h.2, (h.3, tt)))); records = tt }
+  parts_of_places (Look a s p l) (Look b u q k) h =
+      record { facts = refl; nodes = (h.0, (h.1, (h.2, (h.3, tt)))); records = tt }
+  parts_of_places (CleanRead a s p m) (CleanRead b u q o) h =
+      record { facts = refl; nodes = (h.0, (h.1, (h.2, (owned_paired m o h.3, tt)))); records = tt }
+  parts_of_places (Tag a s p d m) (Tag b u q e o) h =
+      record {
+        facts = ap (λ c. 7 ∷ side_number c ∷ []) h.3;
+        nodes = (h.0, (h.1, (h.2, (owned_paired m o h.4, tt))));
+        records = tt;
+      }
+  parts_of_places (Sibling a s p d m) (Sibling b u q e o) h =
+      record {
+        facts = ap (λ c. 8 ∷ side_number c ∷ []) h.3;
+        nodes = (h.0, (h.1, (h.2, (owned_paired m o h.4, tt))));
+        records = tt;
+      }
+  parts_of_places (Swing a s f x m) (Swing b u g y o) h =
+      record {
+        facts = ap (λ c. 9 ∷ bit c ∷ []) h.2;
+        nodes = (h.0, (h.1, (h.3, (owned_paired m o h.4, tt))));
+        records = tt;
+      }
   parts_of_places _ _ h = absurd h
 
-  places_of_parts : (place twin : NatMitLoc) → ArePartsPaired P R (place_part place) (place_part twin) → ArePlacesPaired P place twin
+  places_of_parts : (place twin : NatMitLoc) → ArePartsPaired P R (place_part place) (place_part twin)
+      → ArePlacesPaired P place twin
   places_of_parts (Begin m) (Begin o) h = modes_paired m o h.nodes.0
   places_of_parts (Down a s p l t m) (Down b u q k v o) h =
-      let f = h.facts in let n = h.nodes in (n.0, n.1.0, n.1.1.0, n.1.1.1.0, bit_tells t v cc, modes_paired m o n.1.1.1.1.0)
+      let f = h.facts in let n =
+      h.nodes in (n.0, n.1.0, n.1.1.0, n.1.1.1.0, bit_tells t v cc, modes_paired m o n.1.1.1.1.0)
   places_of_parts (Put a s p l) (Put b u q k) h = let n = h.nodes in (n.0, n.1.0, n.1.1.0, n.1.1.1.0)
   places_of_parts (Flag a s p l) (Flag b u q k) h = let n = h.nodes in (n.0, n.1.0, n.1.1.0, n.1.1.1.0)
   places_of_parts (Look a s p l) (Look b u q k) h = let n = h.nodes in (n.0, n.1.0, n.1.1.0, n.1.1.1.0)
-  places_of_parts (CleanRead a s p m) (CleanRead b u q o) h = let n = h.nodes in (n.0, n.1.0, n.1.1.0, modes_paired m o n.1.1.1.0)
+  places_of_parts (CleanRead a s p m) (CleanRead b u q o) h =
+      let n = h.nodes in (n.0, n.1.0, n.1.1.0, modes_paired m o n.1.1.1.0)
   places_of_parts (Tag a s p d m) (Tag b u q e o) h =
       let f = h.facts in let n = h.nodes in (n.0, n.1.0, n.1.1.0, side_tells d e cc, modes_paired m o n.1.1.1.0)
   places_of_parts (Sibling a s p d m) (Sibling b u q e o) h =
@@ -99,33 +133,40 @@ module _ (P R : ℕ → ℕ → Type 0) where
   never_idle (Begin m) e = cc
   never_idle _ e = cc
 
-  parts_of_held : (place twin : Option NatMitLoc) → AreHeldPaired (ArePlacesPaired P) place twin → ArePartsPaired P R (held_part place) (held_part twin)
+  parts_of_held : (place twin : Option NatMitLoc) → AreHeldPaired (ArePlacesPaired P) place twin
+      → ArePartsPaired P R (held_part place) (held_part twin)
   parts_of_held None None h = record { facts = refl; nodes = tt; records = tt }
   parts_of_held (Some place) (Some twin) h = parts_of_places place twin h
   parts_of_held _ _ h = absurd h
 
-  held_of_parts : (place twin : Option NatMitLoc) → ArePartsPaired P R (held_part place) (held_part twin) → AreHeldPaired (ArePlacesPaired P) place twin
+  held_of_parts : (place twin : Option NatMitLoc) → ArePartsPaired P R (held_part place) (held_part twin)
+      → AreHeldPaired (ArePlacesPaired P) place twin
   held_of_parts None None h = tt
   held_of_parts (Some place) (Some twin) h = places_of_parts place twin h
   held_of_parts None (Some twin) h = never_idle twin h.facts
   held_of_parts (Some place) None h = never_idle place (sym h.facts)
 
-  all_parts_of_held : (held twins : List (Option NatMitLoc)) → AllZip (AreHeldPaired (ArePlacesPaired P)) held twins → AllZip (ArePartsPaired P R) (map held_part held) (map held_part twins)
+  all_parts_of_held : (held twins : List (Option NatMitLoc)) → AllZip (AreHeldPaired (ArePlacesPaired P)) held twins
+      → AllZip (ArePartsPaired P R) (map held_part held) (map held_part twins)
   all_parts_of_held [] [] h = tt
   all_parts_of_held (place ∷ held) (twin ∷ twins) h = (parts_of_held place twin h.0, all_parts_of_held held twins h.1)
   all_parts_of_held _ _ h = absurd h
 
-  all_held_of_parts : (held twins : List (Option NatMitLoc)) → AllZip (ArePartsPaired P R) (map held_part held) (map held_part twins) → AllZip (AreHeldPaired (ArePlacesPaired P)) held twins
+  all_held_of_parts : (held twins : List (Option NatMitLoc))
+      → AllZip (ArePartsPaired P R) (map held_part held) (map held_part twins)
+      → AllZip (AreHeldPaired (ArePlacesPaired P)) held twins
   all_held_of_parts [] [] h = tt
   all_held_of_parts (place ∷ held) (twin ∷ twins) h = (held_of_parts place twin h.0, all_held_of_parts held twins h.1)
   all_held_of_parts _ _ h = absurd h
 
 -- ---- memories, and their parts
 
-part_of_node : (memory : NatMitMem) (x : ℕ) → x < length memory.nodes → part_at (map node_part memory.nodes) x ≡ node_part (node_at memory x)
+part_of_node : (memory : NatMitMem) (x : ℕ) → x < length memory.nodes
+    → part_at (map node_part memory.nodes) x ≡ node_part (node_at memory x)
 part_of_node memory x below =
     let t = get_at memory.nodes x below in
-    ap (λ o. unwrap_or o (part_of [] [])) (map-get node_part memory.nodes x t.0 t.1) ∙ ap (λ o. node_part (unwrap_or o (Leaf 0))) (sym t.1)
+    ap (λ o. unwrap_or o (part_of [] [])) (map-get node_part memory.nodes x t.0 t.1)
+    ∙ ap (λ o. node_part (unwrap_or o (Leaf 0))) (sym t.1)
 
 module _ (memory other : NatMitMem) (held others : List (Option NatMitLoc)) where
   abbrev here : Parts
@@ -135,13 +176,15 @@ module _ (memory other : NatMitMem) (held others : List (Option NatMitLoc)) wher
   there = natmit_parts other others
 
   nodes_are : (P R : ℕ → ℕ → Type 0) (x y : ℕ) → x < length memory.nodes → y < length other.nodes
-      → ArePartsPaired P R (node_part (node_at memory x)) (node_part (node_at other y)) → ArePartsPaired P R (part_at here.nodes x) (part_at there.nodes y)
+      → ArePartsPaired P R (node_part (node_at memory x)) (node_part (node_at other y))
+      → ArePartsPaired P R (part_at here.nodes x) (part_at there.nodes y)
   nodes_are P R x y below under h =
       subst (λ part. ArePartsPaired P R part (part_at there.nodes y)) (sym (part_of_node memory x below))
       (subst (ArePartsPaired P R (node_part (node_at memory x))) (sym (part_of_node other y under)) h)
 
   are_nodes : (P R : ℕ → ℕ → Type 0) (x y : ℕ) → x < length memory.nodes → y < length other.nodes
-      → ArePartsPaired P R (part_at here.nodes x) (part_at there.nodes y) → ArePartsPaired P R (node_part (node_at memory x)) (node_part (node_at other y))
+      → ArePartsPaired P R (part_at here.nodes x) (part_at there.nodes y)
+      → ArePartsPaired P R (node_part (node_at memory x)) (node_part (node_at other y))
   are_nodes P R x y below under h =
       subst (λ part. ArePartsPaired P R part (node_part (node_at other y))) (part_of_node memory x below)
       (subst (ArePartsPaired P R (part_at here.nodes x)) (part_of_node other y under) h)
@@ -151,11 +194,14 @@ module _ (memory other : NatMitMem) (held others : List (Option NatMitLoc)) wher
   first_paired P root begin (suc zero) below = begin
   first_paired P root begin (suc (suc x)) below = absurd (omega arith)
 
-  node_counts : (x y : ℕ) → (x < length here.nodes) × (y < length there.nodes) ↔ (x < length memory.nodes) × (y < length other.nodes)
+  node_counts : (x y : ℕ) → (x < length here.nodes) × (y < length there.nodes) ↔ (x < length memory.nodes)
+      × (y < length other.nodes)
   node_counts x y =
       let n : length here.nodes ≡ length memory.nodes = length-map memory.nodes node_part in
-      let m : length there.nodes ≡ length other.nodes = length-map other.nodes node_part in
-      ((λ r. let a = r.0 in let b = r.1 in (omega arith, omega arith)), (λ r. let a = r.0 in let b = r.1 in (omega arith, omega arith)))
+      let m : length there.nodes ≡ length other.nodes = length-map other.nodes node_part in (
+        (λ r. let a = r.0 in let b = r.1 in (omega arith, omega arith)),
+        (λ r. let a = r.0 in let b = r.1 in (omega arith, omega arith)),
+      )
 
   parts_alike : AreAlike natmit_pairs memory held other others → CanPartsBePaired 2 here there
   parts_alike alike =
@@ -170,7 +216,9 @@ module _ (memory other : NatMitMem) (held others : List (Option NatMitLoc)) wher
           fixed_paired = first_paired P h.root_paired h.begin_paired;
           nodes_in_range = λ x y at. (node_counts x y).1 (h.in_range x y at);
           records_in_range = λ x y none. absurd none;
-          nodes_paired = λ x y at. nodes_are P R x y (h.in_range x y at).0 (h.in_range x y at).1 (parts_of_nodes P R (node_at memory x) (node_at other y) (h.nodes_paired x y at));
+          nodes_paired =
+              λ x y at. nodes_are P R x y (h.in_range x y at).0 (h.in_range x y at).1
+              (parts_of_nodes P R (node_at memory x) (node_at other y) (h.nodes_paired x y at));
           records_paired = λ x y none. absurd none;
           held_paired = all_parts_of_held P R held others alike.2;
         },
@@ -181,14 +229,17 @@ module _ (memory other : NatMitMem) (held others : List (Option NatMitLoc)) wher
       let P = IsAmong paired.0 in
       let R = IsAmong paired.1 in
       let h : IsPartsPairing P R 2 here there = paired.2 in
-      let in_range : (x y : ℕ) → P x y → (x < length memory.nodes) × (y < length other.nodes) = λ x y at. (node_counts x y).0 (h.nodes_in_range x y at) in (
+      let in_range : (x y : ℕ) → P x y → (x < length memory.nodes) × (y < length other.nodes) =
+      λ x y at. (node_counts x y).0 (h.nodes_in_range x y at) in (
         record { nodes = paired.0; records = paired.1 },
         record {
           one_to_one = h.nodes_one_to_one;
           root_paired = h.fixed_paired 0 (omega arith);
           begin_paired = h.fixed_paired 1 (omega arith);
           in_range = in_range;
-          nodes_paired = λ x y at. nodes_of_parts P R (node_at memory x) (node_at other y) (are_nodes P R x y (in_range x y at).0 (in_range x y at).1 (h.nodes_paired x y at));
+          nodes_paired =
+              λ x y at. nodes_of_parts P R (node_at memory x) (node_at other y)
+              (are_nodes P R x y (in_range x y at).0 (in_range x y at).1 (h.nodes_paired x y at));
         },
         all_held_of_parts P R held others h.held_paired,
       )

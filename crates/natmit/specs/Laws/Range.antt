@@ -1,5 +1,6 @@
 -- Each kind of access keeps the numbers of nodes in range.
-use Rattle.std.specs.Prelude.{◌≡◌, ℕ, zero, suc, ◌+◌, ◌<◌, ◌≤◌, Bool, true, false, if◌then◌else◌, nat_eq, nat_lt, List, [], ◌∷◌, length, refl, Option, Some, None, unwrap_or, slice_get, slice_set, All}
+use Rattle.std.specs.Prelude.{◌≡◌, ℕ, zero, suc, ◌+◌, ◌<◌, ◌≤◌, Bool, true, false, if◌then◌else◌, nat_eq, nat_lt, List}
+use Rattle.std.specs.Prelude.{[], ◌∷◌, length, refl, Option, Some, None, unwrap_or, slice_get, slice_set, All}
 use Rattle.std.proofs.Common.{arith, sym, subst, length-append}
 use Rattle.std.proofs.lemmas.List.{length-set}
 use Rattle.std.proofs.lemmas.List.Elements.{All-nil, All-cons, All-head, All-tail, All-append, All-set, All-weaker}
@@ -16,9 +17,11 @@ use Rattle.natmit.specs.declared.memory.NatMitMem.{NatMitMem}
 use Rattle.natmit.specs.declared.place.Mode.{Mode}
 use Rattle.natmit.specs.declared.place.Mode.TheVariants.{Plain, Owner}
 use Rattle.natmit.specs.declared.place.NatMitLoc.{NatMitLoc}
-use Rattle.natmit.specs.declared.place.NatMitLoc.TheVariants.{Begin, Down, Put, Flag, Look, CleanRead, Tag, Sibling, Swing}
+use Rattle.natmit.specs.declared.place.NatMitLoc.TheVariants.{Begin, Down, Put, Flag, Look, CleanRead, Tag, Sibling}
+use Rattle.natmit.specs.declared.place.NatMitLoc.TheVariants.{Swing}
 use Rattle.natmit.specs.declared.machine.NatMit.{NatMit}
-use Rattle.natmit.specs.Memory.{plain, is_plain, word_on, with_word, node_at, key_at, set_node, set_word, internal_over, with_internal}
+use Rattle.natmit.specs.Memory.{plain, is_plain, word_on, with_word, node_at, key_at, set_node, set_word, internal_over}
+use Rattle.natmit.specs.Memory.{with_internal}
 use Rattle.natmit.specs.Table.{After, found, after_read, after_exchange, after_tag, arrived, tagging, swung}
 use Rattle.natmit.specs.Range.{IsNodeIn, IsModeIn, IsPlaceIn, IsInRange}
 
@@ -33,15 +36,19 @@ module _ (n more : ℕ) (le : n ≤ more) where
   mode_more Plain h = tt
   mode_more (Owner o) h = omega arith
 
-  three_and_mode : (a s p : ℕ) (mode : Mode) → (a < n) × (s < n) × (p < n) × IsModeIn n mode → (a < more) × (s < more) × (p < more) × IsModeIn more mode
-  three_and_mode a s p mode h = let x = h.0 in let y = h.1 in let z = h.2 in (omega arith, omega arith, omega arith, mode_more mode h.3)
+  three_and_mode : (a s p : ℕ) (mode : Mode) → (a < n) × (s < n) × (p < n) × IsModeIn n mode → (a < more) × (s < more)
+      × (p < more) × IsModeIn more mode
+  three_and_mode a s p mode h = let x = h.0 in let y = h.1 in
+      let z = h.2 in (omega arith, omega arith, omega arith, mode_more mode h.3)
 
   four : (a s p l : ℕ) → (a < n) × (s < n) × (p < n) × (l < n) → (a < more) × (s < more) × (p < more) × (l < more)
-  four a s p l h = let x = h.0 in let y = h.1 in let z = h.2 in let w = h.3 in (omega arith, omega arith, omega arith, omega arith)
+  four a s p l h = let x = h.0 in let y = h.1 in let z = h.2 in
+      let w = h.3 in (omega arith, omega arith, omega arith, omega arith)
 
   pub place_more : (place : NatMitLoc) → IsPlaceIn n place → IsPlaceIn more place
   place_more (Begin mode) h = mode_more mode h
-  place_more (Down a s p l t mode) h = let x = h.0 in let y = h.1 in let z = h.2 in let w = h.3 in (omega arith, omega arith, omega arith, omega arith, mode_more mode h.4)
+  place_more (Down a s p l t mode) h = let x = h.0 in let y = h.1 in let z = h.2 in
+      let w = h.3 in (omega arith, omega arith, omega arith, omega arith, mode_more mode h.4)
   place_more (Put a s p l) h = four a s p l h
   place_more (Flag a s p l) h = four a s p l h
   place_more (Look a s p l) h = four a s p l h
@@ -58,7 +65,8 @@ IsOutcomeIn n (Replies reply) = Unit {0}
 IsOutcomeIn n Astray = Unit {0}
 
 module _ (n : ℕ) where
-  pub either : (b : Bool) (first second : Outcome NatMitLoc) → IsOutcomeIn n first → IsOutcomeIn n second → IsOutcomeIn n (if b then first else second)
+  pub either : (b : Bool) (first second : Outcome NatMitLoc) → IsOutcomeIn n first → IsOutcomeIn n second
+      → IsOutcomeIn n (if b then first else second)
   either true first second h k = h
   either false first second h k = k
 
@@ -66,15 +74,25 @@ module _ (n : ℕ) where
   swung_in Plain = tt
   swung_in (Owner o) = tt
 
-  pub arrived_in : (op : Op) (a s p l : ℕ) (t : Bool) (mode : Mode) (node : Node) → a < n → s < n → p < n → l < n → IsModeIn n mode → IsOutcomeIn n (arrived op a s p l t mode node)
+  pub arrived_in : (op : Op) (a s p l : ℕ) (t : Bool) (mode : Mode) (node : Node) → a < n → s < n → p < n → l < n
+      → IsModeIn n mode → IsOutcomeIn n (arrived op a s p l t mode node)
   arrived_in op a s p l t mode (Internal j left right) x y z w h = (x, y, z, w, h)
   arrived_in (Find k) a s p l t mode (Leaf j) x y z w h = tt
-  arrived_in (Insert k) a s p l t mode (Leaf j) x y z w h = either (nat_eq j k) (Replies false) (Goes (Put a s p l)) tt (x, y, z, w)
-  arrived_in (Delete k) a s p l t Plain (Leaf j) x y z w h = either (nat_eq j k) (Goes (Flag a s p l)) (Replies false) (x, y, z, w) tt
-  arrived_in (Delete k) a s p l t (Owner o) (Leaf j) x y z w h = either (nat_eq l o) (Goes (CleanRead a s p (Owner o))) (Replies true) (x, y, z, h) tt
+  arrived_in (Insert k) a s p l t mode (Leaf j) x y z w h =
+      either (nat_eq j k) (Replies false) (Goes (Put a s p l)) tt (x, y, z, w)
+  arrived_in (Delete k) a s p l t Plain (Leaf j) x y z w h =
+      either (nat_eq j k) (Goes (Flag a s p l)) (Replies false) (x, y, z, w) tt
+  arrived_in (Delete k) a s p l t (Owner o) (Leaf j) x y z w h =
+      either (nat_eq l o) (Goes (CleanRead a s p (Owner o))) (Replies true) (x, y, z, h) tt
 
-  pub tagging_in : (machine : NatMit) (a s p : ℕ) (d : Side) (mode : Mode) → (a < n) × (s < n) × (p < n) × IsModeIn n mode → IsPlaceIn n (tagging machine a s p d mode)
-  tagging_in machine a s p d mode h = elim machine.tag as (λ b. IsPlaceIn n (if b then Tag a s p d mode else Sibling a s p d mode)) [ true ↦ h | false ↦ h ]
+  pub tagging_in : (machine : NatMit) (a s p : ℕ) (d : Side) (mode : Mode) → (a < n) × (s < n) × (p < n)
+      × IsModeIn n mode → IsPlaceIn n (tagging machine a s p d mode)
+  tagging_in machine a s p d mode h =
+      elim machine.tag as (λ b. IsPlaceIn n (if b then Tag a s p d mode else Sibling a s p d mode)) [
+        | true ↦ h
+        | false
+            ↦ h
+      ]
 
 -- ---- what is read of a memory
 
@@ -91,12 +109,14 @@ word_in n d (Leaf k) w h e = cc
 word_in n Left (Internal k l r) w h e = let same : l ≡ w = cc in subst (λ v. v.node < n) same h.0
 word_in n Right (Internal k l r) w h e = let same : r ≡ w = cc in subst (λ v. v.node < n) same h.1
 
-with_word_in : (n : ℕ) (d : Side) (w : Word) (node : Node) → IsNodeIn n node → w.node < n → IsNodeIn n (with_word d w node)
+with_word_in : (n : ℕ) (d : Side) (w : Word) (node : Node) → IsNodeIn n node → w.node < n
+    → IsNodeIn n (with_word d w node)
 with_word_in n d w (Leaf k) h b = tt
 with_word_in n Left w (Internal k l r) h b = (b, h.1)
 with_word_in n Right w (Internal k l r) h b = (h.0, b)
 
-set_in : (memory : NatMitMem) (x : ℕ) (node : Node) → IsInRange memory → IsNodeIn (length memory.nodes) node → IsInRange (set_node memory x node)
+set_in : (memory : NatMitMem) (x : ℕ) (node : Node) → IsInRange memory → IsNodeIn (length memory.nodes) node
+    → IsInRange (set_node memory x node)
 set_in memory x node h k =
     let same : length (slice_set memory.nodes x node) ≡ length memory.nodes = length-set memory.nodes x node in
     let all = All-set (IsNodeIn (length memory.nodes)) memory.nodes x node k h.nodes in
@@ -105,26 +125,38 @@ set_in memory x node h k =
       nodes = subst (λ n. All (IsNodeIn n) (slice_set memory.nodes x node)) (sym same) all;
     }
 
-pub set_word_in : (memory : NatMitMem) (x : ℕ) (d : Side) (w : Word) → IsInRange memory → w.node < length memory.nodes → IsInRange (set_word memory x d w)
+pub set_word_in : (memory : NatMitMem) (x : ℕ) (d : Side) (w : Word) → IsInRange memory → w.node < length memory.nodes
+    → IsInRange (set_word memory x d w)
 set_word_in memory x d w h b =
-    set_in memory x (with_word d w (node_at memory x)) h (with_word_in (length memory.nodes) d w (node_at memory x) (node_in memory x h) b)
+    set_in memory x (with_word d w (node_at memory x)) h
+    (with_word_in (length memory.nodes) d w (node_at memory x) (node_in memory x h) b)
 
 -- ---- what is appended
 
 over_in : (n k j x l : ℕ) → x < n → l < n → IsNodeIn n (internal_over k j x l)
-over_in n k j x l a b = elim (nat_lt k j) as (λ c. IsNodeIn n (if c then Internal j (plain x) (plain l) else Internal k (plain l) (plain x))) [ true ↦ (a, b) | false ↦ (b, a) ]
+over_in n k j x l a b =
+    elim (nat_lt k j) as
+    (λ c. IsNodeIn n (if c then Internal j (plain x) (plain l) else Internal k (plain l) (plain x))) [
+      | true
+          ↦ (a, b)
+      | false ↦ (b, a)
+    ]
 
 pub two_more : (memory : NatMitMem) (k l : ℕ) → length (with_internal memory k l).nodes ≡ length memory.nodes + 2
-two_more memory k l = length-append memory.nodes (Leaf k ∷ internal_over k (key_at memory l) (length memory.nodes) l ∷ [])
+two_more memory k l =
+    length-append memory.nodes (Leaf k ∷ internal_over k (key_at memory l) (length memory.nodes) l ∷ [])
 
-pub with_internal_in : (memory : NatMitMem) (k l : ℕ) → IsInRange memory → l < length memory.nodes → IsInRange (with_internal memory k l)
+pub with_internal_in : (memory : NatMitMem) (k l : ℕ) → IsInRange memory → l < length memory.nodes
+    → IsInRange (with_internal memory k l)
 with_internal_in memory k l h below =
     let n = length memory.nodes in
     let new = internal_over k (key_at memory l) n l in
     let P = IsNodeIn (n + 2) in
     let same : length (with_internal memory k l).nodes ≡ n + 2 = two_more memory k l in
     let old : All P memory.nodes = All-weaker (IsNodeIn n) P (node_more n (n + 2) (omega arith)) memory.nodes h.nodes in
-    let fresh : All P (Leaf k ∷ new ∷ []) = All-cons P (Leaf k) (new ∷ []) tt (All-cons P new [] (over_in (n + 2) k (key_at memory l) n l (omega arith) (omega arith)) (All-nil P)) in
+    let fresh : All P (Leaf k ∷ new ∷ []) =
+    All-cons P (Leaf k) (new ∷ []) tt
+    (All-cons P new [] (over_in (n + 2) k (key_at memory l) n l (omega arith) (omega arith)) (All-nil P)) in
     let both = All-append P memory.nodes (Leaf k ∷ new ∷ []) old fresh in
     record {
       first_nodes = subst (λ c. 1 < c) (sym same) (omega (arith, h.first_nodes));
@@ -138,45 +170,59 @@ pub record IsKept (memory : NatMitMem) (after : After) : Type 0 where
   pub memory_in : IsInRange after.0
   pub outcome_in : IsOutcomeIn (length after.0.nodes) after.1
 
-stays : (memory : NatMitMem) (outcome : Outcome NatMitLoc) → IsInRange memory → IsOutcomeIn (length memory.nodes) outcome → IsKept memory (memory, outcome)
+stays : (memory : NatMitMem) (outcome : Outcome NatMitLoc) → IsInRange memory
+    → IsOutcomeIn (length memory.nodes) outcome → IsKept memory (memory, outcome)
 stays memory outcome h o = record { nodes = omega arith; memory_in = h; outcome_in = o }
 
 set_kept : (memory appended : NatMitMem) (x : ℕ) (d : Side) (w : Word) (outcome : Outcome NatMitLoc)
-    → length memory.nodes ≤ length appended.nodes → IsInRange appended → w.node < length appended.nodes → IsOutcomeIn (length appended.nodes) outcome
+    → length memory.nodes ≤ length appended.nodes → IsInRange appended → w.node < length appended.nodes
+    → IsOutcomeIn (length appended.nodes) outcome
     → IsKept memory (set_word appended x d w, outcome)
 set_kept memory appended x d w outcome more h b o =
-    let same : length (set_word appended x d w).nodes ≡ length appended.nodes = length-set appended.nodes x (with_word d w (node_at appended x)) in
+    let same : length (set_word appended x d w).nodes ≡ length appended.nodes =
+    length-set appended.nodes x (with_word d w (node_at appended x)) in
     record {
       nodes = subst (λ n. length memory.nodes ≤ n) (sym same) more;
       memory_in = set_word_in appended x d w h b;
       outcome_in = subst (λ n. IsOutcomeIn n outcome) (sym same) o;
     }
 
-found_kept : (memory : NatMitMem) (o : Option Word) (goes : Word → After) → IsInRange memory → ((w : Word) → o ≡ Some w → IsKept memory (goes w)) → IsKept memory (found memory o goes)
+found_kept : (memory : NatMitMem) (o : Option Word) (goes : Word → After) → IsInRange memory
+    → ((w : Word) → o ≡ Some w → IsKept memory (goes w)) → IsKept memory (found memory o goes)
 found_kept memory None goes h f = stays memory Astray h tt
 found_kept memory (Some w) goes h f = f w refl
 
-cond_kept : (memory : NatMitMem) (b : Bool) (first second : After) → IsKept memory first → IsKept memory second → IsKept memory (if b then first else second)
+cond_kept : (memory : NatMitMem) (b : Bool) (first second : After) → IsKept memory first → IsKept memory second
+    → IsKept memory (if b then first else second)
 cond_kept memory true first second h k = h
 cond_kept memory false first second h k = k
 
 module _ (memory : NatMitMem) (h : IsInRange memory) where
-  pub read_kept : (x : ℕ) (d : Side) (goes : Word → Outcome NatMitLoc) → ((w : Word) → w.node < length memory.nodes → IsOutcomeIn (length memory.nodes) (goes w)) → IsKept memory (after_read memory x d goes)
+  pub read_kept : (x : ℕ) (d : Side) (goes : Word → Outcome NatMitLoc)
+      → ((w : Word) → w.node < length memory.nodes → IsOutcomeIn (length memory.nodes) (goes w))
+      → IsKept memory (after_read memory x d goes)
   read_kept x d goes f =
       found_kept memory (word_on d (node_at memory x)) (λ w. (memory, goes w)) h
-      (λ w e. stays memory (goes w) h (f w (word_in (length memory.nodes) d (node_at memory x) w (node_in memory x h) e)))
+      (λ w e. stays memory (goes w) h
+      (f w (word_in (length memory.nodes) d (node_at memory x) w (node_in memory x h) e)))
 
-  pub exchange_kept : (appended : NatMitMem) → length memory.nodes ≤ length appended.nodes → IsInRange appended → (x : ℕ) (d : Side) (l : ℕ) (desired : Word) (success failure : Outcome NatMitLoc)
-      → desired.node < length appended.nodes → IsOutcomeIn (length appended.nodes) success → IsOutcomeIn (length memory.nodes) failure
+  pub exchange_kept : (appended : NatMitMem) → length memory.nodes ≤ length appended.nodes → IsInRange appended
+      → (x : ℕ) (d : Side) (l : ℕ) (desired : Word) (success failure : Outcome NatMitLoc)
+      → desired.node < length appended.nodes → IsOutcomeIn (length appended.nodes) success
+      → IsOutcomeIn (length memory.nodes) failure
       → IsKept memory (after_exchange memory x d l appended desired success failure)
   exchange_kept appended more k x d l desired success failure b o f =
-      found_kept memory (word_on d (node_at memory x)) (λ w. if is_plain l w then (set_word appended x d desired, success) else (memory, failure)) h
+      found_kept memory (word_on d (node_at memory x))
+      (λ w. if is_plain l w then (set_word appended x d desired, success) else (memory, failure)) h
       (λ w e. cond_kept memory (is_plain l w) (set_word appended x d desired, success) (memory, failure)
       (set_kept memory appended x d desired success more k b o)
       (stays memory failure h f))
 
-  pub tag_kept : (x : ℕ) (d : Side) (place : NatMitLoc) → IsPlaceIn (length memory.nodes) place → IsKept memory (after_tag memory x d (Goes place))
+  pub tag_kept : (x : ℕ) (d : Side) (place : NatMitLoc) → IsPlaceIn (length memory.nodes) place
+      → IsKept memory (after_tag memory x d (Goes place))
   tag_kept x d place o =
-      found_kept memory (word_on d (node_at memory x)) (λ w. (set_word memory x d (record { flag = w.flag; tag = true; node = w.node }), Goes place)) h
-      (λ w e. set_kept memory memory x d (record { flag = w.flag; tag = true; node = w.node }) (Goes place) (omega arith) h
+      found_kept memory (word_on d (node_at memory x))
+      (λ w. (set_word memory x d (record { flag = w.flag; tag = true; node = w.node }), Goes place)) h
+      (λ w e. set_kept memory memory x d (record { flag = w.flag; tag = true; node = w.node }) (Goes place)
+      (omega arith) h
       (word_in (length memory.nodes) d (node_at memory x) w (node_in memory x h) e) o)

@@ -8,7 +8,8 @@ use Rattle.sched_program.specs.declared.operation.Op.TheVariants.{Insert, Delete
 use Rattle.sched_program.specs.contracts.operation.OpPartialEq.TheImpl.{eq-value as op_eq}
 use Rattle.sched_program.specs.contracts.operation.TurnPartialEq.TheImpl.{eq-value as turn_eq}
 use Rattle.sched_program.specs.contracts.operation.TreePartialEq.TheImpl.{eq-value as tree_eq}
-use Rattle.sched_program.specs.declared.operation.Tree.TheVariants.{Atomic, Ellen, EllenNoMark, EllenNoIflag, Nm, NmNoTag}
+use Rattle.sched_program.specs.declared.operation.Tree.TheVariants.{Atomic, Ellen, EllenNoMark, EllenNoIflag, Nm}
+use Rattle.sched_program.specs.declared.operation.Tree.TheVariants.{NmNoTag}
 
 pub op_exact : IsExact op_eq.it
 op_exact (Insert a) (Insert b) h = ap Insert (nat_exact a b h)
@@ -21,13 +22,15 @@ op_exact (Find a) (Insert b) h = cc
 op_exact (Find a) (Delete b) h = cc
 op_exact (Find a) (Find b) h = ap Find (nat_exact a b h)
 
-pub same_turn : (s t c d : ℕ) → s ≡ t → c ≡ d → (let turn : Turn = record { thread = s; count = c } in turn) ≡ record { thread = t; count = d }
+pub same_turn : (s t c d : ℕ) → s ≡ t → c ≡ d
+    → (let turn : Turn = record { thread = s; count = c } in turn) ≡ record { thread = t; count = d }
 same_turn s t c d e f = rw (e, f)
 
 pub turn_exact : IsExact turn_eq.it
 turn_exact a b h =
     let pieces = both (nat_eq a.thread b.thread) (nat_eq a.count b.count) h in
-    same_turn a.thread b.thread a.count b.count (nat_exact a.thread b.thread pieces.0) (nat_exact a.count b.count pieces.1)
+    same_turn a.thread b.thread a.count b.count (nat_exact a.thread b.thread pieces.0)
+    (nat_exact a.count b.count pieces.1)
 
 pub tree_exact : IsExact tree_eq.it
 tree_exact Atomic Atomic h = refl

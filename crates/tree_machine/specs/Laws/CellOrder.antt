@@ -1,5 +1,7 @@
 -- The cells that a walk meets, in their order: distinct, in range, and closed.
-use Rattle.std.proofs.Common.{◌≡◌, ℕ, zero, suc, ◌+◌, ◌<◌, ◌≤◌, ◌⊎◌, Bool, true, false, cond, ◌||◌, List, [], ◌∷◌, ◌++◌, length, refl, sym, ◌∙◌, ap, subst, inl, inr, arith, append_assoc, add-suc, add-zero, get_or}
+use Rattle.std.proofs.Common.{◌≡◌, ℕ, zero, suc, ◌+◌, ◌<◌, ◌≤◌, ◌⊎◌, Bool, true, false, cond, ◌||◌, List, [], ◌∷◌, ◌++◌}
+use Rattle.std.proofs.Common.{length, refl, sym, ◌∙◌, ap, subst, inl, inr, arith, append_assoc, add-suc, add-zero}
+use Rattle.std.proofs.Common.{get_or}
 use Rattle.std.specs.Prelude.{slice_get, Option, Some, None, nat_eq, ⊤, IfSome}
 use Rattle.std.specs.Cmp.{IsEquivalence}
 use Rattle.std.specs.List.{list_any, All, AllByRecursion, IsDistinct}
@@ -35,7 +37,8 @@ pub extends_itself : (xs : List ℕ) → Extends xs xs
 extends_itself xs = record { rest = []; is = sym (append_nil xs) }
 
 pub extends_more : {xs ys zs : List ℕ} → Extends xs ys → Extends ys zs → Extends xs zs
-extends_more {xs} e f = record { rest = e.rest ++ f.rest; is = f.is ∙ (ap (λ l. l ++ f.rest) e.is ∙ append_assoc xs e.rest f.rest) }
+extends_more {xs} e f =
+    record { rest = e.rest ++ f.rest; is = f.is ∙ (ap (λ l. l ++ f.rest) e.is ∙ append_assoc xs e.rest f.rest) }
 
 pub or_true : (b : Bool) → (b || true) ≡ true
 or_true true = refl
@@ -81,10 +84,12 @@ met_extends_by order x false = record { rest = x ∷ []; is = refl }
 pub met_extends : (order : List ℕ) (x : ℕ) → Extends order (met order x)
 met_extends order x = met_extends_by order x (list_any (nat_eq x) order)
 
-met_has_by : (order : List ℕ) (x : ℕ) (t : Bool) → list_any (nat_eq x) order ≡ t → Has (cond t order (order ++ x ∷ [])) x
+met_has_by : (order : List ℕ) (x : ℕ) (t : Bool) → list_any (nat_eq x) order ≡ t
+    → Has (cond t order (order ++ x ∷ [])) x
 met_has_by order x true h = h
 met_has_by order x false h =
-    list_any-append (nat_eq x) order (x ∷ []) ∙ (ap (λ b. list_any (nat_eq x) order || (b || false)) (has_itself x) ∙ or_true _)
+    list_any-append (nat_eq x) order (x ∷ [])
+    ∙ (ap (λ b. list_any (nat_eq x) order || (b || false)) (has_itself x) ∙ or_true _)
 
 pub met_has : (order : List ℕ) (x : ℕ) → Has (met order x) x
 met_has order x = met_has_by order x (list_any (nat_eq x) order) refl
@@ -107,7 +112,9 @@ pub record IsOrder (n : ℕ) (order : List ℕ) : Type 0 where
   pub below : (x : ℕ) → Has order x → x < n
 
 has_push_cases : (order : List ℕ) (x y : ℕ) → Has (order ++ x ∷ []) y → Has order y ⊎ (y ≡ x)
-has_push_cases order x y h = go (or_cases (list_any (nat_eq y) order) (nat_eq y x || false) (sym (list_any-append (nat_eq y) order (x ∷ [])) ∙ h))
+has_push_cases order x y h =
+    go (or_cases (list_any (nat_eq y) order) (nat_eq y x || false)
+    (sym (list_any-append (nat_eq y) order (x ∷ [])) ∙ h))
   where
     go : (list_any (nat_eq y) order ≡ true) ⊎ ((nat_eq y x || false) ≡ true) → Has order y ⊎ (y ≡ x)
     go (inl e) = inl e
@@ -117,7 +124,8 @@ has_push_cases order x y h = go (or_cases (list_any (nat_eq y) order) (nat_eq y 
         go2 (inl d) = eqb-true y x d
         go2 (inr d) = cc
 
-met_order_by : (n : ℕ) (order : List ℕ) (x : ℕ) → x < n → IsOrder n order → (t : Bool) → list_any (nat_eq x) order ≡ t → IsOrder n (cond t order (order ++ x ∷ []))
+met_order_by : (n : ℕ) (order : List ℕ) (x : ℕ) → x < n → IsOrder n order → (t : Bool) → list_any (nat_eq x) order ≡ t
+    → IsOrder n (cond t order (order ++ x ∷ []))
 met_order_by n order x l h true e = h
 met_order_by n order x l h false e = record {
   distinct = IsDistinct-push nat_equivalence order x h.distinct e;
@@ -135,7 +143,8 @@ met_order n order x l h = met_order_by n order x l h (list_any (nat_eq x) order)
 abbrev pub RefsBelow : ℕ → List (Option ℕ) → Type 0
 RefsBelow n refs = AllByRecursion (λ r. IfSome r (λ x. x < n)) refs
 
-pub met_all_order : (n : ℕ) (refs : List (Option ℕ)) (order : List ℕ) → RefsBelow n refs → IsOrder n order → IsOrder n (met_all order refs)
+pub met_all_order : (n : ℕ) (refs : List (Option ℕ)) (order : List ℕ) → RefsBelow n refs → IsOrder n order
+    → IsOrder n (met_all order refs)
 met_all_order n [] order l h = h
 met_all_order n (None ∷ refs) order l h = met_all_order n refs order l.1 h
 met_all_order n (Some x ∷ refs) order l h = met_all_order n refs (met order x) l.1 (met_order n order x l.0 h)
@@ -154,7 +163,8 @@ all_has P (y ∷ xs) h x g = go (λ e. all_has P xs h.1 x e) (or_cases (nat_eq x
     go rest (inl e) = subst P (sym (eqb-true x y e)) h.0
     go rest (inr e) = rest e
 
-pub content_all : (P : Content → Type 0) → P (record { facts = []; refs = [] }) → (cells : List Content) → AllByRecursion P cells → (x : ℕ) → P (content_at cells x)
+pub content_all : (P : Content → Type 0) → P (record { facts = []; refs = [] }) → (cells : List Content)
+    → AllByRecursion P cells → (x : ℕ) → P (content_at cells x)
 content_all P none [] h x = none
 content_all P none (c ∷ cells) h zero = h.0
 content_all P none (c ∷ cells) h (suc x) = content_all P none cells h.1 x
@@ -162,7 +172,9 @@ content_all P none (c ∷ cells) h (suc x) = content_all P none cells h.1 x
 module _ (cells : List Content) (roots : List ℕ) (h : IsRooted cells roots) where
   refs_below : (x : ℕ) → RefsBelow (length cells) (content_at cells x).refs
   refs_below x =
-      recursion_from_All _ _ (content_all (λ c. All (λ r. IfSome r (λ x. x < length cells)) c.refs) (All-nil _) cells (recursion_from_All _ cells h.refs_in_range) x)
+      recursion_from_All _ _
+      (content_all (λ c. All (λ r. IfSome r (λ x. x < length cells)) c.refs) (All-nil _) cells
+      (recursion_from_All _ cells h.refs_in_range) x)
 
   roots_order : IsOrder (length cells) roots
   roots_order = record {
@@ -170,7 +182,8 @@ module _ (cells : List Content) (roots : List ℕ) (h : IsRooted cells roots) wh
     below = all_has (λ x. x < length cells) roots (recursion_from_All _ roots h.roots_in_range);
   }
 
-  visited_order : (order : List ℕ) (r : Option ℕ) → IsOrder (length cells) order → IsOrder (length cells) (visited cells order r)
+  visited_order : (order : List ℕ) (r : Option ℕ) → IsOrder (length cells) order
+      → IsOrder (length cells) (visited cells order r)
   visited_order order None g = g
   visited_order order (Some x) g = met_all_order (length cells) (content_at cells x).refs order (refs_below x) g
 
@@ -183,8 +196,11 @@ module _ (cells : List Content) (roots : List ℕ) (h : IsRooted cells roots) wh
   met_in_stable zero = ap (met_in cells roots) (add-zero (length cells))
   met_in_stable (suc n) =
       let m = length cells + n in
-      let past : slice_get (met_in cells roots m) m ≡ None = slice_get_past (met_in cells roots m) m (omega (arith, length-order (length cells) (met_in cells roots m) (met_in_order m))) in
-      ap (met_in cells roots) (add-suc (length cells) n) ∙ (ap (visited cells (met_in cells roots m)) past ∙ met_in_stable n)
+      let past : slice_get (met_in cells roots m) m ≡ None =
+      slice_get_past (met_in cells roots m) m
+      (omega (arith, length-order (length cells) (met_in cells roots m) (met_in_order m))) in
+      ap (met_in cells roots) (add-suc (length cells) n)
+      ∙ (ap (visited cells (met_in cells roots m)) past ∙ met_in_stable n)
 
 pub visited_extends : (cells : List Content) (order : List ℕ) (r : Option ℕ) → Extends order (visited cells order r)
 visited_extends cells order None = extends_itself order
@@ -192,14 +208,16 @@ visited_extends cells order (Some x) = met_all_extends (content_at cells x).refs
 
 pub met_in_extends : (cells : List Content) (roots : List ℕ) (n : ℕ) → Extends roots (met_in cells roots n)
 met_in_extends cells roots zero = extends_itself roots
-met_in_extends cells roots (suc n) = extends_more (met_in_extends cells roots n) (visited_extends cells (met_in cells roots n) _)
+met_in_extends cells roots (suc n) =
+    extends_more (met_in_extends cells roots n) (visited_extends cells (met_in cells roots n) _)
 
 -- the first n cells of the order have all their refs in it
 abbrev IsClosedBelow : List Content → ℕ → List ℕ → Type 0
 IsClosedBelow cells n order = (k x : ℕ) → k < n → slice_get order k ≡ Some x → HasAll order (content_at cells x).refs
 
 -- an element that stands before the place n of a longer list, where the shorter one has a place n
-get_before : {xs ys : List ℕ} → Extends xs ys → (n z : ℕ) → slice_get xs n ≡ Some z → (k x : ℕ) → k ≤ n → slice_get ys k ≡ Some x → slice_get xs k ≡ Some x
+get_before : {xs ys : List ℕ} → Extends xs ys → (n z : ℕ) → slice_get xs n ≡ Some z → (k x : ℕ) → k ≤ n
+    → slice_get ys k ≡ Some x → slice_get xs k ≡ Some x
 get_before {xs} {ys} e n z at k x le h = go (slice_get xs k) refl
   where
     go : (r : Option ℕ) → slice_get xs k ≡ r → slice_get xs k ≡ Some x
@@ -213,7 +231,8 @@ get_before {xs} {ys} e n z at k x le h = go (slice_get xs k) refl
 below_or_at : (k n : ℕ) → k < suc n → (k < n) ⊎ (k ≡ n)
 below_or_at k n l = grind arith
 
-visited_closed : (cells : List Content) (n : ℕ) (order : List ℕ) → IsClosedBelow cells n order → (r : Option ℕ) → slice_get order n ≡ r → IsClosedBelow cells (suc n) (visited cells order r)
+visited_closed : (cells : List Content) (n : ℕ) (order : List ℕ) → IsClosedBelow cells n order → (r : Option ℕ)
+    → slice_get order n ≡ r → IsClosedBelow cells (suc n) (visited cells order r)
 visited_closed cells n order h None at k x l g = go (below_or_at k n l)
   where
     go : (k < n) ⊎ (k ≡ n) → HasAll order (content_at cells x).refs
@@ -232,15 +251,18 @@ visited_closed cells n order h (Some z) at k x l g = go (below_or_at k n l)
     go (inr e) =
         let there : slice_get order n ≡ Some x = subst (λ j. slice_get order j ≡ Some x) e here in
         let same : z ≡ x = cc in
-        subst (λ w. HasAll (visited cells order (Some z)) (content_at cells w).refs) same (met_all_has (content_at cells z).refs order)
+        subst (λ w. HasAll (visited cells order (Some z)) (content_at cells w).refs) same
+        (met_all_has (content_at cells z).refs order)
 
 pub met_in_closed : (cells : List Content) (roots : List ℕ) (n : ℕ) → IsClosedBelow cells n (met_in cells roots n)
 met_in_closed cells roots zero = λ k x l. absurd (omega arith)
 met_in_closed cells roots (suc n) = visited_closed cells n (met_in cells roots n) (met_in_closed cells roots n) _ refl
 
 -- each cell of the order has all its refs in it
-pub order_closed : (cells : List Content) (roots : List ℕ) → IsRooted cells roots → (k x : ℕ) → slice_get (order_of cells roots) k ≡ Some x → HasAll (order_of cells roots) (content_at cells x).refs
+pub order_closed : (cells : List Content) (roots : List ℕ) → IsRooted cells roots → (k x : ℕ)
+    → slice_get (order_of cells roots) k ≡ Some x → HasAll (order_of cells roots) (content_at cells x).refs
 order_closed cells roots h k x at =
     let within : k < length (order_of cells roots) = slice_get_within (order_of cells roots) k x at in
-    let short : length (order_of cells roots) ≤ length cells = length-order (length cells) (order_of cells roots) (met_in_order cells roots h (length cells)) in
+    let short : length (order_of cells roots) ≤ length cells =
+    length-order (length cells) (order_of cells roots) (met_in_order cells roots h (length cells)) in
     met_in_closed cells roots (length cells) k x (omega arith) at

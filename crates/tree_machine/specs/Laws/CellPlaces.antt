@@ -1,5 +1,6 @@
 -- The places of cells in an order.
-use Rattle.std.proofs.Common.{◌≡◌, ℕ, zero, suc, ◌⊎◌, true, false, cond, ◌||◌, List, [], ◌∷◌, map, refl, sym, ◌∙◌, ap, subst, inl, inr}
+use Rattle.std.proofs.Common.{◌≡◌, ℕ, zero, suc, ◌⊎◌, true, false, cond, ◌||◌, List, [], ◌∷◌, map, refl, sym, ◌∙◌, ap}
+use Rattle.std.proofs.Common.{subst, inl, inr}
 use Rattle.std.specs.Prelude.{slice_get, Option, Some, None, nat_eq}
 use Rattle.std.specs.List.{AllZip, list_any, zip, IsDistinct}
 use Rattle.std.specs.Option.{option_map, option_and_then}
@@ -12,7 +13,8 @@ use Rattle.tree_machine.specs.Laws.CellSteps.{same_tests}
 use Rattle.tree_machine.specs.Laws.CellOrder.{Has, or_true, all_has, has_itself}
 
 -- paired elements have the same place
-pub place_paired : (P : ℕ → ℕ → Type 0) → IsOneToOne P → (xs ys : List ℕ) (a b : ℕ) → AllZip P xs ys → P a b → place_in xs a ≡ place_in ys b
+pub place_paired : (P : ℕ → ℕ → Type 0) → IsOneToOne P → (xs ys : List ℕ) (a b : ℕ) → AllZip P xs ys → P a b
+    → place_in xs a ≡ place_in ys b
 place_paired P one [] [] a b h p = refl
 place_paired P one [] (y ∷ ys) a b h p = absurd h
 place_paired P one (x ∷ xs) [] a b h p = absurd h
@@ -20,7 +22,9 @@ place_paired P one (x ∷ xs) (y ∷ ys) a b h p =
     ap (λ t. cond t (Some 0) (option_map suc (place_in xs a))) (same_tests a b x y (one a b x y p h.0))
     ∙ ap (λ r. cond (nat_eq b y) (Some 0) (option_map suc r)) (place_paired P one xs ys a b h.1 p)
 
-pub refs_renamed : (P : ℕ → ℕ → Type 0) → IsOneToOne P → (xs ys : List ℕ) → AllZip P xs ys → (refs sefs : List (Option ℕ)) → AllZip (IsPairedOrNone P) refs sefs → map (option_and_then (place_in xs)) refs ≡ map (option_and_then (place_in ys)) sefs
+pub refs_renamed : (P : ℕ → ℕ → Type 0) → IsOneToOne P → (xs ys : List ℕ) → AllZip P xs ys
+    → (refs sefs : List (Option ℕ)) → AllZip (IsPairedOrNone P) refs sefs
+    → map (option_and_then (place_in xs)) refs ≡ map (option_and_then (place_in ys)) sefs
 refs_renamed P one xs ys z [] [] h = refl
 refs_renamed P one xs ys z [] (s ∷ sefs) h = absurd h
 refs_renamed P one xs ys z (r ∷ refs) [] h = absurd h
@@ -37,7 +41,8 @@ pub place_from_has : (xs : List ℕ) (x : ℕ) → Has xs x → (k : ℕ) × (pl
 place_from_has [] x h = cc
 place_from_has (y ∷ xs) x h = go (λ e. place_from_has xs x e) (eqb_tells x y)
   where
-    go : (Has xs x → (k : ℕ) × (place_in xs x ≡ Some k)) → ((nat_eq x y ≡ true) × (x ≡ y)) ⊎ ((nat_eq x y ≡ false) × (x ≡ y → ⊥)) → (k : ℕ) × (place_in (y ∷ xs) x ≡ Some k)
+    go : (Has xs x → (k : ℕ) × (place_in xs x ≡ Some k)) → ((nat_eq x y ≡ true) × (x ≡ y))
+        ⊎ ((nat_eq x y ≡ false) × (x ≡ y → ⊥)) → (k : ℕ) × (place_in (y ∷ xs) x ≡ Some k)
     go rest (inl e) = (0, ap (λ t. cond t (Some 0) (option_map suc (place_in xs x))) e.0)
     go rest (inr e) =
         let r = rest (sym (ap (λ t. t || list_any (nat_eq x) xs) e.0) ∙ h) in
@@ -47,33 +52,40 @@ pub get_place : (xs : List ℕ) (x k : ℕ) → place_in xs x ≡ Some k → sli
 get_place [] x k h = cc
 get_place (y ∷ xs) x k h = go (λ j. get_place xs x j) (eqb_tells x y) (place_in xs x) refl k h
   where
-    go : ((j : ℕ) → place_in xs x ≡ Some j → slice_get xs j ≡ Some x) → ((nat_eq x y ≡ true) × (x ≡ y)) ⊎ ((nat_eq x y ≡ false) × (x ≡ y → ⊥)) → (r : Option ℕ) → place_in xs x ≡ r → (k : ℕ) → place_in (y ∷ xs) x ≡ Some k → slice_get (y ∷ xs) k ≡ Some x
+    go : ((j : ℕ) → place_in xs x ≡ Some j → slice_get xs j ≡ Some x) → ((nat_eq x y ≡ true) × (x ≡ y))
+        ⊎ ((nat_eq x y ≡ false) × (x ≡ y → ⊥)) → (r : Option ℕ) → place_in xs x ≡ r → (k : ℕ)
+        → place_in (y ∷ xs) x ≡ Some k → slice_get (y ∷ xs) k ≡ Some x
     go rest (inl e) r at k g =
         let first : Some 0 ≡ Some k = sym (ap (λ t. cond t (Some 0) (option_map suc (place_in xs x))) e.0) ∙ g in
         let zeroth : 0 ≡ k = cc in
         subst (λ j. slice_get (y ∷ xs) j ≡ Some x) zeroth (ap Some (sym e.1))
     go rest (inr e) None at k g =
-        let none : None ≡ Some k = sym (ap (λ t. cond t (Some 0) (option_map suc (place_in xs x))) e.0 ∙ ap (option_map suc) at) ∙ g in
+        let none : None ≡ Some k =
+        sym (ap (λ t. cond t (Some 0) (option_map suc (place_in xs x))) e.0 ∙ ap (option_map suc) at) ∙ g in
         cc
     go rest (inr e) (Some j) at k g =
-        let later : Some (suc j) ≡ Some k = sym (ap (λ t. cond t (Some 0) (option_map suc (place_in xs x))) e.0 ∙ ap (option_map suc) at) ∙ g in
+        let later : Some (suc j) ≡ Some k =
+        sym (ap (λ t. cond t (Some 0) (option_map suc (place_in xs x))) e.0 ∙ ap (option_map suc) at) ∙ g in
         let after : suc j ≡ k = cc in
         subst (λ i. slice_get (y ∷ xs) i ≡ Some x) after (rest j at)
 
 pub has_at : (xs : List ℕ) (k x : ℕ) → slice_get xs k ≡ Some x → Has xs x
 has_at [] k x h = cc
-has_at (y ∷ xs) zero x h = let same : y ≡ x = cc in ap (λ z. nat_eq x z || list_any (nat_eq x) xs) same ∙ ap (λ t. t || list_any (nat_eq x) xs) (has_itself x)
+has_at (y ∷ xs) zero x h = let same : y ≡ x = cc in
+    ap (λ z. nat_eq x z || list_any (nat_eq x) xs) same ∙ ap (λ t. t || list_any (nat_eq x) xs) (has_itself x)
 has_at (y ∷ xs) (suc k) x h = ap (λ t. nat_eq x y || t) (has_at xs k x h) ∙ or_true (nat_eq x y)
 
 -- ---- two lists side by side, as pairs
 
-pub among_at : (xs ys : List ℕ) (k x y : ℕ) → slice_get xs k ≡ Some x → slice_get ys k ≡ Some y → IsAmong (zip xs ys) x y
+pub among_at : (xs ys : List ℕ) (k x y : ℕ) → slice_get xs k ≡ Some x → slice_get ys k ≡ Some y
+    → IsAmong (zip xs ys) x y
 among_at [] ys k x y h g = cc
 among_at (v ∷ xs) [] k x y h g = cc
 among_at (v ∷ xs) (w ∷ ys) zero x y h g = inl (cc, cc)
 among_at (v ∷ xs) (w ∷ ys) (suc k) x y h g = inr (among_at xs ys k x y h g)
 
-pub at_among : (xs ys : List ℕ) (x y : ℕ) → IsAmong (zip xs ys) x y → (k : ℕ) × (slice_get xs k ≡ Some x) × (slice_get ys k ≡ Some y)
+pub at_among : (xs ys : List ℕ) (x y : ℕ) → IsAmong (zip xs ys) x y → (k : ℕ) × (slice_get xs k ≡ Some x)
+    × (slice_get ys k ≡ Some y)
 at_among [] ys x y h = absurd h
 at_among (v ∷ xs) [] x y h = absurd h
 at_among (v ∷ xs) (w ∷ ys) x y (inl e) = (0, ap Some e.0, ap Some e.1)
@@ -88,13 +100,16 @@ rel_among P (v ∷ xs) (w ∷ ys) z x y (inr h) = rel_among P xs ys z.1 x y h
 -- in a list of distinct numbers each has one place
 pub place_at : (xs : List ℕ) → IsDistinct nat_eq xs → (k x : ℕ) → slice_get xs k ≡ Some x → place_in xs x ≡ Some k
 place_at [] d k x h = cc
-place_at (y ∷ xs) d zero x h = let same : y ≡ x = cc in ap (λ t. cond t (Some 0) (option_map suc (place_in xs x))) (eq-eqb x y (sym same))
+place_at (y ∷ xs) d zero x h =
+    let same : y ≡ x = cc in ap (λ t. cond t (Some 0) (option_map suc (place_in xs x))) (eq-eqb x y (sym same))
 place_at (y ∷ xs) d (suc k) x h =
-    ap (λ t. cond t (Some 0) (option_map suc (place_in xs x))) (apart (eqb_tells x y)) ∙ ap (option_map suc) (place_at xs (IsDistinct-tail nat_eq y xs d) k x h)
+    ap (λ t. cond t (Some 0) (option_map suc (place_in xs x))) (apart (eqb_tells x y))
+    ∙ ap (option_map suc) (place_at xs (IsDistinct-tail nat_eq y xs d) k x h)
   where
     apart : ((nat_eq x y ≡ true) × (x ≡ y)) ⊎ ((nat_eq x y ≡ false) × (x ≡ y → ⊥)) → nat_eq x y ≡ false
     apart (inl e) =
-        let other : nat_eq y x ≡ false = all_has (λ z. nat_eq y z ≡ false) xs (IsDistinct-head nat_eq y xs d) x (has_at xs k x h) in
+        let other : nat_eq y x ≡ false =
+        all_has (λ z. nat_eq y z ≡ false) xs (IsDistinct-head nat_eq y xs d) x (has_at xs k x h) in
         let itself : nat_eq y x ≡ true = eq-eqb y x (sym e.1) in
         cc
     apart (inr e) = e.0

@@ -1,5 +1,6 @@
 -- Two walks over paired cells go in lock step.
-use Rattle.std.proofs.Common.{◌≡◌, ℕ, zero, suc, ◌⊎◌, ◌↔◌, Bool, true, false, cond, ◌||◌, List, [], ◌∷◌, ◌++◌, refl, sym, ◌∙◌, ap, subst, inl, inr}
+use Rattle.std.proofs.Common.{◌≡◌, ℕ, zero, suc, ◌⊎◌, ◌↔◌, Bool, true, false, cond, ◌||◌, List, [], ◌∷◌, ◌++◌, refl}
+use Rattle.std.proofs.Common.{sym, ◌∙◌, ap, subst, inl, inr}
 use Rattle.std.specs.Prelude.{slice_get, Option, Some, None, nat_eq}
 use Rattle.std.specs.List.{AllZip, list_any}
 use Rattle.std.proofs.lemmas.Bool.Decides.{eqb_tells}
@@ -11,29 +12,36 @@ use Rattle.tree_machine.specs.Pairing.{IsOneToOne}
 pub same_tests : (x y a b : ℕ) → (x ≡ a) ↔ (y ≡ b) → nat_eq x a ≡ nat_eq y b
 same_tests x y a b h = go (eqb_tells x a) (eqb_tells y b)
   where
-    go : ((nat_eq x a ≡ true) × (x ≡ a)) ⊎ ((nat_eq x a ≡ false) × (x ≡ a → ⊥)) → ((nat_eq y b ≡ true) × (y ≡ b)) ⊎ ((nat_eq y b ≡ false) × (y ≡ b → ⊥)) → nat_eq x a ≡ nat_eq y b
+    go : ((nat_eq x a ≡ true) × (x ≡ a)) ⊎ ((nat_eq x a ≡ false) × (x ≡ a → ⊥)) → ((nat_eq y b ≡ true) × (y ≡ b))
+        ⊎ ((nat_eq y b ≡ false) × (y ≡ b → ⊥)) → nat_eq x a ≡ nat_eq y b
     go (inl p) (inl q) = p.0 ∙ sym q.0
     go (inl p) (inr q) = absurd (q.1 (h.0 p.1))
     go (inr p) (inl q) = absurd (p.1 (h.1 q.1))
     go (inr p) (inr q) = p.0 ∙ sym q.0
 
 -- pairs are met together
-pub has_paired : (P : ℕ → ℕ → Type 0) → IsOneToOne P → (xs ys : List ℕ) (a b : ℕ) → AllZip P xs ys → P a b → list_any (nat_eq a) xs ≡ list_any (nat_eq b) ys
+pub has_paired : (P : ℕ → ℕ → Type 0) → IsOneToOne P → (xs ys : List ℕ) (a b : ℕ) → AllZip P xs ys → P a b
+    → list_any (nat_eq a) xs ≡ list_any (nat_eq b) ys
 has_paired P one [] [] a b h p = refl
 has_paired P one [] (y ∷ ys) a b h p = absurd h
 has_paired P one (x ∷ xs) [] a b h p = absurd h
 has_paired P one (x ∷ xs) (y ∷ ys) a b h p =
-    ap (λ t. t || list_any (nat_eq a) xs) (same_tests a b x y (one a b x y p h.0)) ∙ ap (λ t. nat_eq b y || t) (has_paired P one xs ys a b h.1 p)
+    ap (λ t. t || list_any (nat_eq a) xs) (same_tests a b x y (one a b x y p h.0))
+    ∙ ap (λ t. nat_eq b y || t) (has_paired P one xs ys a b h.1 p)
 
-push_paired : (P : ℕ → ℕ → Type 0) (xs ys : List ℕ) (a b : ℕ) → AllZip P xs ys → P a b → (t : Bool) → AllZip P (cond t xs (xs ++ a ∷ [])) (cond t ys (ys ++ b ∷ []))
+push_paired : (P : ℕ → ℕ → Type 0) (xs ys : List ℕ) (a b : ℕ) → AllZip P xs ys → P a b → (t : Bool)
+    → AllZip P (cond t xs (xs ++ a ∷ [])) (cond t ys (ys ++ b ∷ []))
 push_paired P xs ys a b h p true = h
 push_paired P xs ys a b h p false = AllZip-push P xs ys a b h p
 
-pub met_paired : (P : ℕ → ℕ → Type 0) → IsOneToOne P → (xs ys : List ℕ) (a b : ℕ) → AllZip P xs ys → P a b → AllZip P (met xs a) (met ys b)
+pub met_paired : (P : ℕ → ℕ → Type 0) → IsOneToOne P → (xs ys : List ℕ) (a b : ℕ) → AllZip P xs ys → P a b
+    → AllZip P (met xs a) (met ys b)
 met_paired P one xs ys a b h p =
-    subst (λ t. AllZip P (met xs a) (cond t ys (ys ++ b ∷ []))) (has_paired P one xs ys a b h p) (push_paired P xs ys a b h p (list_any (nat_eq a) xs))
+    subst (λ t. AllZip P (met xs a) (cond t ys (ys ++ b ∷ []))) (has_paired P one xs ys a b h p)
+    (push_paired P xs ys a b h p (list_any (nat_eq a) xs))
 
-pub met_all_paired : (P : ℕ → ℕ → Type 0) → IsOneToOne P → (refs sefs : List (Option ℕ)) (xs ys : List ℕ) → AllZip P xs ys → AllZip (IsPairedOrNone P) refs sefs → AllZip P (met_all xs refs) (met_all ys sefs)
+pub met_all_paired : (P : ℕ → ℕ → Type 0) → IsOneToOne P → (refs sefs : List (Option ℕ)) (xs ys : List ℕ)
+    → AllZip P xs ys → AllZip (IsPairedOrNone P) refs sefs → AllZip P (met_all xs refs) (met_all ys sefs)
 met_all_paired P one [] [] xs ys h p = h
 met_all_paired P one [] (s ∷ sefs) xs ys h p = absurd p
 met_all_paired P one (r ∷ refs) [] xs ys h p = absurd p
@@ -44,15 +52,18 @@ met_all_paired P one (Some x ∷ refs) (Some y ∷ sefs) xs ys h p =
     met_all_paired P one refs sefs (met xs x) (met ys y) (met_paired P one xs ys x y h p.0) p.1
 
 -- paired lists have, at each place, paired elements or none in both
-pub at_paired : (P : ℕ → ℕ → Type 0) (xs ys : List ℕ) (n : ℕ) → AllZip P xs ys → IsPairedOrNone P (slice_get xs n) (slice_get ys n)
+pub at_paired : (P : ℕ → ℕ → Type 0) (xs ys : List ℕ) (n : ℕ) → AllZip P xs ys
+    → IsPairedOrNone P (slice_get xs n) (slice_get ys n)
 at_paired P [] [] n h = tt
 at_paired P [] (y ∷ ys) n h = absurd h
 at_paired P (x ∷ xs) [] n h = absurd h
 at_paired P (x ∷ xs) (y ∷ ys) zero h = h.0
 at_paired P (x ∷ xs) (y ∷ ys) (suc n) h = at_paired P xs ys n h.1
 
-module _ (P : ℕ → ℕ → Type 0) (cells others : List Content) (roots targets : List ℕ) (h : IsPairing P cells roots others targets) where
-  visited_paired : (xs ys : List ℕ) → AllZip P xs ys → (r s : Option ℕ) → IsPairedOrNone P r s → AllZip P (visited cells xs r) (visited others ys s)
+module _ (P : ℕ → ℕ → Type 0) (cells others : List Content) (roots targets : List ℕ)
+    (h : IsPairing P cells roots others targets) where
+  visited_paired : (xs ys : List ℕ) → AllZip P xs ys → (r s : Option ℕ) → IsPairedOrNone P r s
+      → AllZip P (visited cells xs r) (visited others ys s)
   visited_paired xs ys z None None p = z
   visited_paired xs ys z None (Some y) p = absurd p
   visited_paired xs ys z (Some x) None p = absurd p
@@ -62,4 +73,5 @@ module _ (P : ℕ → ℕ → Type 0) (cells others : List Content) (roots targe
   pub met_in_paired : (n : ℕ) → AllZip P (met_in cells roots n) (met_in others targets n)
   met_in_paired zero = h.roots_paired
   met_in_paired (suc n) =
-      visited_paired (met_in cells roots n) (met_in others targets n) (met_in_paired n) _ _ (at_paired P (met_in cells roots n) (met_in others targets n) n (met_in_paired n))
+      visited_paired (met_in cells roots n) (met_in others targets n) (met_in_paired n) _ _
+      (at_paired P (met_in cells roots n) (met_in others targets n) n (met_in_paired n))

@@ -1,16 +1,18 @@
 -- Forms of graphs are equal exactly where the graphs can be paired.
-use Rattle.std.proofs.Common.{◌≡◌, ℕ, zero, suc, ◌+◌, ◌<◌, ◌≤◌, ◌⊎◌, ◌↔◌, true, false, List, [], ◌∷◌, ◌++◌, length, refl, sym, ◌∙◌, ap, subst, inl, inr, arith, zero-add, add-zero, add-one, length-append}
-use Rattle.std.specs.Prelude.{Option, Some, None, IfSome, nat_eq}
-use Rattle.std.specs.List.{AllZip, All, AllByRecursion, IsDistinct, filter, zip}
-use Rattle.std.proofs.lemmas.Bool.Decides.{eqb_tells}
-use Rattle.std.proofs.lemmas.List.Elements.{All-append, All-nil, All-weaker, All-from_recursion, recursion_from_All}
-use Rattle.std.proofs.lemmas.Map.Keys.{IsDistinct-cons}
+use Rattle.std.proofs.Common.{◌≡◌, ℕ, zero, suc, ◌+◌, ◌<◌, ◌≤◌, ◌⊎◌, ◌↔◌, List, [], ◌∷◌, ◌++◌, length, refl, sym, ◌∙◌}
+use Rattle.std.proofs.Common.{ap, subst, inl, inr, arith, zero-add, add-zero, add-one, length-append}
+use Rattle.std.specs.Prelude.{Option, Some, None, IfSome}
+use Rattle.std.specs.List.{AllZip, All, AllByRecursion, filter, zip}
+use Rattle.std.proofs.lemmas.List.Elements.{All-append, All-nil, All-weaker, recursion_from_All}
 use Rattle.tree_machine.specs.Cells.{Content, content_at, canonical, IsPairedOrNone, IsPairing, IsRooted}
 use Rattle.tree_machine.specs.Pairing.{IsOneToOne, IsAmong}
 use Rattle.tree_machine.specs.Graphs.{numbers_from, roots_of, graph_form}
 use Rattle.tree_machine.specs.Laws.CellOrder.{content_all}
-use Rattle.tree_machine.specs.Laws.PairLists.{or_none_weaker, zip_weaker, pairing_same, among_append, are_below, among_below, below_among}
+use Rattle.tree_machine.specs.Laws.PairLists.{or_none_weaker, zip_weaker, pairing_same, among_append, are_below}
+use Rattle.tree_machine.specs.Laws.PairLists.{among_below, below_among}
 use Rattle.tree_machine.specs.Laws.Cells.{canonical_exactly}
+use Rattle.tree_machine.specs.Laws.CellLists.{content_front, content_back, zip_join, zip_split, numbers_at, numbers_zip}
+use Rattle.tree_machine.specs.Laws.CellLists.{numbers_all, numbers_distinct}
 
 -- ---- graphs that can be paired
 
@@ -42,76 +44,6 @@ abbrev pub CanGraphsBePaired : ℕ → List Content → List Content → List Co
 CanGraphsBePaired fixed graph held others targets =
     (pairs : List (ℕ × ℕ)) × IsGraphPairing (IsAmong pairs) fixed graph held others targets
 
--- ---- lists end to end
-
-pub content_front : (xs ys : List Content) (x : ℕ) → x < length xs → content_at (xs ++ ys) x ≡ content_at xs x
-content_front [] ys x l = absurd (omega arith)
-content_front (c ∷ xs) ys zero l = refl
-content_front (c ∷ xs) ys (suc x) l = content_front xs ys x (omega arith)
-
-pub content_back : (xs ys : List Content) (i : ℕ) → content_at (xs ++ ys) (length xs + i) ≡ content_at ys i
-content_back [] ys i = ap (content_at ys) (zero-add i)
-content_back (c ∷ xs) ys i =
-    let e : suc (length xs) + i ≡ suc (length xs + i) = omega arith in
-    ap (content_at ((c ∷ xs) ++ ys)) e ∙ content_back xs ys i
-
-zip_join : {A B : Type 0} (P : A → B → Type 0) (xs : List A) (ys : List B) (us : List A) (vs : List B) → AllZip P xs ys → AllZip P us vs → AllZip P (xs ++ us) (ys ++ vs)
-zip_join P [] [] us vs z w = w
-zip_join P [] (y ∷ ys) us vs z w = absurd z
-zip_join P (x ∷ xs) [] us vs z w = absurd z
-zip_join P (x ∷ xs) (y ∷ ys) us vs z w = (z.0, zip_join P xs ys us vs z.1 w)
-
-zip_split : (P : ℕ → ℕ → Type 0) (a f : ℕ) (us vs : List ℕ) → AllZip P (numbers_from a f ++ us) (numbers_from a f ++ vs) → AllZip P (numbers_from a f) (numbers_from a f) × AllZip P us vs
-zip_split P a zero us vs z = (tt, z)
-zip_split P a (suc f) us vs z = let r = zip_split P (suc a) f us vs z.1 in ((z.0, r.0), r.1)
-
-numbers_at : (P : ℕ → ℕ → Type 0) (a b n : ℕ) → AllZip P (numbers_from a n) (numbers_from b n) → (i : ℕ) → i < n → P (a + i) (b + i)
-numbers_at P a b zero z i l = absurd (omega arith)
-numbers_at P a b (suc n) z zero l = subst (λ x. P x (b + 0)) (sym (add-zero a)) (subst (λ y. P a y) (sym (add-zero b)) z.0)
-numbers_at P a b (suc n) z (suc i) l =
-    let e : suc a + i ≡ a + suc i = omega arith in
-    let f : suc b + i ≡ b + suc i = omega arith in
-    subst (λ x. P x (b + suc i)) e (subst (λ y. P (suc a + i) y) f (numbers_at P (suc a) (suc b) n z.1 i (omega arith)))
-
-numbers_zip : (P : ℕ → ℕ → Type 0) (a b n : ℕ) → ((i : ℕ) → i < n → P (a + i) (b + i)) → AllZip P (numbers_from a n) (numbers_from b n)
-numbers_zip P a b zero h = tt
-numbers_zip P a b (suc n) h = (
-  subst (λ x. P x b) (add-zero a) (subst (λ y. P (a + 0) y) (add-zero b) (h 0 (omega arith))),
-  numbers_zip P (suc a) (suc b) n (λ i l.
-      let e : a + suc i ≡ suc a + i = omega arith in
-      let f : b + suc i ≡ suc b + i = omega arith in
-      subst (λ x. P x (suc b + i)) e (subst (λ y. P (a + suc i) y) f (h (suc i) (omega arith)))),
-)
-
-pub numbers_all : (P : ℕ → Type 0) (a n : ℕ) → ((x : ℕ) → a ≤ x → x < a + n → P x) → All P (numbers_from a n)
-numbers_all P a n h = All-from_recursion P (numbers_from a n) (go a n h)
-  where
-    go : (a n : ℕ) → ((x : ℕ) → a ≤ x → x < a + n → P x) → AllByRecursion P (numbers_from a n)
-    go a zero h = tt
-    go a (suc n) h = (h a (omega arith) (omega arith), go (suc a) n (λ x l k. h x (omega arith) (omega arith)))
-
-apart_above : (a : ℕ) (xs : List ℕ) → All (λ x. a < x) xs → AllByRecursion (λ y. nat_eq a y ≡ false) xs
-apart_above a xs h = recursion_from_All _ xs (All-weaker (λ x. a < x) (λ y. nat_eq a y ≡ false) (λ x l. go x l (eqb_tells a x)) xs h)
-  where
-    go : (x : ℕ) → a < x → ((nat_eq a x ≡ true) × (a ≡ x)) ⊎ ((nat_eq a x ≡ false) × (a ≡ x → ⊥)) → nat_eq a x ≡ false
-    go x l (inl e) = let same : a ≡ x = e.1 in absurd (omega arith)
-    go x l (inr e) = e.0
-
-pub distinct_none : IsDistinct nat_eq []
-unfolding IsDistinct
-distinct_none = tt
-
-numbers_distinct : (a f n t : ℕ) → a + f ≤ n → IsDistinct nat_eq (numbers_from a f ++ numbers_from n t)
-numbers_distinct a zero n t l = go n t
-  where
-    go : (n t : ℕ) → IsDistinct nat_eq (numbers_from n t)
-    go n zero = distinct_none
-    go n (suc t) = IsDistinct-cons nat_eq n (numbers_from (suc n) t) (apart_above n (numbers_from (suc n) t) (numbers_all (λ x. n < x) (suc n) t (λ x l k. l))) (go (suc n) t)
-numbers_distinct a (suc f) n t l =
-    IsDistinct-cons nat_eq a (numbers_from (suc a) f ++ numbers_from n t)
-    (apart_above a (numbers_from (suc a) f ++ numbers_from n t) (All-append (λ x. a < x) (numbers_from (suc a) f) (numbers_from n t) (numbers_all (λ x. a < x) (suc a) f (λ x l k. l)) (numbers_all (λ x. a < x) n t (λ x g k. omega arith))))
-    (numbers_distinct (suc a) f n t (omega arith))
-
 refs_weaker : (n m : ℕ) → n ≤ m → (c : Content) → RefsBelow n c → RefsBelow m c
 refs_weaker n m l c h = All-weaker (λ r. IfSome r (λ x. x < n)) (λ r. IfSome r (λ x. x < m)) go c.refs h
   where
@@ -120,50 +52,70 @@ refs_weaker n m l c h = All-weaker (λ r. IfSome r (λ x. x < n)) (λ r. IfSome 
     go (Some x) k = omega arith
 
 -- a graph and what is held have roots in range, once each
-pub graph_rooted : (fixed : ℕ) (graph held : List Content) → IsGraph fixed graph held → IsRooted (graph ++ held) (roots_of fixed graph held)
+pub graph_rooted : (fixed : ℕ) (graph held : List Content) → IsGraph fixed graph held
+    → IsRooted (graph ++ held) (roots_of fixed graph held)
 graph_rooted fixed graph held h =
     let n = length (graph ++ held) in
     let all : n ≡ length graph + length held = length-append graph held in
     let base : fixed ≤ length graph = h.fixed_in_range in
     record {
-      roots_in_range = All-append (λ x. x < n) (numbers_from 0 fixed) (numbers_from (length graph) (length held)) (numbers_all (λ x. x < n) 0 fixed (λ x l k. omega arith)) (numbers_all (λ x. x < n) (length graph) (length held) (λ x l k. omega arith));
+      roots_in_range =
+          All-append (λ x. x < n) (numbers_from 0 fixed) (numbers_from (length graph) (length held))
+          (numbers_all (λ x. x < n) 0 fixed (λ x l k. omega arith))
+          (numbers_all (λ x. x < n) (length graph) (length held) (λ x l k. omega arith));
       roots_distinct = numbers_distinct 0 fixed (length graph) (length held) (omega arith);
-      refs_in_range = All-append (RefsBelow n) graph held (All-weaker (RefsBelow (length graph)) (RefsBelow n) (refs_weaker (length graph) n (omega arith)) graph h.graph_in_range) (All-weaker (RefsBelow (length graph)) (RefsBelow n) (refs_weaker (length graph) n (omega arith)) held h.held_in_range);
+      refs_in_range =
+          All-append (RefsBelow n) graph held
+          (All-weaker (RefsBelow (length graph)) (RefsBelow n) (refs_weaker (length graph) n (omega arith)) graph
+          h.graph_in_range)
+          (All-weaker (RefsBelow (length graph)) (RefsBelow n) (refs_weaker (length graph) n (omega arith)) held
+          h.held_in_range);
     }
 
-pub refs_below_at : (n : ℕ) (xs : List Content) → All (RefsBelow n) xs → (x : ℕ) → AllByRecursion (λ r. IfSome r (λ y. y < n)) (content_at xs x).refs
+pub refs_below_at : (n : ℕ) (xs : List Content) → All (RefsBelow n) xs → (x : ℕ)
+    → AllByRecursion (λ r. IfSome r (λ y. y < n)) (content_at xs x).refs
 refs_below_at n xs h x = recursion_from_All _ _ (content_all (RefsBelow n) (All-nil _) xs (recursion_from_All _ xs h) x)
 
 -- paired refs that are in range are paired in range
-pub refs_stronger : (n m : ℕ) (pairs : List (ℕ × ℕ)) (refs sefs : List (Option ℕ)) → AllByRecursion (λ r. IfSome r (λ x. x < n)) refs → AllByRecursion (λ r. IfSome r (λ x. x < m)) sefs → AllZip (IsPairedOrNone (IsAmong pairs)) refs sefs → AllZip (IsPairedOrNone (IsAmong (filter (are_below n m) pairs))) refs sefs
+pub refs_stronger : (n m : ℕ) (pairs : List (ℕ × ℕ)) (refs sefs : List (Option ℕ))
+    → AllByRecursion (λ r. IfSome r (λ x. x < n)) refs → AllByRecursion (λ r. IfSome r (λ x. x < m)) sefs
+    → AllZip (IsPairedOrNone (IsAmong pairs)) refs sefs
+    → AllZip (IsPairedOrNone (IsAmong (filter (are_below n m) pairs))) refs sefs
 refs_stronger n m pairs [] [] h g z = tt
 refs_stronger n m pairs [] (s ∷ sefs) h g z = absurd z
 refs_stronger n m pairs (r ∷ refs) [] h g z = absurd z
 refs_stronger n m pairs (None ∷ refs) (None ∷ sefs) h g z = (tt, refs_stronger n m pairs refs sefs h.1 g.1 z.1)
 refs_stronger n m pairs (None ∷ refs) (Some y ∷ sefs) h g z = absurd z.0
 refs_stronger n m pairs (Some x ∷ refs) (None ∷ sefs) h g z = absurd z.0
-refs_stronger n m pairs (Some x ∷ refs) (Some y ∷ sefs) h g z = (below_among n m pairs x y z.0 h.0 g.0, refs_stronger n m pairs refs sefs h.1 g.1 z.1)
+refs_stronger n m pairs (Some x ∷ refs) (Some y ∷ sefs) h g z =
+    (below_among n m pairs x y z.0 h.0 g.0, refs_stronger n m pairs refs sefs h.1 g.1 z.1)
 
-zip_from_places : (R : Content → Content → Type 0) (xs ys : List Content) → length xs ≡ length ys → ((i : ℕ) → i < length xs → R (content_at xs i) (content_at ys i)) → AllZip R xs ys
+zip_from_places : (R : Content → Content → Type 0) (xs ys : List Content) → length xs ≡ length ys
+    → ((i : ℕ) → i < length xs → R (content_at xs i) (content_at ys i)) → AllZip R xs ys
 zip_from_places R [] [] e h = tt
 zip_from_places R [] (y ∷ ys) e h = absurd (omega arith)
 zip_from_places R (x ∷ xs) [] e h = absurd (omega arith)
-zip_from_places R (x ∷ xs) (y ∷ ys) e h = (h 0 (omega arith), zip_from_places R xs ys (omega arith) (λ i l. h (suc i) (omega arith)))
+zip_from_places R (x ∷ xs) (y ∷ ys) e h =
+    (h 0 (omega arith), zip_from_places R xs ys (omega arith) (λ i l. h (suc i) (omega arith)))
 
-places_from_zip : (R : Content → Content → Type 0) (xs ys : List Content) → AllZip R xs ys → (i : ℕ) → i < length xs → R (content_at xs i) (content_at ys i)
+places_from_zip : (R : Content → Content → Type 0) (xs ys : List Content) → AllZip R xs ys → (i : ℕ) → i < length xs
+    → R (content_at xs i) (content_at ys i)
 places_from_zip R [] ys z i l = absurd (omega arith)
 places_from_zip R (x ∷ xs) [] z i l = absurd z
 places_from_zip R (x ∷ xs) (y ∷ ys) z zero l = z.0
 places_from_zip R (x ∷ xs) (y ∷ ys) z (suc i) l = places_from_zip R xs ys z.1 i (omega arith)
 
-cells_weaker : (P Q : ℕ → ℕ → Type 0) → ((x y : ℕ) → P x y → Q x y) → (c d : Content) → AreCellsPaired P c d → AreCellsPaired Q c d
+cells_weaker : (P Q : ℕ → ℕ → Type 0) → ((x y : ℕ) → P x y → Q x y) → (c d : Content) → AreCellsPaired P c d
+    → AreCellsPaired Q c d
 cells_weaker P Q h c d p = record { facts = p.facts; refs = zip_weaker _ _ (or_none_weaker P Q h) c.refs d.refs p.refs }
 
 -- the pairs of two ranges of numbers
-held_pair : (n m t x y : ℕ) → IsAmong (zip (numbers_from n t) (numbers_from m t)) x y → (i : ℕ) × (i < t) × (n + i ≡ x) × (m + i ≡ y)
+held_pair : (n m t x y : ℕ) → IsAmong (zip (numbers_from n t) (numbers_from m t)) x y → (i : ℕ) × (i < t) × (n + i ≡ x)
+    × (m + i ≡ y)
 held_pair n m zero x y h = absurd h
 held_pair n m (suc t) x y (inl e) = (0, omega arith, add-zero n ∙ e.0, add-zero m ∙ e.1)
-held_pair n m (suc t) x y (inr h) = let r = held_pair (suc n) (suc m) t x y h in let e : suc n + r.0 ≡ x = r.2 in let f : suc m + r.0 ≡ y = r.3 in (suc r.0, omega arith, omega arith, omega arith)
+held_pair n m (suc t) x y (inr h) = let r = held_pair (suc n) (suc m) t x y h in let e : suc n + r.0 ≡ x = r.2 in
+    let f : suc m + r.0 ≡ y = r.3 in (suc r.0, omega arith, omega arith, omega arith)
 
 pair_held : (n m t i : ℕ) → i < t → IsAmong (zip (numbers_from n t) (numbers_from m t)) (n + i) (m + i)
 pair_held n m zero i l = absurd (omega arith)
@@ -171,7 +123,9 @@ pair_held n m (suc t) zero l = inl (sym (add-zero n), sym (add-zero m))
 pair_held n m (suc t) (suc i) l =
     let e : suc n + i ≡ n + suc i = omega arith in
     let f : suc m + i ≡ m + suc i = omega arith in
-    inr (subst (λ x. IsAmong (zip (numbers_from (suc n) t) (numbers_from (suc m) t)) x (m + suc i)) e (subst (λ y. IsAmong (zip (numbers_from (suc n) t) (numbers_from (suc m) t)) (suc n + i) y) f (pair_held (suc n) (suc m) t i (omega arith))))
+    inr (subst (λ x. IsAmong (zip (numbers_from (suc n) t) (numbers_from (suc m) t)) x (m + suc i)) e
+    (subst (λ y. IsAmong (zip (numbers_from (suc n) t) (numbers_from (suc m) t)) (suc n + i) y) f
+    (pair_held (suc n) (suc m) t i (omega arith))))
 
 length-numbers_from : (a n : ℕ) → length (numbers_from a n) ≡ n
 length-numbers_from a zero = refl
@@ -183,26 +137,33 @@ numbers_more a n = ap (numbers_from a) (add-one n) ∙ go a n
   where
     go : (a n : ℕ) → numbers_from a (suc n) ≡ numbers_from a n ++ (a + n) ∷ []
     go a zero = ap (λ x. x ∷ []) (sym (add-zero a))
-    go a (suc n) = let e : suc a + n ≡ a + suc n = omega arith in ap (λ l. a ∷ l) (go (suc a) n ∙ ap (λ x. numbers_from (suc a) n ++ x ∷ []) e)
+    go a (suc n) = let e : suc a + n ≡ a + suc n = omega arith in
+        ap (λ l. a ∷ l) (go (suc a) n ∙ ap (λ x. numbers_from (suc a) n ++ x ∷ []) e)
 
-module _ (fixed : ℕ) (graph held others targets : List Content) (graph_fits : IsGraph fixed graph held) (others_fit : IsGraph fixed others targets) (l : length held ≡ length targets) where
+module _ (fixed : ℕ) (graph held others targets : List Content) (graph_fits : IsGraph fixed graph held)
+    (others_fit : IsGraph fixed others targets) (l : length held ≡ length targets) where
   -- ---- from a pairing of the cells to one of the graphs
 
-  restricted : (pairs : List (ℕ × ℕ)) → IsPairing (IsAmong pairs) (graph ++ held) (roots_of fixed graph held) (others ++ targets) (roots_of fixed others targets) →
+  restricted : (pairs : List (ℕ × ℕ)) → IsPairing (IsAmong pairs) (graph ++ held) (roots_of fixed graph held)
+      (others ++ targets) (roots_of fixed others targets) →
       IsGraphPairing (IsAmong (filter (are_below (length graph) (length others)) pairs)) fixed graph held others targets
   restricted pairs h =
       let n = length graph in
       let m = length others in
       let Q : ℕ → ℕ → Type 0 = IsAmong (filter (are_below n m) pairs) in
-      let roots : AllZip (IsAmong pairs) (numbers_from 0 fixed ++ numbers_from n (length held)) (numbers_from 0 fixed ++ numbers_from m (length held)) =
-      subst (λ t. AllZip (IsAmong pairs) (numbers_from 0 fixed ++ numbers_from n (length held)) (numbers_from 0 fixed ++ numbers_from m t)) (sym l) h.roots_paired in
+      let roots : AllZip (IsAmong pairs) (numbers_from 0 fixed ++ numbers_from n (length held))
+      (numbers_from 0 fixed ++ numbers_from m (length held)) =
+      subst (λ t. AllZip (IsAmong pairs) (numbers_from 0 fixed ++ numbers_from n (length held))
+      (numbers_from 0 fixed ++ numbers_from m t)) (sym l) h.roots_paired in
       let pieces = zip_split (IsAmong pairs) 0 fixed _ _ roots in
       record {
-        one_to_one = λ x y a b p q. h.one_to_one x y a b (among_below n m pairs x y p).0 (among_below n m pairs a b q).0;
+        one_to_one =
+            λ x y a b p q. h.one_to_one x y a b (among_below n m pairs x y p).0 (among_below n m pairs a b q).0;
         fixed_paired = λ x k.
             let fits : fixed ≤ n = graph_fits.fixed_in_range in
             let fit : fixed ≤ m = others_fit.fixed_in_range in
-            let at : IsAmong pairs x x = subst (λ z. IsAmong pairs z z) (zero-add x) (numbers_at (IsAmong pairs) 0 0 fixed pieces.0 x k) in
+            let at : IsAmong pairs x x =
+            subst (λ z. IsAmong pairs z z) (zero-add x) (numbers_at (IsAmong pairs) 0 0 fixed pieces.0 x k) in
             below_among n m pairs x x at (omega arith) (omega arith);
         in_range = λ x y p. let r = among_below n m pairs x y p in (r.1, r.2);
         cells_paired = λ x y p.
@@ -211,8 +172,11 @@ module _ (fixed : ℕ) (graph held others targets : List Content) (graph_fits : 
             let d = content_front others targets y r.2 in
             record {
               facts = sym (ap (λ k. k.facts) c) ∙ (h.facts_equal x y r.0 ∙ ap (λ k. k.facts) d);
-              refs = refs_stronger n m pairs _ _ (refs_below_at n graph graph_fits.graph_in_range x) (refs_below_at m others others_fit.graph_in_range y)
-                  (subst (λ k. AllZip (IsPairedOrNone (IsAmong pairs)) k.refs (content_at others y).refs) c (subst (λ k. AllZip (IsPairedOrNone (IsAmong pairs)) (content_at (graph ++ held) x).refs k.refs) d (h.refs_paired x y r.0)));
+              refs = refs_stronger n m pairs _ _ (refs_below_at n graph graph_fits.graph_in_range x)
+                  (refs_below_at m others others_fit.graph_in_range y)
+                  (subst (λ k. AllZip (IsPairedOrNone (IsAmong pairs)) k.refs (content_at others y).refs) c
+                  (subst (λ k. AllZip (IsPairedOrNone (IsAmong pairs)) (content_at (graph ++ held) x).refs k.refs) d
+                  (h.refs_paired x y r.0)));
             };
         held_paired = zip_from_places (AreCellsPaired Q) held targets l (λ i k.
             let at = numbers_at (IsAmong pairs) n m (length held) pieces.1 i k in
@@ -220,8 +184,11 @@ module _ (fixed : ℕ) (graph held others targets : List Content) (graph_fits : 
             let d = content_back others targets i in
             record {
               facts = sym (ap (λ k. k.facts) c) ∙ (h.facts_equal (n + i) (m + i) at ∙ ap (λ k. k.facts) d);
-              refs = refs_stronger n m pairs _ _ (refs_below_at n held graph_fits.held_in_range i) (refs_below_at m targets others_fit.held_in_range i)
-                  (subst (λ k. AllZip (IsPairedOrNone (IsAmong pairs)) k.refs (content_at targets i).refs) c (subst (λ k. AllZip (IsPairedOrNone (IsAmong pairs)) (content_at (graph ++ held) (n + i)).refs k.refs) d (h.refs_paired (n + i) (m + i) at)));
+              refs = refs_stronger n m pairs _ _ (refs_below_at n held graph_fits.held_in_range i)
+                  (refs_below_at m targets others_fit.held_in_range i)
+                  (subst (λ k. AllZip (IsPairedOrNone (IsAmong pairs)) k.refs (content_at targets i).refs) c
+                  (subst (λ k. AllZip (IsPairedOrNone (IsAmong pairs)) (content_at (graph ++ held) (n + i)).refs
+                  k.refs) d (h.refs_paired (n + i) (m + i) at)));
             });
       }
 
@@ -229,87 +196,136 @@ module _ (fixed : ℕ) (graph held others targets : List Content) (graph_fits : 
 
   -- a pair of the graphs, or what is held at one place
   HeldOr : List (ℕ × ℕ) → ℕ → ℕ → Type 0
-  HeldOr pairs x y = IsAmong pairs x y ⊎ ((i : ℕ) × (i < length held) × (length graph + i ≡ x) × (length others + i ≡ y))
+  HeldOr pairs x y =
+      IsAmong pairs x y ⊎ ((i : ℕ) × (i < length held) × (length graph + i ≡ x) × (length others + i ≡ y))
 
-  held_one : (pairs : List (ℕ × ℕ)) → IsGraphPairing (IsAmong pairs) fixed graph held others targets → IsOneToOne (HeldOr pairs)
+  held_one : (pairs : List (ℕ × ℕ)) → IsGraphPairing (IsAmong pairs) fixed graph held others targets
+      → IsOneToOne (HeldOr pairs)
   unfolding HeldOr
   held_one pairs h x y a b (inl p) (inl q) = h.one_to_one x y a b p q
-  held_one pairs h x y a b (inl p) (inr q) = let r = h.in_range x y p in let e = q.2 in let f = q.3 in (λ g. absurd (omega arith), λ g. absurd (omega arith))
-  held_one pairs h x y a b (inr p) (inl q) = let r = h.in_range a b q in let e = p.2 in let f = p.3 in (λ g. absurd (omega arith), λ g. absurd (omega arith))
-  held_one pairs h x y a b (inr p) (inr q) = let e = p.2 in let f = p.3 in let c = q.2 in let d = q.3 in (λ g. omega arith, λ g. omega arith)
+  held_one pairs h x y a b (inl p) (inr q) = let r = h.in_range x y p in let e = q.2 in
+      let f = q.3 in (λ g. absurd (omega arith), λ g. absurd (omega arith))
+  held_one pairs h x y a b (inr p) (inl q) = let r = h.in_range a b q in let e = p.2 in
+      let f = p.3 in (λ g. absurd (omega arith), λ g. absurd (omega arith))
+  held_one pairs h x y a b (inr p) (inr q) = let e = p.2 in let f = p.3 in let c = q.2 in
+      let d = q.3 in (λ g. omega arith, λ g. omega arith)
 
-  held_range : (pairs : List (ℕ × ℕ)) → IsGraphPairing (IsAmong pairs) fixed graph held others targets → (x y : ℕ) → HeldOr pairs x y → (x < length (graph ++ held)) × (y < length (others ++ targets))
+  held_range : (pairs : List (ℕ × ℕ)) → IsGraphPairing (IsAmong pairs) fixed graph held others targets → (x y : ℕ)
+      → HeldOr pairs x y → (x < length (graph ++ held)) × (y < length (others ++ targets))
   unfolding HeldOr
-  held_range pairs h x y (inl p) = let r = h.in_range x y p in (omega (arith, length-append graph held), omega (arith, length-append others targets))
-  held_range pairs h x y (inr p) = let k = p.1 in let e = p.2 in let f = p.3 in (omega (arith, length-append graph held), omega (arith, length-append others targets))
+  held_range pairs h x y (inl p) =
+      let r = h.in_range x y p in (omega (arith, length-append graph held), omega (arith, length-append others targets))
+  held_range pairs h x y (inr p) = let k = p.1 in let e = p.2 in
+      let f = p.3 in (omega (arith, length-append graph held), omega (arith, length-append others targets))
 
-  held_cells : (pairs : List (ℕ × ℕ)) → IsGraphPairing (IsAmong pairs) fixed graph held others targets → (x y : ℕ) → HeldOr pairs x y → AreCellsPaired (HeldOr pairs) (content_at (graph ++ held) x) (content_at (others ++ targets) y)
+  held_cells : (pairs : List (ℕ × ℕ)) → IsGraphPairing (IsAmong pairs) fixed graph held others targets → (x y : ℕ)
+      → HeldOr pairs x y → AreCellsPaired (HeldOr pairs) (content_at (graph ++ held) x)
+      (content_at (others ++ targets) y)
   unfolding HeldOr
   held_cells pairs h x y (inl p) =
       let r = h.in_range x y p in
       cells_weaker (IsAmong pairs) (HeldOr pairs) (λ a b q. inl q) _ _
-      (subst (λ k. AreCellsPaired (IsAmong pairs) k (content_at (others ++ targets) y)) (sym (content_front graph held x r.0))
-      (subst (λ k. AreCellsPaired (IsAmong pairs) (content_at graph x) k) (sym (content_front others targets y r.1)) (h.cells_paired x y p)))
+      (subst (λ k. AreCellsPaired (IsAmong pairs) k (content_at (others ++ targets) y))
+      (sym (content_front graph held x r.0))
+      (subst (λ k. AreCellsPaired (IsAmong pairs) (content_at graph x) k) (sym (content_front others targets y r.1))
+      (h.cells_paired x y p)))
   held_cells pairs h x y (inr p) =
       let at = places_from_zip (AreCellsPaired (IsAmong pairs)) held targets h.held_paired p.0 p.1 in
       cells_weaker (IsAmong pairs) (HeldOr pairs) (λ a b q. inl q) _ _
       (subst (λ z. AreCellsPaired (IsAmong pairs) (content_at (graph ++ held) z) (content_at (others ++ targets) y)) p.2
-      (subst (λ z. AreCellsPaired (IsAmong pairs) (content_at (graph ++ held) (length graph + p.0)) (content_at (others ++ targets) z)) p.3
-      (subst (λ k. AreCellsPaired (IsAmong pairs) k (content_at (others ++ targets) (length others + p.0))) (sym (content_back graph held p.0))
-      (subst (λ k. AreCellsPaired (IsAmong pairs) (content_at held p.0) k) (sym (content_back others targets p.0)) at))))
+      (subst (λ z. AreCellsPaired (IsAmong pairs) (content_at (graph ++ held) (length graph + p.0))
+      (content_at (others ++ targets) z)) p.3
+      (subst (λ k. AreCellsPaired (IsAmong pairs) k (content_at (others ++ targets) (length others + p.0)))
+      (sym (content_back graph held p.0))
+      (subst (λ k. AreCellsPaired (IsAmong pairs) (content_at held p.0) k) (sym (content_back others targets p.0))
+      at))))
 
-  held_pairing : (pairs : List (ℕ × ℕ)) → IsGraphPairing (IsAmong pairs) fixed graph held others targets → IsPairing (HeldOr pairs) (graph ++ held) (roots_of fixed graph held) (others ++ targets) (roots_of fixed others targets)
+  held_pairing : (pairs : List (ℕ × ℕ)) → IsGraphPairing (IsAmong pairs) fixed graph held others targets
+      → IsPairing (HeldOr pairs) (graph ++ held) (roots_of fixed graph held) (others ++ targets)
+      (roots_of fixed others targets)
   unfolding HeldOr
   held_pairing pairs h = record {
     one_to_one = held_one pairs h;
     in_range = held_range pairs h;
     roots_paired =
         zip_join (HeldOr pairs) (numbers_from 0 fixed) (numbers_from 0 fixed) _ _
-        (numbers_zip (HeldOr pairs) 0 0 fixed (λ i k. subst (λ z. HeldOr pairs z z) (sym (zero-add i)) (inl (h.fixed_paired i k))))
-        (subst (λ t. AllZip (HeldOr pairs) (numbers_from (length graph) (length held)) (numbers_from (length others) t)) l
+        (numbers_zip (HeldOr pairs) 0 0 fixed
+        (λ i k. subst (λ z. HeldOr pairs z z) (sym (zero-add i)) (inl (h.fixed_paired i k))))
+        (subst (λ t. AllZip (HeldOr pairs) (numbers_from (length graph) (length held)) (numbers_from (length others) t))
+        l
         (numbers_zip (HeldOr pairs) (length graph) (length others) (length held) (λ i k. inr (i, k, refl, refl))));
     facts_equal = λ x y p. (held_cells pairs h x y p).facts;
     refs_paired = λ x y p. (held_cells pairs h x y p).refs;
   }
 
   all_pairs : List (ℕ × ℕ) → List (ℕ × ℕ)
-  all_pairs pairs = pairs ++ zip (numbers_from (length graph) (length held)) (numbers_from (length others) (length held))
+  all_pairs pairs =
+      pairs ++ zip (numbers_from (length graph) (length held)) (numbers_from (length others) (length held))
 
   all_pairs_are : (pairs : List (ℕ × ℕ)) (x y : ℕ) → HeldOr pairs x y ↔ IsAmong (all_pairs pairs) x y
   unfolding HeldOr all_pairs
   all_pairs_are pairs x y =
-      let joined = among_append pairs (zip (numbers_from (length graph) (length held)) (numbers_from (length others) (length held))) x y in
+      let joined =
+      among_append pairs
+      (zip (numbers_from (length graph) (length held)) (numbers_from (length others) (length held))) x y in
       (λ h. joined.0 (to h), λ h. from (joined.1 h))
     where
-      to : HeldOr pairs x y → IsAmong pairs x y ⊎ IsAmong (zip (numbers_from (length graph) (length held)) (numbers_from (length others) (length held))) x y
+      to : HeldOr pairs x y → IsAmong pairs x y
+          ⊎ IsAmong (zip (numbers_from (length graph) (length held)) (numbers_from (length others) (length held))) x y
       to (inl p) = inl p
       to (inr p) =
-          inr (subst (λ z. IsAmong (zip (numbers_from (length graph) (length held)) (numbers_from (length others) (length held))) z y) p.2
-          (subst (λ z. IsAmong (zip (numbers_from (length graph) (length held)) (numbers_from (length others) (length held))) (length graph + p.0) z) p.3 (pair_held (length graph) (length others) (length held) p.0 p.1)))
+          inr (subst
+          (λ z. IsAmong
+          (zip (numbers_from (length graph) (length held)) (numbers_from (length others) (length held))) z y) p.2
+          (subst (λ z. IsAmong
+          (zip (numbers_from (length graph) (length held)) (numbers_from (length others) (length held)))
+          (length graph + p.0) z) p.3 (pair_held (length graph) (length others) (length held) p.0 p.1)))
 
-      from : IsAmong pairs x y ⊎ IsAmong (zip (numbers_from (length graph) (length held)) (numbers_from (length others) (length held))) x y → HeldOr pairs x y
+      from : IsAmong pairs x y
+          ⊎ IsAmong (zip (numbers_from (length graph) (length held)) (numbers_from (length others) (length held))) x y
+          → HeldOr pairs x y
       from (inl p) = inl p
       from (inr p) = inr (held_pair (length graph) (length others) (length held) x y p)
 
   -- two forms are equal exactly if the graphs can be paired
-  pub forms_exactly : (graph_form fixed graph held ≡ graph_form fixed others targets) ↔ CanGraphsBePaired fixed graph held others targets
+  pub forms_exactly : (graph_form fixed graph held ≡ graph_form fixed others targets)
+      ↔ CanGraphsBePaired fixed graph held others targets
   forms_exactly =
       let same : length (roots_of fixed graph held) ≡ length (roots_of fixed others targets) =
-      omega (arith, length-append (numbers_from 0 fixed) (numbers_from (length graph) (length held)), length-append (numbers_from 0 fixed) (numbers_from (length others) (length targets)), length-numbers_from (length graph) (length held), length-numbers_from (length others) (length targets)) in
-      let exactly = canonical_exactly (graph ++ held) (others ++ targets) (roots_of fixed graph held) (roots_of fixed others targets) (graph_rooted fixed graph held graph_fits) (graph_rooted fixed others targets others_fit) same in (
+      omega (
+        arith,
+        length-append (numbers_from 0 fixed) (numbers_from (length graph) (length held)),
+        length-append (numbers_from 0 fixed) (numbers_from (length others) (length targets)),
+        length-numbers_from (length graph) (length held),
+        length-numbers_from (length others) (length targets),
+      ) in
+      let exactly =
+      canonical_exactly (graph ++ held) (others ++ targets) (roots_of fixed graph held)
+      (roots_of fixed others targets) (graph_rooted fixed graph held graph_fits)
+      (graph_rooted fixed others targets others_fit) same in (
         λ e. let p = exactly.0 e in (filter (are_below (length graph) (length others)) p.0, restricted p.0 p.1),
-        λ p. exactly.1 (all_pairs p.0, pairing_same (HeldOr p.0) (IsAmong (all_pairs p.0)) (all_pairs_are p.0) _ _ _ _ (held_pairing p.0 p.1)),
+        λ p. exactly.1 (
+          all_pairs p.0,
+          pairing_same (HeldOr p.0) (IsAmong (all_pairs p.0)) (all_pairs_are p.0) _ _ _ _
+              (held_pairing p.0 p.1),
+        ),
       )
 
 -- what `canon` is called with
-pub form_rooted : (fixed : ℕ) (graph held cells : List Content) (roots : List ℕ) → IsGraph fixed graph held → cells ≡ graph ++ held → roots ≡ roots_of fixed graph held → IsRooted cells roots
+pub form_rooted : (fixed : ℕ) (graph held cells : List Content) (roots : List ℕ) → IsGraph fixed graph held
+    → cells ≡ graph ++ held → roots ≡ roots_of fixed graph held → IsRooted cells roots
 form_rooted fixed graph held cells roots h e f =
-    subst (λ c. IsRooted c roots) (sym e) (subst (λ r. IsRooted (graph ++ held) r) (sym f) (graph_rooted fixed graph held h))
+    subst (λ c. IsRooted c roots) (sym e)
+    (subst (λ r. IsRooted (graph ++ held) r) (sym f) (graph_rooted fixed graph held h))
 
 -- what it answers then
-pub form_exact : (fixed : ℕ) (graph held cells : List Content) (roots : List ℕ) (answer others targets : List Content) → IsGraph fixed graph held → cells ≡ graph ++ held → roots ≡ roots_of fixed graph held → answer ≡ canonical cells roots →
-    IsGraph fixed others targets → length held ≡ length targets → (answer ≡ graph_form fixed others targets) ↔ CanGraphsBePaired fixed graph held others targets
+pub form_exact : (fixed : ℕ) (graph held cells : List Content) (roots : List ℕ) (answer others targets : List Content)
+    → IsGraph fixed graph held → cells ≡ graph ++ held → roots ≡ roots_of fixed graph held
+    → answer ≡ canonical cells roots →
+    IsGraph fixed others targets → length held ≡ length targets → (answer ≡ graph_form fixed others targets)
+    ↔ CanGraphsBePaired fixed graph held others targets
 form_exact fixed graph held cells roots answer others targets h e f is o l =
-    let same : answer ≡ graph_form fixed graph held = is ∙ (ap (λ c. canonical c roots) e ∙ ap (canonical (graph ++ held)) f) in
+    let same : answer ≡ graph_form fixed graph held =
+    is ∙ (ap (λ c. canonical c roots) e ∙ ap (canonical (graph ++ held)) f) in
     let exactly = forms_exactly fixed graph held others targets h o l in
     (λ g. exactly.0 (sym same ∙ g), λ p. same ∙ exactly.1 p)

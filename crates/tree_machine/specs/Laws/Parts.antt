@@ -1,153 +1,57 @@
 -- Forms of parts are equal exactly where the parts can be paired.
-use Rattle.std.proofs.Common.{◌≡◌, ℕ, zero, suc, ◌+◌, ◌-◌, ◌<◌, ◌≤◌, ◌⊎◌, ◌↔◌, Bool, true, false, cond, ◌&&◌, List, [], ◌∷◌, ◌++◌, map, length, refl, sym, ◌∙◌, ap, subst, inl, inr, arith, length-append}
-use Rattle.std.specs.Prelude.{Option, Some, None, IfSome, nat_le}
+use Rattle.std.proofs.Common.{◌≡◌, ℕ, zero, suc, ◌+◌, ◌-◌, ◌<◌, ◌≤◌, ◌⊎◌, ◌↔◌, List, [], ◌∷◌, ◌++◌, map, length, refl}
+use Rattle.std.proofs.Common.{sym, ◌∙◌, ap, subst, inl, inr, arith, length-append}
+use Rattle.std.specs.Prelude.{Option, Some, None, IfSome}
 use Rattle.std.specs.List.{AllZip, All, AllByRecursion, filter}
 use Rattle.std.specs.Option.{option_map}
-use Rattle.std.proofs.lemmas.Bool.Decides.{nat_tests}
 use Rattle.std.proofs.lemmas.List.{length-map}
 use Rattle.std.proofs.lemmas.List.Elements.{All-append, All-map, All-weaker, recursion_from_All}
-use Rattle.tree_machine.specs.Cells.{Content, content_at, IsPairedOrNone}
+use Rattle.tree_machine.specs.Cells.{Content, content_at}
 use Rattle.tree_machine.specs.Pairing.{IsAmong}
 use Rattle.tree_machine.specs.Graphs.{graph_form}
-use Rattle.tree_machine.specs.Parts.{Part, Parts, part_at, ArePartsPaired, IsPartsPairing, IsPartBelow, ArePartsInRange, part_cell, parts_graph, parts_held, parts_form, CanPartsBePaired}
-use Rattle.tree_machine.specs.Laws.PairLists.{or_none_weaker, zip_weaker, among_append, are_below, among_below, below_among}
-use Rattle.tree_machine.specs.Laws.Graphs.{RefsBelow, IsGraph, AreCellsPaired, IsGraphPairing, content_front, content_back, refs_stronger, forms_exactly}
-
--- ---- numbers of records, behind n nodes
-
-raised : ℕ → ℕ → List (ℕ × ℕ) → List (ℕ × ℕ)
-raised n m [] = []
-raised n m (p ∷ pairs) = (n + p.0, m + p.1) ∷ raised n m pairs
-
-lowered : ℕ → ℕ → List (ℕ × ℕ) → List (ℕ × ℕ)
-lowered n m [] = []
-lowered n m (p ∷ pairs) = cond (nat_le n p.0 && nat_le m p.1) ((p.0 - n, p.1 - m) ∷ lowered n m pairs) (lowered n m pairs)
-
-raised_pair : (n m : ℕ) (pairs : List (ℕ × ℕ)) (x y : ℕ) → IsAmong pairs x y → IsAmong (raised n m pairs) (n + x) (m + y)
-unfolding raised
-raised_pair n m [] x y h = absurd h
-raised_pair n m (p ∷ pairs) x y (inl e) = inl (ap (λ z. n + z) e.0, ap (λ z. m + z) e.1)
-raised_pair n m (p ∷ pairs) x y (inr h) = inr (raised_pair n m pairs x y h)
-
-pair_raised : (n m : ℕ) (pairs : List (ℕ × ℕ)) (x y : ℕ) → IsAmong (raised n m pairs) x y → (a : ℕ) × (b : ℕ) × IsAmong pairs a b × (n + a ≡ x) × (m + b ≡ y)
-unfolding raised
-pair_raised n m [] x y h = absurd h
-pair_raised n m (p ∷ pairs) x y (inl e) = (p.0, p.1, inl (refl, refl), e.0, e.1)
-pair_raised n m (p ∷ pairs) x y (inr h) = let r = pair_raised n m pairs x y h in (r.0, r.1, inr r.2, r.3, r.4)
-
-both_at_least : (n m x y : ℕ) → (nat_le n x && nat_le m y) ≡ true → (n ≤ x) × (m ≤ y)
-both_at_least n m x y h = grind (arith, nat_tests)
-
-at_least_both : (n m x y : ℕ) → n ≤ x → m ≤ y → (nat_le n x && nat_le m y) ≡ true
-at_least_both n m x y h g = grind (arith, nat_tests)
-
-lowered_pair : (n m : ℕ) (pairs : List (ℕ × ℕ)) (x y : ℕ) → IsAmong (lowered n m pairs) x y → IsAmong pairs (n + x) (m + y)
-unfolding lowered
-lowered_pair n m [] x y h = absurd h
-lowered_pair n m (p ∷ pairs) x y h = go (nat_le n p.0 && nat_le m p.1) refl h (λ g. lowered_pair n m pairs x y g)
-  where
-    go : (b : Bool) → (nat_le n p.0 && nat_le m p.1) ≡ b → IsAmong (cond b ((p.0 - n, p.1 - m) ∷ lowered n m pairs) (lowered n m pairs)) x y → (IsAmong (lowered n m pairs) x y → IsAmong pairs (n + x) (m + y)) → IsAmong (p ∷ pairs) (n + x) (m + y)
-    go true e (inl g) rest = let l = both_at_least n m p.0 p.1 e in let c = g.0 in let d = g.1 in inl (omega arith, omega arith)
-    go true e (inr g) rest = inr (rest g)
-    go false e g rest = inr (rest g)
-
-pair_lowered : (n m : ℕ) (pairs : List (ℕ × ℕ)) (x y : ℕ) → IsAmong pairs (n + x) (m + y) → IsAmong (lowered n m pairs) x y
-unfolding lowered
-pair_lowered n m [] x y h = absurd h
-pair_lowered n m (p ∷ pairs) x y (inl e) =
-    let c : p.0 ≡ n + x = e.0 in
-    let d : p.1 ≡ m + y = e.1 in
-    let b : (nat_le n p.0 && nat_le m p.1) ≡ true = at_least_both n m p.0 p.1 (omega arith) (omega arith) in
-    subst (λ t. IsAmong (cond t ((p.0 - n, p.1 - m) ∷ lowered n m pairs) (lowered n m pairs)) x y) (sym b) (inl (omega arith, omega arith))
-pair_lowered n m (p ∷ pairs) x y (inr h) = go (nat_le n p.0 && nat_le m p.1) (pair_lowered n m pairs x y h)
-  where
-    go : (b : Bool) → IsAmong (lowered n m pairs) x y → IsAmong (cond b ((p.0 - n, p.1 - m) ∷ lowered n m pairs) (lowered n m pairs)) x y
-    go true g = inr g
-    go false g = g
-
--- ---- refs to nodes, and then to records
-
-refs_join : (P R Q : ℕ → ℕ → Type 0) (n m : ℕ) → ((x y : ℕ) → P x y → Q x y) → ((x y : ℕ) → R x y → Q (n + x) (m + y)) → (ns ms rs ss : List (Option ℕ)) → AllZip (IsPairedOrNone P) ns ms → AllZip (IsPairedOrNone R) rs ss →
-    AllZip (IsPairedOrNone Q) (ns ++ map (option_map (λ x. n + x)) rs) (ms ++ map (option_map (λ x. m + x)) ss)
-refs_join P R Q n m f g [] [] rs ss z w = go rs ss w
-  where
-    go : (rs ss : List (Option ℕ)) → AllZip (IsPairedOrNone R) rs ss → AllZip (IsPairedOrNone Q) (map (option_map (λ x. n + x)) rs) (map (option_map (λ x. m + x)) ss)
-    go [] [] w = tt
-    go [] (s ∷ ss) w = absurd w
-    go (r ∷ rs) [] w = absurd w
-    go (None ∷ rs) (None ∷ ss) w = (tt, go rs ss w.1)
-    go (None ∷ rs) (Some y ∷ ss) w = absurd w.0
-    go (Some x ∷ rs) (None ∷ ss) w = absurd w.0
-    go (Some x ∷ rs) (Some y ∷ ss) w = (g x y w.0, go rs ss w.1)
-refs_join P R Q n m f g [] (y ∷ ms) rs ss z w = absurd z
-refs_join P R Q n m f g (x ∷ ns) [] rs ss z w = absurd z
-refs_join P R Q n m f g (x ∷ ns) (y ∷ ms) rs ss z w = (or_none_weaker P Q f x y z.0, refs_join P R Q n m f g ns ms rs ss z.1 w)
-
-refs_part : (Q : ℕ → ℕ → Type 0) (n m : ℕ) (ns ms rs ss : List (Option ℕ)) → length ns ≡ length ms → AllZip (IsPairedOrNone Q) (ns ++ map (option_map (λ x. n + x)) rs) (ms ++ map (option_map (λ x. m + x)) ss) →
-    AllZip (IsPairedOrNone Q) ns ms × AllZip (IsPairedOrNone (λ x y. Q (n + x) (m + y))) rs ss
-refs_part Q n m [] [] rs ss e z = (tt, go rs ss z)
-  where
-    go : (rs ss : List (Option ℕ)) → AllZip (IsPairedOrNone Q) (map (option_map (λ x. n + x)) rs) (map (option_map (λ x. m + x)) ss) → AllZip (IsPairedOrNone (λ x y. Q (n + x) (m + y))) rs ss
-    go [] [] w = tt
-    go [] (s ∷ ss) w = absurd w
-    go (r ∷ rs) [] w = absurd w
-    go (None ∷ rs) (None ∷ ss) w = (tt, go rs ss w.1)
-    go (None ∷ rs) (Some y ∷ ss) w = absurd w.0
-    go (Some x ∷ rs) (None ∷ ss) w = absurd w.0
-    go (Some x ∷ rs) (Some y ∷ ss) w = (w.0, go rs ss w.1)
-refs_part Q n m [] (y ∷ ms) rs ss e z = absurd (omega arith)
-refs_part Q n m (x ∷ ns) [] rs ss e z = absurd (omega arith)
-refs_part Q n m (x ∷ ns) (y ∷ ms) rs ss e z = let r = refs_part Q n m ns ms rs ss (omega arith) z.1 in ((z.0, r.0), r.1)
-
--- ---- parts and their cells
-
-cells_from_parts : (P R Q : ℕ → ℕ → Type 0) (n m kind : ℕ) → ((x y : ℕ) → P x y → Q x y) → ((x y : ℕ) → R x y → Q (n + x) (m + y)) → (a b : Part) → ArePartsPaired P R a b → AreCellsPaired Q (part_cell n kind a) (part_cell m kind b)
-cells_from_parts P R Q n m kind f g a b h = record {
-  facts = (let e = length_zip (IsPairedOrNone P) a.nodes b.nodes h.nodes in let d = h.facts in cc);
-  refs = refs_join P R Q n m f g a.nodes b.nodes a.records b.records h.nodes h.records;
-}
-  where
-    length_zip : (T : Option ℕ → Option ℕ → Type 0) (xs ys : List (Option ℕ)) → AllZip T xs ys → length xs ≡ length ys
-    length_zip T [] [] z = refl
-    length_zip T [] (y ∷ ys) z = absurd z
-    length_zip T (x ∷ xs) [] z = absurd z
-    length_zip T (x ∷ xs) (y ∷ ys) z = ap suc (length_zip T xs ys z.1)
-
-parts_from_cells : (pairs : List (ℕ × ℕ)) (n m r s kind : ℕ) (a b : Part) → IsPartBelow n r a → IsPartBelow m s b → AreCellsPaired (IsAmong pairs) (part_cell n kind a) (part_cell m kind b) →
-    ArePartsPaired (IsAmong (filter (are_below n m) pairs)) (IsAmong (lowered n m pairs)) a b
-parts_from_cells pairs n m r s kind a b below_a below_b h =
-    let d = h.facts in
-    let lengths : length a.nodes ≡ length b.nodes = cc in
-    let facts : a.facts ≡ b.facts = cc in
-    let pieces = refs_part (IsAmong pairs) n m a.nodes b.nodes a.records b.records lengths h.refs in
-    record {
-      facts = facts;
-      nodes = refs_stronger n m pairs a.nodes b.nodes (recursion_from_All _ _ below_a.nodes) (recursion_from_All _ _ below_b.nodes) pieces.0;
-      records = zip_weaker _ _ (or_none_weaker (λ x y. IsAmong pairs (n + x) (m + y)) (IsAmong (lowered n m pairs)) (λ x y p. pair_lowered n m pairs x y p)) a.records b.records pieces.1;
-    }
+use Rattle.tree_machine.specs.Parts.{Part, Parts, part_at, ArePartsPaired, IsPartsPairing, IsPartBelow, ArePartsInRange}
+use Rattle.tree_machine.specs.Parts.{part_cell, parts_graph, parts_held, parts_form, CanPartsBePaired}
+use Rattle.tree_machine.specs.Laws.PairLists.{among_append, are_below, among_below, below_among}
+use Rattle.tree_machine.specs.Laws.Graphs.{RefsBelow, IsGraph, AreCellsPaired, IsGraphPairing}
+use Rattle.tree_machine.specs.Laws.CellLists.{content_front}
+use Rattle.tree_machine.specs.Laws.Graphs.{forms_exactly}
+use Rattle.tree_machine.specs.Laws.CellLists.{content_back}
+use Rattle.tree_machine.specs.Laws.PartCells.{raised, lowered, raised_pair, pair_raised, lowered_pair, cells_from_parts}
+use Rattle.tree_machine.specs.Laws.PartCells.{parts_from_cells}
 
 -- ---- the cells of all parts
 
-pub content_map : (f : Part → Content) (parts : List Part) (x : ℕ) → x < length parts → content_at (map f parts) x ≡ f (part_at parts x)
+pub content_map : (f : Part → Content) (parts : List Part) (x : ℕ) → x < length parts
+    → content_at (map f parts) x ≡ f (part_at parts x)
 content_map f [] x l = absurd (omega arith)
 content_map f (p ∷ parts) zero l = refl
 content_map f (p ∷ parts) (suc x) l = content_map f parts x (omega arith)
 
-part_all : (P : Part → Type 0) (parts : List Part) → AllByRecursion P parts → (x : ℕ) → x < length parts → P (part_at parts x)
+part_all : (P : Part → Type 0) (parts : List Part) → AllByRecursion P parts → (x : ℕ) → x < length parts
+    → P (part_at parts x)
 part_all P [] h x l = absurd (omega arith)
 part_all P (p ∷ parts) h zero l = h.0
 part_all P (p ∷ parts) h (suc x) l = part_all P parts h.1 x (omega arith)
 
 pub length-parts_graph : (s : Parts) → length (parts_graph s) ≡ length s.nodes + length s.records
 length-parts_graph s =
-    omega (arith, length-append (map (part_cell (length s.nodes) 0) s.nodes) (map (part_cell (length s.nodes) 1) s.records), length-map s.nodes (part_cell (length s.nodes) 0), length-map s.records (part_cell (length s.nodes) 1))
+    omega (
+      arith,
+      length-append (map (part_cell (length s.nodes) 0) s.nodes)
+          (map (part_cell (length s.nodes) 1) s.records),
+      length-map s.nodes (part_cell (length s.nodes) 0),
+      length-map s.records (part_cell (length s.nodes) 1),
+    )
 
-node_cell_at : (s : Parts) (x : ℕ) → x < length s.nodes → content_at (parts_graph s) x ≡ part_cell (length s.nodes) 0 (part_at s.nodes x)
+node_cell_at : (s : Parts) (x : ℕ) → x < length s.nodes
+    → content_at (parts_graph s) x ≡ part_cell (length s.nodes) 0 (part_at s.nodes x)
 node_cell_at s x l =
-    content_front (map (part_cell (length s.nodes) 0) s.nodes) (map (part_cell (length s.nodes) 1) s.records) x (subst (λ n. x < n) (sym (length-map s.nodes (part_cell (length s.nodes) 0))) l)
+    content_front (map (part_cell (length s.nodes) 0) s.nodes) (map (part_cell (length s.nodes) 1) s.records) x
+    (subst (λ n. x < n) (sym (length-map s.nodes (part_cell (length s.nodes) 0))) l)
     ∙ content_map (part_cell (length s.nodes) 0) s.nodes x l
 
-record_cell_at : (s : Parts) (x : ℕ) → x < length s.records → content_at (parts_graph s) (length s.nodes + x) ≡ part_cell (length s.nodes) 1 (part_at s.records x)
+record_cell_at : (s : Parts) (x : ℕ) → x < length s.records
+    → content_at (parts_graph s) (length s.nodes + x) ≡ part_cell (length s.nodes) 1 (part_at s.records x)
 record_cell_at s x l =
     ap (λ n. content_at (parts_graph s) (n + x)) (sym (length-map s.nodes (part_cell (length s.nodes) 0)))
     ∙ (content_back (map (part_cell (length s.nodes) 0) s.nodes) (map (part_cell (length s.nodes) 1) s.records) x
@@ -157,7 +61,9 @@ part_refs_below : (n r kind : ℕ) (p : Part) → IsPartBelow n r p → RefsBelo
 part_refs_below n r kind p h =
     All-append (λ x. IfSome x (λ y. y < n + r)) p.nodes (map (option_map (λ x. n + x)) p.records)
     (All-weaker (λ x. IfSome x (λ y. y < n)) (λ x. IfSome x (λ y. y < n + r)) wider p.nodes h.nodes)
-    (All-map (λ x. IfSome x (λ y. y < n + r)) (option_map (λ x. n + x)) p.records (All-weaker (λ x. IfSome x (λ y. y < r)) (λ x. IfSome (option_map (λ x. n + x) x) (λ y. y < n + r)) behind p.records h.records))
+    (All-map (λ x. IfSome x (λ y. y < n + r)) (option_map (λ x. n + x)) p.records
+    (All-weaker (λ x. IfSome x (λ y. y < r)) (λ x. IfSome (option_map (λ x. n + x) x) (λ y. y < n + r)) behind
+    p.records h.records))
   where
     wider : (x : Option ℕ) → IfSome x (λ y. y < n) → IfSome x (λ y. y < n + r)
     wider None k = tt
@@ -173,11 +79,17 @@ parts_fit fixed s h =
     let r = length s.records in
     let same : length (parts_graph s) ≡ n + r = length-parts_graph s in
     let base : fixed ≤ n = h.fixed_in_range in
-    let each : (kind : ℕ) (parts : List Part) → All (IsPartBelow n r) parts → All (RefsBelow (n + r)) (map (part_cell n kind) parts) =
-    λ kind parts k. All-map (RefsBelow (n + r)) (part_cell n kind) parts (All-weaker (IsPartBelow n r) (λ p. RefsBelow (n + r) (part_cell n kind p)) (λ p b. part_refs_below n r kind p b) parts k) in
+    let each : (kind : ℕ) (parts : List Part) → All (IsPartBelow n r) parts
+    → All (RefsBelow (n + r)) (map (part_cell n kind) parts) =
+    λ kind parts k. All-map (RefsBelow (n + r)) (part_cell n kind) parts
+    (All-weaker (IsPartBelow n r) (λ p. RefsBelow (n + r) (part_cell n kind p))
+    (λ p b. part_refs_below n r kind p b) parts k) in
     record {
       fixed_in_range = omega arith;
-      graph_in_range = subst (λ m. All (RefsBelow m) (parts_graph s)) (sym same) (All-append (RefsBelow (n + r)) (map (part_cell n 0) s.nodes) (map (part_cell n 1) s.records) (each 0 s.nodes h.nodes) (each 1 s.records h.records));
+      graph_in_range =
+          subst (λ m. All (RefsBelow m) (parts_graph s)) (sym same)
+          (All-append (RefsBelow (n + r)) (map (part_cell n 0) s.nodes) (map (part_cell n 1) s.records)
+          (each 0 s.nodes h.nodes) (each 1 s.records h.records));
       held_in_range = subst (λ m. All (RefsBelow m) (parts_held s)) (sym same) (each 2 s.held h.held);
     }
 
@@ -191,30 +103,49 @@ below_or x n = go (le_or x n)
     go (inl l) = inl l
     go (inr l) = inr (x - n, omega arith)
 
-module _ (fixed : ℕ) (here there : Parts) (here_fits : ArePartsInRange fixed here) (there_fits : ArePartsInRange fixed there) where
+module _ (fixed : ℕ) (here there : Parts) (here_fits : ArePartsInRange fixed here)
+    (there_fits : ArePartsInRange fixed there) where
   -- ---- from a pairing of the graphs to one of the parts
 
-  held_parts : (pairs : List (ℕ × ℕ)) (ps qs : List Part) → AllByRecursion (IsPartBelow (length here.nodes) (length here.records)) ps → AllByRecursion (IsPartBelow (length there.nodes) (length there.records)) qs →
-      AllZip (AreCellsPaired (IsAmong pairs)) (map (part_cell (length here.nodes) 2) ps) (map (part_cell (length there.nodes) 2) qs) →
-      AllZip (ArePartsPaired (IsAmong (filter (are_below (length here.nodes) (length there.nodes)) pairs)) (IsAmong (lowered (length here.nodes) (length there.nodes) pairs))) ps qs
+  held_parts : (pairs : List (ℕ × ℕ)) (ps qs : List Part)
+      → AllByRecursion (IsPartBelow (length here.nodes) (length here.records)) ps
+      → AllByRecursion (IsPartBelow (length there.nodes) (length there.records)) qs →
+      AllZip (AreCellsPaired (IsAmong pairs)) (map (part_cell (length here.nodes) 2) ps)
+      (map (part_cell (length there.nodes) 2) qs) →
+      AllZip (ArePartsPaired (IsAmong (filter (are_below (length here.nodes) (length there.nodes)) pairs))
+      (IsAmong (lowered (length here.nodes) (length there.nodes) pairs))) ps qs
   held_parts pairs [] [] h g z = tt
   held_parts pairs [] (b ∷ qs) h g z = absurd z
   held_parts pairs (a ∷ ps) [] h g z = absurd z
-  held_parts pairs (a ∷ ps) (b ∷ qs) h g z =
-      (parts_from_cells pairs (length here.nodes) (length there.nodes) (length here.records) (length there.records) 2 a b h.0 g.0 z.0, held_parts pairs ps qs h.1 g.1 z.1)
+  held_parts pairs (a ∷ ps) (b ∷ qs) h g z = (
+    parts_from_cells pairs (length here.nodes) (length there.nodes) (length here.records) (length there.records) 2 a
+        b h.0 g.0 z.0,
+    held_parts pairs ps qs h.1 g.1 z.1,
+  )
 
-  parts_pairing : (pairs : List (ℕ × ℕ)) → IsGraphPairing (IsAmong pairs) fixed (parts_graph here) (parts_held here) (parts_graph there) (parts_held there) →
-      IsPartsPairing (IsAmong (filter (are_below (length here.nodes) (length there.nodes)) pairs)) (IsAmong (lowered (length here.nodes) (length there.nodes) pairs)) fixed here there
+  parts_pairing : (pairs : List (ℕ × ℕ))
+      → IsGraphPairing (IsAmong pairs) fixed (parts_graph here) (parts_held here) (parts_graph there) (parts_held there)
+      →
+      IsPartsPairing (IsAmong (filter (are_below (length here.nodes) (length there.nodes)) pairs))
+      (IsAmong (lowered (length here.nodes) (length there.nodes) pairs)) fixed here there
   parts_pairing pairs h =
       let n = length here.nodes in
       let m = length there.nodes in
       let range : (x y : ℕ) → IsAmong pairs (n + x) (m + y) → (x < length here.records) × (y < length there.records) =
-      λ x y p. (let r = h.in_range (n + x) (m + y) p in let k : n + x < length (parts_graph here) = r.0 in let j : m + y < length (parts_graph there) = r.1 in (omega (arith, length-parts_graph here), omega (arith, length-parts_graph there))) in
+      λ x y p. (let r = h.in_range (n + x) (m + y) p in let k : n + x < length (parts_graph here) = r.0 in
+      let j : m + y < length (parts_graph there) =
+      r.1 in (omega (arith, length-parts_graph here), omega (arith, length-parts_graph there))) in
       record {
-        nodes_one_to_one = λ x y a b p q. h.one_to_one x y a b (among_below n m pairs x y p).0 (among_below n m pairs a b q).0;
+        nodes_one_to_one =
+            λ x y a b p q. h.one_to_one x y a b (among_below n m pairs x y p).0 (among_below n m pairs a b q).0;
         records_one_to_one = λ x y a b p q.
-            let one = h.one_to_one (n + x) (m + y) (n + a) (m + b) (lowered_pair n m pairs x y p) (lowered_pair n m pairs a b q) in
-            (λ e. let f : m + y ≡ m + b = one.0 (ap (λ z. n + z) e) in omega arith, λ e. let f : n + x ≡ n + a = one.1 (ap (λ z. m + z) e) in omega arith);
+            let one =
+            h.one_to_one (n + x) (m + y) (n + a) (m + b) (lowered_pair n m pairs x y p)
+            (lowered_pair n m pairs a b q) in (
+              λ e. let f : m + y ≡ m + b = one.0 (ap (λ z. n + z) e) in
+                  omega arith,
+              λ e. let f : n + x ≡ n + a = one.1 (ap (λ z. m + z) e) in omega arith,
+            );
         fixed_paired = λ x l.
             let fits : fixed ≤ n = here_fits.fixed_in_range in
             let fit : fixed ≤ m = there_fits.fixed_in_range in
@@ -223,18 +154,30 @@ module _ (fixed : ℕ) (here there : Parts) (here_fits : ArePartsInRange fixed h
         records_in_range = λ x y p. range x y (lowered_pair n m pairs x y p);
         nodes_paired = λ x y p.
             let r = among_below n m pairs x y p in
-            parts_from_cells pairs n m (length here.records) (length there.records) 0 (part_at here.nodes x) (part_at there.nodes y)
-            (part_all (IsPartBelow n (length here.records)) here.nodes (recursion_from_All _ _ here_fits.nodes) x r.1) (part_all (IsPartBelow m (length there.records)) there.nodes (recursion_from_All _ _ there_fits.nodes) y r.2)
-            (subst (λ c. AreCellsPaired (IsAmong pairs) c (part_cell m 0 (part_at there.nodes y))) (node_cell_at here x r.1)
-            (subst (λ c. AreCellsPaired (IsAmong pairs) (content_at (parts_graph here) x) c) (node_cell_at there y r.2) (h.cells_paired x y r.0)));
+            parts_from_cells pairs n m (length here.records) (length there.records) 0 (part_at here.nodes x)
+            (part_at there.nodes y)
+            (part_all (IsPartBelow n (length here.records)) here.nodes (recursion_from_All _ _ here_fits.nodes) x r.1)
+            (part_all (IsPartBelow m (length there.records)) there.nodes (recursion_from_All _ _ there_fits.nodes) y
+            r.2)
+            (subst (λ c. AreCellsPaired (IsAmong pairs) c (part_cell m 0 (part_at there.nodes y)))
+            (node_cell_at here x r.1)
+            (subst (λ c. AreCellsPaired (IsAmong pairs) (content_at (parts_graph here) x) c) (node_cell_at there y r.2)
+            (h.cells_paired x y r.0)));
         records_paired = λ x y p.
             let q = lowered_pair n m pairs x y p in
             let r = range x y q in
-            parts_from_cells pairs n m (length here.records) (length there.records) 1 (part_at here.records x) (part_at there.records y)
-            (part_all (IsPartBelow n (length here.records)) here.records (recursion_from_All _ _ here_fits.records) x r.0) (part_all (IsPartBelow m (length there.records)) there.records (recursion_from_All _ _ there_fits.records) y r.1)
-            (subst (λ c. AreCellsPaired (IsAmong pairs) c (part_cell m 1 (part_at there.records y))) (record_cell_at here x r.0)
-            (subst (λ c. AreCellsPaired (IsAmong pairs) (content_at (parts_graph here) (n + x)) c) (record_cell_at there y r.1) (h.cells_paired (n + x) (m + y) q)));
-        held_paired = held_parts pairs here.held there.held (recursion_from_All _ _ here_fits.held) (recursion_from_All _ _ there_fits.held) h.held_paired;
+            parts_from_cells pairs n m (length here.records) (length there.records) 1 (part_at here.records x)
+            (part_at there.records y)
+            (part_all (IsPartBelow n (length here.records)) here.records (recursion_from_All _ _ here_fits.records) x
+            r.0) (part_all (IsPartBelow m (length there.records)) there.records
+            (recursion_from_All _ _ there_fits.records) y r.1)
+            (subst (λ c. AreCellsPaired (IsAmong pairs) c (part_cell m 1 (part_at there.records y)))
+            (record_cell_at here x r.0)
+            (subst (λ c. AreCellsPaired (IsAmong pairs) (content_at (parts_graph here) (n + x)) c)
+            (record_cell_at there y r.1) (h.cells_paired (n + x) (m + y) q)));
+        held_paired =
+            held_parts pairs here.held there.held (recursion_from_All _ _ here_fits.held)
+            (recursion_from_All _ _ there_fits.held) h.held_paired;
       }
 
   -- ---- from a pairing of the parts to one of the graphs
@@ -249,57 +192,85 @@ module _ (fixed : ℕ) (here there : Parts) (here_fits : ArePartsInRange fixed h
 
     record_in : (x y : ℕ) → IsAmong records x y → IsAmong joined (length here.nodes + x) (length there.nodes + y)
     unfolding joined
-    record_in x y p = (among_append nodes (raised (length here.nodes) (length there.nodes) records) (length here.nodes + x) (length there.nodes + y)).0 (inr (raised_pair (length here.nodes) (length there.nodes) records x y p))
+    record_in x y p =
+        (among_append nodes (raised (length here.nodes) (length there.nodes) records) (length here.nodes + x)
+        (length there.nodes + y)).0 (inr (raised_pair (length here.nodes) (length there.nodes) records x y p))
 
     Either : ℕ → ℕ → Type 0
-    Either x y = IsAmong nodes x y ⊎ ((a : ℕ) × (b : ℕ) × IsAmong records a b × (length here.nodes + a ≡ x) × (length there.nodes + b ≡ y))
+    Either x y =
+        IsAmong nodes x y
+        ⊎ ((a : ℕ) × (b : ℕ) × IsAmong records a b × (length here.nodes + a ≡ x) × (length there.nodes + b ≡ y))
 
     either : (x y : ℕ) → IsAmong joined x y → Either x y
     unfolding joined Either
     either x y p = go ((among_append nodes (raised (length here.nodes) (length there.nodes) records) x y).1 p)
       where
-        go : IsAmong nodes x y ⊎ IsAmong (raised (length here.nodes) (length there.nodes) records) x y → IsAmong nodes x y ⊎ ((a : ℕ) × (b : ℕ) × IsAmong records a b × (length here.nodes + a ≡ x) × (length there.nodes + b ≡ y))
+        go : IsAmong nodes x y ⊎ IsAmong (raised (length here.nodes) (length there.nodes) records) x y
+            → IsAmong nodes x y
+            ⊎ ((a : ℕ) × (b : ℕ) × IsAmong records a b × (length here.nodes + a ≡ x) × (length there.nodes + b ≡ y))
         go (inl q) = inl q
         go (inr q) = inr (pair_raised (length here.nodes) (length there.nodes) records x y q)
 
     joined_one : (x y v w : ℕ) → Either x y → Either v w → (x ≡ v) ↔ (y ≡ w)
     unfolding Either
     joined_one x y v w (inl p) (inl q) = h.nodes_one_to_one x y v w p q
-    joined_one x y v w (inl p) (inr q) = let r = h.nodes_in_range x y p in let e = q.3 in let f = q.4 in (λ k. absurd (omega arith), λ k. absurd (omega arith))
-    joined_one x y v w (inr p) (inl q) = let r = h.nodes_in_range v w q in let e = p.3 in let f = p.4 in (λ k. absurd (omega arith), λ k. absurd (omega arith))
+    joined_one x y v w (inl p) (inr q) = let r = h.nodes_in_range x y p in let e = q.3 in
+        let f = q.4 in (λ k. absurd (omega arith), λ k. absurd (omega arith))
+    joined_one x y v w (inr p) (inl q) = let r = h.nodes_in_range v w q in let e = p.3 in
+        let f = p.4 in (λ k. absurd (omega arith), λ k. absurd (omega arith))
     joined_one x y v w (inr p) (inr q) =
         let one = h.records_one_to_one p.0 p.1 q.0 q.1 p.2 q.2 in
-        let e = p.3 in let f = p.4 in let c = q.3 in let d = q.4 in
-        (λ k. let same : p.1 ≡ q.1 = one.0 (omega arith) in omega arith, λ k. let same : p.0 ≡ q.0 = one.1 (omega arith) in omega arith)
+        let e = p.3 in let f = p.4 in let c = q.3 in let d = q.4 in (
+          λ k. let same : p.1 ≡ q.1 = one.0 (omega arith) in
+              omega arith,
+          λ k. let same : p.0 ≡ q.0 = one.1 (omega arith) in omega arith,
+        )
 
     joined_range : (x y : ℕ) → Either x y → (x < length (parts_graph here)) × (y < length (parts_graph there))
     unfolding Either
-    joined_range x y (inl p) = let r = h.nodes_in_range x y p in (omega (arith, length-parts_graph here), omega (arith, length-parts_graph there))
-    joined_range x y (inr p) = let r = h.records_in_range p.0 p.1 p.2 in let e = p.3 in let f = p.4 in (omega (arith, length-parts_graph here), omega (arith, length-parts_graph there))
+    joined_range x y (inl p) = let r = h.nodes_in_range x y p in
+        (omega (arith, length-parts_graph here), omega (arith, length-parts_graph there))
+    joined_range x y (inr p) = let r = h.records_in_range p.0 p.1 p.2 in let e = p.3 in
+        let f = p.4 in (omega (arith, length-parts_graph here), omega (arith, length-parts_graph there))
 
-    joined_cells : (x y : ℕ) → Either x y → AreCellsPaired (IsAmong joined) (content_at (parts_graph here) x) (content_at (parts_graph there) y)
+    joined_cells : (x y : ℕ) → Either x y
+        → AreCellsPaired (IsAmong joined) (content_at (parts_graph here) x) (content_at (parts_graph there) y)
     unfolding Either
     joined_cells x y (inl p) =
         let r = h.nodes_in_range x y p in
-        subst (λ c. AreCellsPaired (IsAmong joined) c (content_at (parts_graph there) y)) (sym (node_cell_at here x r.0))
-        (subst (λ c. AreCellsPaired (IsAmong joined) (part_cell (length here.nodes) 0 (part_at here.nodes x)) c) (sym (node_cell_at there y r.1))
-        (cells_from_parts (IsAmong nodes) (IsAmong records) (IsAmong joined) (length here.nodes) (length there.nodes) 0 node_in record_in (part_at here.nodes x) (part_at there.nodes y) (h.nodes_paired x y p)))
+        subst (λ c. AreCellsPaired (IsAmong joined) c (content_at (parts_graph there) y))
+        (sym (node_cell_at here x r.0))
+        (subst (λ c. AreCellsPaired (IsAmong joined) (part_cell (length here.nodes) 0 (part_at here.nodes x)) c)
+        (sym (node_cell_at there y r.1))
+        (cells_from_parts (IsAmong nodes) (IsAmong records) (IsAmong joined) (length here.nodes) (length there.nodes) 0
+        node_in record_in (part_at here.nodes x) (part_at there.nodes y) (h.nodes_paired x y p)))
     joined_cells x y (inr p) =
         let r = h.records_in_range p.0 p.1 p.2 in
-        subst (λ z. AreCellsPaired (IsAmong joined) (content_at (parts_graph here) z) (content_at (parts_graph there) y)) p.3
-        (subst (λ z. AreCellsPaired (IsAmong joined) (content_at (parts_graph here) (length here.nodes + p.0)) (content_at (parts_graph there) z)) p.4
-        (subst (λ c. AreCellsPaired (IsAmong joined) c (content_at (parts_graph there) (length there.nodes + p.1))) (sym (record_cell_at here p.0 r.0))
-        (subst (λ c. AreCellsPaired (IsAmong joined) (part_cell (length here.nodes) 1 (part_at here.records p.0)) c) (sym (record_cell_at there p.1 r.1))
-        (cells_from_parts (IsAmong nodes) (IsAmong records) (IsAmong joined) (length here.nodes) (length there.nodes) 1 node_in record_in (part_at here.records p.0) (part_at there.records p.1) (h.records_paired p.0 p.1 p.2)))))
+        subst (λ z. AreCellsPaired (IsAmong joined) (content_at (parts_graph here) z)
+        (content_at (parts_graph there) y)) p.3
+        (subst (λ z. AreCellsPaired (IsAmong joined) (content_at (parts_graph here) (length here.nodes + p.0))
+        (content_at (parts_graph there) z)) p.4
+        (subst (λ c. AreCellsPaired (IsAmong joined) c (content_at (parts_graph there) (length there.nodes + p.1)))
+        (sym (record_cell_at here p.0 r.0))
+        (subst (λ c. AreCellsPaired (IsAmong joined) (part_cell (length here.nodes) 1 (part_at here.records p.0)) c)
+        (sym (record_cell_at there p.1 r.1))
+        (cells_from_parts (IsAmong nodes) (IsAmong records) (IsAmong joined) (length here.nodes) (length there.nodes) 1
+        node_in record_in (part_at here.records p.0) (part_at there.records p.1) (h.records_paired p.0 p.1 p.2)))))
 
-    joined_held : (ps qs : List Part) → AllZip (ArePartsPaired (IsAmong nodes) (IsAmong records)) ps qs → AllZip (AreCellsPaired (IsAmong joined)) (map (part_cell (length here.nodes) 2) ps) (map (part_cell (length there.nodes) 2) qs)
+    joined_held : (ps qs : List Part) → AllZip (ArePartsPaired (IsAmong nodes) (IsAmong records)) ps qs
+        → AllZip (AreCellsPaired (IsAmong joined)) (map (part_cell (length here.nodes) 2) ps)
+        (map (part_cell (length there.nodes) 2) qs)
     joined_held [] [] z = tt
     joined_held [] (b ∷ qs) z = absurd z
     joined_held (a ∷ ps) [] z = absurd z
-    joined_held (a ∷ ps) (b ∷ qs) z =
-        (cells_from_parts (IsAmong nodes) (IsAmong records) (IsAmong joined) (length here.nodes) (length there.nodes) 2 node_in record_in a b z.0, joined_held ps qs z.1)
+    joined_held (a ∷ ps) (b ∷ qs) z = (
+      cells_from_parts (IsAmong nodes) (IsAmong records) (IsAmong joined) (length here.nodes) (length there.nodes) 2
+          node_in record_in a b z.0,
+      joined_held ps qs z.1,
+    )
 
-    graph_pairing : IsGraphPairing (IsAmong joined) fixed (parts_graph here) (parts_held here) (parts_graph there) (parts_held there)
+    graph_pairing : IsGraphPairing (IsAmong joined) fixed (parts_graph here) (parts_held here) (parts_graph there)
+        (parts_held there)
     graph_pairing = record {
       one_to_one = λ x y v w p q. joined_one x y v w (either x y p) (either v w q);
       fixed_paired = λ x l. node_in x x (h.fixed_paired x l);
@@ -309,22 +280,36 @@ module _ (fixed : ℕ) (here there : Parts) (here_fits : ArePartsInRange fixed h
     }
 
   -- two forms are equal exactly if the parts can be paired
-  pub parts_exactly : length here.held ≡ length there.held → (parts_form fixed here ≡ parts_form fixed there) ↔ CanPartsBePaired fixed here there
+  pub parts_exactly : length here.held ≡ length there.held → (parts_form fixed here ≡ parts_form fixed there)
+      ↔ CanPartsBePaired fixed here there
   parts_exactly l =
-      let lengths = length-map here.held (part_cell (length here.nodes) 2) ∙ (l ∙ sym (length-map there.held (part_cell (length there.nodes) 2))) in
-      let exactly = forms_exactly fixed (parts_graph here) (parts_held here) (parts_graph there) (parts_held there) (parts_fit fixed here here_fits) (parts_fit fixed there there_fits) lengths in (
-        λ e. let p = exactly.0 e in (filter (are_below (length here.nodes) (length there.nodes)) p.0, lowered (length here.nodes) (length there.nodes) p.0, parts_pairing p.0 p.1),
+      let lengths = length-map here.held (part_cell (length here.nodes) 2)
+      ∙ (l ∙ sym (length-map there.held (part_cell (length there.nodes) 2))) in
+      let exactly =
+      forms_exactly fixed (parts_graph here) (parts_held here) (parts_graph there) (parts_held there)
+      (parts_fit fixed here here_fits) (parts_fit fixed there there_fits) lengths in (
+        λ e. let p = exactly.0 e in (
+          filter (are_below (length here.nodes) (length there.nodes)) p.0,
+          lowered (length here.nodes) (length there.nodes) p.0,
+          parts_pairing p.0 p.1,
+        ),
         λ p. exactly.1 (joined p.0 p.1 p.2, graph_pairing p.0 p.1 p.2),
       )
 
 -- what `form_graph` is called with
-pub made_fit : (fixed : ℕ) (s : Parts) (graph held : List Content) → ArePartsInRange fixed s → graph ≡ parts_graph s → held ≡ parts_held s → IsGraph fixed graph held
-made_fit fixed s graph held h e f = subst (λ g. IsGraph fixed g held) (sym e) (subst (λ k. IsGraph fixed (parts_graph s) k) (sym f) (parts_fit fixed s h))
+pub made_fit : (fixed : ℕ) (s : Parts) (graph held : List Content) → ArePartsInRange fixed s → graph ≡ parts_graph s
+    → held ≡ parts_held s → IsGraph fixed graph held
+made_fit fixed s graph held h e f =
+    subst (λ g. IsGraph fixed g held) (sym e)
+    (subst (λ k. IsGraph fixed (parts_graph s) k) (sym f) (parts_fit fixed s h))
 
 -- what it answers then
-pub made_exact : (fixed : ℕ) (s other : Parts) (graph held answer : List Content) → ArePartsInRange fixed s → graph ≡ parts_graph s → held ≡ parts_held s → answer ≡ graph_form fixed graph held → ArePartsInRange fixed other → length s.held ≡ length other.held →
+pub made_exact : (fixed : ℕ) (s other : Parts) (graph held answer : List Content) → ArePartsInRange fixed s
+    → graph ≡ parts_graph s → held ≡ parts_held s → answer ≡ graph_form fixed graph held → ArePartsInRange fixed other
+    → length s.held ≡ length other.held →
     (answer ≡ parts_form fixed other) ↔ CanPartsBePaired fixed s other
 made_exact fixed s other graph held answer h e f is o l =
-    let same : answer ≡ parts_form fixed s = is ∙ (ap (λ g. graph_form fixed g held) e ∙ ap (graph_form fixed (parts_graph s)) f) in
+    let same : answer ≡ parts_form fixed s =
+    is ∙ (ap (λ g. graph_form fixed g held) e ∙ ap (graph_form fixed (parts_graph s)) f) in
     let exactly = parts_exactly fixed s other h o l in
     (λ g. exactly.0 (sym same ∙ g), λ p. same ∙ exactly.1 p)

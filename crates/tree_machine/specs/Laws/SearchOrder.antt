@@ -1,5 +1,6 @@
 -- Laws of search order.
-use Rattle.std.specs.Prelude.{◌≡◌, ℕ, zero, suc, ◌+◌, ◌<◌, ◌≤◌, min, max, nat_lt, if◌then◌else◌, refl, Option, Some, None}
+use Rattle.std.specs.Prelude.{◌≡◌, ℕ, zero, suc, ◌+◌, ◌<◌, ◌≤◌, min, max, nat_lt, if◌then◌else◌, refl, Option, Some}
+use Rattle.std.specs.Prelude.{None}
 use Rattle.std.proofs.Common.{◌↔◌, arith, sym, ap, subst}
 use Rattle.tree_machine.specs.declared.search_order.Shape.{Shape}
 use Rattle.tree_machine.specs.declared.search_order.Shape.TheVariants.{Leaf, Internal}
@@ -12,7 +13,9 @@ pub max_above : (m low : ℕ) → low < m → max m low ≡ m
 max_above m low h = omega arith
 
 module _ (shapes : ℕ → Option Shape) where
-  apart_node : (levels : ℕ) → ((low high x : ℕ) → IsOrderedWithin shapes levels low high x → low < high) → (low high : ℕ) (shape : Option Shape) → IsNodeOrdered (IsOrderedWithin shapes levels) low high shape → low < high
+  apart_node : (levels : ℕ) → ((low high x : ℕ) → IsOrderedWithin shapes levels low high x → low < high)
+      → (low high : ℕ) (shape : Option Shape) → IsNodeOrdered (IsOrderedWithin shapes levels) low high shape
+      → low < high
   apart_node levels f low high None o = absurd o
   apart_node levels f low high (Some (Leaf k)) o = let a = o.0 in let b = o.1 in omega arith
   apart_node levels f low high (Some (Internal m l r)) o =
@@ -29,33 +32,43 @@ module _ (shapes : ℕ → Option Shape) where
   some_level zero low high x h = absurd h
   some_level (suc levels) low high x h = omega arith
 
-  more_node : (A B : ℕ → ℕ → ℕ → Type 0) → ((low high x : ℕ) → A low high x → B low high x) → (low high : ℕ) (shape : Option Shape) → IsNodeOrdered A low high shape → IsNodeOrdered B low high shape
+  more_node : (A B : ℕ → ℕ → ℕ → Type 0) → ((low high x : ℕ) → A low high x → B low high x)
+      → (low high : ℕ) (shape : Option Shape) → IsNodeOrdered A low high shape → IsNodeOrdered B low high shape
   more_node A B f low high None o = o
   more_node A B f low high (Some (Leaf k)) o = o
   more_node A B f low high (Some (Internal m l r)) o = (f low (min m high) l o.0, f (max m low) high r o.1)
 
   -- more levels do no harm
-  pub more_levels : (levels more low high x : ℕ) → levels ≤ more → IsOrderedWithin shapes levels low high x → IsOrderedWithin shapes more low high x
+  pub more_levels : (levels more low high x : ℕ) → levels ≤ more → IsOrderedWithin shapes levels low high x
+      → IsOrderedWithin shapes more low high x
   more_levels zero more low high x le h = absurd h
   more_levels (suc levels) zero low high x le h = absurd (omega arith)
   more_levels (suc levels) (suc more) low high x le h =
-      more_node (IsOrderedWithin shapes levels) (IsOrderedWithin shapes more) (λ low high x. more_levels levels more low high x (omega arith)) low high (shapes x) h
+      more_node (IsOrderedWithin shapes levels) (IsOrderedWithin shapes more)
+      (λ low high x. more_levels levels more low high x (omega arith)) low high (shapes x) h
 
-  pub of_node : (levels low high x : ℕ) (shape : Option Shape) → shapes x ≡ shape → IsNodeOrdered (IsOrderedWithin shapes levels) low high shape → IsOrderedWithin shapes (suc levels) low high x
+  pub of_node : (levels low high x : ℕ) (shape : Option Shape) → shapes x ≡ shape
+      → IsNodeOrdered (IsOrderedWithin shapes levels) low high shape → IsOrderedWithin shapes (suc levels) low high x
   of_node levels low high x shape e o = subst (IsNodeOrdered (IsOrderedWithin shapes levels) low high) (sym e) o
 
-  pub to_node : (levels low high x : ℕ) (shape : Option Shape) → shapes x ≡ shape → IsOrderedWithin shapes (suc levels) low high x → IsNodeOrdered (IsOrderedWithin shapes levels) low high shape
+  pub to_node : (levels low high x : ℕ) (shape : Option Shape) → shapes x ≡ shape
+      → IsOrderedWithin shapes (suc levels) low high x → IsNodeOrdered (IsOrderedWithin shapes levels) low high shape
   to_node levels low high x shape e o = subst (IsNodeOrdered (IsOrderedWithin shapes levels) low high) e o
 
-  below : (levels low high x : ℕ) (shape : Option Shape) → shapes x ≡ shape → IsOrderedWithin shapes levels low high x → (fewer : ℕ) × IsNodeOrdered (IsOrderedWithin shapes fewer) low high shape
+  below : (levels low high x : ℕ) (shape : Option Shape) → shapes x ≡ shape → IsOrderedWithin shapes levels low high x
+      → (fewer : ℕ) × IsNodeOrdered (IsOrderedWithin shapes fewer) low high shape
   below zero low high x shape e o = absurd o
   below (suc levels) low high x shape e o = (levels, to_node levels low high x shape e o)
 
   pub none_is_ordered : (low high x : ℕ) → shapes x ≡ None → IsOrdered shapes low high x ↔ ⊥
   none_is_ordered low high x e = ((λ o. (below o.levels low high x None e o.within).1), (λ o. absurd o))
 
-  pub leaf_is_ordered : (low high x k : ℕ) → shapes x ≡ Some (Leaf k) → IsOrdered shapes low high x ↔ ((low ≤ k) × (k < high))
-  leaf_is_ordered low high x k e = ((λ o. (below o.levels low high x (Some (Leaf k)) e o.within).1), (λ o. record { levels = 1; within = of_node 0 low high x (Some (Leaf k)) e o }))
+  pub leaf_is_ordered : (low high x k : ℕ) → shapes x ≡ Some (Leaf k) → IsOrdered shapes low high x
+      ↔ ((low ≤ k) × (k < high))
+  leaf_is_ordered low high x k e = (
+    (λ o. (below o.levels low high x (Some (Leaf k)) e o.within).1),
+    (λ o. record { levels = 1; within = of_node 0 low high x (Some (Leaf k)) e o }),
+  )
 
   pub internal_is_ordered : (low high x m l r : ℕ) → shapes x ≡ Some (Internal m l r) →
       IsOrdered shapes low high x ↔ ((low < m) × (m < high) × IsOrdered shapes low m l × IsOrdered shapes m high r)
@@ -64,23 +77,45 @@ module _ (shapes : ℕ → Option Shape) where
         let a = apart t.0 low (min m high) l t.1.0 in
         let b = apart t.0 (max m low) high r t.1.1 in
         let under : m < high = omega arith in
-        let over : low < m = omega arith in
-        (over, under, record { levels = t.0; within = subst (λ n. IsOrderedWithin shapes t.0 low n l) (min_below m high under) t.1.0 }, record { levels = t.0; within = subst (λ n. IsOrderedWithin shapes t.0 n high r) (max_above m low over) t.1.1 })),
+        let over : low < m = omega arith in (
+          over,
+          under,
+          record {
+            levels = t.0;
+            within = subst (λ n. IsOrderedWithin shapes t.0 low n l) (min_below m high under)
+                t.1.0;
+          },
+          record {
+            levels = t.0;
+            within = subst (λ n. IsOrderedWithin shapes t.0 n high r) (max_above m low over)
+                t.1.1;
+          },
+        )),
     (λ o. let n = o.2.levels in let p = o.3.levels in
-        let left = subst (λ z. IsOrderedWithin shapes (n + p) low z l) (sym (min_below m high o.1)) (more_levels n (n + p) low m l (omega arith) o.2.within) in
-        let right = subst (λ z. IsOrderedWithin shapes (n + p) z high r) (sym (max_above m low o.0)) (more_levels p (n + p) m high r (omega arith) o.3.within) in
+        let left =
+        subst (λ z. IsOrderedWithin shapes (n + p) low z l) (sym (min_below m high o.1))
+        (more_levels n (n + p) low m l (omega arith) o.2.within) in
+        let right =
+        subst (λ z. IsOrderedWithin shapes (n + p) z high r) (sym (max_above m low o.0))
+        (more_levels p (n + p) m high r (omega arith) o.3.within) in
         record { levels = suc (n + p); within = of_node (n + p) low high x (Some (Internal m l r)) e (left, right) }),
   )
 
   -- a search ends at a leaf, and where there is no node
-  pub end_at_none : (k levels parent x : ℕ) → shapes x ≡ None → end_of shapes k levels parent x ≡ record { parent = parent; leaf = x }
+  pub end_at_none : (k levels parent x : ℕ) → shapes x ≡ None
+      → end_of shapes k levels parent x ≡ record { parent = parent; leaf = x }
   end_at_none k zero parent x e = refl
-  end_at_none k (suc levels) parent x e = ap (went_down k (end_of shapes k levels x) (record { parent = parent; leaf = x })) e
+  end_at_none k (suc levels) parent x e =
+      ap (went_down k (end_of shapes k levels x) (record { parent = parent; leaf = x })) e
 
-  pub end_at_leaf : (k levels parent x j : ℕ) → shapes x ≡ Some (Leaf j) → end_of shapes k levels parent x ≡ record { parent = parent; leaf = x }
+  pub end_at_leaf : (k levels parent x j : ℕ) → shapes x ≡ Some (Leaf j)
+      → end_of shapes k levels parent x ≡ record { parent = parent; leaf = x }
   end_at_leaf k zero parent x j e = refl
-  end_at_leaf k (suc levels) parent x j e = ap (went_down k (end_of shapes k levels x) (record { parent = parent; leaf = x })) e
+  end_at_leaf k (suc levels) parent x j e =
+      ap (went_down k (end_of shapes k levels x) (record { parent = parent; leaf = x })) e
 
   -- and goes on from an internal node
-  pub end_below : (k levels parent x m l r : ℕ) → shapes x ≡ Some (Internal m l r) → end_of shapes k (suc levels) parent x ≡ end_of shapes k levels x (if nat_lt k m then l else r)
-  end_below k levels parent x m l r e = ap (went_down k (end_of shapes k levels x) (record { parent = parent; leaf = x })) e
+  pub end_below : (k levels parent x m l r : ℕ) → shapes x ≡ Some (Internal m l r)
+      → end_of shapes k (suc levels) parent x ≡ end_of shapes k levels x (if nat_lt k m then l else r)
+  end_below k levels parent x m l r e =
+      ap (went_down k (end_of shapes k levels x) (record { parent = parent; leaf = x })) e

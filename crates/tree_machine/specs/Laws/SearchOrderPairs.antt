@@ -13,23 +13,33 @@ AreShapesPaired P (Some (Internal k l r)) (Some (Internal j m s)) = (k ≡ j) ×
 AreShapesPaired P _ _ = ⊥
 
 module _ (P : ℕ → ℕ → Type 0) where
-  node_order : (A B : ℕ → ℕ → ℕ → Type 0) → ((low high x y : ℕ) → P x y → A low high x ↔ B low high y) → (low high : ℕ) (a b : Option Shape) → AreShapesPaired P a b
+  node_order : (A B : ℕ → ℕ → ℕ → Type 0) → ((low high x y : ℕ) → P x y → A low high x ↔ B low high y)
+      → (low high : ℕ) (a b : Option Shape) → AreShapesPaired P a b
       → IsNodeOrdered A low high a ↔ IsNodeOrdered B low high b
   node_order A B below low high None None h = ((λ o. o), (λ o. o))
-  node_order A B below low high (Some (Leaf k)) (Some (Leaf j)) h = (subst (λ z. (low ≤ z) × (z < high)) h, subst (λ z. (low ≤ z) × (z < high)) (sym h))
+  node_order A B below low high (Some (Leaf k)) (Some (Leaf j)) h =
+      (subst (λ z. (low ≤ z) × (z < high)) h, subst (λ z. (low ≤ z) × (z < high)) (sym h))
   node_order A B below low high (Some (Internal k l r)) (Some (Internal j m s)) h =
       let left = below low (min k high) l m h.1 in
       let right = below (max k low) high r s h.2 in (
-        (λ o. (subst (λ z. B low (min z high) m) h.0 (left.0 o.0), subst (λ z. B (max z low) high s) h.0 (right.0 o.1))),
-        (λ o. (left.1 (subst (λ z. B low (min z high) m) (sym h.0) o.0), right.1 (subst (λ z. B (max z low) high s) (sym h.0) o.1))),
+        (λ o. (
+          subst (λ z. B low (min z high) m) h.0 (left.0 o.0),
+          subst (λ z. B (max z low) high s) h.0 (right.0 o.1),
+        )),
+        (λ o. (
+          left.1 (subst (λ z. B low (min z high) m) (sym h.0) o.0),
+          right.1 (subst (λ z. B (max z low) high s) (sym h.0) o.1),
+        )),
       )
   node_order A B below low high _ _ h = absurd h
 
   module _ (shapes others : ℕ → Option Shape) (seen : (x y : ℕ) → P x y → AreShapesPaired P (shapes x) (others y)) where
-    within_order : (levels low high x y : ℕ) → P x y → IsOrderedWithin shapes levels low high x ↔ IsOrderedWithin others levels low high y
+    within_order : (levels low high x y : ℕ) → P x y → IsOrderedWithin shapes levels low high x
+        ↔ IsOrderedWithin others levels low high y
     within_order zero low high x y p = ((λ o. o), (λ o. o))
     within_order (suc levels) low high x y p =
-        node_order (IsOrderedWithin shapes levels) (IsOrderedWithin others levels) (within_order levels) low high (shapes x) (others y) (seen x y p)
+        node_order (IsOrderedWithin shapes levels) (IsOrderedWithin others levels) (within_order levels) low high
+        (shapes x) (others y) (seen x y p)
 
     pub search_order_paired : P 0 0 → KeepsSearchOrder shapes ↔ KeepsSearchOrder others
     search_order_paired root = (

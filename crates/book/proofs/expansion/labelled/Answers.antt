@@ -16,22 +16,28 @@ pub relabelled-requires-after_bounds : goal.relabelled-requires-after_bounds
 relabelled-requires-after_bounds g c =
     let steps = rw c.in-Some.is at c.next.ensures.steps in
     λ κs o. c.requires _ c.in-Some.step
-    (get-next c.loop-step.yielded c.loop-step.step-iterator.rest.items c.args.steps.items c.in-Some.step c.next.new.self.rest.items c.loop-step.invariant.rest steps.0)
+    (get-next c.loop-step.yielded c.loop-step.step-iterator.rest.items c.args.steps.items c.in-Some.step
+    c.next.new.self.rest.items c.loop-step.invariant.rest steps.0)
 
 pub loop-step-preserved : goal.loop-step-preserved
 loop-step-preserved g c =
     let steps = rw c.in-Some.is at c.next.ensures.steps in
     let label = form_by c.args.merge (state_form {Machine = g.row.M.Denot} (g.M.Machine.form_of c.args.machine)) in
-    let more = labelled_more label c.loop-step.made.items c.loop-step.yielded c.in_ok-one.one c.in-Some.step c.loop-step.invariant.same c.in_ok-one.ensures.same c.loop-step.invariant.known
+    let more =
+    labelled_more label c.loop-step.made.items c.loop-step.yielded c.in_ok-one.one c.in-Some.step
+    c.loop-step.invariant.same c.in_ok-one.ensures.same c.loop-step.invariant.known
     c.in_ok-one.ensures.form in
     record {
       same = rw c.in_ok-push.ensures.items more.0;
       known = rw c.in_ok-push.ensures.items more.1;
-      rest = taken_next c.loop-step.yielded c.loop-step.step-iterator.rest.items c.args.steps.items c.in-Some.step c.next.new.self.rest.items c.loop-step.invariant.rest steps.0;
+      rest = taken_next c.loop-step.yielded c.loop-step.step-iterator.rest.items c.args.steps.items c.in-Some.step
+          c.next.new.self.rest.items c.loop-step.invariant.rest steps.0;
     }
 
 pub returns-clause-same : goal.returns-clause-same
 returns-clause-same g c =
     let none = sym c.loop-step.step-iterator.rest.ok.0 ∙ c.in-None.ensures.steps.0 in
-    let all = all_taken c.loop-step.yielded c.loop-step.step-iterator.rest.items c.args.steps.items c.loop-step.invariant.rest none in
+    let all =
+    all_taken c.loop-step.yielded c.loop-step.step-iterator.rest.items c.args.steps.items c.loop-step.invariant.rest
+    none in
     ◌∙◌ {a = bares c.loop-step.made.items} {b = bares c.loop-step.yielded} c.loop-step.invariant.same (ap bares all)

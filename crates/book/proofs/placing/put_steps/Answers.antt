@@ -25,15 +25,20 @@ loop-step-preserved g c =
     let new = c.put_step.new.slots.entries in
     let one = c.in_ok-put_step.ensures in
     let so_far = c.loop-step.invariant in
-    let eq : Labelled g.row.S.Denot g.row.F.Denot → Labelled g.row.S.Denot g.row.F.Denot → Bool = same_label g.S.PartialEq.eq g.F.PartialEq.eq in
+    let eq : Labelled g.row.S.Denot g.row.F.Denot → Labelled g.row.S.Denot g.row.F.Denot → Bool =
+    same_label g.S.PartialEq.eq g.F.PartialEq.eq in
     let a : length (entries_of old) ≡ length old = length-entries old in
     let b : length (entries_of mid) ≡ length mid = length-entries mid in
     let more : length old ≤ length mid = so_far.left.1 in
     record {
-      put = put_turn eq (map keyed_of old) (map keyed_of mid) (map keyed_of new) c.args.parent c.loop-step.yielded step so_far.put one.put;
+      put = put_turn eq (map keyed_of old) (map keyed_of mid) (map keyed_of new) c.args.parent c.loop-step.yielded step
+          so_far.put one.put;
       kept = grown_on old mid new so_far.kept c.put_step.ensures.kept;
-      held = stay_on (entries_of old) (entries_of mid) (entries_of new) c.args.held.now c.loop-step.held c.put_step.new.held (omega arith) so_far.held one.held;
-      held_kept = grown_on c.args.held.now c.loop-step.held c.put_step.new.held so_far.held_kept c.put_step.ensures.held_kept;
+      held = stay_on (entries_of old) (entries_of mid) (entries_of new) c.args.held.now c.loop-step.held
+          c.put_step.new.held (omega arith) so_far.held one.held;
+      held_kept =
+          grown_on c.args.held.now c.loop-step.held c.put_step.new.held so_far.held_kept c.put_step.ensures.held_kept;
       left = rw (length_push c.loop-step.yielded step)
-          (keeps_more c.args.leftovers.now c.loop-step.leftovers c.put_step.new.leftovers (length old) (length mid) (length new) (length c.loop-step.yielded) 1 so_far.left one.left);
+          (keeps_more c.args.leftovers.now c.loop-step.leftovers c.put_step.new.leftovers (length old) (length mid)
+          (length new) (length c.loop-step.yielded) 1 so_far.left one.left);
     }

@@ -11,11 +11,13 @@ returns-in-Err-NotEnabled-clause-not_enabled g c =
     let rules = g.M.Machine.rules c.args.machine in
     let m = machine_of {Machine = g.row.M.Denot} {Form = g.row.M-Form.Denot} rules c.args.program.now in
     let t = get_or c.args.schedule.now c.loop-i.i 0 in
-    let stuck : step rules c.args.program.now c.loop-i.state t ≡ None = c.step.ensures.no_step.0 (c.in-Err-NotEnabled.is ∙ ap Err c.in-Err-NotEnabled.field-0-is) in (
+    let stuck : step rules c.args.program.now c.loop-i.state t ≡ None =
+    c.step.ensures.no_step.0 (c.in-Err-NotEnabled.is ∙ ap Err c.in-Err-NotEnabled.field-0-is) in (
       c.loop-i.i,
       refl,
       (rw c.loop-i.invariant.0 refl),
-      rw (take_more c.args.schedule.now c.loop-i.i 0 c.loop-i-test.true) (run_stops m (take c.loop-i.i c.args.schedule.now) m.start c.loop-i.state t c.loop-i.invariant.0 stuck),
+      rw (take_more c.args.schedule.now c.loop-i.i 0 c.loop-i-test.true)
+          (run_stops m (take c.loop-i.i c.args.schedule.now) m.start c.loop-i.state t c.loop-i.invariant.0 stuck),
     )
 
 pub loop-i-preserved : goal.loop-i-preserved
@@ -23,7 +25,10 @@ loop-i-preserved g c =
     let rules = g.M.Machine.rules c.args.machine in
     let m = machine_of {Machine = g.row.M.Denot} {Form = g.row.M-Form.Denot} rules c.args.program.now in
     let t = get_or c.args.schedule.now c.loop-i.i 0 in (
-      rw (take_more c.args.schedule.now c.loop-i.i 0 c.loop-i-test.true) (run_push m (take c.loop-i.i c.args.schedule.now) m.start c.loop-i.state c.in-Ok.next t c.loop-i.invariant.0 c.in-Ok.ensures.step),
+      rw (take_more c.args.schedule.now c.loop-i.i 0 c.loop-i-test.true)
+          (run_push m (take c.loop-i.i c.args.schedule.now) m.start c.loop-i.state c.in-Ok.next t c.loop-i.invariant.0
+          c.in-Ok.ensures.step),
       c.in-Ok.ensures.fits,
-      step_counts rules c.args.program.now c.loop-i.state c.in-Ok.next t c.in-Ok.ensures.step ∙ ap (λ n. n + 1) c.loop-i.invariant.2,
+      step_counts rules c.args.program.now c.loop-i.state c.in-Ok.next t c.in-Ok.ensures.step
+          ∙ ap (λ n. n + 1) c.loop-i.invariant.2,
     )

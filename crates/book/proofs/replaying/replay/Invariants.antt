@@ -6,6 +6,7 @@ use Rattle.book.proofs.replaying.replay.Given as goal
 
 abbrev pub invariant-loop-i : goal.invariant-loop-i
 invariant-loop-i g l =
-    (after (machine_of {Machine = g.row.M.Denot} {Form = g.row.M-Form.Denot} (g.M.Machine.rules l.machine) l.program) (take l.i l.schedule) ≡ Some l.state)
+    (after (machine_of {Machine = g.row.M.Denot} {Form = g.row.M-Form.Denot} (g.M.Machine.rules l.machine) l.program)
+    (take l.i l.schedule) ≡ Some l.state)
     × Fits (g.M.Machine.rules l.machine) l.program l.state
     × (l.state.steps ≡ l.i)

@@ -10,20 +10,26 @@ use Rattle.book.proofs.table.first_fault_from.Goals as goal
 pub returns-then-not-is_sound : goal.returns-then-not-is_sound
 returns-then-not-is_sound g c =
     let at = c.row_at.ensures in
-    sym (first_is (λ (e : Entry g.row.S.Denot). not (is_sound e.finding)) (entries_of c.args.slots.now.entries) c.loop-index.index at.0 at.1
+    sym (first_is (λ (e : Entry g.row.S.Denot). not (is_sound e.finding)) (entries_of c.args.slots.now.entries)
+    c.loop-index.index at.0 at.1
     (ap (λ f. not (is_sound f)) at.2 ∙ ap not (sym c.is_sound.ensures ∙ c.if-not-is_sound.true))
     (λ k y there less. ap not (c.loop-index.invariant k y there less)))
 
 pub loop-index-preserved : goal.loop-index-preserved
 loop-index-preserved g c =
     let at = c.row_at.ensures in
-    below_next (λ (e : Entry g.row.S.Denot). is_sound e.finding ≡ true) (entries_of c.args.slots.now.entries) c.loop-index.index at.0 at.1
+    below_next (λ (e : Entry g.row.S.Denot). is_sound e.finding ≡ true) (entries_of c.args.slots.now.entries)
+    c.loop-index.index at.0 at.1
     (ap is_sound at.2 ∙ sym c.is_sound.ensures ∙ c.if-not-is_sound.false) c.loop-index.invariant
 
 pub returns : goal.returns
 returns g c =
-    let l : length (entries_of c.args.slots.now.entries) ≡ length c.args.slots.now.entries = length-entries c.args.slots.now.entries in
+    let l : length (entries_of c.args.slots.now.entries) ≡ length c.args.slots.now.entries =
+    length-entries c.args.slots.now.entries in
     let n : c.len-index-end.result ≡ length c.args.slots.now.entries = c.len-index-end.ensures.len in
     let le : c.len-index-end.result ≤ c.loop-index.index = c.loop-index-test.false in
     sym (none_is (λ (e : Entry g.row.S.Denot). not (is_sound e.finding)) (entries_of c.args.slots.now.entries)
-    (λ k y there. ap not (c.loop-index.invariant k y there (let w : k < length (entries_of c.args.slots.now.entries) = get_within (entries_of c.args.slots.now.entries) k y there in omega arith))))
+    (λ k y there. ap not
+    (c.loop-index.invariant k y there
+    (let w : k < length (entries_of c.args.slots.now.entries) = get_within (entries_of c.args.slots.now.entries) k y
+    there in omega arith))))

@@ -11,16 +11,21 @@ use Rattle.book.proofs.table.first_left_from.Goals as goal
 pub loop-index-preserved : goal.loop-index-preserved
 loop-index-preserved g c =
     let at = c.row_at.ensures in
-    below_next (λ (e : Entry g.row.S.Denot). e.mark ≡ Expanded) (entries_of c.args.slots.now.entries) c.loop-index.index at.0 at.1
-    (expanded_by at.0.mark (ap is_expanded at.4 ∙ sym c.is_expanded.ensures ∙ c.if-not-is_expanded.false)) c.loop-index.invariant
+    below_next (λ (e : Entry g.row.S.Denot). e.mark ≡ Expanded) (entries_of c.args.slots.now.entries) c.loop-index.index
+    at.0 at.1
+    (expanded_by at.0.mark (ap is_expanded at.4 ∙ sym c.is_expanded.ensures ∙ c.if-not-is_expanded.false))
+    c.loop-index.invariant
 
 pub returns : goal.returns
 returns g c =
-    let l : length (entries_of c.args.slots.now.entries) ≡ length c.args.slots.now.entries = length-entries c.args.slots.now.entries in
+    let l : length (entries_of c.args.slots.now.entries) ≡ length c.args.slots.now.entries =
+    length-entries c.args.slots.now.entries in
     let n : c.len-index-end.result ≡ length c.args.slots.now.entries = c.len-index-end.ensures.len in
     let le : c.len-index-end.result ≤ c.loop-index.index = c.loop-index-test.false in
     record {
       expanded = (λ i e at less. c.loop-index.invariant i e at (omega arith));
-      stops = (λ e at. absurd (let w : c.len.result < length (entries_of c.args.slots.now.entries) = get_within (entries_of c.args.slots.now.entries) c.len.result e at in omega arith));
+      stops = (λ e at. absurd
+          (let w : c.len.result < length (entries_of c.args.slots.now.entries) = get_within
+          (entries_of c.args.slots.now.entries) c.len.result e at in omega arith));
       within = omega arith;
     }

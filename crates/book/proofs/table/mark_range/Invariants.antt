@@ -6,5 +6,6 @@ use Rattle.book.proofs.table.mark_range.Given as goal
 
 abbrev pub invariant-loop-index : goal.invariant-loop-index
 invariant-loop-index g l =
-    (entries_of l.slots.entries ≡ with_marks (entries_of l.fn.slots.entries) (range_with_len l.start (l.index - l.start)) l.mark)
+    (entries_of l.slots.entries ≡ with_marks (entries_of l.fn.slots.entries)
+    (range_with_len l.start (l.index - l.start)) l.mark)
     × (forms_of l.slots.entries ≡ forms_of l.fn.slots.entries)

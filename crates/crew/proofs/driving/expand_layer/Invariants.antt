@@ -13,4 +13,7 @@ invariant-layer g l = record {
 }
 
 abbrev pub decreases-layer : goal.decreases-layer
-decreases-layer g l = l.book.limit - count_by (λ (r : Entry (State g.row.M.Denot g.row.M-Mem.Denot g.row.M-Loc.Denot g.row.M-Form.Denot)). is_expanded r.mark) l.book.entries
+decreases-layer g l =
+    l.book.limit - count_by
+    (λ (r : Entry (State g.row.M.Denot g.row.M-Mem.Denot g.row.M-Loc.Denot g.row.M-Form.Denot)). is_expanded r.mark)
+    l.book.entries

@@ -2,7 +2,8 @@ use Rattle.std.proofs.Common.{◌≡◌, ◌+◌, ◌^◌, ◌<◌, ◌∙◌, l
 use Rattle.book.specs.Entries.{IsTaken, IsOwn, states, unknown}
 use Rattle.book.specs.Books.{counted_as_one, machine_in, right_in}
 use Rattle.book.proofs.Growth.{one_is_next}
-use Rattle.crew.proofs.NextEntry.{there_it_is, its_own, ledger_of_refused, cut_of_full, one_more, in_layer, met_is_small, ledger_of_entered}
+use Rattle.crew.proofs.NextEntry.{there_it_is, its_own, ledger_of_refused, cut_of_full, one_more, in_layer}
+use Rattle.crew.proofs.NextEntry.{met_is_small, ledger_of_entered}
 use Rattle.crew.specs.Working.{IsGiven}
 use Rattle.crew.proofs.Given.{taken_given, found_own}
 use Rattle.crew.proofs.driving.expand_next.Goals as goal
@@ -10,9 +11,12 @@ use Rattle.crew.proofs.driving.expand_next.Goals as goal
 pub unreachable-requires : goal.unreachable-requires
 unreachable-requires g c =
     let b = c.args.book.now in
-    let same = counted_as_one g.M.Loc.PartialEq.eq g.M.Mem.PartialEq.eq g.M.Form.PartialEq.eq (g.M.Machine.form_of b.machine) b.merge in
+    let same =
+    counted_as_one g.M.Loc.PartialEq.eq g.M.Mem.PartialEq.eq g.M.Form.PartialEq.eq (g.M.Machine.form_of b.machine)
+    b.merge in
     let law = c.law.ensures in
-    one_is_next (machine_in g.M.Machine.rules b) same (right_in g.M.Machine.rules b) law.machine b.entries law.law.law c.requires.in_layer.none_taken c.args.depth c.requires.left
+    one_is_next (machine_in g.M.Machine.rules b) same (right_in g.M.Machine.rules b) law.machine b.entries law.law.law
+    c.requires.in_layer.none_taken c.args.depth c.requires.left
     (rw c.in_default.is at c.in_ok-id.ensures.none)
 
 pub found_of-finding-requires-clause-given : goal.found_of-finding-requires-clause-given
@@ -20,19 +24,26 @@ found_of-finding-requires-clause-given g c κs within =
     let b = c.args.book.now in
     let mid = c.take.new.self in
     subst (IsGiven g.M.Machine.rules mid c.in-Some.id) (sym c.deref-source.ensures)
-    (taken_given g.M.Machine.rules (machine_in g.M.Machine.rules b).steps b mid c.in-Some.id c.in-Some.state.value c.in_ok-id.ensures.same c.law.ensures.law.limit
-    (rw c.in-Some.is at c.in_ok-id.ensures.taken) (rw c.in-Some.is at c.in_ok-id.ensures.fits) (rw c.in-Some.is at c.in_ok-id.ensures.few))
+    (taken_given g.M.Machine.rules (machine_in g.M.Machine.rules b).steps b mid c.in-Some.id c.in-Some.state.value
+    c.in_ok-id.ensures.same c.law.ensures.law.limit
+    (rw c.in-Some.is at c.in_ok-id.ensures.taken) (rw c.in-Some.is at c.in_ok-id.ensures.fits)
+    (rw c.in-Some.is at c.in_ok-id.ensures.few))
 
 pub of_found-requires-clause-finding : goal.of_found-requires-clause-finding
 of_found-requires-clause-finding g c κs within =
-    found_own g.M.Machine.rules c.args.book.now c.take.new.self c.machine.result c.args.program.now c.deref-source.result.now c.found_of-finding.result c.in_ok-id.ensures.same c.machine.ensures c.requires.program c.found_of-finding.ensures
+    found_own g.M.Machine.rules c.args.book.now c.take.new.self c.machine.result c.args.program.now
+    c.deref-source.result.now c.found_of-finding.result c.in_ok-id.ensures.same c.machine.ensures c.requires.program
+    c.found_of-finding.ensures
 
 pub add-requires-clause-met : goal.add-requires-clause-met
 add-requires-clause-met g c =
     let small : c.args.book.now.met + c.in-Ok.counts.met < 2 ^ 64 =
-    met_is_small g.M.Machine.rules g.M.Loc.PartialEq.eq g.M.Mem.PartialEq.eq g.M.Form.PartialEq.eq g.M.Machine.form_of c.args.book.now c.take.new.self
-    c.law.ensures.machine c.law.ensures.merges c.in_ok-id.ensures.same c.law-2.ensures.law c.in-Some.id c.in-Some.state.value (rw c.in-Some.is at c.in_ok-id.ensures.taken)
-    c.in_ok-expansion.expansion (c.in_ok-expansion.ensures.machine ∙ c.machine.ensures) (c.in_ok-expansion.ensures.program ∙ c.requires.program)
+    met_is_small g.M.Machine.rules g.M.Loc.PartialEq.eq g.M.Mem.PartialEq.eq g.M.Form.PartialEq.eq g.M.Machine.form_of
+    c.args.book.now c.take.new.self
+    c.law.ensures.machine c.law.ensures.merges c.in_ok-id.ensures.same c.law-2.ensures.law c.in-Some.id
+    c.in-Some.state.value (rw c.in-Some.is at c.in_ok-id.ensures.taken)
+    c.in_ok-expansion.expansion (c.in_ok-expansion.ensures.machine ∙ c.machine.ensures)
+    (c.in_ok-expansion.ensures.program ∙ c.requires.program)
     (c.in_ok-expansion.ensures.source ∙ c.deref-source.ensures) c.law-3.ensures
     c.args.depth c.requires.in_layer c.requires.left
     c.enter.new.self c.in-Ok.counts.entered c.in-Ok.counts.met c.in-Ok.ensures.entered in
@@ -41,9 +52,12 @@ add-requires-clause-met g c =
 
 pub returns-in-Ok-clause-ledger : goal.returns-in-Ok-clause-ledger
 returns-in-Ok-clause-ledger g c =
-    ledger_of_entered g.M.Machine.rules g.M.Loc.PartialEq.eq g.M.Mem.PartialEq.eq g.M.Form.PartialEq.eq g.M.Machine.form_of c.args.book.now c.take.new.self
-    c.law.ensures.machine c.law.ensures.merges c.in_ok-id.ensures.same c.law-2.ensures.law c.in-Some.id c.in-Some.state.value (rw c.in-Some.is at c.in_ok-id.ensures.taken)
-    c.in_ok-expansion.expansion (c.in_ok-expansion.ensures.machine ∙ c.machine.ensures) (c.in_ok-expansion.ensures.program ∙ c.requires.program)
+    ledger_of_entered g.M.Machine.rules g.M.Loc.PartialEq.eq g.M.Mem.PartialEq.eq g.M.Form.PartialEq.eq
+    g.M.Machine.form_of c.args.book.now c.take.new.self
+    c.law.ensures.machine c.law.ensures.merges c.in_ok-id.ensures.same c.law-2.ensures.law c.in-Some.id
+    c.in-Some.state.value (rw c.in-Some.is at c.in_ok-id.ensures.taken)
+    c.in_ok-expansion.expansion (c.in_ok-expansion.ensures.machine ∙ c.machine.ensures)
+    (c.in_ok-expansion.ensures.program ∙ c.requires.program)
     (c.in_ok-expansion.ensures.source ∙ c.deref-source.ensures) c.law-3.ensures
     c.args.depth c.requires.in_layer c.requires.left
     c.enter.new.self c.in-Ok.counts.entered c.in-Ok.counts.met c.in-Ok.ensures.entered
@@ -51,27 +65,36 @@ returns-in-Ok-clause-ledger g c =
 
 pub returns-in-Ok-clause-next : goal.returns-in-Ok-clause-next
 returns-in-Ok-clause-next g c =
-    in_layer g.M.Machine.rules g.M.Loc.PartialEq.eq g.M.Mem.PartialEq.eq g.M.Form.PartialEq.eq g.M.Machine.form_of c.args.book.now c.take.new.self
-    c.law.ensures.machine c.law.ensures.merges c.in_ok-id.ensures.same c.law-2.ensures.law c.in-Some.id c.in-Some.state.value (rw c.in-Some.is at c.in_ok-id.ensures.taken)
-    c.in_ok-expansion.expansion (c.in_ok-expansion.ensures.machine ∙ c.machine.ensures) (c.in_ok-expansion.ensures.program ∙ c.requires.program)
+    in_layer g.M.Machine.rules g.M.Loc.PartialEq.eq g.M.Mem.PartialEq.eq g.M.Form.PartialEq.eq g.M.Machine.form_of
+    c.args.book.now c.take.new.self
+    c.law.ensures.machine c.law.ensures.merges c.in_ok-id.ensures.same c.law-2.ensures.law c.in-Some.id
+    c.in-Some.state.value (rw c.in-Some.is at c.in_ok-id.ensures.taken)
+    c.in_ok-expansion.expansion (c.in_ok-expansion.ensures.machine ∙ c.machine.ensures)
+    (c.in_ok-expansion.ensures.program ∙ c.requires.program)
     (c.in_ok-expansion.ensures.source ∙ c.deref-source.ensures) c.law-3.ensures
     c.args.depth c.requires.in_layer c.requires.left
     c.enter.new.self c.in-Ok.counts.entered c.in-Ok.counts.met c.in-Ok.ensures.entered
 
 pub returns-in-Ok-clause-more : goal.returns-in-Ok-clause-more
 returns-in-Ok-clause-more g c =
-    one_more g.M.Machine.rules g.M.Loc.PartialEq.eq g.M.Mem.PartialEq.eq g.M.Form.PartialEq.eq g.M.Machine.form_of c.args.book.now c.take.new.self
-    c.law.ensures.machine c.law.ensures.merges c.in_ok-id.ensures.same c.law-2.ensures.law c.in-Some.id c.in-Some.state.value (rw c.in-Some.is at c.in_ok-id.ensures.taken)
-    c.in_ok-expansion.expansion (c.in_ok-expansion.ensures.machine ∙ c.machine.ensures) (c.in_ok-expansion.ensures.program ∙ c.requires.program)
+    one_more g.M.Machine.rules g.M.Loc.PartialEq.eq g.M.Mem.PartialEq.eq g.M.Form.PartialEq.eq g.M.Machine.form_of
+    c.args.book.now c.take.new.self
+    c.law.ensures.machine c.law.ensures.merges c.in_ok-id.ensures.same c.law-2.ensures.law c.in-Some.id
+    c.in-Some.state.value (rw c.in-Some.is at c.in_ok-id.ensures.taken)
+    c.in_ok-expansion.expansion (c.in_ok-expansion.ensures.machine ∙ c.machine.ensures)
+    (c.in_ok-expansion.ensures.program ∙ c.requires.program)
     (c.in_ok-expansion.ensures.source ∙ c.deref-source.ensures) c.law-3.ensures
     c.args.depth c.requires.in_layer c.requires.left
     c.enter.new.self c.in-Ok.counts.entered c.in-Ok.counts.met c.in-Ok.ensures.entered
 
 pub returns-in-Err-Full-clause-ledger : goal.returns-in-Err-Full-clause-ledger
 returns-in-Err-Full-clause-ledger g c =
-    ledger_of_refused g.M.Machine.rules g.M.Loc.PartialEq.eq g.M.Mem.PartialEq.eq g.M.Form.PartialEq.eq g.M.Machine.form_of c.args.book.now c.take.new.self
-    c.law.ensures.machine c.law.ensures.merges c.in_ok-id.ensures.same c.law-2.ensures.law c.in-Some.id c.in-Some.state.value (rw c.in-Some.is at c.in_ok-id.ensures.taken)
-    c.in_ok-expansion.expansion (c.in_ok-expansion.ensures.machine ∙ c.machine.ensures) (c.in_ok-expansion.ensures.program ∙ c.requires.program)
+    ledger_of_refused g.M.Machine.rules g.M.Loc.PartialEq.eq g.M.Mem.PartialEq.eq g.M.Form.PartialEq.eq
+    g.M.Machine.form_of c.args.book.now c.take.new.self
+    c.law.ensures.machine c.law.ensures.merges c.in_ok-id.ensures.same c.law-2.ensures.law c.in-Some.id
+    c.in-Some.state.value (rw c.in-Some.is at c.in_ok-id.ensures.taken)
+    c.in_ok-expansion.expansion (c.in_ok-expansion.ensures.machine ∙ c.machine.ensures)
+    (c.in_ok-expansion.ensures.program ∙ c.requires.program)
     (c.in_ok-expansion.ensures.source ∙ c.deref-source.ensures) c.law-3.ensures
     c.enter.new.self c.in-Err-Full.ensures.err c.args.share.now c.requires.ledger
 
@@ -79,32 +102,48 @@ pub returns-in-Err-Full-clause-cut : goal.returns-in-Err-Full-clause-cut
 returns-in-Err-Full-clause-cut g c =
     let mid = c.take.new.self in
     let x = c.in_ok-expansion.expansion in
-    let same = counted_as_one {Machine = g.row.M.Denot} {Form = g.row.M-Form.Denot} g.M.Loc.PartialEq.eq g.M.Mem.PartialEq.eq g.M.Form.PartialEq.eq (g.M.Machine.form_of mid.machine) mid.merge in
-    let refused : IsTaken mid.entries c.in-Some.id × IsOwn {X = g.row.M.Denot} mid c.in-Some.id x.machine x.program x.source × (mid.limit < length mid.entries + length (unknown same (states mid.entries) x.successors)) =
+    let same =
+    counted_as_one {Machine = g.row.M.Denot} {Form = g.row.M-Form.Denot} g.M.Loc.PartialEq.eq g.M.Mem.PartialEq.eq
+    g.M.Form.PartialEq.eq (g.M.Machine.form_of mid.machine) mid.merge in
+    let refused : IsTaken mid.entries c.in-Some.id
+    × IsOwn {X = g.row.M.Denot} mid c.in-Some.id x.machine x.program x.source
+    × (mid.limit < length mid.entries + length (unknown same (states mid.entries) x.successors)) =
     rw c.in-Err-Full.field-0-is at c.in-Err-Full.ensures.refused in
-    cut_of_full g.M.Machine.rules g.M.Loc.PartialEq.eq g.M.Mem.PartialEq.eq g.M.Form.PartialEq.eq g.M.Machine.form_of c.args.book.now c.take.new.self
-    c.law.ensures.machine c.law.ensures.merges c.in_ok-id.ensures.same c.law-2.ensures.law c.in-Some.id c.in-Some.state.value (rw c.in-Some.is at c.in_ok-id.ensures.taken)
-    c.in_ok-expansion.expansion (c.in_ok-expansion.ensures.machine ∙ c.machine.ensures) (c.in_ok-expansion.ensures.program ∙ c.requires.program)
+    cut_of_full g.M.Machine.rules g.M.Loc.PartialEq.eq g.M.Mem.PartialEq.eq g.M.Form.PartialEq.eq g.M.Machine.form_of
+    c.args.book.now c.take.new.self
+    c.law.ensures.machine c.law.ensures.merges c.in_ok-id.ensures.same c.law-2.ensures.law c.in-Some.id
+    c.in-Some.state.value (rw c.in-Some.is at c.in_ok-id.ensures.taken)
+    c.in_ok-expansion.expansion (c.in_ok-expansion.ensures.machine ∙ c.machine.ensures)
+    (c.in_ok-expansion.ensures.program ∙ c.requires.program)
     (c.in_ok-expansion.ensures.source ∙ c.deref-source.ensures) c.law-3.ensures
     c.args.depth c.requires.in_layer c.requires.left
     c.enter.new.self c.in-Err-Full.ensures.err refused.2
 
 pub unreachable-requires-in-Err-NotTaken : goal.unreachable-requires-in-Err-NotTaken
 unreachable-requires-in-Err-NotTaken g c =
-    let refused : IsTaken c.take.new.self.entries c.in-Some.id → ⊥ = rw c.in-Err-NotTaken.field-0-is at c.in-Err-NotTaken.ensures.refused in
+    let refused : IsTaken c.take.new.self.entries c.in-Some.id → ⊥ =
+    rw c.in-Err-NotTaken.field-0-is at c.in-Err-NotTaken.ensures.refused in
     refused
-    (there_it_is g.M.Machine.rules g.M.Loc.PartialEq.eq g.M.Mem.PartialEq.eq g.M.Form.PartialEq.eq g.M.Machine.form_of c.args.book.now c.take.new.self
-    c.law.ensures.machine c.law.ensures.merges c.in_ok-id.ensures.same c.law-2.ensures.law c.in-Some.id c.in-Some.state.value (rw c.in-Some.is at c.in_ok-id.ensures.taken)
-    c.in_ok-expansion.expansion (c.in_ok-expansion.ensures.machine ∙ c.machine.ensures) (c.in_ok-expansion.ensures.program ∙ c.requires.program)
+    (there_it_is g.M.Machine.rules g.M.Loc.PartialEq.eq g.M.Mem.PartialEq.eq g.M.Form.PartialEq.eq g.M.Machine.form_of
+    c.args.book.now c.take.new.self
+    c.law.ensures.machine c.law.ensures.merges c.in_ok-id.ensures.same c.law-2.ensures.law c.in-Some.id
+    c.in-Some.state.value (rw c.in-Some.is at c.in_ok-id.ensures.taken)
+    c.in_ok-expansion.expansion (c.in_ok-expansion.ensures.machine ∙ c.machine.ensures)
+    (c.in_ok-expansion.ensures.program ∙ c.requires.program)
     (c.in_ok-expansion.ensures.source ∙ c.deref-source.ensures) c.law-3.ensures)
 
 pub unreachable-requires-in-Err-Stranger : goal.unreachable-requires-in-Err-Stranger
 unreachable-requires-in-Err-Stranger g c =
     let mid = c.take.new.self in
     let x = c.in_ok-expansion.expansion in
-    let refused : IsTaken mid.entries c.in-Some.id × (IsOwn {X = g.row.M.Denot} mid c.in-Some.id x.machine x.program x.source → ⊥) = rw c.in-Err-Stranger.field-0-is at c.in-Err-Stranger.ensures.refused in
+    let refused : IsTaken mid.entries c.in-Some.id
+    × (IsOwn {X = g.row.M.Denot} mid c.in-Some.id x.machine x.program x.source → ⊥) =
+    rw c.in-Err-Stranger.field-0-is at c.in-Err-Stranger.ensures.refused in
     refused.1
-    (its_own g.M.Machine.rules g.M.Loc.PartialEq.eq g.M.Mem.PartialEq.eq g.M.Form.PartialEq.eq g.M.Machine.form_of c.args.book.now c.take.new.self
-    c.law.ensures.machine c.law.ensures.merges c.in_ok-id.ensures.same c.law-2.ensures.law c.in-Some.id c.in-Some.state.value (rw c.in-Some.is at c.in_ok-id.ensures.taken)
-    c.in_ok-expansion.expansion (c.in_ok-expansion.ensures.machine ∙ c.machine.ensures) (c.in_ok-expansion.ensures.program ∙ c.requires.program)
+    (its_own g.M.Machine.rules g.M.Loc.PartialEq.eq g.M.Mem.PartialEq.eq g.M.Form.PartialEq.eq g.M.Machine.form_of
+    c.args.book.now c.take.new.self
+    c.law.ensures.machine c.law.ensures.merges c.in_ok-id.ensures.same c.law-2.ensures.law c.in-Some.id
+    c.in-Some.state.value (rw c.in-Some.is at c.in_ok-id.ensures.taken)
+    c.in_ok-expansion.expansion (c.in_ok-expansion.ensures.machine ∙ c.machine.ensures)
+    (c.in_ok-expansion.ensures.program ∙ c.requires.program)
     (c.in_ok-expansion.ensures.source ∙ c.deref-source.ensures) c.law-3.ensures)

@@ -26,11 +26,17 @@ unreachable-requires g c =
       merge = kept.merge ∙ opened.merge;
     } in
     let some : IsSome c.in_ok-report.field-0 =
-    is_answered (IsWorkedOff (machine_in g.M.Machine.rules b).steps new.entries c.steps.result) (IsSome c.in_ok-report.field-0) c.steps.result n
-    (λ d i. IsCutAt (machine_in g.M.Machine.rules b) (counted_as_one {Machine = g.row.M.Denot} {Form = g.row.M-Form.Denot} place_eq memory_eq form_eq (form_of b.machine) b.merge) (right_in g.M.Machine.rules b) new d i)
-    (λ d i. IsCutAt (machine_in g.M.Machine.rules new) (counted_as_one {Machine = g.row.M.Denot} {Form = g.row.M-Form.Denot} place_eq memory_eq form_eq (form_of new.machine) new.merge) (right_in g.M.Machine.rules new) new d i)
+    is_answered (IsWorkedOff (machine_in g.M.Machine.rules b).steps new.entries c.steps.result)
+    (IsSome c.in_ok-report.field-0) c.steps.result n
+    (λ d i. IsCutAt (machine_in g.M.Machine.rules b)
+    (counted_as_one {Machine = g.row.M.Denot} {Form = g.row.M-Form.Denot} place_eq memory_eq form_eq
+    (form_of b.machine) b.merge) (right_in g.M.Machine.rules b) new d i)
+    (λ d i. IsCutAt (machine_in g.M.Machine.rules new)
+    (counted_as_one {Machine = g.row.M.Denot} {Form = g.row.M-Form.Denot} place_eq memory_eq form_eq
+    (form_of new.machine) new.merge) (right_in g.M.Machine.rules new) new d i)
     steps (λ d i cut. cut_kept g.M.Machine.rules place_eq memory_eq form_eq form_of b new new d i kept cut)
     c.in_ok-cut.cut c.in_ok-cut.ensures.done c.in_ok-cut.ensures.cut
-    (λ none worked. c.in_ok-report.ensures.finished asked none (subst (λ k. IsWorkedOff (machine_in g.M.Machine.rules b).steps new.entries k) steps worked))
+    (λ none worked. c.in_ok-report.ensures.finished asked none
+    (subst (λ k. IsWorkedOff (machine_in g.M.Machine.rules b).steps new.entries k) steps worked))
     (c.in_ok-report.ensures.stopped asked) in
     false≢true (sym (ap is_some c.in-None.is) ∙ some)

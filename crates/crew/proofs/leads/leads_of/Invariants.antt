@@ -5,5 +5,6 @@ use Rattle.crew.proofs.leads.leads_of.Given as goal
 abbrev pub invariant-loop-id : goal.invariant-loop-id
 invariant-loop-id g l = record {
   left : All (λ p. IsGiven g.M.Machine.rules l.book p.0 p.1.value) l.id-iterator.rest.items;
-  made : All (λ lead. IsReady (g.M.Machine.rules l.book.machine) l.book.program lead.state.value lead.finding) l.leads.items;
+  made : All (λ lead. IsReady (g.M.Machine.rules l.book.machine) l.book.program lead.state.value lead.finding)
+      l.leads.items;
 }

@@ -14,7 +14,9 @@ pub returns-in_ok-schedule_of-in-Some : goal.returns-in_ok-schedule_of-in-Some
 returns-in_ok-schedule_of-in-Some g c =
     let b = c.args.book.now in
     let m = machine_in g.M.Machine.rules b in
-    let same = counted_as_one {Machine = g.row.M.Denot} {Form = g.row.M-Form.Denot} g.M.Loc.PartialEq.eq g.M.Mem.PartialEq.eq g.M.Form.PartialEq.eq (g.M.Machine.form_of b.machine) b.merge in
+    let same =
+    counted_as_one {Machine = g.row.M.Denot} {Form = g.row.M-Form.Denot} g.M.Loc.PartialEq.eq g.M.Mem.PartialEq.eq
+    g.M.Form.PartialEq.eq (g.M.Machine.form_of b.machine) b.merge in
     let right = right_in g.M.Machine.rules b in
     let law = c.law.ensures in
     let first = sym c.first_fault.ensures ∙ c.in-Some.is in
@@ -23,7 +25,8 @@ returns-in_ok-schedule_of-in-Some g c =
     let len : v.len ≡ length v.items = v.ok.0 in
     let long : length v.items ≡ s.0.state.steps = s.3 in
     let read : c.len.result ≡ v.len = c.len.ensures in (
-      (λ h i e at few. sound_below m same right law.machine law.merges law.alike b.entries law.law.law c.in-Some.id first s.0 s.1 i e at
+      (λ h i e at few. sound_below m same right law.machine law.merges law.alike b.entries law.law.law c.in-Some.id
+          first s.0 s.1 i e at
           (let more : c.args.steps < c.len.result = ltb-true c.args.steps c.len.result h in omega arith)),
       (λ sound. elim (cases_lt c.args.steps c.len.result) [
         | inl l ↦ lt-ltb c.args.steps c.len.result l

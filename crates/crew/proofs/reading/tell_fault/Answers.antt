@@ -3,7 +3,8 @@ use Rattle.std.proofs.lemmas.Bool.{true≢false}
 use Rattle.book.specs.Books.{machine_in}
 use Rattle.crew.specs.Reading.{IsLastLayer}
 use Rattle.crew.proofs.ReadOff.{fault_is_due, fault_is_last, fault_true, first_told}
-use Rattle.crew.proofs.reading.tell_fault.Goals.{then-length-from-via-then-length-from, then-length-from-via-else-length-from+then-not-is_last_layer}
+use Rattle.crew.proofs.reading.tell_fault.Goals.{then-length-from-via-then-length-from}
+use Rattle.crew.proofs.reading.tell_fault.Goals.{then-length-from-via-else-length-from+then-not-is_last_layer}
 use Rattle.crew.proofs.reading.tell_fault.Goals as goal
 
 pub returns-then-length-from-clause-some : goal.returns-then-length-from-clause-some
@@ -13,26 +14,42 @@ returns-then-length-from-clause-some g c =
     let v = c.in_ok-schedule.schedule in
     let is : c.len-length.result ≡ length v.items = c.len-length.ensures ∙ v.ok.0 in
     λ worked.
-    let last = fault_is_last g.M.Machine.rules b law.machine law.merges law.alike law.law c.args.id c.requires v.items c.in_ok-schedule.ensures.leads c.args.steps worked in
+    let last =
+    fault_is_last g.M.Machine.rules b law.machine law.merges law.alike law.law c.args.id c.requires v.items
+    c.in_ok-schedule.ensures.leads c.args.steps worked in
     elim c.then-length-from.branch [
-      | then-length-from-via-then-length-from w ↦ absurd (let over : c.from.result < c.len-length.result = w.if-length-from.true in let few : length v.items ≤ c.args.steps = last.0 in let from : c.from.result ≡ c.args.steps = c.from.ensures in omega arith)
-      | then-length-from-via-else-length-from+then-not-is_last_layer w ↦ absurd (true≢false (sym (w.is_last_layer.ensures.1 (subst (λ d. IsLastLayer (machine_in g.M.Machine.rules b).steps b.entries d) (sym is) last.1)) ∙ w.if-not-is_last_layer.true))
+      | then-length-from-via-then-length-from w
+          ↦ absurd (let over : c.from.result < c.len-length.result = w.if-length-from.true in
+          let few : length v.items ≤ c.args.steps = last.0 in
+          let from : c.from.result ≡ c.args.steps = c.from.ensures in omega arith)
+      | then-length-from-via-else-length-from+then-not-is_last_layer w
+          ↦ absurd
+          (true≢false
+          (sym (w.is_last_layer.ensures.1
+          (subst (λ d. IsLastLayer (machine_in g.M.Machine.rules b).steps b.entries d) (sym is) last.1))
+          ∙ w.if-not-is_last_layer.true))
     ]
 
 pub returns-clause-due : goal.returns-clause-due
 returns-clause-due g c =
     let law = c.law.ensures in
     let v = c.in_ok-schedule.schedule in
-    let le : c.len-length.result ≤ c.args.steps = (let few : c.len-length.result ≤ c.from.result = c.if-length-from.false in let from : c.from.result ≡ c.args.steps = c.from.ensures in omega arith) in
-    fault_is_due g.M.Machine.rules c.args.book.now law.machine law.merges law.alike law.law c.args.id c.requires v.items c.in_ok-schedule.ensures.leads _ c.fault_at-finding.ensures
-    c.args.steps c.len-length.result (c.len-length.ensures ∙ v.ok.0) le (c.is_last_layer.ensures.0 c.if-not-is_last_layer.false)
+    let le : c.len-length.result ≤ c.args.steps =
+    (let few : c.len-length.result ≤ c.from.result = c.if-length-from.false in
+    let from : c.from.result ≡ c.args.steps = c.from.ensures in omega arith) in
+    fault_is_due g.M.Machine.rules c.args.book.now law.machine law.merges law.alike law.law c.args.id c.requires v.items
+    c.in_ok-schedule.ensures.leads _ c.fault_at-finding.ensures
+    c.args.steps c.len-length.result (c.len-length.ensures ∙ v.ok.0) le
+    (c.is_last_layer.ensures.0 c.if-not-is_last_layer.false)
 
 pub returns-clause-first : goal.returns-clause-first
 returns-clause-first g c =
     let law = c.law.ensures in
-    first_told g.M.Machine.rules c.args.book.now law.machine law.merges law.alike law.law c.args.id c.requires c.in_ok-schedule.schedule.items c.in_ok-schedule.ensures.leads _ c.fault_at-finding.ensures
+    first_told g.M.Machine.rules c.args.book.now law.machine law.merges law.alike law.law c.args.id c.requires
+    c.in_ok-schedule.schedule.items c.in_ok-schedule.ensures.leads _ c.fault_at-finding.ensures
 
 pub returns-clause-headline : goal.returns-clause-headline
 returns-clause-headline g c =
     let law = c.law.ensures in
-    fault_true g.M.Machine.rules c.args.book.now law.machine law.merges law.alike law.law c.args.id c.requires c.in_ok-schedule.schedule.items c.in_ok-schedule.ensures.leads _ c.fault_at-finding.ensures
+    fault_true g.M.Machine.rules c.args.book.now law.machine law.merges law.alike law.law c.args.id c.requires
+    c.in_ok-schedule.schedule.items c.in_ok-schedule.ensures.leads _ c.fault_at-finding.ensures

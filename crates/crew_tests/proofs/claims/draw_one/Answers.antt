@@ -5,4 +5,5 @@ use Rattle.crew_tests.proofs.claims.draw_one.Goals as goal
 
 pub close-requires-clause-every : goal.close-requires-clause-every
 close-requires-clause-every g c =
-    one_part_each c.in_ok-claims.claims (slice_set c.in_ok-claims.seats.items 0 c.claim.new.seat) (search rules) ∙ search rules
+    one_part_each c.in_ok-claims.claims (slice_set c.in_ok-claims.seats.items 0 c.claim.new.seat) (search rules)
+    ∙ search rules

@@ -12,13 +12,22 @@ pub loop-drawer-preserved : goal.loop-drawer-preserved
 loop-drawer-preserved c =
     let claims = c.args.claims.now in
     let i = c.loop-drawer.invariant in
-    let left = All-pop (λ d. IsSeatOf claims d.seat) c.loop-drawer.drawers.items c.pop.new.self.items (Some c.in-Some.drawer) c.in-Some.ensures.items i.left in
+    let left =
+    All-pop (λ d. IsSeatOf claims d.seat) c.loop-drawer.drawers.items c.pop.new.self.items (Some c.in-Some.drawer)
+    c.in-Some.ensures.items i.left in
     record {
-      len = omega (arith, i.len, c.in_ok-push.ensures.len, fewer c.loop-drawer.drawers.items c.pop.new.self.items c.in-Some.drawer c.in-Some.ensures.items);
-      own = All-same (IsSeatOf claims) c.push.new.self.items (c.loop-drawer.seats.items ++ c.in-Some.drawer.seat ∷ []) c.in_ok-push.ensures.items
+      len = omega (
+        arith,
+        i.len,
+        c.in_ok-push.ensures.len,
+        fewer c.loop-drawer.drawers.items c.pop.new.self.items c.in-Some.drawer c.in-Some.ensures.items,
+      );
+      own = All-same (IsSeatOf claims) c.push.new.self.items (c.loop-drawer.seats.items ++ c.in-Some.drawer.seat ∷ [])
+          c.in_ok-push.ensures.items
           (All-push (IsSeatOf claims) c.loop-drawer.seats.items c.in-Some.drawer.seat i.own left.1);
       left = left.0;
     }
 
 pub loop-drawer-smaller : goal.loop-drawer-smaller
-loop-drawer-smaller c = omega (arith, fewer c.loop-drawer.drawers.items c.pop.new.self.items c.in-Some.drawer c.in-Some.ensures.items)
+loop-drawer-smaller c =
+    omega (arith, fewer c.loop-drawer.drawers.items c.pop.new.self.items c.in-Some.drawer c.in-Some.ensures.items)

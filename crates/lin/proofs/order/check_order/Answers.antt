@@ -1,4 +1,5 @@
-use Rattle.lin.proofs.Completions.{IsLinearization-completes, Completes-linearization, Completes-more, Completes-stuck, Completes-end}
+use Rattle.lin.proofs.Completions.{IsLinearization-completes, Completes-linearization, Completes-more, Completes-stuck}
+use Rattle.lin.proofs.Completions.{Completes-end}
 use Rattle.lin.proofs.order.check_order.Goals as goal
 
 pub returns-in-None : goal.returns-in-None
@@ -13,7 +14,8 @@ returns-in-None c =
 
 pub loop-i-preserved : goal.loop-i-preserved
 loop-i-preserved c =
-    Completes-more c.args.program.now c.args.history.now c.args.order.now c.loop-i.i _ c.loop-i-test.true _ _ _ c.in-Some.ensures c.loop-i.invariant
+    Completes-more c.args.program.now c.args.history.now c.args.order.now c.loop-i.i _ c.loop-i-test.true _ _ _
+    c.in-Some.ensures c.loop-i.invariant
 
 pub returns : goal.returns
 returns c =
@@ -21,5 +23,7 @@ returns c =
     let history = c.args.history.now in
     let order = c.args.order.now in
     let ends = Completes-end program history order c.loop-i.i c.loop-i-test.false _ _ c.loop-i.invariant in
-    let told = c.lists_every_finished.ensures in
-    (λ yes. Completes-linearization program history order (ends.1 (told.0 yes)), λ linearization. told.1 (ends.0 (IsLinearization-completes program history order linearization)))
+    let told = c.lists_every_finished.ensures in (
+      λ yes. Completes-linearization program history order (ends.1 (told.0 yes)),
+      λ linearization. told.1 (ends.0 (IsLinearization-completes program history order linearization)),
+    )

@@ -12,12 +12,16 @@ returns-then-not-contains c =
     let before : Listed = operations_in c.args.before in
     let finished : Listed = operations_in c.finished.result in
     let name = c.args.name in
-    let sets : operations_in c.union-2.result name ≡ ((listed name || barred name) || before name) = ap (λ f. f name) (c.union-2.ensures ∙ ap (λ (g : Listed). (λ a. g a || before a)) c.union.ensures) in
-    let none : ((listed name || barred name) || before name) ≡ false = sym sets ∙ sym c.contains.ensures ∙ c.if-not-contains.true in
+    let sets : operations_in c.union-2.result name ≡ ((listed name || barred name) || before name) =
+    ap (λ f. f name) (c.union-2.ensures ∙ ap (λ (g : Listed). (λ a. g a || before a)) c.union.ensures) in
+    let none : ((listed name || barred name) || before name) ≡ false =
+    sym sets ∙ sym c.contains.ensures ∙ c.if-not-contains.true in
     by_test c.is_within.result
     (λ yes. in_time history listed barred before name c.requires.place c.requires.barred c.requires.before none)
     (λ no program keys rest completes. true≢false (sym (c.is_within.ensures.1 (λ a among.
-    none_missing history listed barred before name c.requires.place c.requires.barred c.requires.before program keys rest completes c.finished.ensures.events finished c.finished.ensures.value a (sym (ap (λ f. f a) c.intersection.ensures) ∙ among))) ∙ no))
+    none_missing history listed barred before name c.requires.place c.requires.barred c.requires.before program keys
+    rest completes c.finished.ensures.events finished c.finished.ensures.value a
+    (sym (ap (λ f. f a) c.intersection.ensures) ∙ among))) ∙ no))
 
 pub returns-else-not-contains : goal.returns-else-not-contains
 returns-else-not-contains c =
@@ -26,8 +30,11 @@ returns-else-not-contains c =
     let barred : Listed = operations_in c.args.from.barred in
     let before : Listed = operations_in c.args.before in
     let name = c.args.name in
-    let sets : operations_in c.union-2.result name ≡ ((listed name || barred name) || before name) = ap (λ f. f name) (c.union-2.ensures ∙ ap (λ (g : Listed). (λ a. g a || before a)) c.union.ensures) in
-    let some : ((listed name || barred name) || before name) ≡ true = sym sets ∙ sym c.contains.ensures ∙ c.if-not-contains.false in
+    let sets : operations_in c.union-2.result name ≡ ((listed name || barred name) || before name) =
+    ap (λ f. f name) (c.union-2.ensures ∙ ap (λ (g : Listed). (λ a. g a || before a)) c.union.ensures) in
+    let some : ((listed name || barred name) || before name) ≡ true =
+    sym sets ∙ sym c.contains.ensures ∙ c.if-not-contains.false in
     by_test (not c.contains.result)
     (λ yes. absurd (true≢false (sym yes ∙ ap not c.if-not-contains.false)))
-    (λ no program keys rest completes. in_no_set history listed barred before name c.requires.place c.requires.barred c.requires.before program keys rest completes some)
+    (λ no program keys rest completes. in_no_set history listed barred before name c.requires.place c.requires.barred
+    c.requires.before program keys rest completes some)

@@ -9,4 +9,5 @@ returns-in_default-clause-barred c =
     let history = c.args.timeline.now in
     let from = c.args.from in
     subst₂ (AreBarred history) (sym c.with.ensures) (sym c.union.ensures)
-    (barred_more history (operations_in from.at.listed) (operations_in from.barred) (operations_in c.before-before.result) c.args.name c.requires.barred c.before-before.ensures)
+    (barred_more history (operations_in from.at.listed) (operations_in from.barred)
+    (operations_in c.before-before.result) c.args.name c.requires.barred c.before-before.ensures)

@@ -12,16 +12,21 @@ returns-in-Some c =
     let order = c.args.order.now in
     let told : c.in-Some.told ≡ c.args.reply = same_answer c.in-Some.told c.args.reply c.if-told-reply.true in
     let is : reply_in program (keys_of program.initial) order c.args.name ≡ Some c.args.reply =
-    ap (λ (o : List OpId). reply_in program (keys_of program.initial) o c.args.name) (sym c.as_slice.ensures) ∙ sym c.reply_in.ensures ∙ c.in-Some.is ∙ ap Some told in
-    answer_told program c.initial.ensures.limits order c.args.name c.args.reply c.ending_with.result c.ending_with.ensures is
+    ap (λ (o : List OpId). reply_in program (keys_of program.initial) o c.args.name) (sym c.as_slice.ensures)
+    ∙ sym c.reply_in.ensures ∙ c.in-Some.is ∙ ap Some told in
+    answer_told program c.initial.ensures.limits order c.args.name c.args.reply c.ending_with.result
+    c.ending_with.ensures is
 
 pub returns-in_default : goal.returns-in_default
 returns-in_default c = λ old new is was now.
     let program = c.args.program.now in
     let order = c.args.order.now in
     let told : c.reply_in.result ≡ Some c.args.reply =
-    c.reply_in.ensures ∙ ap (λ (o : List OpId). reply_in program (keys_of program.initial) o c.args.name) c.as_slice.ensures ∙ kept_reply program old new c.args.name c.args.reply is order now in
+    c.reply_in.ensures ∙ ap (λ (o : List OpId). reply_in program (keys_of program.initial) o c.args.name)
+    c.as_slice.ensures ∙ kept_reply program old new c.args.name c.args.reply is order now in
     elim c.in_default.branch [
-      | in_default-via-in-Some+else-told-reply w ↦ not_same w.in-Some.told c.args.reply w.if-told-reply.false (let q : Some w.in-Some.told ≡ Some c.args.reply = sym w.in-Some.is ∙ told in cc)
+      | in_default-via-in-Some+else-told-reply w
+          ↦ not_same w.in-Some.told c.args.reply w.if-told-reply.false
+          (let q : Some w.in-Some.told ≡ Some c.args.reply = sym w.in-Some.is ∙ told in cc)
       | in_default-via-in_default w ↦ w.in_default.not-Some c.args.reply told
     ]

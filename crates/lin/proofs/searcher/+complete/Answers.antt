@@ -1,4 +1,5 @@
-use Rattle.std.proofs.Common.{refl, ◌≡◌, ℕ, ◌<◌, List, [], ◌∷◌, ◌++◌, ◌∙◌, sym, ap, subst, arith, true≢false, append-nil, All}
+use Rattle.std.proofs.Common.{refl, ◌≡◌, ℕ, ◌<◌, List, [], ◌∷◌, ◌++◌, ◌∙◌, sym, ap, subst, arith, true≢false}
+use Rattle.std.proofs.Common.{append-nil, All}
 use Rattle.sched_program.specs.declared.operation.OpId.{OpId}
 use Rattle.lin.specs.Completion.{Listed, listed_in, with_name, StandsNext, Completes, EveryFinishedIsListed, IsHopeless}
 use Rattle.lin.specs.KeySet.{keys_in}
@@ -14,19 +15,27 @@ use Rattle.lin.proofs.searcher.+complete.Goals.{in-Some+in_ok-push+in_ok-complet
 pub returns-then-is_within-clause-answer : goal.returns-then-is_within-clause-answer
 returns-then-is_within-clause-answer t c =
     let history = c.args.timeline.now in
-    let every = (every_listed history (operations_in c.finished.result) (operations_in c.args.from.at.listed) c.finished.ensures.value).0 (c.is_within.ensures.0 c.if-is_within.true) in
+    let every =
+    (every_listed history (operations_in c.finished.result) (operations_in c.args.from.at.listed)
+    c.finished.ensures.value).0 (c.is_within.ensures.0 c.if-is_within.true) in
     ([], sym (append-nil c.args.order.now.items), subst (EveryFinishedIsListed history) c.requires.listed every)
 
 pub returns-then-contains-clause-answer : goal.returns-then-contains-clause-answer
 returns-then-contains-clause-answer t c =
     let program = c.args.program.now in
     let history = c.args.timeline.now in
-    let none = All-found (IsHopelessAt program history) c.args.from.at c.args.failed.now.keys c.requires.failed (sym c.contains.ensures ∙ c.if-contains.true) in
-    (refl {A = List OpId}, subst (λ listed. IsHopeless program history listed (keys_in c.args.from.at.keys)) c.requires.listed none)
+    let none =
+    All-found (IsHopelessAt program history) c.args.from.at c.args.failed.now.keys c.requires.failed
+    (sym c.contains.ensures ∙ c.if-contains.true) in (
+      refl {A = List OpId},
+      subst (λ listed. IsHopeless program history listed (keys_in c.args.from.at.keys))
+          c.requires.listed none,
+    )
 
 pub step-requires-clause-begun : goal.step-requires-clause-begun
 step-requires-clause-begun t c =
-    IsSome-value_at_read c.begun-name-items.result.now c.args.timeline.now.begun c.loop-name.name-index c.loop-name-item.result c.begun-name-items.ensures.value c.loop-name-test.true c.loop-name-item.is
+    IsSome-value_at_read c.begun-name-items.result.now c.args.timeline.now.begun c.loop-name.name-index
+    c.loop-name-item.result c.begun-name-items.ensures.value c.loop-name-test.true c.loop-name-item.is
 
 pub complete-requires : goal.complete-requires
 complete-requires t c =
@@ -34,14 +43,19 @@ complete-requires t c =
     let name = c.loop-name-item.result.0 in
     let begun = c.args.timeline.now.begun in
     let same = c.loop-name.invariant.same in
-    let stands = subst (λ listed. StandsNext c.args.program.now c.args.timeline.now listed (keys_in c.args.from.at.keys) name (keys_in c.in-Some.next.at.keys)) c.requires.listed c.in-Some.ensures.stands in
-    let pushed : c.push.new.self.items ≡ old ++ name ∷ [] = c.in_ok-push.ensures.items ∙ ap (λ o. o ++ name ∷ []) same in
-    let falls : unlisted_count (listed_in c.push.new.self.items) begun < unlisted_count (listed_in old) begun = unlisted_push old c.push.new.self.items name begun pushed stands.new stands.begun in (
+    let stands =
+    subst (λ listed. StandsNext c.args.program.now c.args.timeline.now listed (keys_in c.args.from.at.keys) name
+    (keys_in c.in-Some.next.at.keys)) c.requires.listed c.in-Some.ensures.stands in
+    let pushed : c.push.new.self.items ≡ old ++ name ∷ [] =
+    c.in_ok-push.ensures.items ∙ ap (λ o. o ++ name ∷ []) same in
+    let falls : unlisted_count (listed_in c.push.new.self.items) begun < unlisted_count (listed_in old) begun =
+    unlisted_push old c.push.new.self.items name begun pushed stands.new stands.begun in (
       subst (λ n. unlisted_count (listed_in c.push.new.self.items) begun < n) c.decreases falls,
       (
         c.requires.limits,
         (
-          c.in-Some.ensures.listed ∙ ap (λ l. with_name l name) c.requires.listed ∙ sym (ap listed_in pushed ∙ listed_push old name),
+          c.in-Some.ensures.listed ∙ ap (λ l. with_name l name) c.requires.listed
+              ∙ sym (ap listed_in pushed ∙ listed_push old name),
           (c.in-Some.ensures.barred, c.loop-name.invariant.failed),
         ),
       ),
@@ -54,9 +68,12 @@ returns-then-branch-clause-answer t c =
     let old = c.args.order.now.items in
     let name = c.loop-name-item.result.0 in
     let same = c.loop-name.invariant.same in
-    let stands = subst (λ listed. StandsNext program history listed (keys_in c.args.from.at.keys) name (keys_in c.in-Some.next.at.keys)) c.requires.listed c.in-Some.ensures.stands in
+    let stands =
+    subst (λ listed. StandsNext program history listed (keys_in c.args.from.at.keys) name
+    (keys_in c.in-Some.next.at.keys)) c.requires.listed c.in-Some.ensures.stands in
     let found = rw c.if-branch.true at c.in_ok-complete.ensures.answer in
-    found_more program history old c.push.new.self.items c.complete.new.order.items (keys_in c.args.from.at.keys) (keys_in c.in-Some.next.at.keys) name stands
+    found_more program history old c.push.new.self.items c.complete.new.order.items (keys_in c.args.from.at.keys)
+    (keys_in c.in-Some.next.at.keys) name stands
     (c.in_ok-push.ensures.items ∙ ap (λ o. o ++ name ∷ []) same) found
 
 pub loop-name-preserved : goal.loop-name-preserved
@@ -67,37 +84,56 @@ loop-name-preserved t c =
     let keys = keys_in c.args.from.at.keys in
     let name = c.loop-name-item.result.0 in
     let same = c.loop-name.invariant.same in
-    let Fails : OpId → Type 0 = λ a. (rest : List OpId) → Completes program history (listed_in old) keys (a ∷ rest) → ⊥ in
-    let more = λ (here : Fails name). each_more_read Fails c.begun-name-items.result.now c.loop-name.name-index c.loop-name-item.result c.loop-name-test.true c.loop-name-item.is here c.loop-name.invariant.tried in
+    let Fails : OpId → Type 0 =
+    λ a. (rest : List OpId) → Completes program history (listed_in old) keys (a ∷ rest) → ⊥ in
+    let more =
+    λ (here : Fails name). each_more_read Fails c.begun-name-items.result.now c.loop-name.name-index
+    c.loop-name-item.result c.loop-name-test.true c.loop-name-item.is here c.loop-name.invariant.tried in
     elim c.match-step.branch [
       | in-Some+in_ok-push+in_ok-complete+else-branch w ↦
-          let pushed : w.push.new.self.items ≡ old ++ name ∷ [] = w.in_ok-push.ensures.items ∙ ap (λ o. o ++ name ∷ []) same in
-          let stands = subst (λ listed. StandsNext program history listed keys name (keys_in w.in-Some.next.at.keys)) c.requires.listed w.in-Some.ensures.stands in
+          let pushed : w.push.new.self.items ≡ old ++ name ∷ [] =
+          w.in_ok-push.ensures.items ∙ ap (λ o. o ++ name ∷ []) same in
+          let stands =
+          subst (λ listed. StandsNext program history listed keys name (keys_in w.in-Some.next.at.keys))
+          c.requires.listed w.in-Some.ensures.stands in
           let none = rw w.if-branch.false at w.in_ok-complete.ensures.answer in
           record {
-            same = ap (λ v. v.items) w.order-is ∙ popped _ old _ name w.pop.result w.pop.ensures.items (none.0 ∙ pushed) (λ some. w.pop.ensures.variant.1 (omega (arith, w.complete.new.order.ok.0, some)));
-            failed = subst (λ s. All (IsHopelessAt program history) s.keys) (sym w.failed-is) w.in_ok-complete.ensures.failed;
-            tried = more (not_after program history old w.push.new.self.items keys (keys_in w.in-Some.next.at.keys) name stands pushed none.1);
+            same = ap (λ v. v.items) w.order-is ∙ popped _ old _ name w.pop.result w.pop.ensures.items (none.0 ∙ pushed)
+                (λ some. w.pop.ensures.variant.1 (omega (arith, w.complete.new.order.ok.0, some)));
+            failed =
+                subst (λ s. All (IsHopelessAt program history) s.keys)
+                (sym w.failed-is) w.in_ok-complete.ensures.failed;
+            tried = more
+                (not_after program history old w.push.new.self.items keys (keys_in w.in-Some.next.at.keys) name stands
+                pushed none.1);
           }
       | in_default w ↦ record {
         same = ap (λ v. v.items) w.order-is ∙ same;
         failed = subst (λ s. All (IsHopelessAt program history) s.keys) (sym w.failed-is) c.loop-name.invariant.failed;
-        tried = more (subst (λ listed. (rest : List OpId) → Completes program history listed keys (name ∷ rest) → ⊥) c.requires.listed w.in_default.ensures.stands);
+        tried = more
+            (subst (λ listed. (rest : List OpId) → Completes program history listed keys (name ∷ rest) → ⊥)
+            c.requires.listed w.in_default.ensures.stands);
       }
     ]
 
-hopeless : {t : ℕ} (c : goal.In_ok-insert t) → IsHopeless c.args.program.now c.args.timeline.now (listed_in c.args.order.now.items) (keys_in c.args.from.at.keys)
+hopeless : {t : ℕ} (c : goal.In_ok-insert t)
+    → IsHopeless c.args.program.now c.args.timeline.now (listed_in c.args.order.now.items) (keys_in c.args.from.at.keys)
 hopeless {t} c =
     let program = c.args.program.now in
     let history = c.args.timeline.now in
     let old = c.args.order.now.items in
     let keys = keys_in c.args.from.at.keys in
-    let Fails : OpId → Type 0 = λ a. (rest : List OpId) → Completes program history (listed_in old) keys (a ∷ rest) → ⊥ in
+    let Fails : OpId → Type 0 =
+    λ a. (rest : List OpId) → Completes program history (listed_in old) keys (a ∷ rest) → ⊥ in
     let listed : Listed = operations_in c.args.from.at.listed in
     let missing = λ (every : EveryFinishedIsListed history (listed_in old)).
-    true≢false (sym (c.is_within.ensures.1 ((every_listed history (operations_in c.finished.result) listed c.finished.ensures.value).1 (subst (EveryFinishedIsListed history) (sym c.requires.listed) every))) ∙ c.if-is_within.false) in
+    true≢false
+    (sym (c.is_within.ensures.1
+    ((every_listed history (operations_in c.finished.result) listed c.finished.ensures.value).1
+    (subst (EveryFinishedIsListed history) (sym c.requires.listed) every))) ∙ c.if-is_within.false) in
     nothing_left program history (listed_in old) keys missing
-    (each_all Fails c.begun-name-items.result.now history.begun c.loop-name.name-index c.begun-name-items.ensures.value c.loop-name-test.false c.loop-name.invariant.tried)
+    (each_all Fails c.begun-name-items.result.now history.begun c.loop-name.name-index c.begun-name-items.ensures.value
+    c.loop-name-test.false c.loop-name.invariant.tried)
 
 pub returns-clause-answer : goal.returns-clause-answer
 returns-clause-answer t c = (c.loop-name.invariant.same, hopeless c)
@@ -106,5 +142,8 @@ pub returns-clause-failed : goal.returns-clause-failed
 returns-clause-failed t c =
     let program = c.args.program.now in
     let history = c.args.timeline.now in
-    let here : IsHopelessAt program history c.args.from.at = subst (λ listed. IsHopeless program history listed (keys_in c.args.from.at.keys)) (sym c.requires.listed) (hopeless c) in
-    All-kept (IsHopelessAt program history) c.args.from.at c.loop-name.failed c.insert.new.self c.in_ok-insert.field-0 c.in_ok-insert.ensures.keys here c.loop-name.invariant.failed
+    let here : IsHopelessAt program history c.args.from.at =
+    subst (λ listed. IsHopeless program history listed (keys_in c.args.from.at.keys)) (sym c.requires.listed)
+    (hopeless c) in
+    All-kept (IsHopelessAt program history) c.args.from.at c.loop-name.failed c.insert.new.self c.in_ok-insert.field-0
+    c.in_ok-insert.ensures.keys here c.loop-name.invariant.failed

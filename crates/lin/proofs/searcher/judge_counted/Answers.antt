@@ -8,16 +8,19 @@ use Rattle.lin.proofs.searcher.judge_counted.Goals as goal
 
 pub complete-requires-clause-barred : goal.complete-requires-clause-barred
 complete-requires-clause-barred c =
-    subst₂ (AreBarred c.new-timeline.result) (sym c.empty.ensures) (sym c.empty-2.ensures) (barred_none c.new-timeline.result)
+    subst₂ (AreBarred c.new-timeline.result) (sym c.empty.ensures) (sym c.empty-2.ensures)
+    (barred_none c.new-timeline.result)
 
 pub returns-then-branch-clause-found : goal.returns-then-branch-clause-found
 returns-then-branch-clause-found c =
     let found = rw c.if-branch.true at c.in_ok-complete.ensures.answer in
     subst (λ history. IsLinearization c.args.program.now history c.complete.new.order.items) c.new-timeline.ensures
-    (found_linearization c.args.program.now c.new-timeline.result _ _ _ c.in_ok-order.ensures.items (c.of.ensures ∙ ap keys_of c.initial.ensures.value) found)
+    (found_linearization c.args.program.now c.new-timeline.result _ _ _ c.in_ok-order.ensures.items
+    (c.of.ensures ∙ ap keys_of c.initial.ensures.value) found)
 
 pub returns-else-branch-clause-none : goal.returns-else-branch-clause-none
 returns-else-branch-clause-none c =
     let none = rw c.if-branch.false at c.in_ok-complete.ensures.answer in
-    λ some. none_linearization c.args.program.now c.new-timeline.result _ _ c.in_ok-order.ensures.items (c.of.ensures ∙ ap keys_of c.initial.ensures.value) none.1 some.0
+    λ some. none_linearization c.args.program.now c.new-timeline.result _ _ c.in_ok-order.ensures.items
+    (c.of.ensures ∙ ap keys_of c.initial.ensures.value) none.1 some.0
     (subst (λ history. IsLinearization c.args.program.now history some.0) (sym c.new-timeline.ensures) some.1)

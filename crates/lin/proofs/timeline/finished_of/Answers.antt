@@ -9,13 +9,16 @@ nothing = (record { thread = 0; index = 0 }, false)
 
 pub with-set-requires-clause-thread : goal.with-set-requires-clause-thread
 with-set-requires-clause-thread c =
-    (finished_has_place c.args.history.now c.finished-name-items.ensures.events c.finished-name-items.result.now c.loop-name.name-index nothing c.finished-name-items.ensures.value c.loop-name-test.true).0
+    (finished_has_place c.args.history.now c.finished-name-items.ensures.events c.finished-name-items.result.now
+    c.loop-name.name-index nothing c.finished-name-items.ensures.value c.loop-name-test.true).0
 
 pub with-set-requires-clause-index : goal.with-set-requires-clause-index
 with-set-requires-clause-index c =
-    (finished_has_place c.args.history.now c.finished-name-items.ensures.events c.finished-name-items.result.now c.loop-name.name-index nothing c.finished-name-items.ensures.value c.loop-name-test.true).1
+    (finished_has_place c.args.history.now c.finished-name-items.ensures.events c.finished-name-items.result.now
+    c.loop-name.name-index nothing c.finished-name-items.ensures.value c.loop-name-test.true).1
 
 pub loop-name-preserved : goal.loop-name-preserved
 loop-name-preserved c =
     let items = c.finished-name-items.result.now in
-    c.with-set.ensures ∙ ap (λ listed. with_name listed (get_or items c.loop-name.name-index nothing).0) c.loop-name.invariant ∙ finished_more items c.loop-name.name-index nothing c.loop-name-test.true
+    c.with-set.ensures ∙ ap (λ listed. with_name listed (get_or items c.loop-name.name-index nothing).0)
+    c.loop-name.invariant ∙ finished_more items c.loop-name.name-index nothing c.loop-name-test.true

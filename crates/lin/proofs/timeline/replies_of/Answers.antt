@@ -15,21 +15,29 @@ loop-i-init c =
     let e = drop_all (length finished) finished (omega arith) in
     record {
       count = refl;
-      replies = λ a d has. get_or-replicate 32 (place_of a) None d (let few = has.0 in let short = has.1 in omega arith) ∙ ap (λ xs. value_at xs a) (sym e);
+      replies =
+          λ a d has. get_or-replicate 32 (place_of a) None d (let few = has.0 in let short = has.1 in omega arith)
+          ∙ ap (λ xs. value_at xs a) (sym e);
     }
 
 pub place_of-requires : goal.place_of-requires
 place_of-requires c =
-    finished_has_place c.args.history.now c.finished-finished.ensures.events c.finished-finished.result.now (c.loop-i.i - 1) nothing c.finished-finished.ensures.value (omega arith)
+    finished_has_place c.args.history.now c.finished-finished.ensures.events c.finished-finished.result.now
+    (c.loop-i.i - 1) nothing c.finished-finished.ensures.value (omega arith)
 
 pub loop-i-preserved : goal.loop-i-preserved
 loop-i-preserved c =
     let finished = c.finished-finished.result.now in
     let x = get_or finished (c.loop-i.i - 1) nothing in
-    let has : HasPlace x.0 = finished_has_place c.args.history.now c.finished-finished.ensures.events finished (c.loop-i.i - 1) nothing c.finished-finished.ensures.value (omega arith) in
+    let has : HasPlace x.0 =
+    finished_has_place c.args.history.now c.finished-finished.ensures.events finished (c.loop-i.i - 1) nothing
+    c.finished-finished.ensures.value (omega arith) in
     let P : Option Bool → Option Bool → Type 0 = λ o r. r ≡ o in
-    let in_table : c.place_of.result < length c.loop-i.replies = let few = has.0 in let short = has.1 in omega (arith, c.place_of.ensures.value, c.loop-i.invariant.count) in
+    let in_table : c.place_of.result < length c.loop-i.replies = let few = has.0 in
+    let short = has.1 in omega (arith, c.place_of.ensures.value, c.loop-i.invariant.count) in
     record {
       count = length-set c.loop-i.replies c.place_of.result (Some x.1) ∙ c.loop-i.invariant.count;
-      replies = holds_before P finished c.loop-i.i x nothing c.loop-i.replies c.place_of.result (Some x.1) (omega arith) (omega arith) refl has c.place_of.ensures.value in_table refl c.loop-i.invariant.replies;
+      replies =
+          holds_before P finished c.loop-i.i x nothing c.loop-i.replies c.place_of.result (Some x.1) (omega arith)
+          (omega arith) refl has c.place_of.ensures.value in_table refl c.loop-i.invariant.replies;
     }

@@ -11,13 +11,18 @@ loop-i-preserved c =
     let begun = c.begun-begun.result.now in
     let d = c.index-begun-i.result in
     let within : c.loop-i.i - 1 < length begun = omega arith in
-    let has : HasPlace (get_or begun (c.loop-i.i - 1) d).0 = begun_has_place c.args.history.now c.begun-begun.ensures.events begun (c.loop-i.i - 1) d c.begun-begun.ensures.value within in
+    let has : HasPlace (get_or begun (c.loop-i.i - 1) d).0 =
+    begun_has_place c.args.history.now c.begun-begun.ensures.events begun
+    (c.loop-i.i - 1) d c.begun-begun.ensures.value within in
     let P : Option (List ℕ) → OpSet → Type 0 = λ o set. IfSome o (λ note. operations_in set ≡ counted note) in
     let counts : operations_in c.counted.result ≡ counted (get_or begun (c.loop-i.i - 1) d).1 =
-    c.counted.ensures ∙ ap (λ e. counted e.1) (get_or_default begun (c.loop-i.i - 1) c.index-begun-i-in-loop-i.result d within) in
-    let in_table : c.place_of.result < length c.loop-i.sets = let few = has.0 in let short = has.1 in omega (arith, c.place_of.ensures.value, c.loop-i.invariant.count) in
+    c.counted.ensures ∙ ap (λ e. counted e.1)
+    (get_or_default begun (c.loop-i.i - 1) c.index-begun-i-in-loop-i.result d within) in
+    let in_table : c.place_of.result < length c.loop-i.sets = let few = has.0 in
+    let short = has.1 in omega (arith, c.place_of.ensures.value, c.loop-i.invariant.count) in
     record {
       count = length-set c.loop-i.sets c.place_of.result c.counted.result ∙ c.loop-i.invariant.count;
-      sets = holds_before P begun c.loop-i.i (get_or begun (c.loop-i.i - 1) d) d c.loop-i.sets c.place_of.result c.counted.result (omega arith) (omega arith) refl has c.place_of.ensures.value in_table counts
+      sets = holds_before P begun c.loop-i.i (get_or begun (c.loop-i.i - 1) d) d c.loop-i.sets c.place_of.result
+          c.counted.result (omega arith) (omega arith) refl has c.place_of.ensures.value in_table counts
           c.loop-i.invariant.sets;
     }

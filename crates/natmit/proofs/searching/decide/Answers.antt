@@ -6,4 +6,5 @@ use Rattle.natmit.proofs.searching.decide.Goals as goal
 pub returns-in-Delete : goal.returns-in-Delete
 returns-in-Delete c =
     let a = c.args in
-    λ tag. c.decide_delete.ensures tag ∙ ap (λ op. arrived op a.ancestor a.successor a.parent a.leaf tag a.mode (Leaf a.key)) (sym c.in-Delete.is)
+    λ tag. c.decide_delete.ensures tag
+    ∙ ap (λ op. arrived op a.ancestor a.successor a.parent a.leaf tag a.mode (Leaf a.key)) (sym c.in-Delete.is)

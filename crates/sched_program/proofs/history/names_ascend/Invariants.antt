@@ -5,4 +5,5 @@ use Rattle.sched_program.proofs.history.names_ascend.Given as goal
 
 -- the names so far ascend
 abbrev pub invariant-loop-i : goal.invariant-loop-i
-invariant-loop-i g l = (k : ℕ) (a b : OpId × g.row.V.Denot) → k + 1 < l.i → slice_get l.entries k ≡ Some a → slice_get l.entries (k + 1) ≡ Some b → IsBefore a.0 b.0
+invariant-loop-i g l = (k : ℕ) (a b : OpId × g.row.V.Denot) → k + 1 < l.i → slice_get l.entries k ≡ Some a
+    → slice_get l.entries (k + 1) ≡ Some b → IsBefore a.0 b.0

@@ -7,7 +7,8 @@ use Rattle.sched_program.proofs.Members.{few_keys_within, within}
 use Rattle.sched_program.proofs.text.initial_of.Goals as goal
 
 pub returns-in_default-clause-err : goal.returns-in_default-clause-err
-returns-in_default-clause-err c = inr (refl, λ has. c.in_default.ensures.none (has.0, has.1, few_keys_within has.0 has.2))
+returns-in_default-clause-err c =
+    inr (refl, λ has. c.in_default.ensures.none (has.0, has.1, few_keys_within has.0 has.2))
 
 pub returns-in-Some-2-clause-ok : goal.returns-in-Some-2-clause-ok
 returns-in-Some-2-clause-ok c =
@@ -20,6 +21,8 @@ returns-in-None-clause-err c =
     inr (
       refl,
       λ has.
-          let few = of_member IsListOfFewKeys (codes "initial") (view c.args.value.now) (view c.in-Some.member.now) (sym c.in-Some.ensures.found.0) has in
+          let few =
+          of_member IsListOfFewKeys (codes "initial") (view c.args.value.now) (view c.in-Some.member.now)
+          (sym c.in-Some.ensures.found.0) has in
           (rw c.in-None.is at c.in_ok-keys.ensures.none) few.0 few.1,
     )

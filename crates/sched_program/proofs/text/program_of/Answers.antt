@@ -9,7 +9,13 @@ returns-then-not-is_distinct-clause-err c =
     let initial = c.in_ok-initial.ensures.ok in
     record {
       stands = not_distinct value c.in_ok-initial.initial initial.0 (search rules);
-      first = (search rules, ((c.in-Some.version, search rules), ((c.in-Some-tree_of.tree, search rules), (few_keys value c.in_ok-initial.initial initial.0 initial.1, tt))));
+      first = (
+        search rules,
+        (
+          (c.in-Some.version, search rules),
+          ((c.in-Some-tree_of.tree, search rules), (few_keys value c.in_ok-initial.initial initial.0 initial.1, tt)),
+        ),
+      );
     }
 
 pub returns-in_default-2-clause-err : goal.returns-in_default-2-clause-err
@@ -28,7 +34,13 @@ returns-in_default-2-clause-err c =
           (c.in-Some.version, search rules),
           (
             (c.in-Some-tree_of.tree, search rules),
-            (few_keys value keys initial.0 initial.1, ((initial.0.0, initial.0.1, (keys, initial.0.2, distinct)), (pass.0, (pass.1, (pass.2, (pass.3, tt)))))),
+            (
+              few_keys value keys initial.0 initial.1,
+              (
+                (initial.0.0, initial.0.1, (keys, initial.0.2, distinct)),
+                (pass.0, (pass.1, (pass.2, (pass.3, tt)))),
+              ),
+            ),
           ),
         ),
       );
@@ -39,4 +51,6 @@ new-requires c =
     let initial = c.in_ok-initial.ensures.ok in
     let threads = c.in_ok-threads.ensures.ok in
     let turns = rw c.in-Some-2.is at c.in_ok-turns.ensures.found in
-    limits_met (view c.args.value.now) c.in-Some.version c.in-Some-tree_of.tree c.in_ok-initial.initial c.in_ok-threads.threads c.in-Some-2.turns initial.0 initial.1 (search rules) threads.0 threads.1 threads.2 threads.3 turns.0 (rw c.as_slice-2.ensures at turns.1)
+    limits_met (view c.args.value.now) c.in-Some.version c.in-Some-tree_of.tree c.in_ok-initial.initial
+    c.in_ok-threads.threads c.in-Some-2.turns initial.0 initial.1 (search rules) threads.0 threads.1 threads.2
+    threads.3 turns.0 (rw c.as_slice-2.ensures at turns.1)

@@ -22,9 +22,13 @@ returns-in-None-clause-err c =
     let at_threads = c.in-Some.ensures.found.0 in
     let counts : HasOpCounts threads = rw c.if-not-branch.false at c.in_ok-has_op_counts.ensures in
     let words : HasWords threads = rw c.if-not-branch-2.false at c.in_ok-has_words.ensures in
-    let before_ops = one_more (Passes value) (earlier fault.Threads) fault.Threads c.requires (threads, at_threads, c.in-Some.ensures.found.1) in
+    let before_ops =
+    one_more (Passes value) (earlier fault.Threads) fault.Threads c.requires
+    (threads, at_threads, c.in-Some.ensures.found.1) in
     let before_op = one_more (Passes value) (earlier fault.Ops) fault.Ops before_ops (threads, at_threads, counts) in
     record {
-      stands = λ has. no_keys threads words (rw c.in-None.is at c.in_ok-threads.ensures.none) (of_member HasKeys (codes "threads") value threads (sym at_threads) has);
+      stands =
+          λ has. no_keys threads words (rw c.in-None.is at c.in_ok-threads.ensures.none)
+          (of_member HasKeys (codes "threads") value threads (sym at_threads) has);
       first = one_more (Passes value) (earlier fault.Op) fault.Op before_op (threads, at_threads, words);
     }

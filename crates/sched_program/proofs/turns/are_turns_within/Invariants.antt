@@ -4,4 +4,5 @@ use Rattle.sched_program.proofs.turns.are_turns_within.Given as goal
 
 -- the turns of the threads so far are within the limits
 abbrev pub invariant-loop-thread : goal.invariant-loop-thread
-invariant-loop-thread l = (t : ℕ) → t < l.thread → All (λ turn. IfSome turn (IsTurnWithin l.threads t)) (get_or l.turns t [])
+invariant-loop-thread l = (t : ℕ) → t < l.thread
+    → All (λ turn. IfSome turn (IsTurnWithin l.threads t)) (get_or l.turns t [])

@@ -5,4 +5,5 @@ use Rattle.sched_program.proofs.turns.may_wait.Given as goal
 
 -- the turns so far are within the limits
 abbrev pub invariant-loop-turn : goal.invariant-loop-turn
-invariant-loop-turn l = (k : ℕ) (d : Option Turn) → k < l.turn-index → IfSome (get_or l.turns k d) (IsTurnWithin l.threads l.thread)
+invariant-loop-turn l = (k : ℕ) (d : Option Turn) → k < l.turn-index
+    → IfSome (get_or l.turns k d) (IsTurnWithin l.threads l.thread)

@@ -6,4 +6,5 @@ use Rattle.tree_machine.proofs.atomic.put_held.Given as goal
 
 -- what the threads so far hold is put
 abbrev pub invariant-loop-thread : goal.invariant-loop-thread
-invariant-loop-thread l = l.bytes.items ≡ l.fn.bytes.items ++ flat_map held_code (places_of (take l.thread-index l.threads))
+invariant-loop-thread l =
+    l.bytes.items ≡ l.fn.bytes.items ++ flat_map held_code (places_of (take l.thread-index l.threads))

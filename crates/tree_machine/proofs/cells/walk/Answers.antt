@@ -8,19 +8,27 @@ use Rattle.tree_machine.proofs.cells.walk.Goals.{else-loop-visits-test, then-loo
 
 pub loop-root-preserved : goal.loop-root-preserved
 loop-root-preserved c = record {
-  order = c.in_ok-_place.ensures.order ∙ (ap (λ o. met o (get_or c.args.roots.now c.loop-root.root-index 0)) c.loop-root.invariant.order ∙ root_next c.args.roots.now c.loop-root.root-index 0 c.requires.roots_distinct c.loop-root-test.true);
+  order = c.in_ok-_place.ensures.order
+      ∙ (ap (λ o. met o (get_or c.args.roots.now c.loop-root.root-index 0)) c.loop-root.invariant.order
+      ∙ root_next c.args.roots.now c.loop-root.root-index 0 c.requires.roots_distinct c.loop-root-test.true);
   range = c.in_ok-_place.ensures.range ∙ c.loop-root.invariant.range;
 }
 
 pub visit-requires : goal.visit-requires
 visit-requires c = record {
-  cell_in_range = visit_in_range c.args.cells.now c.args.roots.now c.loop-visits.numbering.order.items c.loop-visits.visits c.in-Some.cell c.requires c.loop-visits.invariant.order (sym c.in-Some.ensures);
-  refs_in_range = subst (λ n. All (λ d. All (λ r. IfSome r (λ x. x < n)) d.refs) c.args.cells.now) (sym c.loop-visits.invariant.range) c.requires.refs_in_range;
+  cell_in_range =
+      visit_in_range c.args.cells.now c.args.roots.now c.loop-visits.numbering.order.items c.loop-visits.visits
+      c.in-Some.cell c.requires c.loop-visits.invariant.order (sym c.in-Some.ensures);
+  refs_in_range =
+      subst (λ n. All (λ d. All (λ r. IfSome r (λ x. x < n)) d.refs) c.args.cells.now)
+      (sym c.loop-visits.invariant.range) c.requires.refs_in_range;
 }
 
 pub loop-visits-preserved : goal.loop-visits-preserved
 loop-visits-preserved c = record {
-  order = met_in_next c.args.cells.now c.args.roots.now c.loop-visits.numbering.order.items c.visit.new.self.order.items c.loop-visits.visits c.in-Some.cell c.loop-visits.invariant.order (sym c.in-Some.ensures) c.in_ok-visit-in-Some.ensures.order;
+  order = met_in_next c.args.cells.now c.args.roots.now c.loop-visits.numbering.order.items c.visit.new.self.order.items
+      c.loop-visits.visits c.in-Some.cell c.loop-visits.invariant.order (sym c.in-Some.ensures)
+      c.in_ok-visit-in-Some.ensures.order;
   range = c.in_ok-visit-in-Some.ensures.range ∙ c.loop-visits.invariant.range;
 }
 
@@ -31,5 +39,6 @@ returns-clause-order c =
           (let end : c.loop-visits.visits ≡ length c.args.cells.now = omega arith in
           c.loop-visits.invariant.order ∙ ap (met_in c.args.cells.now c.args.roots.now) end)
       | then-loop-visits-test+in-None w ↦
-          met_in_end c.args.cells.now c.args.roots.now c.loop-visits.numbering.order.items c.loop-visits.visits c.loop-visits.invariant.order w.loop-visits-test.true (sym w.in-None.ensures)
+          met_in_end c.args.cells.now c.args.roots.now c.loop-visits.numbering.order.items c.loop-visits.visits
+          c.loop-visits.invariant.order w.loop-visits-test.true (sym w.in-None.ensures)
     ]

@@ -5,5 +5,6 @@ use Rattle.tree_machine.proofs.coded.put_all_notes.Goals as goal
 
 pub returns : goal.returns
 returns g c =
-    fields_coded (list_code note_code) (λ thread. thread.notes) c.args.threads.now c.loop-thread.thread-index c.args.bytes.now.items c.loop-thread.bytes.items
+    fields_coded (list_code note_code) (λ thread. thread.notes) c.args.threads.now c.loop-thread.thread-index
+    c.args.bytes.now.items c.loop-thread.bytes.items
     (omega (arith, c.loop-thread-test.false)) c.loop-thread.invariant

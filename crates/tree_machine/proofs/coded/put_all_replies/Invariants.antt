@@ -5,4 +5,6 @@ use Rattle.tree_machine.proofs.coded.put_all_replies.Given as goal
 
 -- the replies of the threads so far are put
 abbrev pub invariant-loop-thread : goal.invariant-loop-thread
-invariant-loop-thread g l = l.bytes.items ≡ l.fn.bytes.items ++ length l.threads ∷ flat_map (λ thread. list_code reply_code thread.replies) (take l.thread-index l.threads)
+invariant-loop-thread g l =
+    l.bytes.items ≡ l.fn.bytes.items ++ length l.threads
+    ∷ flat_map (λ thread. list_code reply_code thread.replies) (take l.thread-index l.threads)

@@ -2,7 +2,7 @@ use Rattle.std.proofs.Common.{◌≡◌, ◌++◌, length}
 use Rattle.tree_machine.specs.Cells.{met_in}
 use Rattle.tree_machine.specs.Graphs.{roots_of}
 use Rattle.tree_machine.specs.Parts.{parts_graph, parts_held}
-use Rattle.tree_machine.proofs.Passes.{code_in}
+use Rattle.tree_machine.proofs.CodedWalks.{code_in}
 use Rattle.tree_machine.proofs.parts.walk_parts.Given as goal
 
 -- so many visits are done

@@ -4,10 +4,11 @@ use Rattle.std.specs.List.{All}
 use Rattle.std.proofs.lemmas.List.Elements.{All-from_recursion}
 use Rattle.std.proofs.lemmas.Map.Keys.{IsDistinct-cons}
 use Rattle.tree_machine.specs.Cells.{Content, IsRooted}
-use Rattle.tree_machine.specs.Laws.Graphs.{distinct_none}
+use Rattle.tree_machine.specs.Laws.CellLists.{distinct_none}
 use Rattle.tree_machine_tests.proofs.cells.canon_from.Goals as goal
 
-one_root : (cells : List Content) (root : ℕ) → root < length cells → All (λ c. All (λ r. IfSome r (λ x. x < length cells)) c.refs) cells → IsRooted cells (root ∷ [])
+one_root : (cells : List Content) (root : ℕ) → root < length cells
+    → All (λ c. All (λ r. IfSome r (λ x. x < length cells)) c.refs) cells → IsRooted cells (root ∷ [])
 one_root cells root l h = record {
   roots_in_range = All-from_recursion (λ x. x < length cells) (root ∷ []) (l, tt);
   roots_distinct = IsDistinct-cons _ root [] tt distinct_none;
@@ -15,4 +16,5 @@ one_root cells root l h = record {
 }
 
 pub canon-requires : goal.canon-requires
-canon-requires c = one_root c.args.cells.now c.args.root c.if-root-cells.true (c.are_in_range.ensures c.if-are_in_range.true)
+canon-requires c =
+    one_root c.args.cells.now c.args.root c.if-root-cells.true (c.are_in_range.ensures c.if-are_in_range.true)

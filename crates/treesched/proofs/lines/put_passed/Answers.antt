@@ -8,4 +8,5 @@ pub returns : goal.returns
 returns c =
     let states : List ℕ = states_text c.args.entries in
     IfOk-weaker c.put_states.result _ _ (λ x e. e ∙ ap (λ (l : List ℕ). l ++ states) c.in_ok-writeln.ensures.bytes
-    ∙ append_assoc (string_bytes c.args.page.now) (codes "every schedule holds" ++ line_end) states) c.put_states.ensures
+    ∙ append_assoc (string_bytes c.args.page.now) (codes "every schedule holds" ++ line_end) states)
+    c.put_states.ensures

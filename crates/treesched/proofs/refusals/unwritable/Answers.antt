@@ -5,5 +5,7 @@ use Rattle.treesched.proofs.refusals.unwritable.Goals as goal
 
 pub returns : goal.returns
 returns c =
-    IfOk-weaker c.refusal.result _ _ (λ output h. subst (λ (t : List ℕ). lines.IsRefusal 6 t output) (c.as_str.ensures.value ∙ c.in_ok-text.ensures.ok) h)
+    IfOk-weaker c.refusal.result _ _
+    (λ output h. subst (λ (t : List ℕ). lines.IsRefusal 6 t output)
+    (c.as_str.ensures.value ∙ c.in_ok-text.ensures.ok) h)
     c.refusal.ensures

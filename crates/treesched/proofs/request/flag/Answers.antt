@@ -7,5 +7,6 @@ use Rattle.treesched.proofs.request.flag.Goals as goal
 pub returns : goal.returns
 returns c =
     let found = found_of c.args.matches.now in
-    flag_read ParseBoolError (rows_of found) c.args.id.now (one_text found c.args.id.now) (one_text-rows found c.args.id.now) c.get_one.result
+    flag_read ParseBoolError (rows_of found) c.args.id.now (one_text found c.args.id.now)
+    (one_text-rows found c.args.id.now) c.get_one.result
     c.get_one.ensures.none c.get_one.ensures.value c.eq.result c.eq.ensures

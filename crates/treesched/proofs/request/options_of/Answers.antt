@@ -3,7 +3,8 @@ use Rattle.treesched.proofs.request.options_of.Goals as goal
 
 pub returns-in_err-number : goal.returns-in_err-number
 returns-in_err-number c =
-    rw c.from_residual.ensures (λ options are. c.in_err-number.ensures options.steps (omega (arith, are.range.steps)) are.steps)
+    rw c.from_residual.ensures
+    (λ options are. c.in_err-number.ensures options.steps (omega (arith, are.range.steps)) are.steps)
 
 pub returns-in_err-number-2 : goal.returns-in_err-number-2
 returns-in_err-number-2 c =

@@ -1,7 +1,8 @@
 use Rattle.std.proofs.Common.{◌≡◌, ℕ, List, length, take, drop, ◌-◌, ◌++◌, ◌∷◌, [], arith, sym, subst}
 use Rattle.treesched.proofs.Schedules.{Follows, HasRead, at, judged, read_more, too_long}
 use Rattle.treesched.proofs.schedule.schedule_of.Goals as goal
-use Rattle.treesched.proofs.schedule.schedule_of.Goals.{in_default-rest, in_default-rest-2, in_default-rest-3, in_default-rest-4}
+use Rattle.treesched.proofs.schedule.schedule_of.Goals.{in_default-rest, in_default-rest-2, in_default-rest-3}
+use Rattle.treesched.proofs.schedule.schedule_of.Goals.{in_default-rest-4}
 
 pub returns-then-len-eq-MOST_STEPS : goal.returns-then-len-eq-MOST_STEPS
 returns-then-len-eq-MOST_STEPS c =
@@ -10,9 +11,11 @@ returns-then-len-eq-MOST_STEPS c =
 pub loop-rest-preserved : goal.loop-rest-preserved
 loop-rest-preserved c =
     let rest = c.loop-rest.rest.now in
-    let pushed : c.push-in-44.new.self.items ≡ c.loop-rest.threads.items ++ (at rest 1 - 48) ∷ [] = c.in_ok-push.ensures.items in
+    let pushed : c.push-in-44.new.self.items ≡ c.loop-rest.threads.items ++ (at rest 1 - 48) ∷ [] =
+    c.in_ok-push.ensures.items in
     subst (λ (l : List ℕ). HasRead c.args.text.now l (take (length rest - 2) (drop 2 rest))) (sym pushed)
-    (read_more c.args.text.now c.loop-rest.threads.items rest c.loop-rest.invariant (omega arith, omega arith, omega arith, omega arith) (omega arith))
+    (read_more c.args.text.now c.loop-rest.threads.items rest c.loop-rest.invariant
+    (omega arith, omega arith, omega arith, omega arith) (omega arith))
 
 pub returns : goal.returns
 returns c =
@@ -23,4 +26,5 @@ returns c =
       | in_default-rest-3 w ↦ λ f. absurd (omega (arith, f.2))
       | in_default-rest-4 w ↦ λ f. absurd (omega (arith, f.3))
     ] in
-    judged (λ v. v.items) c.loop-rest.threads c.args.text.now rest c.loop-rest.invariant not c.is_empty.result c.is_empty.ensures c.then_some.result c.then_some.ensures
+    judged (λ v. v.items) c.loop-rest.threads c.args.text.now rest c.loop-rest.invariant not c.is_empty.result
+    c.is_empty.ensures c.then_some.result c.then_some.ensures

@@ -6,5 +6,6 @@ use Rattle.treesched.proofs.serve.answered.Goals as goal
 pub returns-in-Read : goal.returns-in-Read
 returns-in-Read g c =
     rw (c.in-Check.is, c.in-Read.is)
-    (subst (λ (bytes : List ℕ). IfOk c.checked.result (IsChecked g.row.M.Denot g.row.M-Form.Denot (g.M.Machine.rules c.args.machine) c.args.program.now bytes))
+    (subst (λ (bytes : List ℕ). IfOk c.checked.result
+    (IsChecked g.row.M.Denot g.row.M-Form.Denot (g.M.Machine.rules c.args.machine) c.args.program.now bytes))
     c.as_slice-in-Read.ensures.value c.checked.ensures)

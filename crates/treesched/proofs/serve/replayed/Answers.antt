@@ -6,8 +6,10 @@ use Rattle.treesched.proofs.serve.replayed.Goals as goal
 
 pub returns-in-Err-NotEnabled : goal.returns-in-Err-NotEnabled
 returns-in-Err-NotEnabled g c =
-    stuck g.row.M.Denot g.row.M-Form.Denot (g.M.Machine.rules c.args.machine) c.args.program.now c.args.schedule.now c.in-Err-NotEnabled.field-0
-    c.in-Err-NotEnabled.step c.in-Err-NotEnabled.field-0-is c.in-Err-NotEnabled.ensures.not_enabled c.no_step.result c.no_step.ensures
+    stuck g.row.M.Denot g.row.M-Form.Denot (g.M.Machine.rules c.args.machine) c.args.program.now c.args.schedule.now
+    c.in-Err-NotEnabled.field-0
+    c.in-Err-NotEnabled.step c.in-Err-NotEnabled.field-0-is c.in-Err-NotEnabled.ensures.not_enabled c.no_step.result
+    c.no_step.ensures
 
 pub returns : goal.returns
 returns g c = inl (record {

@@ -11,20 +11,30 @@ use Rattle.book.proofs.book.Book.admits.Goals as goal
 pub state-requires : goal.state-requires
 state-requires g c =
     let at = c.in-Some.ensures.some in
-    taken_is_left c.self.inside.table.entries c.args.id at.0 at.1 (taken_from at.0.mark (ap is_taken at.4 ∙ sym c.is_taken.ensures ∙ c.if-not-is_taken.false))
+    taken_is_left c.self.inside.table.entries c.args.id at.0 at.1
+    (taken_from at.0.mark (ap is_taken at.4 ∙ sym c.is_taken.ensures ∙ c.if-not-is_taken.false))
 
 pub returns-then-is_of-clause-admitted : goal.returns-then-is_of-clause-admitted
 returns-then-is_of-clause-admitted g c =
     let s = c.self.inside in
     let b : Contents g.row.M.Denot (State g.row.M.Denot g.row.M-Mem.Denot g.row.M-Loc.Denot g.row.M-Form.Denot) =
-    record { machine = s.machine; program = s.program; merge = s.merge; limit = s.limit; entries = s.table.entries; met = s.met } in
+    record {
+      machine = s.machine;
+      program = s.program;
+      merge = s.merge;
+      limit = s.limit;
+      entries = s.table.entries;
+      met = s.met;
+    } in
     let at = c.in-Some.ensures.some in
     let there = c.state.ensures in
-    let taken : at.0.mark ≡ Taken = taken_from at.0.mark (ap is_taken at.4 ∙ sym c.is_taken.ensures ∙ c.if-not-is_taken.false) in
+    let taken : at.0.mark ≡ Taken =
+    taken_from at.0.mark (ap is_taken at.4 ∙ sym c.is_taken.ensures ∙ c.if-not-is_taken.false) in
     let own = c.is_of.ensures.0 c.if-is_of.true in
     rw (← c.self.view_is) (
       (at.0, at.1, taken),
-      own_from {X = g.row.M.Denot} b c.args.id there.0 c.args.expansion.now.machine c.args.expansion.now.program c.args.expansion.now.source c.deref.result.now there.1
+      own_from {X = g.row.M.Denot} b c.args.id there.0 c.args.expansion.now.machine c.args.expansion.now.program
+          c.args.expansion.now.source c.deref.result.now there.1
           (c.deref.ensures ∙ sym there.2) own.0 own.1 own.2,
     )
 
@@ -32,11 +42,25 @@ pub returns-else-is_of-clause-refused : goal.returns-else-is_of-clause-refused
 returns-else-is_of-clause-refused g c =
     let s = c.self.inside in
     let b : Contents g.row.M.Denot (State g.row.M.Denot g.row.M-Mem.Denot g.row.M-Loc.Denot g.row.M-Form.Denot) =
-    record { machine = s.machine; program = s.program; merge = s.merge; limit = s.limit; entries = s.table.entries; met = s.met } in
+    record {
+      machine = s.machine;
+      program = s.program;
+      merge = s.merge;
+      limit = s.limit;
+      entries = s.table.entries;
+      met = s.met;
+    } in
     let at = c.in-Some.ensures.some in
     let there = c.state.ensures in
-    let taken : at.0.mark ≡ Taken = taken_from at.0.mark (ap is_taken at.4 ∙ sym c.is_taken.ensures ∙ c.if-not-is_taken.false) in
+    let taken : at.0.mark ≡ Taken =
+    taken_from at.0.mark (ap is_taken at.4 ∙ sym c.is_taken.ensures ∙ c.if-not-is_taken.false) in
     rw (← c.self.view_is) (
       (at.0, at.1, taken),
-      (λ own. true≢false (sym (c.is_of.ensures.1 (own.machine, own.program, own.source there.0 there.1 ∙ there.2 ∙ sym c.deref.ensures)) ∙ c.if-is_of.false)),
+      (λ own. true≢false
+          (sym (c.is_of.ensures.1 (
+            own.machine,
+            own.program,
+            own.source there.0 there.1 ∙ there.2
+                ∙ sym c.deref.ensures,
+          )) ∙ c.if-is_of.false)),
     )

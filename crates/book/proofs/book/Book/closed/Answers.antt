@@ -9,13 +9,19 @@ use Rattle.book.proofs.book.Book.closed.Goals as goal
 pub returns-in-Some-clause-closed : goal.returns-in-Some-clause-closed
 returns-in-Some-clause-closed g c =
     let s = c.self.inside in
-    rw (← c.self.view_is) ((λ h. absurd (true≢false (sym h))), (λ h. absurd (left_out s.table.entries c.in-Some.field-0 (sym c.first_left.ensures ∙ c.in-Some.is) h.1)))
+    rw (← c.self.view_is) (
+      (λ h. absurd (true≢false (sym h))),
+      (λ h. absurd (left_out s.table.entries c.in-Some.field-0 (sym c.first_left.ensures ∙ c.in-Some.is) h.1)),
+    )
 
 pub returns-in-None-clause-closed : goal.returns-in-None-clause-closed
 returns-in-None-clause-closed g c =
     let s = c.self.inside in
     let names : IsTrue c.eq.result ↔ (s.merge ≡ Names) = search rules in
-    rw (← c.self.view_is) ((λ h. (names.0 h, worked_out s.table.entries (sym c.first_left.ensures ∙ c.in-None.is))), (λ h. names.1 h.0))
+    rw (← c.self.view_is) (
+      (λ h. (names.0 h, worked_out s.table.entries (sym c.first_left.ensures ∙ c.in-None.is))),
+      (λ h. names.1 h.0),
+    )
 
 pub returns-in-None-clause-every : goal.returns-in-None-clause-every
 returns-in-None-clause-every g c =
@@ -23,7 +29,10 @@ returns-in-None-clause-every g c =
     let s = c.self.inside in
     let m = machine_in g.M.Machine.rules b in
     let right = right_in g.M.Machine.rules b in
-    let same = counted_as_one {Machine = g.row.M.Denot} {Form = g.row.M-Form.Denot} g.M.Loc.PartialEq.eq g.M.Mem.PartialEq.eq g.M.Form.PartialEq.eq (g.M.Machine.form_of b.machine) b.merge in
+    let same =
+    counted_as_one {Machine = g.row.M.Denot} {Form = g.row.M-Form.Denot} g.M.Loc.PartialEq.eq g.M.Mem.PartialEq.eq
+    g.M.Form.PartialEq.eq (g.M.Machine.form_of b.machine) b.merge in
     let law = c.law.ensures in
     let out = worked_out s.table.entries (sym c.first_left.ensures ∙ c.in-None.is) in
-    λ _ sound. closed_holds m same right law.machine law.merges law.alike b.entries law.law.law (rw (← c.self.view_is) out) sound
+    λ _ sound. closed_holds m same right law.machine law.merges law.alike b.entries law.law.law
+    (rw (← c.self.view_is) out) sound

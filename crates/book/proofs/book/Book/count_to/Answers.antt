@@ -10,7 +10,9 @@ use Rattle.book.proofs.book.Book.count_to.Goals as goal
 
 pub returns-clause-value : goal.returns-clause-value
 returns-clause-value g c =
-    count_upto (λ (e : Entry (State g.row.M.Denot g.row.M-Mem.Denot g.row.M-Loc.Denot g.row.M-Form.Denot)). leb e.state.steps c.args.steps) c.args.self.now.entries c.first_above.result c.first_above.ensures.within
+    count_upto
+    (λ (e : Entry (State g.row.M.Denot g.row.M-Mem.Denot g.row.M-Loc.Denot g.row.M-Form.Denot)). leb e.state.steps
+    c.args.steps) c.args.self.now.entries c.first_above.result c.first_above.ensures.within
     (λ i e at less. le-leb e.state.steps c.args.steps (c.first_above.ensures.below i e at less))
     (λ i e at le. gt-leb e.state.steps c.args.steps (c.first_above.ensures.above i e at le))
 
@@ -19,7 +21,10 @@ returns-clause-count g c =
     let b = c.args.self.now in
     let m = machine_in g.M.Machine.rules b in
     let right = right_in g.M.Machine.rules b in
-    let same = counted_as_one {Machine = g.row.M.Denot} {Form = g.row.M-Form.Denot} g.M.Loc.PartialEq.eq g.M.Mem.PartialEq.eq g.M.Form.PartialEq.eq (g.M.Machine.form_of b.machine) b.merge in
+    let same =
+    counted_as_one {Machine = g.row.M.Denot} {Form = g.row.M-Form.Denot} g.M.Loc.PartialEq.eq g.M.Mem.PartialEq.eq
+    g.M.Form.PartialEq.eq (g.M.Machine.form_of b.machine) b.merge in
     let law = c.law.ensures in
     λ done. subst (λ k. IsCount m same c.args.steps k) (sym (returns-clause-value g c))
-    (count_to_is m same right law.machine law.merges b.entries law.law.law c.args.steps done (λ r h leads. steps_after m law.machine h r leads))
+    (count_to_is m same right law.machine law.merges b.entries law.law.law c.args.steps done
+    (λ r h leads. steps_after m law.machine h r leads))

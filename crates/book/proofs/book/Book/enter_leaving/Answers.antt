@@ -15,33 +15,46 @@ put-requires-clause-taken g c =
     let taken = c.in-Ok.ensures.admitted.0 in
     let x = c.args.expansion in
     let rules = g.M.Machine.rules in
-    let expansion : IsExpansion (machine_of (rules x.machine) x.program) (IsFindingOf (rules x.machine) x.program) x.source (bares c.in-Ok-into_steps.steps.items) =
+    let expansion : IsExpansion (machine_of (rules x.machine) x.program) (IsFindingOf (rules x.machine) x.program)
+    x.source (bares c.in-Ok-into_steps.steps.items) =
     rw c.in-Ok-into_steps.ensures.steps c.into_steps.ensures.law in
     λ κs o. (
       taken.0,
       taken.1,
       taken.2,
-      expansion_of_own (λ n p. machine_of (rules n) p) (λ n p. IsFindingOf (rules n) p) x.machine c.args.self.now.machine x.program c.args.self.now.program x.source taken.0.state
+      expansion_of_own (λ n p. machine_of (rules n) p) (λ n p. IsFindingOf (rules n) p) x.machine
+          c.args.self.now.machine x.program c.args.self.now.program x.source taken.0.state
           (bares c.in-Ok-into_steps.steps.items) own.machine own.program (own.source taken.0 taken.1) expansion,
     )
 
 pub put-requires-clause-known : goal.put-requires-clause-known
 put-requires-clause-known g c =
     let own = c.in-Ok.ensures.admitted.1 in
-    let merge : c.self.inside.merge ≡ c.args.self.now.merge = ap (λ (q : Contents g.row.M.Denot (State g.row.M.Denot g.row.M-Mem.Denot g.row.M-Loc.Denot g.row.M-Form.Denot)). q.merge) c.self.view_is in
-    λ κs o. subst (λ n. AreStepsKnownBy (form_by c.args.self.now.merge (state_form (g.M.Machine.form_of n))) c.in-Ok-into_steps.steps.items) own.machine
-    (subst (λ k. AreStepsKnownBy (form_by k (state_form (g.M.Machine.form_of c.args.expansion.machine))) c.in-Ok-into_steps.steps.items) merge c.in-Ok-into_steps.ensures.known)
+    let merge : c.self.inside.merge ≡ c.args.self.now.merge =
+    ap (λ (q : Contents g.row.M.Denot
+    (State g.row.M.Denot g.row.M-Mem.Denot g.row.M-Loc.Denot g.row.M-Form.Denot)). q.merge) c.self.view_is in
+    λ κs o. subst
+    (λ n. AreStepsKnownBy (form_by c.args.self.now.merge (state_form (g.M.Machine.form_of n)))
+    c.in-Ok-into_steps.steps.items) own.machine
+    (subst (λ k. AreStepsKnownBy (form_by k (state_form (g.M.Machine.form_of c.args.expansion.machine)))
+    c.in-Ok-into_steps.steps.items) merge c.in-Ok-into_steps.ensures.known)
 
 pub returns-in-Ok-into_steps-clause-entered : goal.returns-in-Ok-into_steps-clause-entered
 returns-in-Ok-into_steps-clause-entered g c =
     let b = c.args.self.now in
-    let same = counted_as_one {Machine = g.row.M.Denot} g.M.Loc.PartialEq.eq g.M.Mem.PartialEq.eq g.M.Form.PartialEq.eq (g.M.Machine.form_of b.machine) b.merge in
-    enters_by same b c.put.new.self c.args.id c.args.expansion (bares c.in-Ok-into_steps.steps.items) c.in-Ok-into_steps.ensures.steps c.in-Ok.ensures.admitted.0 c.in-Ok.ensures.admitted.1 c.put.result
+    let same =
+    counted_as_one {Machine = g.row.M.Denot} g.M.Loc.PartialEq.eq g.M.Mem.PartialEq.eq g.M.Form.PartialEq.eq
+    (g.M.Machine.form_of b.machine) b.merge in
+    enters_by same b c.put.new.self c.args.id c.args.expansion (bares c.in-Ok-into_steps.steps.items)
+    c.in-Ok-into_steps.ensures.steps c.in-Ok.ensures.admitted.0 c.in-Ok.ensures.admitted.1 c.put.result
     c.put.ensures.entries c.put.ensures.counts c.put.ensures.room c.put.ensures.same
 
 pub returns-in-Ok-into_steps-clause-refused : goal.returns-in-Ok-into_steps-clause-refused
 returns-in-Ok-into_steps-clause-refused g c =
     let b = c.args.self.now in
-    let same = counted_as_one {Machine = g.row.M.Denot} g.M.Loc.PartialEq.eq g.M.Mem.PartialEq.eq g.M.Form.PartialEq.eq (g.M.Machine.form_of b.machine) b.merge in
-    refuses_by same b c.put.new.self c.args.id c.args.expansion (bares c.in-Ok-into_steps.steps.items) c.in-Ok-into_steps.ensures.steps c.in-Ok.ensures.admitted.0 c.in-Ok.ensures.admitted.1 c.put.result
+    let same =
+    counted_as_one {Machine = g.row.M.Denot} g.M.Loc.PartialEq.eq g.M.Mem.PartialEq.eq g.M.Form.PartialEq.eq
+    (g.M.Machine.form_of b.machine) b.merge in
+    refuses_by same b c.put.new.self c.args.id c.args.expansion (bares c.in-Ok-into_steps.steps.items)
+    c.in-Ok-into_steps.ensures.steps c.in-Ok.ensures.admitted.0 c.in-Ok.ensures.admitted.1 c.put.result
     c.put.ensures.full

@@ -5,15 +5,22 @@ use Rattle.book.proofs.InBook.{all_expanded_to, left_to, none_left_to}
 use Rattle.book.proofs.book.Book.is_left_to.Goals as goal
 
 pub steps_at-requires-after_bounds : goal.steps_at-requires-after_bounds
-steps_at-requires-after_bounds g c κs within = first_is_left c.self.inside.table.entries c.in-Some.first (sym c.first_left.ensures ∙ c.in-Some.is)
+steps_at-requires-after_bounds g c κs within =
+    first_is_left c.self.inside.table.entries c.in-Some.first (sym c.first_left.ensures ∙ c.in-Some.is)
 
 pub returns-in-None-clause-none : goal.returns-in-None-clause-none
-returns-in-None-clause-none g c = rw (← c.self.view_is) (λ _. all_expanded_to c.self.invariant.0 c.args.steps (sym c.first_left.ensures ∙ c.in-None.is))
+returns-in-None-clause-none g c =
+    rw (← c.self.view_is)
+    (λ _. all_expanded_to c.self.invariant.0 c.args.steps (sym c.first_left.ensures ∙ c.in-None.is))
 
 pub returns-in-Some-clause-left : goal.returns-in-Some-clause-left
 returns-in-Some-clause-left g c =
-    rw (← c.self.view_is) (λ h. left_to c.self.invariant.0 c.in-Some.first c.steps_at.result c.args.steps (sym c.first_left.ensures ∙ c.in-Some.is) c.steps_at.ensures (leb-true c.steps_at.result c.args.steps h))
+    rw (← c.self.view_is)
+    (λ h. left_to c.self.invariant.0 c.in-Some.first c.steps_at.result c.args.steps
+    (sym c.first_left.ensures ∙ c.in-Some.is) c.steps_at.ensures (leb-true c.steps_at.result c.args.steps h))
 
 pub returns-in-Some-clause-none : goal.returns-in-Some-clause-none
 returns-in-Some-clause-none g c =
-    rw (← c.self.view_is) (λ h. none_left_to c.self.invariant.0 c.in-Some.first c.steps_at.result c.args.steps (sym c.first_left.ensures ∙ c.in-Some.is) c.steps_at.ensures (leb-false c.steps_at.result c.args.steps h))
+    rw (← c.self.view_is)
+    (λ h. none_left_to c.self.invariant.0 c.in-Some.first c.steps_at.result c.args.steps
+    (sym c.first_left.ensures ∙ c.in-Some.is) c.steps_at.ensures (leb-false c.steps_at.result c.args.steps h))

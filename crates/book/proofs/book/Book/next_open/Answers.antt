@@ -4,23 +4,33 @@ use Rattle.book.proofs.InBook.{none_of_expanded, none_of_open, open_is_later, op
 use Rattle.book.proofs.book.Book.next_open.Goals as goal
 
 pub steps_at-requires-after_bounds : goal.steps_at-requires-after_bounds
-steps_at-requires-after_bounds g c κs within = open_is_left c.self.inside.table.entries c.in_ok-open.open (sym c.first_open.ensures.first ∙ c.in_ok-open.was)
+steps_at-requires-after_bounds g c κs within =
+    open_is_left c.self.inside.table.entries c.in_ok-open.open (sym c.first_open.ensures.first ∙ c.in_ok-open.was)
 
 pub steps_at-requires-2-after_bounds : goal.steps_at-requires-2-after_bounds
-steps_at-requires-2-after_bounds g c κs within = first_is_left c.self.inside.table.entries c.in_ok-first.first (sym c.first_left.ensures ∙ c.in_ok-first.was)
+steps_at-requires-2-after_bounds g c κs within =
+    first_is_left c.self.inside.table.entries c.in_ok-first.first (sym c.first_left.ensures ∙ c.in_ok-first.was)
 
 pub returns-in_err-first-clause-none : goal.returns-in_err-first-clause-none
-returns-in_err-first-clause-none g c = rw (c.from_residual.ensures, ← c.self.view_is) (none_of_expanded c.self.invariant.0 (sym c.first_left.ensures ∙ c.in_err-first.was))
+returns-in_err-first-clause-none g c =
+    rw (c.from_residual.ensures, ← c.self.view_is)
+    (none_of_expanded c.self.invariant.0 (sym c.first_left.ensures ∙ c.in_err-first.was))
 
 pub returns-in_err-open-clause-none : goal.returns-in_err-open-clause-none
-returns-in_err-open-clause-none g c = rw (c.from_residual-in_err-open.ensures, ← c.self.view_is) (none_of_open c.self.invariant.0 (sym c.first_open.ensures.first ∙ c.in_err-open.was))
+returns-in_err-open-clause-none g c =
+    rw (c.from_residual-in_err-open.ensures, ← c.self.view_is)
+    (none_of_open c.self.invariant.0 (sym c.first_open.ensures.first ∙ c.in_err-open.was))
 
 pub returns-then-steps_at-clause-next : goal.returns-then-steps_at-clause-next
 returns-then-steps_at-clause-next g c =
-    rw (← c.self.view_is) (open_is_next c.self.invariant.0 c.in_ok-first.first c.in_ok-open.open c.steps_at-2.result c.steps_at.result (sym c.first_left.ensures ∙ c.in_ok-first.was)
+    rw (← c.self.view_is)
+    (open_is_next c.self.invariant.0 c.in_ok-first.first c.in_ok-open.open c.steps_at-2.result c.steps_at.result
+    (sym c.first_left.ensures ∙ c.in_ok-first.was)
     (sym c.first_open.ensures.first ∙ c.in_ok-open.was) c.steps_at-2.ensures c.steps_at.ensures c.if-steps_at.true)
 
 pub returns-else-steps_at-clause-none : goal.returns-else-steps_at-clause-none
 returns-else-steps_at-clause-none g c =
-    rw (← c.self.view_is) (open_is_later c.self.invariant.0 c.in_ok-first.first c.in_ok-open.open c.steps_at-2.result c.steps_at.result (sym c.first_left.ensures ∙ c.in_ok-first.was)
+    rw (← c.self.view_is)
+    (open_is_later c.self.invariant.0 c.in_ok-first.first c.in_ok-open.open c.steps_at-2.result c.steps_at.result
+    (sym c.first_left.ensures ∙ c.in_ok-first.was)
     (sym c.first_open.ensures.first ∙ c.in_ok-open.was) c.steps_at-2.ensures c.steps_at.ensures c.if-steps_at.false)

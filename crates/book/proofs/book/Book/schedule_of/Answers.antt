@@ -9,25 +9,36 @@ loop-origin-init g c = (c.requires, rw c.new-schedule.ensures.items refl)
 
 pub origin-requires : goal.origin-requires
 origin-requires g c =
-    let entries = ap (λ (q : Contents g.row.M.Denot (State g.row.M.Denot g.row.M-Mem.Denot g.row.M-Loc.Denot g.row.M-Form.Denot)). q.entries) c.self.view_is in
+    let entries =
+    ap (λ (q : Contents g.row.M.Denot
+    (State g.row.M.Denot g.row.M-Mem.Denot g.row.M-Loc.Denot g.row.M-Form.Denot)). q.entries) c.self.view_is in
     rw entries c.loop-origin.invariant.0
 
 pub loop-origin-smaller : goal.loop-origin-smaller
 loop-origin-smaller g c =
-    earlier_origin c.self.invariant.0 c.args.self.now c.self.view_is c.loop-origin.at c.args.id c.loop-origin.schedule.items c.origin.result c.origin.ensures c.in-Some.origin c.in-Some.is
+    earlier_origin c.self.invariant.0 c.args.self.now c.self.view_is c.loop-origin.at c.args.id
+    c.loop-origin.schedule.items c.origin.result c.origin.ensures c.in-Some.origin c.in-Some.is
 
 pub loop-origin-preserved : goal.loop-origin-preserved
 loop-origin-preserved g c =
-    rw c.in_ok-push.ensures.items (one_back c.self.invariant.0 c.args.self.now c.self.view_is c.loop-origin.at c.args.id c.loop-origin.schedule.items c.origin.result c.origin.ensures
+    rw c.in_ok-push.ensures.items
+    (one_back c.self.invariant.0 c.args.self.now c.self.view_is c.loop-origin.at c.args.id
+    c.loop-origin.schedule.items c.origin.result c.origin.ensures
     c.in-Some.origin c.in-Some.is c.loop-origin.invariant.1)
 
 pub returns-clause-way : goal.returns-clause-way
 returns-clause-way g c =
-    rw c.reverse.ensures.items (at_start c.self.invariant.0 c.args.self.now c.self.view_is c.loop-origin.at c.args.id (reverse c.loop-origin.schedule.items) c.origin.result c.origin.ensures
+    rw c.reverse.ensures.items
+    (at_start c.self.invariant.0 c.args.self.now c.self.view_is c.loop-origin.at c.args.id
+    (reverse c.loop-origin.schedule.items) c.origin.result c.origin.ensures
     c.in_default.is c.loop-origin.invariant.1)
 
 pub returns-clause-leads : goal.returns-clause-leads
-returns-clause-leads g c = way_leads_to c.self.invariant.0 c.args.self.now c.self.view_is c.reverse.new.self.items c.args.id c.requires (returns-clause-way g c)
+returns-clause-leads g c =
+    way_leads_to c.self.invariant.0 c.args.self.now c.self.view_is c.reverse.new.self.items c.args.id c.requires
+    (returns-clause-way g c)
 
 pub returns-clause-only : goal.returns-clause-only
-returns-clause-only g c = λ d also. no_other_way c.self.invariant.0 c.args.self.now c.self.view_is c.reverse.new.self.items d c.args.id (returns-clause-way g c) also
+returns-clause-only g c =
+    λ d also. no_other_way c.self.invariant.0 c.args.self.now c.self.view_is c.reverse.new.self.items d c.args.id
+    (returns-clause-way g c) also

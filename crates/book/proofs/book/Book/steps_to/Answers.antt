@@ -10,26 +10,35 @@ loop-origin-init g c = (c.requires, omega arith, ([], refl, refl))
 
 pub origin-requires : goal.origin-requires
 origin-requires g c =
-    let entries = ap (λ (q : Contents g.row.M.Denot (State g.row.M.Denot g.row.M-Mem.Denot g.row.M-Loc.Denot g.row.M-Form.Denot)). q.entries) c.self.view_is in
+    let entries =
+    ap (λ (q : Contents g.row.M.Denot
+    (State g.row.M.Denot g.row.M-Mem.Denot g.row.M-Loc.Denot g.row.M-Form.Denot)). q.entries) c.self.view_is in
     rw entries c.loop-origin.invariant.0
 
 pub loop-origin-smaller : goal.loop-origin-smaller
 loop-origin-smaller g c =
-    earlier_origin c.self.invariant.0 c.args.self.now c.self.view_is c.loop-origin.at c.args.id c.loop-origin.invariant.2.0 c.origin.result c.origin.ensures c.in-Some.origin c.in-Some.is
+    earlier_origin c.self.invariant.0 c.args.self.now c.self.view_is c.loop-origin.at c.args.id
+    c.loop-origin.invariant.2.0 c.origin.result c.origin.ensures c.in-Some.origin c.in-Some.is
 
 pub loop-origin-preserved : goal.loop-origin-preserved
 loop-origin-preserved g c =
     let noted = c.loop-origin.invariant.2 in
-    let back = one_back c.self.invariant.0 c.args.self.now c.self.view_is c.loop-origin.at c.args.id noted.0 c.origin.result c.origin.ensures c.in-Some.origin c.in-Some.is noted.2 in
+    let back =
+    one_back c.self.invariant.0 c.args.self.now c.self.view_is c.loop-origin.at c.args.id noted.0 c.origin.result
+    c.origin.ensures c.in-Some.origin c.in-Some.is noted.2 in
     let earlier : c.in-Some.origin.parent < c.loop-origin.at = loop-origin-smaller g c in
     let so_far : c.loop-origin.steps + c.loop-origin.at ≤ c.args.id = c.loop-origin.invariant.1 in
-    let longer : length (noted.0 ++ c.in-Some.origin.thread ∷ []) ≡ length noted.0 + 1 = length_push noted.0 c.in-Some.origin.thread in
+    let longer : length (noted.0 ++ c.in-Some.origin.thread ∷ []) ≡ length noted.0 + 1 =
+    length_push noted.0 c.in-Some.origin.thread in
     let count : length noted.0 ≡ c.loop-origin.steps = noted.1 in
     (back.0, omega arith, (noted.0 ++ c.in-Some.origin.thread ∷ [], omega arith, back.1))
 
 pub returns : goal.returns
 returns g c =
     let noted = c.loop-origin.invariant.2 in
-    let way = at_start c.self.invariant.0 c.args.self.now c.self.view_is c.loop-origin.at c.args.id (reverse noted.0) c.origin.result c.origin.ensures c.in_default.is noted.2 in
-    let leads = way_leads_to c.self.invariant.0 c.args.self.now c.self.view_is (reverse noted.0) c.args.id c.requires way in
+    let way =
+    at_start c.self.invariant.0 c.args.self.now c.self.view_is c.loop-origin.at c.args.id
+    (reverse noted.0) c.origin.result c.origin.ensures c.in_default.is noted.2 in
+    let leads =
+    way_leads_to c.self.invariant.0 c.args.self.now c.self.view_is (reverse noted.0) c.args.id c.requires way in
     (leads.0, leads.1, sym leads.3 ∙ length-reverse noted.0 ∙ noted.1)

@@ -12,7 +12,10 @@ use Rattle.book.proofs.book.Book.take.Goals as goal
 pub state-requires : goal.state-requires
 state-requires g c =
     open_is_left c.self.inside.table.entries c.in-Some.id
-    (ap (λ (b : Contents g.row.M.Denot (State g.row.M.Denot g.row.M-Mem.Denot g.row.M-Loc.Denot g.row.M-Form.Denot)). position (λ (e : Entry (State g.row.M.Denot g.row.M-Mem.Denot g.row.M-Loc.Denot g.row.M-Form.Denot)). is_open e.mark) b.entries) c.self.view_is
+    (ap (λ (b : Contents g.row.M.Denot
+    (State g.row.M.Denot g.row.M-Mem.Denot g.row.M-Loc.Denot g.row.M-Form.Denot)). position
+    (λ (e : Entry (State g.row.M.Denot g.row.M-Mem.Denot g.row.M-Loc.Denot g.row.M-Form.Denot)). is_open e.mark)
+    b.entries) c.self.view_is
     ∙ c.in-Some.ensures.open)
 
 pub invariant_of-self : goal.invariant_of-self
@@ -20,17 +23,21 @@ invariant_of-self g c =
     let s = c.self.inside in
     rw c.mark_taken.ensures (
       next_taken c.self.invariant.0 c.args.self.now c.self.view_is c.in-Some.id c.in-Some.ensures.next,
-      known_mark (form_by s.merge (state_form (g.M.Machine.form_of s.machine))) s.table c.in-Some.id Taken c.self.invariant.1,
+      known_mark (form_by s.merge (state_form (g.M.Machine.form_of s.machine))) s.table c.in-Some.id Taken
+          c.self.invariant.1,
     )
 
 pub returns-clause-taken : goal.returns-clause-taken
 returns-clause-taken g c =
-    (taken_one c.self.invariant.0 c.args.self.now c.self.view_is c.in-Some.id c.in-Some.ensures.next _ c.state.ensures c.in_ok-state.state.value c.in_ok-state.ensures _ c.mark_taken.ensures).takes
+    (taken_one c.self.invariant.0 c.args.self.now c.self.view_is c.in-Some.id c.in-Some.ensures.next _ c.state.ensures
+    c.in_ok-state.state.value c.in_ok-state.ensures _ c.mark_taken.ensures).takes
 
 pub returns-clause-fits : goal.returns-clause-fits
 returns-clause-fits g c =
-    (taken_one c.self.invariant.0 c.args.self.now c.self.view_is c.in-Some.id c.in-Some.ensures.next _ c.state.ensures c.in_ok-state.state.value c.in_ok-state.ensures _ c.mark_taken.ensures).fits
+    (taken_one c.self.invariant.0 c.args.self.now c.self.view_is c.in-Some.id c.in-Some.ensures.next _ c.state.ensures
+    c.in_ok-state.state.value c.in_ok-state.ensures _ c.mark_taken.ensures).fits
 
 pub returns-clause-few : goal.returns-clause-few
 returns-clause-few g c =
-    (taken_one c.self.invariant.0 c.args.self.now c.self.view_is c.in-Some.id c.in-Some.ensures.next _ c.state.ensures c.in_ok-state.state.value c.in_ok-state.ensures _ c.mark_taken.ensures).few
+    (taken_one c.self.invariant.0 c.args.self.now c.self.view_is c.in-Some.id c.in-Some.ensures.next _ c.state.ensures
+    c.in_ok-state.state.value c.in_ok-state.ensures _ c.mark_taken.ensures).few

@@ -11,23 +11,34 @@ use Rattle.book.proofs.book.Book.to_text.Goals as goal
 
 pub returns-then-is_some-clause-none : goal.returns-then-is_some-clause-none
 returns-then-is_some-clause-none g c =
-    λ _ sound. one_unsound c.args.self.now.entries c.first_fault.result c.first_fault.ensures (sym c.is_some.ensures ∙ c.if-is_some.true) sound
+    λ _ sound. one_unsound c.args.self.now.entries c.first_fault.result c.first_fault.ensures
+    (sym c.is_some.ensures ∙ c.if-is_some.true) sound
 
 pub write_entries-requires-clause-writable : goal.write_entries-requires-clause-writable
 write_entries-requires-clause-writable g c =
     let b = c.args.self.now in
-    let same = counted_as_one {Machine = g.row.M.Denot} {Form = g.row.M-Form.Denot} g.M.Loc.PartialEq.eq g.M.Mem.PartialEq.eq g.M.Form.PartialEq.eq (g.M.Machine.form_of b.machine) b.merge in
+    let same =
+    counted_as_one {Machine = g.row.M.Denot} {Form = g.row.M-Form.Denot} g.M.Loc.PartialEq.eq g.M.Mem.PartialEq.eq
+    g.M.Form.PartialEq.eq (g.M.Machine.form_of b.machine) b.merge in
     let law = c.law.ensures in
-    let sound : AreSound b.entries = all_sound b.entries c.first_fault.result c.first_fault.ensures (sym c.is_some.ensures ∙ c.if-is_some.false) in
-    let few : length b.entries ≤ 2000000 = (let within : length b.entries ≤ b.limit = law.law.within in let most : b.limit ≤ 2000000 = law.law.limit in omega arith) in
-    let entries = ap (λ (x : Contents g.row.M.Denot (State g.row.M.Denot g.row.M-Mem.Denot g.row.M-Loc.Denot g.row.M-Form.Denot)). x.entries) c.self.view_is in
-    subst (λ (es : List (Entry (State g.row.M.Denot g.row.M-Mem.Denot g.row.M-Loc.Denot g.row.M-Form.Denot))). AreWritable es) (sym entries)
+    let sound : AreSound b.entries =
+    all_sound b.entries c.first_fault.result c.first_fault.ensures (sym c.is_some.ensures ∙ c.if-is_some.false) in
+    let few : length b.entries ≤ 2000000 = (let within : length b.entries ≤ b.limit = law.law.within in
+    let most : b.limit ≤ 2000000 = law.law.limit in omega arith) in
+    let entries =
+    ap (λ (x : Contents g.row.M.Denot
+    (State g.row.M.Denot g.row.M-Mem.Denot g.row.M-Loc.Denot g.row.M-Form.Denot)). x.entries) c.self.view_is in
+    subst (λ
+    (es : List (Entry (State g.row.M.Denot g.row.M-Mem.Denot g.row.M-Loc.Denot g.row.M-Form.Denot))). AreWritable
+    es) (sym entries)
     (writable (g.M.Machine.rules b.machine) b.program law.limits same law.machine b.entries law.law.law few sound)
 
 pub returns-clause-some : goal.returns-clause-some
 returns-clause-some g c =
-    let b = c.args.self.now in
-    (c.closed.ensures.closed.0 c.if-not-closed.false, all_sound b.entries c.first_fault.result c.first_fault.ensures (sym c.is_some.ensures ∙ c.if-is_some.false))
+    let b = c.args.self.now in (
+      c.closed.ensures.closed.0 c.if-not-closed.false,
+      all_sound b.entries c.first_fault.result c.first_fault.ensures (sym c.is_some.ensures ∙ c.if-is_some.false),
+    )
 
 pub returns-clause-passes : goal.returns-clause-passes
 returns-clause-passes g c =
@@ -36,10 +47,18 @@ returns-clause-passes g c =
     let law = c.law.ensures in
     let ready = returns-clause-some g c in
     let text = c.in_ok-write_entries.ensures in
-    let entries = ap (λ (x : Contents g.row.M.Denot (State g.row.M.Denot g.row.M-Mem.Denot g.row.M-Loc.Denot g.row.M-Form.Denot)). x.entries) c.self.view_is in
+    let entries =
+    ap (λ (x : Contents g.row.M.Denot
+    (State g.row.M.Denot g.row.M-Mem.Denot g.row.M-Loc.Denot g.row.M-Form.Denot)). x.entries) c.self.view_is in
     let is : IsFileOf b.entries c.in_ok-write_entries.field-0.items =
-    subst (λ (es : List (Entry (State g.row.M.Denot g.row.M-Mem.Denot g.row.M-Loc.Denot g.row.M-Form.Denot))). IsFileOf es c.in_ok-write_entries.field-0.items) entries text in
-    let pass = written_pass g.M.Loc.PartialEq.eq g.M.Mem.PartialEq.eq g.M.Form.PartialEq.eq g.M.Machine.form_of g.M.Machine.rules b (bound.forms b.machine) c.tests_exactly.ensures.exact
+    subst (λ (es : List (Entry (State g.row.M.Denot g.row.M-Mem.Denot g.row.M-Loc.Denot g.row.M-Form.Denot))). IsFileOf
+    es c.in_ok-write_entries.field-0.items) entries text in
+    let pass =
+    written_pass g.M.Loc.PartialEq.eq g.M.Mem.PartialEq.eq g.M.Form.PartialEq.eq g.M.Machine.form_of
+    g.M.Machine.rules b (bound.forms b.machine) c.tests_exactly.ensures.exact
     law.law law.machine law.merges law.alike ready.0 ready.1 is.lines is.of_entries in
-    let some : 1 ≤ length b.entries = (let within : 0 < length b.entries = get_within b.entries 0 law.law.law.start.0 law.law.law.start.1 in omega arith) in
+    let some : 1
+    ≤ length b.entries =
+    (let within : 0 < length b.entries = get_within b.entries 0 law.law.law.start.0 law.law.law.start.1 in
+    omega arith) in
     (is.lines, is.whole, pass, lines_count b.entries is.lines some is.of_entries)

@@ -3,7 +3,7 @@ use denote.Enum.Bare.{same_true}
 use Rattle.tree_machine.specs.Alike.{state_form}
 use Rattle.book.specs.contracts.book.Merge.{the_type}
 use Rattle.book.specs.Labels.{AreStepsKnownBy, bare, form_by}
-use Rattle.book.proofs.Kept.{get-map_at}
+use Rattle.book.proofs.EnabledThreads.{get-map_at}
 use Rattle.book.proofs.expansion.Expansion.into_steps.Goals as goal
 
 pub labelled-requires-after_bounds : goal.labelled-requires-after_bounds
@@ -14,7 +14,10 @@ pub returns-then-eq-clause-known : goal.returns-then-eq-clause-known
 returns-then-eq-clause-known g c =
     let s = c.self.inside in
     let same : s.merge ≡ c.args.merge = same_true the_type (search rules) _ _ (sym c.if-eq.ensures) in
-    rw (← c.self.view_is) (subst (λ merge. AreStepsKnownBy (form_by merge (state_form {Machine = g.row.M.Denot} (g.M.Machine.form_of s.machine))) s.successors.items) same c.self.invariant.1)
+    rw (← c.self.view_is)
+    (subst (λ merge. AreStepsKnownBy
+    (form_by merge (state_form {Machine = g.row.M.Denot} (g.M.Machine.form_of s.machine))) s.successors.items) same
+    c.self.invariant.1)
 
 pub returns-else-eq-clause-steps : goal.returns-else-eq-clause-steps
 returns-else-eq-clause-steps g c = rw (← c.self.view_is) c.labelled.ensures.same

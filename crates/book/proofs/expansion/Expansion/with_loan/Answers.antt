@@ -12,7 +12,8 @@ loop-thread-init g c =
     let rules = g.M.Machine.rules c.args.machine in
     record {
       loan = c.requires.loan;
-      front = rw c.new-successors.ensures.items (front_none (machine_of rules c.args.program.now) (IsFindingOf rules c.args.program.now) c.args.state.now);
+      front = rw c.new-successors.ensures.items
+          (front_none (machine_of rules c.args.program.now) (IsFindingOf rules c.args.program.now) c.args.state.now);
       known = rw c.new-successors.ensures.items refl;
     }
 
@@ -27,14 +28,21 @@ loop-thread-preserved g c =
       loan = c.in_ok-step.ensures.loan;
       front = elim c.match-step.branch [
         | in-Some+in_ok-push w ↦
-            front_turn m right c.args.state.now c.loop-thread.thread (bares was) (bares c.match-step.successors.items) (bare w.in-Some.next) c.loop-thread.invariant.front
-            (rw w.in-Some.is at c.in_ok-step.ensures.thread) (rw w.in-Some.is at c.in_ok-step.ensures.step) (rw w.in-Some.is at c.in_ok-step.ensures.finding) (rw w.in-Some.is at c.in_ok-step.ensures.fits)
+            front_turn m right c.args.state.now c.loop-thread.thread (bares was) (bares c.match-step.successors.items)
+            (bare w.in-Some.next) c.loop-thread.invariant.front
+            (rw w.in-Some.is at c.in_ok-step.ensures.thread) (rw w.in-Some.is at c.in_ok-step.ensures.step)
+            (rw w.in-Some.is at c.in_ok-step.ensures.finding) (rw w.in-Some.is at c.in_ok-step.ensures.fits)
             (ap bares (rw w.successors-is w.in_ok-push.ensures.items) ∙ bares_more was w.in-Some.next)
-        | in_default w ↦ rw w.successors-is (front_same m right c.args.state.now c.loop-thread.thread (bares was) c.loop-thread.invariant.front (rw w.in_default.is at c.in_ok-step.ensures.none))
+        | in_default w
+            ↦ rw w.successors-is
+            (front_same m right c.args.state.now c.loop-thread.thread (bares was) c.loop-thread.invariant.front
+            (rw w.in_default.is at c.in_ok-step.ensures.none))
       ];
       known = elim c.match-step.branch [
         | in-Some+in_ok-push w ↦
-            rw (w.successors-is, w.in_ok-push.ensures.items) (steps_known_more (form_by c.args.merge (state_form (g.M.Machine.form_of c.args.machine))) was w.in-Some.next c.loop-thread.invariant.known
+            rw (w.successors-is, w.in_ok-push.ensures.items)
+            (steps_known_more (form_by c.args.merge (state_form (g.M.Machine.form_of c.args.machine))) was
+            w.in-Some.next c.loop-thread.invariant.known
             (rw w.in-Some.is at c.in_ok-step.ensures.form))
         | in_default w ↦ rw w.successors-is c.loop-thread.invariant.known
       ];
@@ -50,6 +58,7 @@ invariant_of-result g c =
     let least : length c.threads.result.now ≤ c.loop-thread.thread = c.loop-thread-test.false in
     let all : length c.threads.result.now ≡ length c.args.program.now.threads = ap length c.threads.ensures.value in
     let done : c.loop-thread.thread ≡ length c.args.program.now.threads = omega arith in (
-      expansion_from_front m right c.args.state.now (bares steps) (subst (λ n. IsFront m right c.args.state.now n (bares steps)) done c.loop-thread.invariant.front),
+      expansion_from_front m right c.args.state.now (bares steps)
+          (subst (λ n. IsFront m right c.args.state.now n (bares steps)) done c.loop-thread.invariant.front),
       c.loop-thread.invariant.known,
     )

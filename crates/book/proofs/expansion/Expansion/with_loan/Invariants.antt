@@ -9,6 +9,8 @@ abbrev pub invariant-loop-thread : goal.invariant-loop-thread
 invariant-loop-thread g l =
     record {
       loan : IsLoan l.program (history_of l.state) l.loan;
-      front : IsFront (machine_of {Machine = g.row.M.Denot} {Form = g.row.M-Form.Denot} (g.M.Machine.rules l.machine) l.program) (IsFindingOf (g.M.Machine.rules l.machine) l.program) l.state l.thread (bares l.successors.items);
+      front : IsFront
+          (machine_of {Machine = g.row.M.Denot} {Form = g.row.M-Form.Denot} (g.M.Machine.rules l.machine) l.program)
+          (IsFindingOf (g.M.Machine.rules l.machine) l.program) l.state l.thread (bares l.successors.items);
       known : AreStepsKnownBy (form_by l.merge (state_form (g.M.Machine.form_of l.machine))) l.successors.items;
     }

@@ -6,5 +6,7 @@ use Rattle.book.specs.BookFile.Forms.{AreFormsOf}
 use Rattle.book.proofs.file.closing.forms_of.Given as goal
 
 abbrev pub invariant-loop-state : goal.invariant-loop-state
-invariant-loop-state g l = AreFormsOf (state_form_eq g.M.Form.PartialEq.eq) (state_form (g.M.Machine.form_of l.machine)) (take l.state-index l.states)
+invariant-loop-state g l =
+    AreFormsOf (state_form_eq g.M.Form.PartialEq.eq) (state_form (g.M.Machine.form_of l.machine))
+    (take l.state-index l.states)
     (contains (state_form_eq g.M.Form.PartialEq.eq) l.forms)

@@ -9,17 +9,28 @@ use Rattle.book.proofs.file.closing.knows_step.Goals as goal
 
 pub returns-in-Err-NotEnabled-clause-known : goal.returns-in-Err-NotEnabled-clause-known
 returns-in-Err-NotEnabled-clause-known g c =
-    let stuck : step (g.M.Machine.rules c.args.machine) c.args.program.now c.args.state.now c.args.thread ≡ None = c.step_in.ensures.no_step.0 (c.in-Err-NotEnabled.is ∙ ap Err c.in-Err-NotEnabled.field-0-is) in
+    let stuck : step (g.M.Machine.rules c.args.machine) c.args.program.now c.args.state.now c.args.thread ≡ None =
+    c.step_in.ensures.no_step.0 (c.in-Err-NotEnabled.is ∙ ap Err c.in-Err-NotEnabled.field-0-is) in
     λ _ next leads. absurd (let q : None ≡ Some next = sym stuck ∙ leads in cc)
 
 pub returns-in_ok-form-in-Ok-clause-known : goal.returns-in_ok-form-in-Ok-clause-known
 returns-in_ok-form-in-Ok-clause-known g c =
-    let known = λ (f : FormContent g.row.M-Form.Denot). contains (state_form_eq g.M.Form.PartialEq.eq) c.args.forms.now f in
-    let key = λ (yes : c.contains.result ≡ true). subst (λ f. known f ≡ true) c.in_ok-form-in-Ok.ensures (sym c.contains.ensures ∙ yes) in
-    λ yes next leads. subst (λ (s : State g.row.M.Denot g.row.M-Mem.Denot g.row.M-Loc.Denot g.row.M-Form.Denot). known (state_form (g.M.Machine.form_of c.args.machine) s) ≡ true)
+    let known =
+    λ (f : FormContent g.row.M-Form.Denot). contains (state_form_eq g.M.Form.PartialEq.eq) c.args.forms.now f in
+    let key =
+    λ (yes : c.contains.result ≡ true). subst (λ f. known f ≡ true) c.in_ok-form-in-Ok.ensures
+    (sym c.contains.ensures ∙ yes) in
+    λ yes next leads. subst
+    (λ (s : State g.row.M.Denot g.row.M-Mem.Denot g.row.M-Loc.Denot g.row.M-Form.Denot). known
+    (state_form (g.M.Machine.form_of c.args.machine) s) ≡ true)
     (same_Some c.in-Ok.next next (sym c.in-Ok.ensures.step ∙ leads)) (key yes)
 
 pub returns-in_ok-form-in-Ok-clause-new : goal.returns-in_ok-form-in-Ok-clause-new
 returns-in_ok-form-in-Ok-clause-new g c =
-    let known = λ (f : FormContent g.row.M-Form.Denot). contains (state_form_eq g.M.Form.PartialEq.eq) c.args.forms.now f in
-    λ no. (c.in-Ok.next, c.in-Ok.ensures.step, subst (λ f. known f ≡ false) c.in_ok-form-in-Ok.ensures (sym c.contains.ensures ∙ no))
+    let known =
+    λ (f : FormContent g.row.M-Form.Denot). contains (state_form_eq g.M.Form.PartialEq.eq) c.args.forms.now f in
+    λ no. (
+      c.in-Ok.next,
+      c.in-Ok.ensures.step,
+      subst (λ f. known f ≡ false) c.in_ok-form-in-Ok.ensures (sym c.contains.ensures ∙ no),
+    )

@@ -7,7 +7,9 @@ use Rattle.book.proofs.file.closing.leads_out.Goals as goal
 
 pub loop-thread-preserved : goal.loop-thread-preserved
 loop-thread-preserved g c =
-    one_more_thread (g.M.Machine.rules c.args.machine) c.args.program.now (state_form (g.M.Machine.form_of c.args.machine)) (contains (state_form_eq g.M.Form.PartialEq.eq) c.args.forms.now) c.args.state.now c.loop-thread.thread
+    one_more_thread (g.M.Machine.rules c.args.machine) c.args.program.now
+    (state_form (g.M.Machine.form_of c.args.machine))
+    (contains (state_form_eq g.M.Form.PartialEq.eq) c.args.forms.now) c.args.state.now c.loop-thread.thread
     (c.in_ok-knows_step.ensures.known c.if-not-branch.false) c.loop-thread.invariant
 
 pub returns-clause-none : goal.returns-clause-none
@@ -16,8 +18,10 @@ returns-clause-none g c =
     let least : length c.threads.result.now ≤ c.loop-thread.thread = c.loop-thread-test.false in
     let all : length c.threads.result.now ≡ length c.args.program.now.threads = ap length c.threads.ensures.value in
     let many : length c.args.program.now.threads ≤ c.loop-thread.thread = omega arith in
-    λ _. no_more_threads (g.M.Machine.rules c.args.machine) c.args.program.now (bound.lawful c.args.machine) c.threads.ensures.limits (state_form (g.M.Machine.form_of c.args.machine))
-    (contains (state_form_eq g.M.Form.PartialEq.eq) c.args.forms.now) c.args.state.now c.loop-thread.thread many c.loop-thread.invariant
+    λ _. no_more_threads (g.M.Machine.rules c.args.machine) c.args.program.now (bound.lawful c.args.machine)
+    c.threads.ensures.limits (state_form (g.M.Machine.form_of c.args.machine))
+    (contains (state_form_eq g.M.Form.PartialEq.eq) c.args.forms.now) c.args.state.now c.loop-thread.thread many
+    c.loop-thread.invariant
 
 pub returns-then-not-branch-clause-out : goal.returns-then-not-branch-clause-out
 returns-then-not-branch-clause-out g c =

@@ -13,8 +13,10 @@ push_name-requires-in-loop-id c =
 
 pub returns : goal.returns
 returns c =
-    let all : take c.loop-id.id-index c.in-Some.rest.now ≡ c.in-Some.rest.now = take_all c.loop-id.id-index c.in-Some.rest.now (omega arith) in
+    let all : take c.loop-id.id-index c.in-Some.rest.now ≡ c.in-Some.rest.now =
+    take_all c.loop-id.id-index c.in-Some.rest.now (omega arith) in
     c.loop-id.invariant
     ∙ ap (λ (ids : List OpId). c.push_name.new.text.items ++ commaed ids) all
     ∙ ap (λ (l : List ℕ). l ++ commaed c.in-Some.rest.now) c.in_ok-push_name.ensures
-    ∙ order_written c.args.text.now.items c.args.order.now c.in-Some.first.now c.in-Some.rest.now c.in-Some.ensures.cases.0
+    ∙ order_written c.args.text.now.items c.args.order.now c.in-Some.first.now c.in-Some.rest.now
+    c.in-Some.ensures.cases.0

@@ -12,11 +12,17 @@ loop-byte-preserved c =
     let has = c.loop-byte.invariant.counted in
     elim c.if-byte-eq10.branch [
       | then-byte-eq10 w ↦ record {
-        counted = rw (more, w.count-is, w.is_ended-is) (counted_feed (take i bytes) c.loop-byte.count c.loop-byte.is_ended (get_or bytes i 0) has w.if-byte-eq10.true);
+        counted =
+            rw (more, w.count-is, w.is_ended-is)
+            (counted_feed (take i bytes) c.loop-byte.count c.loop-byte.is_ended (get_or bytes i 0) has
+            w.if-byte-eq10.true);
         few = omega arith;
       }
       | else-byte-eq10 w ↦ record {
-        counted = rw (more, w.count-is, w.is_ended-is) (counted_other (take i bytes) c.loop-byte.count c.loop-byte.is_ended (get_or bytes i 0) has w.if-byte-eq10.false);
+        counted =
+            rw (more, w.count-is, w.is_ended-is)
+            (counted_other (take i bytes) c.loop-byte.count c.loop-byte.is_ended (get_or bytes i 0) has
+            w.if-byte-eq10.false);
         few = omega arith;
       }
     ]
@@ -24,7 +30,9 @@ loop-byte-preserved c =
 pub returns-else-is_ended-clause-none : goal.returns-else-is_ended-clause-none
 returns-else-is_ended-clause-none c =
     let bytes = c.args.bytes.now in
-    let whole : take c.loop-byte.byte-index bytes ≡ bytes = take_all c.loop-byte.byte-index bytes c.loop-byte-test.false in
+    let whole : take c.loop-byte.byte-index bytes ≡ bytes =
+    take_all c.loop-byte.byte-index bytes c.loop-byte-test.false in
     let has : HasCounted (take c.loop-byte.byte-index bytes) c.loop-byte.count false =
-    subst (λ (b : Bool). HasCounted (take c.loop-byte.byte-index bytes) c.loop-byte.count b) c.if-is_ended.false c.loop-byte.invariant.counted in
+    subst (λ (b : Bool). HasCounted (take c.loop-byte.byte-index bytes) c.loop-byte.count b) c.if-is_ended.false
+    c.loop-byte.invariant.counted in
     counted_no_lines bytes c.loop-byte.count (subst (λ (l : List ℕ). HasCounted l c.loop-byte.count false) whole has)

@@ -18,5 +18,6 @@ pub returns-in-None-clause-none : goal.returns-in-None-clause-none
 returns-in-None-clause-none c =
     let cut = c.in-Some.ensures.found in
     let thread = c.in-Some-thread_of.ensures.found in
-    no_order c.args.text.now c.in-Some.parent.now c.in-Some.rest.now c.in-Some-thread_of.thread c.in-Some-thread_of.order.now cut.0 cut.1 thread.1
+    no_order c.args.text.now c.in-Some.parent.now c.in-Some.rest.now c.in-Some-thread_of.thread
+    c.in-Some-thread_of.order.now cut.0 cut.1 thread.1
     (rw c.in-None.is at c.in_ok-order.ensures.none)

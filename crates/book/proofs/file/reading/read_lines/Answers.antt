@@ -22,7 +22,9 @@ pub entry_lines-requires : goal.entry_lines-requires
 entry_lines-requires c =
     let has = c.in-Some.ensures.found in
     let e : c.in-Some.rest.now ≡ start_text ++ 10 ∷ c.in-Some-strip_prefix.rest.now =
-    rw c.in-Some-strip_prefix.is at (strip_prefix_is Decides-eqb c.in-Some.rest.now (codes "- - -\n") c.strip_prefix.result c.strip_prefix.ensures.cases) in
+    rw c.in-Some-strip_prefix.is at
+    (strip_prefix_is Decides-eqb c.in-Some.rest.now (codes "- - -\n") c.strip_prefix.result
+    c.strip_prefix.ensures.cases) in
     let after = after_start c.args.bytes.now c.in-Some.rest.now c.in-Some-strip_prefix.rest.now has.0 has.1 has.2 e in
     (after.0, after.2, after.3)
 
@@ -31,16 +33,21 @@ returns-in-Some-strip_prefix c =
     let bytes = c.args.bytes.now in
     let has = c.in-Some.ensures.found in
     let e : c.in-Some.rest.now ≡ start_text ++ 10 ∷ c.in-Some-strip_prefix.rest.now =
-    rw c.in-Some-strip_prefix.is at (strip_prefix_is Decides-eqb c.in-Some.rest.now (codes "- - -\n") c.strip_prefix.result c.strip_prefix.ensures.cases) in
+    rw c.in-Some-strip_prefix.is at
+    (strip_prefix_is Decides-eqb c.in-Some.rest.now (codes "- - -\n") c.strip_prefix.result
+    c.strip_prefix.ensures.cases) in
     let r = c.entry_lines.result in
     let book = IfOk-weaker r _ (λ v. IsBookText bytes v.items)
-    (λ v are. is_book bytes c.in-Some.rest.now c.in-Some-strip_prefix.rest.now has.0 v.items has.1 has.2 e are) c.entry_lines.ensures.ok in
+    (λ v are. is_book bytes c.in-Some.rest.now c.in-Some-strip_prefix.rest.now has.0 v.items has.1 has.2 e are)
+    c.entry_lines.ensures.ok in
     let told = IfErr-weaker r _ (IsFormFault bytes)
-    (λ told is. entries_fault bytes c.in-Some.rest.now c.in-Some-strip_prefix.rest.now has.0 told has.1 has.2 e is) c.entry_lines.ensures.err in
+    (λ told is. entries_fault bytes c.in-Some.rest.now c.in-Some-strip_prefix.rest.now has.0 told has.1 has.2 e is)
+    c.entry_lines.ensures.err in
     record {
       book = book;
       proper = IfOk-weaker r (λ v. IsBookText bytes v.items) _ (λ v is. is_proper bytes v.items is) book;
-      only = IfOk-weaker r (λ v. IsBookText bytes v.items) _ (λ v is others also. same_book bytes others v.items also is) book;
+      only = IfOk-weaker r (λ v. IsBookText bytes v.items) _
+          (λ v is others also. same_book bytes others v.items also is) book;
       fault = told;
       first = IfErr-weaker r (IsFormFault bytes) _ (first_one bytes) told;
       refused = IfErr-weaker r (IsFormFault bytes) _ (no_book bytes) told;
@@ -51,6 +58,15 @@ returns-in-None c =
     let bytes = c.args.bytes.now in
     let has = c.in-Some.ensures.found in
     let none : (tail : List ℕ) → c.in-Some.rest.now ≢ start_text ++ 10 ∷ tail =
-    rw c.in-None.is at (strip_prefix_is Decides-eqb c.in-Some.rest.now (codes "- - -\n") c.strip_prefix.result c.strip_prefix.ensures.cases) in
+    rw c.in-None.is at
+    (strip_prefix_is Decides-eqb c.in-Some.rest.now (codes "- - -\n") c.strip_prefix.result
+    c.strip_prefix.ensures.cases) in
     let told : IsFormFault bytes (fault.Form 2) = start_fault bytes c.in-Some.rest.now has.0 has.1 has.2 none in
-    record { book = tt; proper = tt; only = tt; fault = told; first = first_one bytes (fault.Form 2) told; refused = no_book bytes (fault.Form 2) told }
+    record {
+      book = tt;
+      proper = tt;
+      only = tt;
+      fault = told;
+      first = first_one bytes (fault.Form 2) told;
+      refused = no_book bytes (fault.Form 2) told;
+    }

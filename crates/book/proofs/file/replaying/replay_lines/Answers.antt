@@ -4,19 +4,23 @@ use Rattle.book.proofs.file.replaying.replay_lines.Goals as goal
 
 pub loop-line-init : goal.loop-line-init
 loop-line-init g c =
-    replayed_start (g.M.Machine.rules c.args.machine) c.args.program.now c.in_ok-start.start c.push.new.self c.in_ok-start.ensures.start c.in_ok-start.ensures.fits c.in_default.ensures.shown
+    replayed_start (g.M.Machine.rules c.args.machine) c.args.program.now c.in_ok-start.start c.push.new.self
+    c.in_ok-start.ensures.start c.in_ok-start.ensures.fits c.in_default.ensures.shown
     (c.in_ok-push.ensures.ok ∙ ap (λ xs. xs ++ c.in_ok-start.start ∷ []) c.new-states.ensures)
 
 pub returns-in-Err-told-clause-amiss : goal.returns-in-Err-told-clause-amiss
 returns-in-Err-told-clause-amiss g c =
-    amiss_of_next (g.M.Machine.rules c.args.machine) c.args.program.now c.args.lines.now c.loop-line.states c.loop-line.line-index c.line-item.result c.loop-line-test.true c.line-item.is c.loop-line.invariant
+    amiss_of_next (g.M.Machine.rules c.args.machine) c.args.program.now c.args.lines.now c.loop-line.states
+    c.loop-line.line-index c.line-item.result c.loop-line-test.true c.line-item.is c.loop-line.invariant
     c.in-Err-told.fault c.in-Err-told.ensures.amiss
 
 pub loop-line-preserved : goal.loop-line-preserved
 loop-line-preserved g c =
-    replayed_item (g.M.Machine.rules c.args.machine) c.args.program.now c.args.lines.now c.loop-line.states c.loop-line.line-index c.line-item.result c.loop-line-test.true c.line-item.is c.loop-line.invariant
+    replayed_item (g.M.Machine.rules c.args.machine) c.args.program.now c.args.lines.now c.loop-line.states
+    c.loop-line.line-index c.line-item.result c.loop-line-test.true c.line-item.is c.loop-line.invariant
     c.push-in-Ok.new.self c.in-Ok.state c.in-Ok.ensures.told c.in-Ok.ensures.fits c.in_ok-push-in-Ok.ensures.ok
 
 pub returns-in-Err-clause-amiss : goal.returns-in-Err-clause-amiss
 returns-in-Err-clause-amiss g c =
-    amiss_at_start (g.M.Machine.rules c.args.machine) c.args.program.now c.args.lines.now c.in_ok-start.start c.in-Err.fault c.in_ok-start.ensures.start c.in-Err.ensures.unshown
+    amiss_at_start (g.M.Machine.rules c.args.machine) c.args.program.now c.args.lines.now c.in_ok-start.start
+    c.in-Err.fault c.in_ok-start.ensures.start c.in-Err.ensures.unshown

@@ -1,4 +1,5 @@
-use Rattle.std.proofs.Common.{◌≡◌, ◌<◌, ◌≤◌, None, Some, [], ◌∷◌, ◌++◌, ◌∙◌, length, take, sym, ap, subst, arith, slice_get}
+use Rattle.std.proofs.Common.{◌≡◌, ◌<◌, ◌≤◌, None, Some, [], ◌∷◌, ◌++◌, ◌∙◌, length, take, sym, ap, subst, arith}
+use Rattle.std.proofs.Common.{slice_get}
 use Rattle.std.proofs.lemmas.List.{take_all}
 use Rattle.book.specs.Text.Files.{ended}
 use Rattle.book.specs.Text.Written.{head_text}
@@ -11,8 +12,10 @@ use Rattle.book.proofs.file.writing.write_entries.Goals as goal
 pub loop-index-init : goal.loop-index-init
 loop-index-init g c =
     let entries = c.args.table.now.entries in
-    written_none (length entries) entries c.new-text.result.items c.push_head.new.text.items c.push_start.new.text.items c.new-text.ensures.items
-    (c.in_ok-push_head.ensures ∙ ap (λ n. c.new-text.result.items ++ ended (head_text n ∷ [])) c.len.ensures) c.in_ok-push_start.ensures
+    written_none (length entries) entries c.new-text.result.items c.push_head.new.text.items c.push_start.new.text.items
+    c.new-text.ensures.items
+    (c.in_ok-push_head.ensures ∙ ap (λ n. c.new-text.result.items ++ ended (head_text n ∷ [])) c.len.ensures)
+    c.in_ok-push_start.ensures
 
 pub unreachable-requires : goal.unreachable-requires
 unreachable-requires g c =
@@ -28,8 +31,10 @@ loop-index-preserved g c =
     let e = c.in-Some.ensures.some in
     let w = c.in_ok-push_row.ensures in
     let some : 1 ≤ c.loop-index.index = c.loop-index.auto.index in
-    let is : IsLineOf e.0.origin e.0.finding w.0 = record { step = e.3 ∙ w.1.step; order = subst (λ (f : Finding). FindsOrder f w.0.order) (sym e.2) w.1.order } in
-    written_next (length entries) entries c.loop-index.index e.0 w.0 c.loop-index.text.items c.push_row.new.text.items e.1 (omega arith) is w.2 w.3 c.loop-index.invariant
+    let is : IsLineOf e.0.origin e.0.finding w.0 =
+    record { step = e.3 ∙ w.1.step; order = subst (λ (f : Finding). FindsOrder f w.0.order) (sym e.2) w.1.order } in
+    written_next (length entries) entries c.loop-index.index e.0 w.0 c.loop-index.text.items c.push_row.new.text.items
+    e.1 (omega arith) is w.2 w.3 c.loop-index.invariant
 
 pub returns : goal.returns
 returns g c =

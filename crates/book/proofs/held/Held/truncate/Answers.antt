@@ -5,5 +5,6 @@ use Rattle.book.proofs.held.Held.truncate.Goals as goal
 
 pub returns : goal.returns
 returns g c =
-    ap (map (λ (state : Arc g.row.S.Denot _). state.value)) c.truncate.ensures.items ∙ sym (take-map (λ (state : Arc g.row.S.Denot _). state.value) c.args.count c.self.inside.states.items)
+    ap (map (λ (state : Arc g.row.S.Denot _). state.value)) c.truncate.ensures.items
+    ∙ sym (take-map (λ (state : Arc g.row.S.Denot _). state.value) c.args.count c.self.inside.states.items)
     ∙ ap (take c.args.count) c.self.view_is

@@ -1,4 +1,5 @@
-use Rattle.std.proofs.Common.{◌≡◌, ◌++◌, ◌+◌, ◌<◌, None, Some, not, length, map, position, sym, ap, ◌∙◌, arith, List, subst, length-append}
+use Rattle.std.proofs.Common.{◌≡◌, ◌++◌, ◌+◌, ◌<◌, None, Some, not, length, map, position, sym, ap, ◌∙◌, arith, List}
+use Rattle.std.proofs.Common.{subst, length-append}
 use Rattle.std.proofs.Math.ListN.{length-map}
 use Rattle.book.specs.Entries.{Entry, Successor, At, opened, states, unknown}
 use Rattle.book.specs.Findings.{is_sound}
@@ -13,32 +14,46 @@ pub first_fault_from-self-inside-requires : goal.first_fault_from-self-inside-re
 first_fault_from-self-inside-requires g c =
     let s = c.self.inside in
     let es : List (Entry g.row.S.Denot) = entries_of s.slots.entries in
-    let us : List (Successor (Labelled g.row.S.Denot g.row.F.Denot)) = unknown (same_label g.S.PartialEq.eq g.F.PartialEq.eq) (states (map keyed_of s.slots.entries)) c.args.successors.items in
+    let us : List (Successor (Labelled g.row.S.Denot g.row.F.Denot)) =
+    unknown (same_label g.S.PartialEq.eq g.F.PartialEq.eq) (states (map keyed_of s.slots.entries))
+    c.args.successors.items in
     let more : List (Entry g.row.S.Denot) = map (opened c.args.parent) (bares us) in
     let put = appended_entries s.slots.entries c.put_steps.new.slots.entries c.args.parent us c.in-Ok.ensures.put in
     let l : length es ≡ length s.slots.entries = length-entries s.slots.entries in
     let n : c.len-was.result ≡ length s.slots.entries = c.len-was.ensures.len in
-    let none : position (λ (e : Entry g.row.S.Denot). not (is_sound e.finding)) es ≡ None = sym c.self.invariant.0.first_fault ∙ c.in-None.is in
-    λ i e at less. all_sound es more none i e (subst (λ (xs : List (Entry g.row.S.Denot)). At xs i e) put at) (omega arith)
+    let none : position (λ (e : Entry g.row.S.Denot). not (is_sound e.finding)) es ≡ None =
+    sym c.self.invariant.0.first_fault ∙ c.in-None.is in
+    λ i e at less. all_sound es more none i e (subst (λ (xs : List (Entry g.row.S.Denot)). At xs i e) put at)
+    (omega arith)
 
 pub invariant_of-self-in-None : goal.invariant_of-self-in-None
 invariant_of-self-in-None g c =
     let s = c.self.inside in
-    let us : List (Successor (Labelled g.row.S.Denot g.row.F.Denot)) = unknown (same_label g.S.PartialEq.eq g.F.PartialEq.eq) (states (map keyed_of s.slots.entries)) c.args.successors.items in
+    let us : List (Successor (Labelled g.row.S.Denot g.row.F.Denot)) =
+    unknown (same_label g.S.PartialEq.eq g.F.PartialEq.eq) (states (map keyed_of s.slots.entries))
+    c.args.successors.items in
     let put = appended_entries s.slots.entries c.put_steps.new.slots.entries c.args.parent us c.in-Ok.ensures.put in (
-      rw put (cursors_appended (entries_of s.slots.entries) s.next_open s.first_left s.fault c.self.invariant.0 c.args.parent (bares us) c.first_fault_from-self-inside.result
-          (c.first_fault_from-self-inside.ensures ∙ ap (position (λ (e : Entry g.row.S.Denot). not (is_sound e.finding))) put)),
+      rw put (cursors_appended (entries_of s.slots.entries) s.next_open s.first_left s.fault c.self.invariant.0
+          c.args.parent (bares us) c.first_fault_from-self-inside.result
+          (c.first_fault_from-self-inside.ensures
+          ∙ ap (position (λ (e : Entry g.row.S.Denot). not (is_sound e.finding))) put)),
       c.in-Ok.ensures.held s.first_left c.self.invariant.0.left.within c.self.invariant.1,
     )
 
 pub invariant_of-self-in-Some : goal.invariant_of-self-in-Some
 invariant_of-self-in-Some g c =
     let s = c.self.inside in
-    let us : List (Successor (Labelled g.row.S.Denot g.row.F.Denot)) = unknown (same_label g.S.PartialEq.eq g.F.PartialEq.eq) (states (map keyed_of s.slots.entries)) c.args.successors.items in
+    let us : List (Successor (Labelled g.row.S.Denot g.row.F.Denot)) =
+    unknown (same_label g.S.PartialEq.eq g.F.PartialEq.eq) (states (map keyed_of s.slots.entries))
+    c.args.successors.items in
     let put = appended_entries s.slots.entries c.put_steps.new.slots.entries c.args.parent us c.in-Ok.ensures.put in
-    let some : position (λ (e : Entry g.row.S.Denot). not (is_sound e.finding)) (entries_of s.slots.entries) ≡ Some c.in-Some.field-0 = sym c.self.invariant.0.first_fault ∙ c.in-Some.is in (
-      rw put (cursors_appended (entries_of s.slots.entries) s.next_open s.first_left s.fault c.self.invariant.0 c.args.parent (bares us) s.fault
-          (c.in-Some.is ∙ sym (fault-append (entries_of s.slots.entries) (map (opened c.args.parent) (bares us)) c.in-Some.field-0 some))),
+    let some : position (λ (e : Entry g.row.S.Denot). not (is_sound e.finding)) (entries_of s.slots.entries)
+    ≡ Some c.in-Some.field-0 = sym c.self.invariant.0.first_fault ∙ c.in-Some.is in (
+      rw put (cursors_appended (entries_of s.slots.entries) s.next_open s.first_left s.fault c.self.invariant.0
+          c.args.parent (bares us) s.fault
+          (c.in-Some.is
+          ∙ sym (fault-append (entries_of s.slots.entries) (map (opened c.args.parent) (bares us)) c.in-Some.field-0
+          some))),
       c.in-Ok.ensures.held s.first_left c.self.invariant.0.left.within c.self.invariant.1,
     )
 
@@ -46,13 +61,22 @@ pub returns-then-len-limit-clause-full : goal.returns-then-len-limit-clause-full
 returns-then-len-limit-clause-full g c =
     let s = c.self.inside in
     rw (← c.self.view_is) (λ _ form_of known steps.
-    let put : entries_of c.put_steps.new.slots.entries ≡ entries_of s.slots.entries ++ map (opened c.args.parent) (unknown (same_as g.S.PartialEq.eq g.F.PartialEq.eq form_of) (states (entries_of s.slots.entries)) (bares c.args.successors.items)) =
-    put_entries g.S.PartialEq.eq g.F.PartialEq.eq form_of s.slots.entries c.put_steps.new.slots.entries c.args.parent c.args.successors.items c.in-Ok.ensures.put known steps in
-    let us : List (Successor g.row.S.Denot) = unknown (same_as g.S.PartialEq.eq g.F.PartialEq.eq form_of) (states (entries_of s.slots.entries)) (bares c.args.successors.items) in
+    let put : entries_of c.put_steps.new.slots.entries ≡ entries_of s.slots.entries
+    ++ map (opened c.args.parent)
+    (unknown (same_as g.S.PartialEq.eq g.F.PartialEq.eq form_of) (states (entries_of s.slots.entries))
+    (bares c.args.successors.items)) =
+    put_entries g.S.PartialEq.eq g.F.PartialEq.eq form_of s.slots.entries c.put_steps.new.slots.entries c.args.parent
+    c.args.successors.items c.in-Ok.ensures.put known steps in
+    let us : List (Successor g.row.S.Denot) =
+    unknown (same_as g.S.PartialEq.eq g.F.PartialEq.eq form_of) (states (entries_of s.slots.entries))
+    (bares c.args.successors.items) in
     let more : c.args.limit < c.len.result = c.if-len-limit.true in
     let n : c.len.result ≡ length c.put_steps.new.slots.entries = c.len.ensures.len in
-    let l : length (entries_of c.put_steps.new.slots.entries) ≡ length c.put_steps.new.slots.entries = length-entries c.put_steps.new.slots.entries in
-    let a : length (entries_of c.put_steps.new.slots.entries) ≡ length (entries_of s.slots.entries) + length (map (opened c.args.parent) us) = ap length put ∙ length-append (entries_of s.slots.entries) (map (opened c.args.parent) us) in
+    let l : length (entries_of c.put_steps.new.slots.entries) ≡ length c.put_steps.new.slots.entries =
+    length-entries c.put_steps.new.slots.entries in
+    let a : length (entries_of c.put_steps.new.slots.entries)
+    ≡ length (entries_of s.slots.entries) + length (map (opened c.args.parent) us) =
+    ap length put ∙ length-append (entries_of s.slots.entries) (map (opened c.args.parent) us) in
     let b : length (map (opened c.args.parent) us) ≡ length us = length-map us (opened c.args.parent) in
     omega arith)
 
@@ -60,22 +84,26 @@ pub returns-in-Some-clause-put : goal.returns-in-Some-clause-put
 returns-in-Some-clause-put g c =
     let s = c.self.inside in
     rw (← c.self.view_is) (λ form_of known steps.
-    put_entries g.S.PartialEq.eq g.F.PartialEq.eq form_of s.slots.entries c.put_steps.new.slots.entries c.args.parent c.args.successors.items c.in-Ok.ensures.put known steps)
+    put_entries g.S.PartialEq.eq g.F.PartialEq.eq form_of s.slots.entries c.put_steps.new.slots.entries c.args.parent
+    c.args.successors.items c.in-Ok.ensures.put known steps)
 
 pub returns-in-Some-clause-known : goal.returns-in-Some-clause-known
 returns-in-Some-clause-known g c =
     let s = c.self.inside in
     rw (← c.self.view_is) (λ form_of known steps.
-    put_known g.S.PartialEq.eq g.F.PartialEq.eq form_of s.slots.entries c.put_steps.new.slots.entries c.args.parent c.args.successors.items c.in-Ok.ensures.put known steps)
+    put_known g.S.PartialEq.eq g.F.PartialEq.eq form_of s.slots.entries c.put_steps.new.slots.entries c.args.parent
+    c.args.successors.items c.in-Ok.ensures.put known steps)
 
 pub returns-in-None-clause-put : goal.returns-in-None-clause-put
 returns-in-None-clause-put g c =
     let s = c.self.inside in
     rw (← c.self.view_is) (λ form_of known steps.
-    put_entries g.S.PartialEq.eq g.F.PartialEq.eq form_of s.slots.entries c.put_steps.new.slots.entries c.args.parent c.args.successors.items c.in-Ok.ensures.put known steps)
+    put_entries g.S.PartialEq.eq g.F.PartialEq.eq form_of s.slots.entries c.put_steps.new.slots.entries c.args.parent
+    c.args.successors.items c.in-Ok.ensures.put known steps)
 
 pub returns-in-None-clause-known : goal.returns-in-None-clause-known
 returns-in-None-clause-known g c =
     let s = c.self.inside in
     rw (← c.self.view_is) (λ form_of known steps.
-    put_known g.S.PartialEq.eq g.F.PartialEq.eq form_of s.slots.entries c.put_steps.new.slots.entries c.args.parent c.args.successors.items c.in-Ok.ensures.put known steps)
+    put_known g.S.PartialEq.eq g.F.PartialEq.eq form_of s.slots.entries c.put_steps.new.slots.entries c.args.parent
+    c.args.successors.items c.in-Ok.ensures.put known steps)

@@ -10,7 +10,8 @@ returns-then-self-len g c =
     let l : length (entries_of s.slots.entries) ≡ length s.slots.entries = length-entries s.slots.entries in
     let n : c.len.result ≡ length s.slots.entries = c.len.ensures.len in
     let less : s.first_left < c.len.result = c.if-self-len.true in
-    rw (← c.self.view_is) (sym (left_at (entries_of s.slots.entries) s.next_open s.first_left s.fault c.self.invariant.0 (omega arith)))
+    rw (← c.self.view_is)
+    (sym (left_at (entries_of s.slots.entries) s.next_open s.first_left s.fault c.self.invariant.0 (omega arith)))
 
 pub returns-else-self-len : goal.returns-else-self-len
 returns-else-self-len g c =
@@ -18,4 +19,5 @@ returns-else-self-len g c =
     let l : length (entries_of s.slots.entries) ≡ length s.slots.entries = length-entries s.slots.entries in
     let n : c.len.result ≡ length s.slots.entries = c.len.ensures.len in
     let le : c.len.result ≤ s.first_left = c.if-self-len.false in
-    rw (← c.self.view_is) (sym (left_none (entries_of s.slots.entries) s.next_open s.first_left s.fault c.self.invariant.0 (omega arith)))
+    rw (← c.self.view_is)
+    (sym (left_none (entries_of s.slots.entries) s.next_open s.first_left s.fault c.self.invariant.0 (omega arith)))

@@ -10,13 +10,16 @@ state-requires g c =
     let less : c.loop-index.index < c.args.end = c.loop-index-test.true in
     let within : c.args.end ≤ length c.args.self.now.entries = c.requires.within in
     let at = get_at c.args.self.now.entries c.loop-index.index (omega arith) in
-    opened_is_left c.args.self.now.entries c.loop-index.index at.0 at.1 (c.requires.open c.loop-index.index at.0 at.1 c.loop-index.auto.index)
+    opened_is_left c.args.self.now.entries c.loop-index.index at.0 at.1
+    (c.requires.open c.loop-index.index at.0 at.1 c.loop-index.auto.index)
 
 pub loop-index-preserved : goal.loop-index-preserved
 loop-index-preserved g c =
     let at = c.state.ensures in
     let p : ℕ × Arc g.row.S.Denot Global = (c.loop-index.index, c.in_ok-state.state) in
     rw c.in_ok-push.ensures.items (
-      numbers_more c.loop-index.range.items p c.args.start c.loop-index.index c.loop-index.invariant.0 refl c.loop-index.auto.index,
-      states_more c.args.self.now.entries c.loop-index.range.items c.loop-index.index p at.0 c.loop-index.invariant.1 at.1 refl (at.2 ∙ sym c.in_ok-state.ensures),
+      numbers_more c.loop-index.range.items p c.args.start c.loop-index.index c.loop-index.invariant.0 refl
+          c.loop-index.auto.index,
+      states_more c.args.self.now.entries c.loop-index.range.items c.loop-index.index p at.0 c.loop-index.invariant.1
+          at.1 refl (at.2 ∙ sym c.in_ok-state.ensures),
     )

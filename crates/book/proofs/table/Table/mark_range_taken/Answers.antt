@@ -12,13 +12,22 @@ use Rattle.book.proofs.table.Table.mark_range_taken.Goals as goal
 pub invariant_of-self : goal.invariant_of-self
 invariant_of-self g c =
     let s = c.self.inside in
-    let first : position (λ (e : Entry g.row.S.Denot). is_open e.mark) (entries_of s.slots.entries) ≡ Some c.args.start =
-    ap (λ (k : Kept g.row.S.Denot g.row.F.Denot). position (λ (e : Entry g.row.S.Denot). is_open e.mark) k.entries) c.self.view_is ∙ c.requires.first in
-    let start : c.args.start ≡ s.next_open = cursor_is (entries_of s.slots.entries) s.next_open s.first_left s.fault c.self.invariant.0 c.args.start first in
+    let first : position (λ (e : Entry g.row.S.Denot). is_open e.mark) (entries_of s.slots.entries)
+    ≡ Some c.args.start =
+    ap (λ (k : Kept g.row.S.Denot g.row.F.Denot). position (λ (e : Entry g.row.S.Denot). is_open e.mark) k.entries)
+    c.self.view_is ∙ c.requires.first in
+    let start : c.args.start ≡ s.next_open =
+    cursor_is (entries_of s.slots.entries) s.next_open s.first_left s.fault c.self.invariant.0 c.args.start first in
     let le : c.args.start ≤ c.args.end = c.requires.some in
     let within : c.args.end ≤ length c.args.self.now.entries = c.requires.within in
-    let l : length (entries_of s.slots.entries) ≡ length c.args.self.now.entries = ap (λ (k : Kept g.row.S.Denot g.row.F.Denot). length k.entries) c.self.view_is in
+    let l : length (entries_of s.slots.entries) ≡ length c.args.self.now.entries =
+    ap (λ (k : Kept g.row.S.Denot g.row.F.Denot). length k.entries) c.self.view_is in
     let ends : s.next_open + (c.args.end - s.next_open) ≡ c.args.end = omega arith in
-    let cursors = rw ends at (cursors_range (c.args.end - s.next_open) (entries_of s.slots.entries) s.next_open s.first_left s.fault c.self.invariant.0 (omega arith)) in
-    let held = held_all_marked (entries_of s.slots.entries) (range_with_len s.next_open (c.args.end - s.next_open)) Taken s.first_left s.held c.self.invariant.1 in
+    let cursors =
+    rw ends at
+    (cursors_range (c.args.end - s.next_open) (entries_of s.slots.entries) s.next_open s.first_left s.fault
+    c.self.invariant.0 (omega arith)) in
+    let held =
+    held_all_marked (entries_of s.slots.entries) (range_with_len s.next_open (c.args.end - s.next_open)) Taken
+    s.first_left s.held c.self.invariant.1 in
     rw (c.mark_range.ensures.entries, start) (cursors, held)

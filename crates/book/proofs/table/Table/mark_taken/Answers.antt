@@ -10,8 +10,10 @@ use Rattle.book.proofs.table.Table.mark_taken.Goals as goal
 pub invariant_of-self : goal.invariant_of-self
 invariant_of-self g c =
     let s = c.self.inside in
-    let first : position (λ (e : Entry g.row.S.Denot). is_open e.mark) (entries_of s.slots.entries) ≡ Some c.args.index =
-    ap (λ (k : Kept g.row.S.Denot g.row.F.Denot). position (λ (e : Entry g.row.S.Denot). is_open e.mark) k.entries) c.self.view_is ∙ c.requires.first in
+    let first : position (λ (e : Entry g.row.S.Denot). is_open e.mark) (entries_of s.slots.entries)
+    ≡ Some c.args.index =
+    ap (λ (k : Kept g.row.S.Denot g.row.F.Denot). position (λ (e : Entry g.row.S.Denot). is_open e.mark) k.entries)
+    c.self.view_is ∙ c.requires.first in
     rw c.mark_at.ensures.entries (
       cursors_taken (entries_of s.slots.entries) s.next_open s.first_left s.fault c.self.invariant.0 c.args.index first,
       held_marked (entries_of s.slots.entries) c.args.index Taken s.first_left s.held c.self.invariant.1,

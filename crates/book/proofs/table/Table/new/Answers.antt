@@ -15,14 +15,22 @@ use Rattle.book.proofs.table.Table.new.Goals.{then-is_sound, else-is_sound}
 pub invariant_of-result : goal.invariant_of-result
 invariant_of-result g c =
     let row : Row = record { finding = c.args.finding; origin = None; mark = Open } in
-    let e : Entry g.row.S.Denot = record { state = c.args.known.state; finding = c.args.finding; origin = None; mark = Open } in
+    let e : Entry g.row.S.Denot =
+    record { state = c.args.known.state; finding = c.args.finding; origin = None; mark = Open } in
     let empty : c.new-slots.result.entries ≡ [] = c.new-slots.ensures.empty in
     let one : c.put_new.new.slots.entries ≡ (c.args.known, row) ∷ [] =
     c.in_ok-put_new.ensures.put
-    ∙ (ap (λ (es : List (Labelled g.row.S.Denot g.row.F.Denot × Row)). es ++ cond (list_any (same_label g.S.PartialEq.eq g.F.PartialEq.eq c.args.known) (keys_of es)) [] ((c.args.known, c.in_ok-row.row) ∷ [])) empty
+    ∙ (ap (λ (es : List (Labelled g.row.S.Denot g.row.F.Denot × Row)). es
+    ++ cond (list_any (same_label g.S.PartialEq.eq g.F.PartialEq.eq c.args.known) (keys_of es)) []
+    ((c.args.known, c.in_ok-row.row) ∷ [])) empty
     ∙ ap (λ (packed : Row). (c.args.known, packed) ∷ []) c.in_ok-row.ensures) in
     let fault : c.if-is_sound.fault ≡ cond (is_sound c.args.finding) None (Some 0) = (elim c.if-is_sound.branch [
-      | then-is_sound w ↦ w.fault-is ∙ ap (λ b. cond b None (Some 0)) (sym (sym c.is_sound.ensures ∙ w.if-is_sound.true))
-      | else-is_sound w ↦ w.fault-is ∙ ap (λ b. cond b None (Some 0)) (sym (sym c.is_sound.ensures ∙ w.if-is_sound.false))
+      | then-is_sound w ↦ w.fault-is ∙ ap (λ b. cond b None (Some 0))
+          (sym (sym c.is_sound.ensures ∙ w.if-is_sound.true))
+      | else-is_sound w ↦ w.fault-is ∙ ap (λ b. cond b None (Some 0))
+          (sym (sym c.is_sound.ensures ∙ w.if-is_sound.false))
     ]) in
-    rw (ap entries_of one) (cursors_one e refl c.if-is_sound.fault (fault ∙ sym (fault_of_one e)), (rw (c.in_ok-push.ensures.ok, c.none-held.ensures) (held_one e c.args.state.value c.requires)))
+    rw (ap entries_of one) (
+      cursors_one e refl c.if-is_sound.fault (fault ∙ sym (fault_of_one e)),
+      (rw (c.in_ok-push.ensures.ok, c.none-held.ensures) (held_one e c.args.state.value c.requires)),
+    )

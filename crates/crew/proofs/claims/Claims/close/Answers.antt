@@ -12,19 +12,27 @@ use Rattle.crew.proofs.claims.Claims.close.Goals as goal
 pub returns-clause-once : goal.returns-clause-once
 returns-clause-once c =
     let last = c.close_with-closed.ensures.values.2 in
-    let all = c.gather-whole.ensures.held ∙ c.requires.every ∙ ap (λ (s : Counter). s.size.seats) (sym c.self.view_is) in
-    let end = ends_at _ _ _ _ last.0 _ last.1 c.self.invariant.0 all (first_word last.0.words _ c.word-word.result last.2 c.word-word.ensures) in
+    let all =
+    c.gather-whole.ensures.held ∙ c.requires.every ∙ ap (λ (s : Counter). s.size.seats) (sym c.self.view_is) in
+    let end =
+    ends_at _ _ _ _ last.0 _ last.1 c.self.invariant.0 all
+    (first_word last.0.words _ c.word-word.result last.2 c.word-word.ensures) in
     IsPermutation-trans (below c.min-drawn.result) c.gather-whole.result.me.0.places (places_drawn c.args.seats.items)
     (subst (λ (n : ℕ). IsPermutation (below n) c.gather-whole.result.me.0.places) (sym c.min-drawn.ensures) end.drawn)
-    (IsPermutation-sym (places_drawn c.args.seats.items) c.gather-whole.result.me.0.places c.gather-whole.ensures.places)
+    (IsPermutation-sym (places_drawn c.args.seats.items) c.gather-whole.result.me.0.places
+    c.gather-whole.ensures.places)
 
 pub returns-clause-drawn : goal.returns-clause-drawn
 returns-clause-drawn c =
-    sym (length_permutation (below c.min-drawn.result) (places_drawn c.args.seats.items) (returns-clause-once c) ∙ length-range_with_len 0 c.min-drawn.result)
+    sym (length_permutation (below c.min-drawn.result) (places_drawn c.args.seats.items) (returns-clause-once c)
+    ∙ length-range_with_len 0 c.min-drawn.result)
 
 pub returns-clause-spent : goal.returns-clause-spent
 returns-clause-spent c =
     let last = c.close_with-closed.ensures.values.2 in
-    let all = c.gather-whole.ensures.held ∙ c.requires.every ∙ ap (λ (s : Counter). s.size.seats) (sym c.self.view_is) in
-    let end = ends_at _ _ _ _ last.0 _ last.1 c.self.invariant.0 all (first_word last.0.words _ c.word-word.result last.2 c.word-word.ensures) in
+    let all =
+    c.gather-whole.ensures.held ∙ c.requires.every ∙ ap (λ (s : Counter). s.size.seats) (sym c.self.view_is) in
+    let end =
+    ends_at _ _ _ _ last.0 _ last.1 c.self.invariant.0 all
+    (first_word last.0.words _ c.word-word.result last.2 c.word-word.ensures) in
     omega (arith, end.told, c.gather-whole.ensures.spent, c.min-drawn.ensures)

@@ -15,7 +15,8 @@ pub loop-seat-preserved : goal.loop-seat-preserved
 loop-seat-preserved c =
     let me = c.join_seat.ensures.2 in
     let i = c.loop-seat.invariant in
-    let p : c.loop-seat.seats.items ≡ c.pop-in-loop-seat.new.self.items ++ c.in-Some-pop.seat ∷ [] = c.in-Some-pop.ensures.items in
+    let p : c.loop-seat.seats.items ≡ c.pop-in-loop-seat.new.self.items ++ c.in-Some-pop.seat ∷ [] =
+    c.in-Some-pop.ensures.items in
     let joined = ap (λ (m : Knows). m.0.seats) me in
     let spent = ap (λ (m : Knows). m.0.spent) me in
     let drew : c.in-Some-pop.seat.drew ≡ c.seat.inside.token.me.0 = ap (λ (h : Seated). h.drew) (sym c.seat.view_is) in
@@ -25,9 +26,27 @@ loop-seat-preserved c =
       own = search rules;
       bare = ap (λ (m : Knows). m.1) me ∙ i.bare;
       knows = ap (λ (m : Knows). m.0.size) me ∙ i.knows;
-      seats = (All-pop (IsSeatOf c.args.self.now) c.loop-seat.seats.items c.pop-in-loop-seat.new.self.items c.pop-in-loop-seat.result c.pop-in-loop-seat.ensures.items i.seats).0;
-      held = omega (arith, joined, had, i.held, fewer_seats c.loop-seat.seats.items c.pop-in-loop-seat.new.self.items c.in-Some-pop.seat p);
-      spent = omega (arith, spent, told, i.spent, fewer_spent c.loop-seat.seats.items c.pop-in-loop-seat.new.self.items c.in-Some-pop.seat p);
-      places = subst (λ (l : List ℕ). IsPermutation (places_drawn c.args.seats.items) (places_drawn c.pop-in-loop-seat.new.self.items ++ l)) (sym (ap (λ (m : Knows). m.0.places) me ∙ ap (λ (v : Draws). c.loop-seat.whole.me.0.places ++ v.places) (sym drew)))
-          (more_places (places_drawn c.args.seats.items) c.loop-seat.whole.me.0.places c.loop-seat.seats.items c.pop-in-loop-seat.new.self.items c.in-Some-pop.seat p i.places);
+      seats = (All-pop (IsSeatOf c.args.self.now) c.loop-seat.seats.items c.pop-in-loop-seat.new.self.items
+          c.pop-in-loop-seat.result c.pop-in-loop-seat.ensures.items i.seats).0;
+      held = omega (
+        arith,
+        joined,
+        had,
+        i.held,
+        fewer_seats c.loop-seat.seats.items c.pop-in-loop-seat.new.self.items c.in-Some-pop.seat p,
+      );
+      spent = omega (
+        arith,
+        spent,
+        told,
+        i.spent,
+        fewer_spent c.loop-seat.seats.items c.pop-in-loop-seat.new.self.items c.in-Some-pop.seat p,
+      );
+      places =
+          subst (λ (l : List ℕ). IsPermutation (places_drawn c.args.seats.items)
+          (places_drawn c.pop-in-loop-seat.new.self.items ++ l))
+          (sym (ap (λ (m : Knows). m.0.places) me
+          ∙ ap (λ (v : Draws). c.loop-seat.whole.me.0.places ++ v.places) (sym drew)))
+          (more_places (places_drawn c.args.seats.items) c.loop-seat.whole.me.0.places c.loop-seat.seats.items
+          c.pop-in-loop-seat.new.self.items c.in-Some-pop.seat p i.places);
     }

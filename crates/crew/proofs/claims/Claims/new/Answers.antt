@@ -9,8 +9,12 @@ use Rattle.crew.proofs.claims.Claims.new.Goals as goal
 pub split_seat-requires : goal.split_seat-requires
 split_seat-requires c =
     let rest = c.loop.invariant.rest in
-    let seats = ap (λ (m : Knows). m.0.seats) rest in
-    (search rules, search rules, cut_kept _ _ _ (omega (arith, seats, c.loop.invariant.filled)) (ap (λ (m : Knows). m.0.spent) rest) (ap (λ (m : Knows). m.0.size) rest ∙ sym c.in_ok-table.ensures.5))
+    let seats = ap (λ (m : Knows). m.0.seats) rest in (
+      search rules,
+      search rules,
+      cut_kept _ _ _ (omega (arith, seats, c.loop.invariant.filled))
+          (ap (λ (m : Knows). m.0.spent) rest) (ap (λ (m : Knows). m.0.size) rest ∙ sym c.in_ok-table.ensures.5),
+    )
 
 pub loop-preserved : goal.loop-preserved
 loop-preserved c =
@@ -23,9 +27,11 @@ loop-preserved c =
     record {
       filled = search rules;
       room = search rules;
-      rest = cut_rest c.loop.rest.me c.split_seat.new.seat.me (c.args.seats - vec_len c.loop.made) (c.args.seats - vec_len c.push_reserved.new.self) size rest e.2 (omega (arith, c.push_reserved.ensures.len));
+      rest = cut_rest c.loop.rest.me c.split_seat.new.seat.me (c.args.seats - vec_len c.loop.made)
+          (c.args.seats - vec_len c.push_reserved.new.self) size rest e.2 (omega (arith, c.push_reserved.ensures.len));
       own = search rules;
-      made = all_new table size c.push_reserved.new.self.items c.loop.made.items c.seated.result c.push_reserved.ensures.items c.loop.invariant.made mine;
+      made = all_new table size c.push_reserved.new.self.items c.loop.made.items c.seated.result
+          c.push_reserved.ensures.items c.loop.invariant.made mine;
     }
 
 pub returns-clause-fresh : goal.returns-clause-fresh
@@ -33,7 +39,11 @@ returns-clause-fresh c =
     let rest = c.loop.invariant.rest in
     let table = c.in_ok-table.table.shared.table_id in
     let size : Size = record { len = c.args.len; seats = c.args.seats } in
-    let last : IsNew table size c.seated-2.result =
-    (search rules, c.seated-2.ensures.1 ∙ ap (λ (m : Knows). m.0) rest ∙ ap (λ (n : ℕ). fresh n size) (omega (arith, c.loop.invariant.filled))) in
+    let last : IsNew table size c.seated-2.result = (
+      search rules,
+      c.seated-2.ensures.1 ∙ ap (λ (m : Knows). m.0) rest
+          ∙ ap (λ (n : ℕ). fresh n size) (omega (arith, c.loop.invariant.filled)),
+    ) in
     new_is_fresh (record { counter = table; size = size }) c.push_reserved-2.new.self.items
-    (all_new table size c.push_reserved-2.new.self.items c.loop.made.items c.seated-2.result c.push_reserved-2.ensures.items c.loop.invariant.made last)
+    (all_new table size c.push_reserved-2.new.self.items c.loop.made.items c.seated-2.result
+    c.push_reserved-2.ensures.items c.loop.invariant.made last)

@@ -10,20 +10,33 @@ pub invariant_of-self-2-clause-expanded_is : goal.invariant_of-self-2-clause-exp
 invariant_of-self-2-clause-expanded_is g c =
     let old = c.args.self.now.book in
     let new = c.enter_leaving.new.self in
-    let same = counted_as_one {Machine = g.row.M.Denot} {Form = g.row.M-Form.Denot} g.M.Loc.PartialEq.eq g.M.Mem.PartialEq.eq g.M.Form.PartialEq.eq (g.M.Machine.form_of old.machine) old.merge in
-    let more : count_by (λ (r : Entry (State g.row.M.Denot g.row.M-Mem.Denot g.row.M-Loc.Denot g.row.M-Form.Denot)). is_expanded r.mark) new.entries
-    ≡ count_by (λ (r : Entry (State g.row.M.Denot g.row.M-Mem.Denot g.row.M-Loc.Denot g.row.M-Form.Denot)). is_expanded r.mark) old.entries + 1 =
-    more_expanded (machine_in g.M.Machine.rules old) same old new c.args.id c.args.expansion c.in_ok-counts.counts.entered c.in_ok-counts.counts.met c.in_ok-counts.ensures.entered in
-    let was : c.args.self.now.expanded.total ≡ count_by (λ (r : Entry (State g.row.M.Denot g.row.M-Mem.Denot g.row.M-Loc.Denot g.row.M-Form.Denot)). is_expanded r.mark) old.entries = c.args.self.now.expanded_is in
+    let same =
+    counted_as_one {Machine = g.row.M.Denot} {Form = g.row.M-Form.Denot} g.M.Loc.PartialEq.eq g.M.Mem.PartialEq.eq
+    g.M.Form.PartialEq.eq (g.M.Machine.form_of old.machine) old.merge in
+    let more : count_by
+    (λ (r : Entry (State g.row.M.Denot g.row.M-Mem.Denot g.row.M-Loc.Denot g.row.M-Form.Denot)). is_expanded r.mark)
+    new.entries
+    ≡ count_by
+    (λ (r : Entry (State g.row.M.Denot g.row.M-Mem.Denot g.row.M-Loc.Denot g.row.M-Form.Denot)). is_expanded r.mark)
+    old.entries + 1 =
+    more_expanded (machine_in g.M.Machine.rules old) same old new c.args.id c.args.expansion
+    c.in_ok-counts.counts.entered c.in_ok-counts.counts.met c.in_ok-counts.ensures.entered in
+    let was : c.args.self.now.expanded.total
+    ≡ count_by
+    (λ (r : Entry (State g.row.M.Denot g.row.M-Mem.Denot g.row.M-Loc.Denot g.row.M-Form.Denot)). is_expanded r.mark)
+    old.entries = c.args.self.now.expanded_is in
     omega (arith, c.audit.ensures.total, c.add.ensures.total)
 
 pub invariant_of-self-2-clause-entered_is : goal.invariant_of-self-2-clause-entered_is
 invariant_of-self-2-clause-entered_is g c =
     let old = c.args.self.now.book in
     let new = c.enter_leaving.new.self in
-    let same = counted_as_one {Machine = g.row.M.Denot} {Form = g.row.M-Form.Denot} g.M.Loc.PartialEq.eq g.M.Mem.PartialEq.eq g.M.Form.PartialEq.eq (g.M.Machine.form_of old.machine) old.merge in
+    let same =
+    counted_as_one {Machine = g.row.M.Denot} {Form = g.row.M-Form.Denot} g.M.Loc.PartialEq.eq g.M.Mem.PartialEq.eq
+    g.M.Form.PartialEq.eq (g.M.Machine.form_of old.machine) old.merge in
     let more : length new.entries ≡ length old.entries + c.in_ok-counts.counts.entered =
-    more_entries (machine_in g.M.Machine.rules old) same old new c.args.id c.args.expansion c.in_ok-counts.counts.entered c.in_ok-counts.counts.met c.in_ok-counts.ensures.entered in
+    more_entries (machine_in g.M.Machine.rules old) same old new c.args.id c.args.expansion
+    c.in_ok-counts.counts.entered c.in_ok-counts.counts.met c.in_ok-counts.ensures.entered in
     let was : c.args.self.now.entered.total + 1 ≡ length old.entries = c.args.self.now.entered_is in
     omega (arith, c.audit-2.ensures.total, c.add-2.ensures.total)
 
@@ -32,14 +45,19 @@ add-requires-4-clause-met g c =
     let old = c.args.self.now.book in
     let new = c.enter_leaving.new.self in
     let m = machine_in g.M.Machine.rules old in
-    let same = counted_as_one {Machine = g.row.M.Denot} {Form = g.row.M-Form.Denot} g.M.Loc.PartialEq.eq g.M.Mem.PartialEq.eq g.M.Form.PartialEq.eq (g.M.Machine.form_of old.machine) old.merge in
+    let same =
+    counted_as_one {Machine = g.row.M.Denot} {Form = g.row.M-Form.Denot} g.M.Loc.PartialEq.eq g.M.Mem.PartialEq.eq
+    g.M.Form.PartialEq.eq (g.M.Machine.form_of old.machine) old.merge in
     let right = right_in g.M.Machine.rules old in
     let x = c.args.expansion in
-    let enters : Enters same old new c.args.id x c.in_ok-counts.counts.entered c.in_ok-counts.counts.met = c.in_ok-counts.ensures.entered in
+    let enters : Enters same old new c.args.id x c.in_ok-counts.counts.entered c.in_ok-counts.counts.met =
+    c.in_ok-counts.ensures.entered in
     let law = c.law.ensures in
     let small : old.met + c.in_ok-counts.counts.met < 2 ^ 64 =
-    small_met m same old new c.args.id x c.in_ok-counts.counts.entered c.in_ok-counts.counts.met enters right law.machine law.merges law.law
-    (expansion_in g.M.Machine.rules old x enters.taken.0.state enters.own.machine enters.own.program (enters.own.source enters.taken.0 enters.taken.1) c.law-2.ensures) in
+    small_met m same old new c.args.id x c.in_ok-counts.counts.entered c.in_ok-counts.counts.met enters right
+    law.machine law.merges law.law
+    (expansion_in g.M.Machine.rules old x enters.taken.0.state enters.own.machine enters.own.program
+    (enters.own.source enters.taken.0 enters.taken.1) c.law-2.ensures) in
     let was : c.args.self.now.met.total ≡ old.met = c.args.self.now.met_is in
     let mine : c.args.tally.now.pieces.met.amount ≡ c.args.tally.now.share.met = c.args.tally.now.met_is in
     omega (arith, c.audit-3.ensures.bound)

@@ -7,11 +7,18 @@ use Rattle.crew.proofs.working.Exploration.work_at_once.Goals as goal
 pub call_at_once-requires-sync-F : goal.call_at_once-requires-sync-F
 call_at_once-requires-sync-F g c κs within =
     let b = c.type_bounds in
-    let exploration = exploration_sync (param 0 g.row.J) (copied 1 g.row.M) (param 4 g.row.M-Mem) (param 5 g.row.M-Loc) (param 6 g.row.M-Form) g.M.Machine g.M.PartialEq g.M.Mem.PartialEq g.M.Mem.Hash
-    g.M.Loc.PartialEq g.M.Loc.Hash g.M.Form.Coded g.M.Form.PartialEq g.M.Form.Hash g.J.Ledgers g.M.Clone g.M.Exact g.M.Eq g.M.Mem.Exact g.M.Mem.Eq g.M.Loc.Exact g.M.Loc.Eq g.M.Form.Exact g.M.Form.Eq
+    let exploration =
+    exploration_sync (param 0 g.row.J) (copied 1 g.row.M) (param 4 g.row.M-Mem) (param 5 g.row.M-Loc)
+    (param 6 g.row.M-Form) g.M.Machine g.M.PartialEq g.M.Mem.PartialEq g.M.Mem.Hash
+    g.M.Loc.PartialEq g.M.Loc.Hash g.M.Form.Coded g.M.Form.PartialEq g.M.Form.Hash g.J.Ledgers g.M.Clone g.M.Exact
+    g.M.Eq g.M.Mem.Exact g.M.Mem.Eq g.M.Loc.Exact g.M.Loc.Eq g.M.Form.Exact g.M.Form.Eq
     b.send-J b.send-M b.send-M-Mem b.send-M-Loc b.send-M-Form b.sync-M b.sync-M-Mem b.sync-M-Loc b.sync-M-Form
     (record { mir = named 7; lft = κs.1.1.1.1.1.1.1.0 }) (param 2 g.row.G) (param 3 g.row.R) b.sync-G b.sync-R in
-    let layer = layer_sync (record { mir = named 9; lft = κs.1.1.1.1.1.1.1.1.1.0 }) (copied 1 g.row.M) (param 4 g.row.M-Mem) (param 5 g.row.M-Loc) (param 6 g.row.M-Form) g.M.Machine g.M.PartialEq
+    let layer =
+    layer_sync (record { mir = named 9; lft = κs.1.1.1.1.1.1.1.1.1.0 }) (copied 1 g.row.M) (param 4 g.row.M-Mem)
+    (param 5 g.row.M-Loc) (param 6 g.row.M-Form) g.M.Machine g.M.PartialEq
     g.M.Mem.PartialEq g.M.Mem.Hash g.M.Loc.PartialEq g.M.Loc.Hash g.M.Form.Coded g.M.Form.PartialEq g.M.Form.Hash
     b.send-M b.send-M-Mem b.send-M-Loc b.send-M-Form b.sync-M b.sync-M-Mem b.sync-M-Loc b.sync-M-Form in
-    record { shared = λ d. (two_lent κs.1.1.1.1.1.1.0 κs.1.1.1.1.1.1.1.1.0 _ _ exploration layer).shared (d.0, (d.1, tt)) }
+    record {
+      shared = λ d. (two_lent κs.1.1.1.1.1.1.0 κs.1.1.1.1.1.1.1.1.0 _ _ exploration layer).shared (d.0, (d.1, tt));
+    }

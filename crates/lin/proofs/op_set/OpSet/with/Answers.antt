@@ -1,4 +1,5 @@
-use Rattle.std.proofs.Common.{◌≡◌, ◌≢◌, ℕ, ◌+◌, ◌*◌, ◌^◌, ◌%◌, ◌<◌, ◌&&◌, ◌||◌, Bool, true, false, eqb, ltb, lt-ltb, eq-eqb, w32, refl, sym, ◌∙◌, ap, ap₂, subst, arith, true≢false, ltb-true}
+use Rattle.std.proofs.Common.{◌≡◌, ◌≢◌, ℕ, ◌+◌, ◌*◌, ◌^◌, ◌%◌, ◌<◌, ◌&&◌, ◌||◌, Bool, true, false, eqb, ltb, lt-ltb}
+use Rattle.std.proofs.Common.{eq-eqb, w32, refl, sym, ◌∙◌, ap, ap₂, subst, arith, true≢false, ltb-true}
 use mathlib.Core.Path.{fun_ext}
 use Rattle.std.proofs.Math.Bool.{or-true, or-false}
 use Rattle.std.specs.Int.{bit_at}
@@ -31,13 +32,15 @@ module _ (bits : ℕ) (a : OpId) (few : a.thread < 4) (short : a.index < 8) wher
   cases b true l e h =
       let is : a ≡ b = same_name-is a b e in
       let below : l ≡ true = sym h ∙ ap (λ c. ltb c.index 8) (sym is) ∙ lt-ltb a.index 8 short in
-      let here : eqb (bit_at set (8 * b.thread + b.index)) 1 ≡ true = subst (λ c. eqb (bit_at set (8 * c.thread + c.index)) 1 ≡ true) is (eq-eqb _ _ at_same) in
+      let here : eqb (bit_at set (8 * b.thread + b.index)) 1 ≡ true =
+      subst (λ c. eqb (bit_at set (8 * c.thread + c.index)) 1 ≡ true) is (eq-eqb _ _ at_same) in
       ap₂ ◌&&◌ below here ∙ sym (or-true _)
   cases b false true e h =
       ap (λ n. eqb n 1) (at_other (8 * b.thread + b.index) (other b e (ltb-true b.index 8 h))) ∙ sym (or-false _)
   cases b false false e h = refl
 
-  with_bit : (b : OpId) → (ltb b.index 8 && eqb (bit_at set (8 * b.thread + b.index)) 1) ≡ ((ltb b.index 8 && eqb (bit_at bits (8 * b.thread + b.index)) 1) || same_name a b)
+  with_bit : (b : OpId) → (ltb b.index 8 && eqb (bit_at set (8 * b.thread + b.index)) 1)
+      ≡ ((ltb b.index 8 && eqb (bit_at bits (8 * b.thread + b.index)) 1) || same_name a b)
   with_bit b = cases b (same_name a b) (ltb b.index 8) refl refl
 
 pub returns : goal.returns

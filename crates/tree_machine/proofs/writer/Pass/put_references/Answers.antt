@@ -4,6 +4,9 @@ use Rattle.tree_machine.proofs.writer.Pass.put_references.Goals as goal
 
 pub returns-clause-bytes : goal.returns-clause-bytes
 returns-clause-bytes c =
-    let done : length c.args.references.now ≤ c.loop-reference.reference-index = omega (arith, c.loop-reference-test.false) in
-    references_done c.args.self.now.numbering.order.items c.loop-reference.self.numbering.order.items c.args.self.now.bytes.items c.loop-reference.self.bytes.items c.args.first c.loop-reference.reference-index c.args.references.now
+    let done : length c.args.references.now ≤ c.loop-reference.reference-index =
+    omega (arith, c.loop-reference-test.false) in
+    references_done c.args.self.now.numbering.order.items c.loop-reference.self.numbering.order.items
+    c.args.self.now.bytes.items c.loop-reference.self.bytes.items c.args.first c.loop-reference.reference-index
+    c.args.references.now
     done c.loop-reference.invariant.order c.loop-reference.invariant.bytes

@@ -1,0 +1,43 @@
+-- A thread that is enabled is among the enabled ones.
+use Rattle.std.proofs.Common.{◌≡◌, ℕ, zero, suc, ◌+◌, ◌<◌, Bool, true, Some, is_some, List, [], ◌∷◌, map, filter, refl}
+use Rattle.std.proofs.Common.{ap, ◌∙◌, arith, slice_get}
+use Rattle.std.specs.List.{range_with_len}
+use Rattle.std.proofs.lemmas.Bool.{cond_both}
+use Rattle.book.specs.Schedule.{StepMachine, IsMachine, enabled_threads}
+
+-- what stands at a place of a mapped list comes from what stands there in the list
+pub get-map_from : {X Y : Type 0} (g : X → Y) (xs : List X) (k : ℕ) (y : Y) → slice_get (map g xs) k ≡ Some y
+    → (x : X) × (slice_get xs k ≡ Some x) × (y ≡ g x)
+get-map_from g [] k y h = absurd (cc)
+get-map_from g (x ∷ xs) zero y h = (x, refl, (cc))
+get-map_from g (x ∷ xs) (suc k) y h = get-map_from g xs k y h
+
+pub get-map_at : {X Y : Type 0} (g : X → Y) (xs : List X) (k : ℕ) (x : X) → slice_get xs k ≡ Some x
+    → slice_get (map g xs) k ≡ Some (g x)
+get-map_at g [] k x h = absurd (cc)
+get-map_at g (w ∷ xs) zero x h = let e : w ≡ x = cc in ap (λ v. Some (g v)) e
+get-map_at g (w ∷ xs) (suc k) x h = get-map_at g xs k x h
+
+get-range : (a n t : ℕ) → t < n → slice_get (range_with_len a n) t ≡ Some (a + t)
+get-range a zero t h = absurd (omega arith)
+get-range a (suc n) zero h = let e : a + 0 ≡ a = omega arith in rw e refl
+get-range a (suc n) (suc t) h =
+    let e : a + suc t ≡ a + 1 + t = omega arith in rw e (get-range (a + 1) n t (omega arith))
+
+get-filter : {X : Type 0} (p : X → Bool) (xs : List X) (k : ℕ) (x : X) → slice_get xs k ≡ Some x → p x ≡ true
+    → (j : ℕ) × (slice_get (filter p xs) j ≡ Some x)
+get-filter p [] k x h passes = absurd (cc)
+get-filter p (w ∷ xs) zero x h passes =
+    let e : w ≡ x = cc in (0, (let y : p w ≡ true = rw e passes in rw y h))
+get-filter {X} p (w ∷ xs) (suc k) x h passes =
+    let r = get-filter p xs k x h passes in
+    cond_both (p w) (w ∷ filter p xs) (filter p xs) (λ (zs : List X). (j : ℕ) × (slice_get zs j ≡ Some x))
+    (λ _. (suc r.0, r.1)) (λ _. r)
+
+-- a thread that is enabled is among the enabled ones
+pub among_enabled : {S : Type 0} (m : StepMachine S) → IsMachine m → (s r : S) (t : ℕ) → m.step s t ≡ Some r
+    → (j : ℕ) × (slice_get (enabled_threads m s) j ≡ Some t)
+among_enabled m machine s r t leads =
+    get-filter (λ (u : ℕ). is_some (m.step s u)) (range_with_len 0 m.threads) t t
+    (let e : 0 + t ≡ t = omega arith in get-range 0 m.threads t (machine.is_thread s r t leads) ∙ ap Some e)
+    (rw leads refl)

@@ -1,0 +1,92 @@
+-- Lists of cells and of numbers, end to end.
+use Rattle.std.proofs.Common.{◌≡◌, ℕ, zero, suc, ◌+◌, ◌<◌, ◌≤◌, ◌⊎◌, true, false, List, [], ◌∷◌, ◌++◌, length, refl}
+use Rattle.std.proofs.Common.{sym, ◌∙◌, ap, subst, inl, inr, arith, zero-add, add-zero}
+use Rattle.std.specs.Prelude.{nat_eq}
+use Rattle.std.specs.List.{AllZip, All, AllByRecursion, IsDistinct}
+use Rattle.std.proofs.lemmas.Bool.Decides.{eqb_tells}
+use Rattle.std.proofs.lemmas.List.Elements.{All-append, All-weaker, All-from_recursion, recursion_from_All}
+use Rattle.std.proofs.lemmas.Map.Keys.{IsDistinct-cons}
+use Rattle.tree_machine.specs.Cells.{Content, content_at}
+use Rattle.tree_machine.specs.Graphs.{numbers_from}
+
+-- ---- lists end to end
+
+pub content_front : (xs ys : List Content) (x : ℕ) → x < length xs → content_at (xs ++ ys) x ≡ content_at xs x
+content_front [] ys x l = absurd (omega arith)
+content_front (c ∷ xs) ys zero l = refl
+content_front (c ∷ xs) ys (suc x) l = content_front xs ys x (omega arith)
+
+pub content_back : (xs ys : List Content) (i : ℕ) → content_at (xs ++ ys) (length xs + i) ≡ content_at ys i
+content_back [] ys i = ap (content_at ys) (zero-add i)
+content_back (c ∷ xs) ys i =
+    let e : suc (length xs) + i ≡ suc (length xs + i) = omega arith in
+    ap (content_at ((c ∷ xs) ++ ys)) e ∙ content_back xs ys i
+
+pub zip_join : {A B : Type 0} (P : A → B → Type 0) (xs : List A) (ys : List B) (us : List A) (vs : List B)
+    → AllZip P xs ys
+    → AllZip P us vs → AllZip P (xs ++ us) (ys ++ vs)
+zip_join P [] [] us vs z w = w
+zip_join P [] (y ∷ ys) us vs z w = absurd z
+zip_join P (x ∷ xs) [] us vs z w = absurd z
+zip_join P (x ∷ xs) (y ∷ ys) us vs z w = (z.0, zip_join P xs ys us vs z.1 w)
+
+pub zip_split : (P : ℕ → ℕ → Type 0) (a f : ℕ) (us vs : List ℕ)
+    → AllZip P (numbers_from a f ++ us) (numbers_from a f ++ vs)
+    → AllZip P (numbers_from a f) (numbers_from a f) × AllZip P us vs
+zip_split P a zero us vs z = (tt, z)
+zip_split P a (suc f) us vs z = let r = zip_split P (suc a) f us vs z.1 in ((z.0, r.0), r.1)
+
+pub numbers_at : (P : ℕ → ℕ → Type 0) (a b n : ℕ) → AllZip P (numbers_from a n) (numbers_from b n) → (i : ℕ) → i < n
+    → P (a + i) (b + i)
+numbers_at P a b zero z i l = absurd (omega arith)
+numbers_at P a b (suc n) z zero l =
+    subst (λ x. P x (b + 0)) (sym (add-zero a)) (subst (λ y. P a y) (sym (add-zero b)) z.0)
+numbers_at P a b (suc n) z (suc i) l =
+    let e : suc a + i ≡ a + suc i = omega arith in
+    let f : suc b + i ≡ b + suc i = omega arith in
+    subst (λ x. P x (b + suc i)) e (subst (λ y. P (suc a + i) y) f (numbers_at P (suc a) (suc b) n z.1 i (omega arith)))
+
+pub numbers_zip : (P : ℕ → ℕ → Type 0) (a b n : ℕ) → ((i : ℕ) → i < n → P (a + i) (b + i))
+    → AllZip P (numbers_from a n) (numbers_from b n)
+numbers_zip P a b zero h = tt
+numbers_zip P a b (suc n) h = (
+  subst (λ x. P x b) (add-zero a) (subst (λ y. P (a + 0) y) (add-zero b) (h 0 (omega arith))),
+  numbers_zip P (suc a) (suc b) n (λ i l.
+      let e : a + suc i ≡ suc a + i = omega arith in
+      let f : b + suc i ≡ suc b + i = omega arith in
+      subst (λ x. P x (suc b + i)) e (subst (λ y. P (a + suc i) y) f (h (suc i) (omega arith)))),
+)
+
+pub numbers_all : (P : ℕ → Type 0) (a n : ℕ) → ((x : ℕ) → a ≤ x → x < a + n → P x) → All P (numbers_from a n)
+numbers_all P a n h = All-from_recursion P (numbers_from a n) (go a n h)
+  where
+    go : (a n : ℕ) → ((x : ℕ) → a ≤ x → x < a + n → P x) → AllByRecursion P (numbers_from a n)
+    go a zero h = tt
+    go a (suc n) h = (h a (omega arith) (omega arith), go (suc a) n (λ x l k. h x (omega arith) (omega arith)))
+
+apart_above : (a : ℕ) (xs : List ℕ) → All (λ x. a < x) xs → AllByRecursion (λ y. nat_eq a y ≡ false) xs
+apart_above a xs h =
+    recursion_from_All _ xs (All-weaker (λ x. a < x) (λ y. nat_eq a y ≡ false) (λ x l. go x l (eqb_tells a x)) xs h)
+  where
+    go : (x : ℕ) → a < x → ((nat_eq a x ≡ true) × (a ≡ x)) ⊎ ((nat_eq a x ≡ false) × (a ≡ x → ⊥)) → nat_eq a x ≡ false
+    go x l (inl e) = let same : a ≡ x = e.1 in absurd (omega arith)
+    go x l (inr e) = e.0
+
+pub distinct_none : IsDistinct nat_eq []
+unfolding IsDistinct
+distinct_none = tt
+
+pub numbers_distinct : (a f n t : ℕ) → a + f ≤ n → IsDistinct nat_eq (numbers_from a f ++ numbers_from n t)
+numbers_distinct a zero n t l = go n t
+  where
+    go : (n t : ℕ) → IsDistinct nat_eq (numbers_from n t)
+    go n zero = distinct_none
+    go n (suc t) =
+        IsDistinct-cons nat_eq n (numbers_from (suc n) t)
+        (apart_above n (numbers_from (suc n) t) (numbers_all (λ x. n < x) (suc n) t (λ x l k. l))) (go (suc n) t)
+numbers_distinct a (suc f) n t l =
+    IsDistinct-cons nat_eq a (numbers_from (suc a) f ++ numbers_from n t)
+    (apart_above a (numbers_from (suc a) f ++ numbers_from n t)
+    (All-append (λ x. a < x) (numbers_from (suc a) f) (numbers_from n t)
+    (numbers_all (λ x. a < x) (suc a) f (λ x l k. l)) (numbers_all (λ x. a < x) n t (λ x g k. omega arith))))
+    (numbers_distinct (suc a) f n t (omega arith))
