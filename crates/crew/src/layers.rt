@@ -10,6 +10,7 @@ use crate::tally::{Ledgers, Pieces, Tally};
 use crate::working::{Exploration, Layer, Stop, Worker, returns_of, round_of};
 use sched_program::OutOfMemory;
 use std::alloc::Global;
+use std::mem;
 use std::sync::{Mutex, Wait};
 use std::thread::Threads;
 use tree_machine::Machine;
@@ -73,7 +74,7 @@ impl<'a, J: Ledgers + Send + Sync, M: Machine, G: Gate, R: Threads + Wait + Sync
         &self,
         number: u16,
         workers: &mut [Worker<J>],
-        spent: &mut Option<Leads<M>>,
+        spent: &mut Leads<M>,
     ) -> Result<bool, OutOfMemory>
         requires some { 0 < length workers.old }
         requires few { length workers.old < 2 ^ 8 }
@@ -90,8 +91,7 @@ impl<'a, J: Ledgers + Send + Sync, M: Machine, G: Gate, R: Threads + Wait + Sync
         let (claims, seats) = Claims::new(self.alloc, leads.len(), workers.len())?;
         seat_all(&claims, workers, seats);
         let round = round_of(leads.len(), workers.len());
-        let before = spent.as_ref().map_or(0, |leads| leads.len());
-        let returns = returns_of(before, leads.len(), workers.len());
+        let returns = returns_of(spent.len(), leads.len(), round);
         let layer = Layer {
             alloc: self.alloc,
             machine: self.machine,
@@ -101,12 +101,12 @@ impl<'a, J: Ledgers + Send + Sync, M: Machine, G: Gate, R: Threads + Wait + Sync
             leads,
             claims,
             round,
-            spent: Mutex::new(spent.take()),
+            spent: Mutex::new(mem::replace(spent, Vec::new(self.alloc))),
             returns,
         };
         self.work_at_once(&layer, workers);
         let Layer { leads, .. } = layer;
-        *spent = Some(leads);
+        *spent = leads;
         Ok(true)
     }
 
@@ -115,7 +115,7 @@ impl<'a, J: Ledgers + Send + Sync, M: Machine, G: Gate, R: Threads + Wait + Sync
         requires some { 0 < length workers.old }
         requires few { length workers.old < 2 ^ 8 }
     {
-        let mut spent = None;
+        let mut spent = Vec::new(self.alloc);
         for number in 0..steps {
             if !self.expand_layer(number, workers, &mut spent)? {
                 return Ok(());

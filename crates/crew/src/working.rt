@@ -46,10 +46,10 @@ pub fn round_of(places: usize, workers: usize) -> usize
     (places / (8 * workers)).clamp(1, 8)
 }
 
-/// How many entries of the layer before the first worker gives back for each place that it draws in this one: so many
-/// that it comes to the end of both at about the same time.
-pub fn returns_of(spent: usize, places: usize, workers: usize) -> usize {
-    (spent.saturating_mul(workers) / places.max(1)).saturating_add(1)
+/// How many entries of the layer before a worker gives back before each round: so many that all workers together come
+/// to the end of these at about the time when they come to the end of their own layer.
+pub fn returns_of(spent: usize, places: usize, round: usize) -> usize {
+    (spent.saturating_mul(round) / places.max(1)).saturating_add(1)
 }
 
 /// The last of the rounds in which a worker draws places before it enters the expansions. In those before it
@@ -73,31 +73,6 @@ fn room_for<M: Machine>(
     Leftovers::with_room(alloc, steps)
 }
 
-/// What a worker uses up and uses again in one layer.
-#[derive(Drop)]
-struct Supplies<M: Machine> {
-    /// Entries of the layer before that are not given back yet.
-    spent: Option<Leads<M>>,
-    /// What the expansions are made in and of.
-    stock: Stock<M>,
-}
-
-impl<M: Machine> Supplies<M> {
-    /// Gives back so many entries of the layer before, as far as there are any. A state that nobody else holds goes to
-    /// the stock.
-    fn give_back(&mut self, count: usize) {
-        let Some(leads) = &mut self.spent else {
-            return;
-        };
-        for _each in 0..count {
-            let Some(lead) = leads.pop() else {
-                return;
-            };
-            self.stock.take_in(lead.state);
-        }
-    }
-}
-
 /// The entries of a layer, which are taken and can be expanded, and the counter of their places. Contracts see the
 /// counter.
 #[derive(Drop)]
@@ -113,9 +88,9 @@ pub struct Layer<'a, M: Machine> {
     pub claims: Claims,
     /// How many places a worker draws in one round.
     pub round: usize,
-    /// The entries of the layer before. The first worker to come gives them back as it goes.
-    pub spent: Mutex<Option<Leads<M>>>,
-    /// How many of them that worker gives back for each place that it draws.
+    /// The entries of the layer before that are not given back yet.
+    pub spent: Mutex<Leads<M>>,
+    /// How many of them a worker gives back before each round.
     pub returns: usize,
 }
 
@@ -154,15 +129,26 @@ impl<'a, M: Machine> Layer<'a, M> {
         Ok((lead.id, expansion))
     }
 
-    /// Draws the places of one round, fewer at the end of the layer, and makes the expansions there. For each, some
-    /// entries of the layer before are given back.
+    /// Gives back some entries of the layer before, as far as there are any. A state that nobody else holds goes to the
+    /// stock.
+    fn give_back(&self, rt: &impl Wait, stock: &mut Stock<M>) {
+        let mut spent = self.spent.lock(rt);
+        for _each in 0..self.returns {
+            let Some(lead) = spent.pop() else {
+                return;
+            };
+            stock.take_in(lead.state);
+        }
+    }
+
+    /// Draws the places of one round, fewer at the end of the layer, and makes the expansions there.
     fn draw<'l>(
         &'l self,
         gate: &impl Gate,
         number: u8,
         seat: &mut Seat,
         made: &mut Vec<(usize, Expansion<'l, M>)>,
-        supplies: &mut Supplies<M>,
+        stock: &mut Stock<M>,
     ) -> Result<(), OutOfMemory>
         requires seat { IsSeatOf self.now seat.old }
         ensures seat { IsSeatOf self.now seat.new }
@@ -171,8 +157,7 @@ impl<'a, M: Machine> Layer<'a, M> {
             let Some(place) = self.claims.claim(seat) else {
                 return Ok(());
             };
-            supplies.give_back(self.returns);
-            let one = self.expand(place, &mut supplies.stock)?;
+            let one = self.expand(place, stock)?;
             gate.arrive(number, self.number, place);
             made.push(one)?;
         }
@@ -232,15 +217,16 @@ impl<'a, J: Ledgers, M: Machine, G: Gate, R: Wait> Exploration<'a, J, M, G, R> {
         number: u8,
         seat: &mut Seat,
         tally: &mut Tally<J>,
-        supplies: &mut Supplies<M>,
+        stock: &mut Stock<M>,
     ) -> Result<bool, Stop>
         requires seat { IsSeatOf layer.now seat.old }
         ensures seat { IsSeatOf layer.now seat.new }
     {
         let mut made = Vec::new(self.alloc);
         for round in 0..=LAST_ROUND {
+            layer.give_back(self.rt, stock);
             if layer
-                .draw(self.gate, number, seat, &mut made, supplies)
+                .draw(self.gate, number, seat, &mut made, stock)
                 .is_err()
             {
                 return Err(Stop::OutOfMemory);
@@ -253,7 +239,7 @@ impl<'a, J: Ledgers, M: Machine, G: Gate, R: Wait> Exploration<'a, J, M, G, R> {
             };
             if let Some(desk) = self.desk_in(round) {
                 self.enter_all(desk, made, tally, &mut leftovers)?;
-                supplies.stock.take_leftovers(leftovers);
+                stock.take_leftovers(leftovers);
                 return Ok(true);
             }
         }
@@ -273,12 +259,9 @@ impl<'a, J: Ledgers, M: Machine, G: Gate, R: Wait> Exploration<'a, J, M, G, R> {
         let Some(seat) = seat else {
             return;
         };
-        let mut supplies = Supplies {
-            spent: layer.spent.lock(self.rt).take(),
-            stock: Stock::new(self.alloc),
-        };
+        let mut stock = Stock::new(self.alloc);
         for _turn in 0..=layer.leads.len() {
-            match self.turn(layer, *number, seat, tally, &mut supplies) {
+            match self.turn(layer, *number, seat, tally, &mut stock) {
                 Ok(true) => {}
                 Ok(false) => return,
                 Err(why) => {
