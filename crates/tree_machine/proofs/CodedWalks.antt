@@ -19,6 +19,7 @@ use Rattle.tree_machine.specs.Parts.{parts_held}
 use Rattle.tree_machine.specs.Written.{Written, with_cell, with_part}
 use Rattle.tree_machine.specs.Laws.Parts.{content_map, length-parts_graph, parts_fit}
 use Rattle.tree_machine.specs.Flat.{cell_code, flat}
+use Rattle.tree_machine.proofs.Lists.{take_whole}
 use Rattle.tree_machine.proofs.Passes.{places_kept}
 use Rattle.tree_machine.proofs.Walks.{past_none, met_in_done, met_in_end}
 
@@ -75,12 +76,6 @@ take_at : (xs : List ℕ) (n x : ℕ) → slice_get xs n ≡ Some x → take (su
 take_at [] n x e = cc
 take_at (y ∷ xs) zero x e = let same : y ≡ x = cc in ap (λ z. z ∷ []) same
 take_at (y ∷ xs) (suc n) x e = ap (λ l. y ∷ l) (take_at xs n x e)
-
-pub take_whole : (xs : List ℕ) (n : ℕ) → length xs ≤ n → take n xs ≡ xs
-take_whole [] zero l = refl
-take_whole [] (suc n) l = refl
-take_whole (x ∷ xs) zero l = absurd (omega arith)
-take_whole (x ∷ xs) (suc n) l = ap (λ l. x ∷ l) (take_whole xs n (omega arith))
 
 -- the first n cells of the order, in bytes
 abbrev front_code : List Content → List ℕ → ℕ → List ℕ
