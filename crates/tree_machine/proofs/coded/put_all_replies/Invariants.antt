@@ -1,4 +1,4 @@
-use Rattle.std.proofs.Common.{◌≡◌, ◌++◌, ◌∷◌, [], length, take}
+use Rattle.std.proofs.Common.{◌≡◌, ◌++◌, ◌∷◌, length, take}
 use Rattle.std.specs.List.{flat_map}
 use Rattle.tree_machine.specs.FormCode.{list_code, reply_code}
 use Rattle.tree_machine.proofs.coded.put_all_replies.Given as goal

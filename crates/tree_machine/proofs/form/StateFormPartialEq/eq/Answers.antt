@@ -1,4 +1,4 @@
-use Rattle.std.proofs.Common.{rules, ◌≡◌, ◌∙◌, ap, nat_eq}
+use Rattle.std.proofs.Common.{rules, ◌≡◌, ◌∙◌, nat_eq}
 use Rattle.std.specs.Cmp.Lexicographic.{pointwise}
 use Rattle.tree_machine.specs.FormCode.{content_code}
 use Rattle.tree_machine.specs.Laws.FormCode.{content_same}

@@ -1,4 +1,3 @@
-use Rattle.std.proofs.Common.{◌≡◌}
 use Rattle.tree_machine.proofs.Forms.{held_in_range}
 use Rattle.tree_machine.proofs.state.State.form_in.Goals as goal
 
