@@ -89,7 +89,7 @@ fn are_below(mut places: Vec<usize>, len: usize) -> Result<bool, OutOfMemory> {
 }
 
 /// Threads with a seat each draw every place once, and a spent seat is told so again.
-#[tactic(auto, using(crew::proofs::ClaimTurns::one_part_each))]
+#[tactic(auto, using(crew::proofs::ClaimTurns::one_each))]
 fn draw_each_once<R: Abort + Threads + Sync>(
     rt: &R,
     alloc: Global,
@@ -138,7 +138,7 @@ fn no_place_is_drawn_of_none(rt: HostRuntime) {
 }
 
 /// A counter is closed where one of two seats drew one place.
-#[tactic(auto, using(crew::proofs::ClaimTurns::one_part_each))]
+#[tactic(auto, using(crew::proofs::ClaimTurns::one_each))]
 fn draw_one(rt: &impl Abort, alloc: Global) -> Result<(), OutOfMemory> {
     let (claims, mut seats) = Claims::new(alloc, 3, 2)?;
     assert_eq!(rt; claims.claim(&mut seats[0]), Some(0));
