@@ -20,7 +20,8 @@ use Rattle.tree_machine.specs.declared.machine.Outcome.TheVariants.{Goes, Replie
 use Rattle.tree_machine.specs.declared.state.Thread.{Thread}
 use Rattle.tree_machine.specs.declared.state.State.{State}
 use Rattle.tree_machine.proofs.States.{step_parts}
-use Rattle.book.proofs.EntryLemmas.{get_within, get_at}
+use Rattle.tree_machine.proofs.Lists.{get_at}
+use Rattle.book.proofs.EntryLemmas.{get_within}
 use Rattle.book.proofs.Loans.{value_at-left, value_at-right, named_thread, all_named_from, grown_value, map-set}
 use Rattle.book.proofs.Loans.{get_set, get_map, more_notes, pushed_there}
 

@@ -3,12 +3,13 @@ use Rattle.std.proofs.Common.{◌≡◌, ◌≢◌, ℕ, zero, suc, ◌+◌, ◌
 use Rattle.std.proofs.Common.{Some, None, List, [], ◌∷◌, ◌++◌, length, map, refl, sym, ap, ◌∙◌, arith, slice_get}
 use Rattle.std.proofs.Common.{position, length-append, subst}
 use Rattle.std.proofs.lemmas.Bool.{true≢false, cases_lt, not-false}
+use Rattle.tree_machine.proofs.Lists.{get-append_cases, get-append_left, get_at}
 use Rattle.book.specs.declared.entry.Mark.{Mark}
 use Rattle.book.specs.declared.entry.Mark.TheVariants.{Open, Taken, Expanded}
 use Rattle.book.specs.Entries.{Entry, Successor, At, IsTaken, is_open, is_expanded, opened, with_mark}
 use Rattle.book.specs.Findings.{is_sound}
 use Rattle.book.specs.Slots.{IsFirstLeft, AreCursors}
-use Rattle.book.proofs.EntryLemmas.{at-with_mark, length-with_mark, get-append_cases, get-append_left, get_at}
+use Rattle.book.proofs.EntryLemmas.{at-with_mark, length-with_mark}
 use Rattle.book.proofs.EntryLemmas.{get_within}
 use Rattle.book.proofs.Next.{first_passes, none_passes}
 use Rattle.book.proofs.Marks.{expanded_fails, left_passes, open_fails, open_from, open_passes}

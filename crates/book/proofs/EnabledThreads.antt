@@ -5,19 +5,6 @@ use Rattle.std.specs.List.{range_with_len}
 use Rattle.std.proofs.lemmas.Bool.{cond_both}
 use Rattle.book.specs.Schedule.{StepMachine, IsMachine, enabled_threads}
 
--- what stands at a place of a mapped list comes from what stands there in the list
-pub get-map_from : {X Y : Type 0} (g : X → Y) (xs : List X) (k : ℕ) (y : Y) → slice_get (map g xs) k ≡ Some y
-    → (x : X) × (slice_get xs k ≡ Some x) × (y ≡ g x)
-get-map_from g [] k y h = absurd (cc)
-get-map_from g (x ∷ xs) zero y h = (x, refl, (cc))
-get-map_from g (x ∷ xs) (suc k) y h = get-map_from g xs k y h
-
-pub get-map_at : {X Y : Type 0} (g : X → Y) (xs : List X) (k : ℕ) (x : X) → slice_get xs k ≡ Some x
-    → slice_get (map g xs) k ≡ Some (g x)
-get-map_at g [] k x h = absurd (cc)
-get-map_at g (w ∷ xs) zero x h = let e : w ≡ x = cc in ap (λ v. Some (g v)) e
-get-map_at g (w ∷ xs) (suc k) x h = get-map_at g xs k x h
-
 get-range : (a n t : ℕ) → t < n → slice_get (range_with_len a n) t ≡ Some (a + t)
 get-range a zero t h = absurd (omega arith)
 get-range a (suc n) zero h = let e : a + 0 ≡ a = omega arith in rw e refl

@@ -5,6 +5,7 @@ use Rattle.std.proofs.Common.{length-append, subst}
 use Rattle.std.proofs.lemmas.Bool.{cond_both}
 use Rattle.std.proofs.Math.ListN.{length-map}
 use Rattle.sched_program.specs.Program.{Program}
+use Rattle.tree_machine.proofs.Lists.{get-append_left}
 use Rattle.book.specs.declared.book.Entered.{Entered}
 use Rattle.book.specs.declared.book.EnterFault.{EnterFault}
 use Rattle.book.specs.declared.book.EnterFault.TheVariants.{NotTaken, Stranger, Full, OutOfMemory}
@@ -15,7 +16,7 @@ use Rattle.book.specs.Schedule.{StepMachine, IsMachine, Merges}
 use Rattle.book.specs.Entries.{Entry, Successor, Steps, Contents, At, Enters, IsOwn, IsTaken, Refuses, with_mark}
 use Rattle.book.specs.Entries.{with_successors, knows, unknown, opened, states}
 use Rattle.book.specs.Law.{IsLawfulBook, IsExpansion}
-use Rattle.book.proofs.EntryLemmas.{get_within, get-append_left}
+use Rattle.book.proofs.EntryLemmas.{get_within}
 use Rattle.book.proofs.LawfulBooks.{entered_book, met_fits}
 
 -- an entry's machine and state are its own

@@ -4,20 +4,10 @@ use Rattle.std.proofs.Common.{length, refl, sym, ap, ◌∙◌, append_assoc, ap
 use Rattle.std.proofs.lemmas.List.Sums.{sum_by-cons}
 use Rattle.book.specs.declared.entry.Mark.{Mark}
 use Rattle.book.specs.declared.entry.Mark.TheVariants.{Open, Taken, Expanded}
+use Rattle.tree_machine.proofs.Lists.{get-append_left, get-append_right, get-append_cases, get_at}
 use Rattle.book.specs.Entries.{Entry, At, is_open, is_taken, is_expanded, with_mark}
 
 module _ {X : Type 0} where
-  pub get-append_left : (xs ys : List X) (i : ℕ) (x : X) → slice_get xs i ≡ Some x → slice_get (xs ++ ys) i ≡ Some x
-  get-append_left [] ys i x h = cc
-  get-append_left (y ∷ xs) ys zero x h = h
-  get-append_left (y ∷ xs) ys (suc i) x h = get-append_left xs ys i x h
-
-  pub get-append_right : (xs ys : List X) (k : ℕ) (x : X) → slice_get ys k ≡ Some x
-      → slice_get (xs ++ ys) (length xs + k) ≡ Some x
-  get-append_right [] ys k x h = let e : 0 + k ≡ k = omega arith in rw e h
-  get-append_right (y ∷ xs) ys k x h = let e : suc (length xs) + k ≡ suc (length xs + k) = omega arith in
-      rw e (get-append_right xs ys k x h)
-
   -- the first of those that are left of a list, once some have been taken
   pub get-next : (taken left all : List X) (x : X) (more : List X) → taken ++ left ≡ all → left ≡ x ∷ more
       → slice_get all (length taken + 0) ≡ Some x
@@ -35,26 +25,10 @@ module _ {X : Type 0} where
   all_taken taken [] all rest none = sym (append-nil taken) ∙ rest
   all_taken taken (x ∷ left) all rest none = absurd (let q : suc (length left) ≡ 0 = none in cc)
 
-  -- an element of two lists in a row is one of the first, or one of the second
-  pub get-append_cases : (xs ys : List X) (i : ℕ) (x : X) → slice_get (xs ++ ys) i ≡ Some x → (slice_get xs i ≡ Some x)
-      ⊎ ((k : ℕ) × (i ≡ length xs + k) × (slice_get ys k ≡ Some x))
-  get-append_cases [] ys i x h = inr (i, omega arith, h)
-  get-append_cases (y ∷ xs) ys zero x h = inl h
-  get-append_cases (y ∷ xs) ys (suc i) x h =
-      elim (get-append_cases xs ys i x h) [
-        | inl l ↦ inl l
-        | inr r ↦ inr (r.0, (let e : i ≡ length xs + r.0 = r.1 in omega arith), r.2)
-      ]
-
   pub get_within : (xs : List X) (i : ℕ) (x : X) → slice_get xs i ≡ Some x → i < length xs
   get_within [] i x h = cc
   get_within (y ∷ xs) zero x h = omega arith
   get_within (y ∷ xs) (suc i) x h = let l : i < length xs = get_within xs i x h in omega arith
-
-  pub get_at : (xs : List X) (i : ℕ) → i < length xs → (x : X) × (slice_get xs i ≡ Some x)
-  get_at [] i h = absurd (omega arith)
-  get_at (y ∷ xs) zero h = (y, refl)
-  get_at (y ∷ xs) (suc i) h = get_at xs i (omega arith)
 
   pub get_none : (xs : List X) (i : ℕ) → length xs ≤ i → slice_get xs i ≡ None
   get_none [] i h = refl

@@ -4,11 +4,11 @@ use Rattle.std.proofs.Common.{filter, refl, sym, ap, ◌∙◌, arith, slice_get
 use Rattle.std.specs.List.{range_with_len}
 use Rattle.std.proofs.lemmas.List.{map_push}
 use Rattle.std.proofs.lemmas.List.Elements.{filter-append}
+use Rattle.tree_machine.proofs.Lists.{get-append_cases}
 use Rattle.book.specs.declared.finding.Finding.{Finding}
 use Rattle.book.specs.Schedule.{StepMachine}
 use Rattle.book.specs.Entries.{Successor}
 use Rattle.book.specs.Law.{IsExpansion}
-use Rattle.book.proofs.EntryLemmas.{get-append_cases}
 
 get-single : {X : Type 0} (x : X) (k : ℕ) (y : X) → slice_get (x ∷ []) k ≡ Some y → x ≡ y
 get-single x zero y h = cc

@@ -5,6 +5,7 @@ use Rattle.std.proofs.Common.{◌∙◌, arith, slice_get, subst}
 use Rattle.std.proofs.Math.Seq.{take-length}
 use Rattle.std.proofs.lemmas.Bool.{cases_lt}
 use Rattle.std.proofs.lemmas.List.{map-append, take-append-drop}
+use Rattle.tree_machine.proofs.Lists.{get_at}
 use Rattle.book.specs.declared.entry.Mark.{Mark}
 use Rattle.book.specs.declared.entry.Mark.TheVariants.{Open, Taken, Expanded}
 use Rattle.book.specs.declared.entry.Row.{Row}
@@ -12,7 +13,7 @@ use Rattle.book.specs.Entries.{Entry, At, is_expanded, is_open, states, with_mar
 use Rattle.book.specs.Labels.{Labelled}
 use Rattle.book.specs.Slots.{AreCursors, IsFirstLeft, IsGrown, IsLeft, AreHeld, StayHeld}
 use Rattle.book.proofs.Cursors.{still_expanded}
-use Rattle.book.proofs.EntryLemmas.{get_at, length-with_mark}
+use Rattle.book.proofs.EntryLemmas.{length-with_mark}
 use Rattle.book.proofs.Marks.{left_by, not_expanded_from, open_from, open_left, taken_left}
 use Rattle.book.proofs.Next.{first_passes}
 use Rattle.book.proofs.SlotLemmas.{take_kept}

@@ -7,6 +7,7 @@ use Rattle.std.specs.declared.sync.Arc.{Arc}
 use Rattle.tree_machine.specs.Rules.{Rules}
 use Rattle.tree_machine.specs.Step.{Fits}
 use Rattle.tree_machine.specs.declared.state.State.{State}
+use Rattle.tree_machine.proofs.Lists.{get_at}
 use Rattle.book.specs.declared.entry.Mark.TheVariants.{Taken}
 use Rattle.book.specs.declared.entry.Origin.{Origin}
 use Rattle.book.specs.Books.{machine_in, right_in, counted_as_one, IsBook}
@@ -19,7 +20,6 @@ use Rattle.book.specs.Layers.{IsExpandedTo, IsLeftTo}
 use Rattle.book.specs.Ways.{IsWay}
 use Rattle.book.specs.Schedule.{after}
 use Rattle.book.proofs.Coverage.{stands_along}
-use Rattle.book.proofs.EntryLemmas.{get_at}
 use Rattle.book.proofs.Growth.{all_expanded, few_steps, is_left, none_left}
 use Rattle.book.proofs.LawfulBooks.{taken_book}
 use Rattle.book.proofs.Next.{next_from, no_next_expanded, no_next_later, no_next_open}

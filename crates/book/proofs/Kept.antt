@@ -2,17 +2,17 @@
 use Rattle.std.proofs.Common.{◌≡◌, ◌≢◌, ℕ, ◌+◌, ◌<◌, ◌≤◌, ◌⊎◌, inl, inr, Bool, true, false, Some, List, ◌++◌, length}
 use Rattle.std.proofs.Common.{map, refl, sym, ap, ◌∙◌, arith, slice_get, subst}
 use Rattle.std.proofs.lemmas.Bool.{true≢false}
+use Rattle.tree_machine.proofs.Lists.{get-append_cases, get-append_left, get-append_right, get-map, map-get}
 use Rattle.book.specs.declared.finding.Finding.{Finding}
 use Rattle.book.specs.declared.entry.Mark.TheVariants.{Open, Taken, Expanded}
 use Rattle.book.specs.Schedule.{StepMachine, IsMachine, Merges}
 use Rattle.book.specs.Entries.{Entry, Successor, At, IsNext, with_mark, with_successors, unknown, opened, states}
 use Rattle.book.specs.Layers.{GrowsFrom, NoneTaken}
 use Rattle.book.specs.Law.{StandsFor, IsStep, IsLawful, IsExpansion}
-use Rattle.book.proofs.EntryLemmas.{SameButMark, at-with_mark, with_mark-at, length-with_mark, get-append_cases}
-use Rattle.book.proofs.EntryLemmas.{get-append_left, get-append_right, get_within}
+use Rattle.book.proofs.EntryLemmas.{SameButMark, at-with_mark, with_mark-at, length-with_mark, get_within}
 use Rattle.book.proofs.Unknown.{list_any-true, list_any-false, at-states, states-at, unknown_is, unknown_apart}
 use Rattle.book.proofs.Unknown.{known_or_kept}
-use Rattle.book.proofs.EnabledThreads.{get-map_from, get-map_at, among_enabled}
+use Rattle.book.proofs.EnabledThreads.{among_enabled}
 
 module _ {S : Type 0} (m : StepMachine S) (same : S → S → Bool) (right : S → Finding → Type 0)
     (machine : IsMachine m) (merges : Merges m same) where
@@ -126,7 +126,7 @@ module _ {S : Type 0} (m : StepMachine S) (same : S → S → Bool) (right : S �
     unfolding all new
     where_is j f at = elim (get-append_cases (with_mark es i Expanded) (map (opened i) fresh) j f at) [
       | inl l ↦ (let o = at-with_mark es i Expanded j f l in Old o.0 o.1 o.2 o.3)
-      | inr r ↦ (let o = get-map_from (opened i) fresh r.0 f r.2 in
+      | inr r ↦ (let o = get-map (opened i) fresh r.0 f r.2 in
           New r.0 o.0 (let q : j ≡ length (with_mark es i Expanded) + r.0 = r.1 in
           let z : length (with_mark es i Expanded) ≡ length es = length-with_mark es i Expanded in
           omega arith) o.1 o.2)
@@ -142,7 +142,7 @@ module _ {S : Type 0} (m : StepMachine S) (same : S → S → Bool) (right : S �
     unfolding all new
     new_at k y at = let z : length (with_mark es i Expanded) ≡ length es = length-with_mark es i Expanded in
         rw (← z) (get-append_right (with_mark es i Expanded) (map (opened i) fresh) k (opened i y)
-        (get-map_at (opened i) fresh k y at))
+        (map-get (opened i) fresh k y at))
 
     -- each new one is a step of e, by its thread
     fresh_step : (k : ℕ) (y : Successor S) → slice_get fresh k ≡ Some y → m.step e.state y.thread ≡ Some y.state
@@ -173,7 +173,7 @@ module _ {S : Type 0} (m : StepMachine S) (same : S → S → Bool) (right : S �
         × (x.thread ≡ t)
     among t s leads =
         let j = among_enabled m machine e.state s t leads in
-        let o = get-map_from (λ (x : Successor S). x.thread) xs j.0 t
+        let o = get-map (λ (x : Successor S). x.thread) xs j.0 t
         (ap (λ (ys : List ℕ). slice_get ys j.0) expansion.threads ∙ j.1) in
         (j.0, o.0, o.1, sym o.2)
 

@@ -6,13 +6,14 @@ use Rattle.std.proofs.lemmas.Bool.{true≢false, cases_lt, lt-ltb}
 use Rattle.std.proofs.lemmas.Option.{get_or_from_slice_get, slice_get_read}
 use Rattle.std.proofs.lemmas.List.Quantifiers.{position-Some}
 use Rattle.std.proofs.lemmas.List.Sums.{fails_before_first}
+use Rattle.tree_machine.proofs.Lists.{get_at}
 use Rattle.book.specs.declared.finding.Finding.{Finding}
 use Rattle.book.specs.declared.entry.Mark.{Mark}
 use Rattle.book.specs.declared.entry.Mark.TheVariants.{Open, Taken, Expanded}
 use Rattle.book.specs.Schedule.{StepMachine}
 use Rattle.book.specs.Entries.{Entry, At, IsNext, is_open, is_expanded}
 use Rattle.book.specs.Law.{IsLawful}
-use Rattle.book.proofs.EntryLemmas.{get_at, get_within}
+use Rattle.book.proofs.EntryLemmas.{get_within}
 use Rattle.book.proofs.Marks.{expanded_from, not_expanded_from, open_passes}
 
 module _ {X : Type 0} (p : X → Bool) where

@@ -5,6 +5,7 @@ use Rattle.std.specs.List.{range_with_len}
 use Rattle.std.specs.declared.sync.Arc.{Arc}
 use Rattle.std.proofs.lemmas.Bool.{true≢false, cases_lt}
 use Rattle.std.proofs.lemmas.List.{map_push}
+use Rattle.tree_machine.proofs.Lists.{get_at, get-append_cases}
 use Rattle.book.specs.declared.finding.Finding.{Finding}
 use Rattle.book.specs.declared.entry.Mark.{Mark}
 use Rattle.book.specs.declared.entry.Mark.TheVariants.{Open, Taken, Expanded}
@@ -12,7 +13,7 @@ use Rattle.book.specs.Schedule.{StepMachine, IsMachine, Merges}
 use Rattle.book.specs.Entries.{Entry, Contents, At, IsNext, TakesLayer, is_open, with_mark, with_marks}
 use Rattle.book.specs.Law.{IsLawfulBook}
 use Rattle.book.specs.Slots.{AllStates, AreCursors, AreStatesOf, IsOpenFrom}
-use Rattle.book.proofs.EntryLemmas.{at-with_mark, length-with_mark, get_at, get-append_cases}
+use Rattle.book.proofs.EntryLemmas.{at-with_mark, length-with_mark}
 use Rattle.book.proofs.Expanding.{range-more}
 use Rattle.book.proofs.Next.{first_passes}
 use Rattle.book.proofs.Cursors.{open_at, cursors_taken}

@@ -4,6 +4,7 @@ use Rattle.std.proofs.Common.{sym, ap, ◌∙◌, arith, subst, slice_get, lengt
 use Rattle.std.proofs.Math.ListN.{length-map}
 use Rattle.std.proofs.lemmas.List.{length_push}
 use Rattle.std.proofs.lemmas.List.Sums.{count_by-le-length}
+use Rattle.tree_machine.proofs.Lists.{get-append_cases}
 use Rattle.book.specs.declared.finding.Finding.{Finding}
 use Rattle.book.specs.declared.entry.Mark.{Mark}
 use Rattle.book.specs.declared.entry.Mark.TheVariants.{Open, Taken, Expanded}
@@ -12,7 +13,7 @@ use Rattle.book.specs.Entries.{Entry, Successor, At, with_mark, with_successors,
 use Rattle.book.specs.Law.{IsLawful, IsExpansion}
 use Rattle.book.specs.Layers.{IsShallow, IsExpandedBelow}
 use Rattle.book.specs.Counts.{IsCount, IsMoreThan}
-use Rattle.book.proofs.EntryLemmas.{get-append_cases, at-with_mark, get_within}
+use Rattle.book.proofs.EntryLemmas.{at-with_mark, get_within}
 use Rattle.book.proofs.Unknown.{at-states, unknown_is}
 use Rattle.book.proofs.Counts.{recorded, run_push, count_is, count_to_is}
 use Rattle.book.proofs.Ways.{steps_after}

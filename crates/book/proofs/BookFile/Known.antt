@@ -12,11 +12,12 @@ use Rattle.tree_machine.specs.Alike.{AreStatesAlike, FormContent, state_form}
 use Rattle.tree_machine.specs.Step.{start, step, Fits}
 use Rattle.tree_machine.specs.declared.state.State.{State}
 use Rattle.tree_machine.proofs.Forms.{forms_alike, alike_turned}
+use Rattle.tree_machine.proofs.Lists.{get-append_left, get-append_right}
 use Rattle.book.specs.Closed.{AreClosed, IsAlikeToOneOf}
 use Rattle.book.specs.Schedule.{IsMachine}
 use Rattle.book.specs.Findings.{machine_of}
 use Rattle.book.proofs.Machines.{is_machine}
-use Rattle.book.proofs.EntryLemmas.{get-append_left, get-append_right, get_within}
+use Rattle.book.proofs.EntryLemmas.{get_within}
 use Rattle.book.specs.BookFile.Closing.{IsFirstOpen}
 use Rattle.book.specs.BookFile.Forms.{AreFormsOf, AreStepsKnown, IsStepUnknown}
 use Rattle.book.specs.declared.file.fault.CheckFault.TheVariants.{Open}

@@ -9,11 +9,12 @@ use Rattle.tree_machine.specs.Alike.{AreStatesAlike}
 use Rattle.tree_machine.specs.Step.{start, Fits}
 use Rattle.tree_machine.specs.declared.state.State.{State}
 use Rattle.tree_machine.proofs.Forms.{alike_itself}
+use Rattle.tree_machine.proofs.Lists.{get-append_cases, get-append_left}
 use Rattle.book.specs.Closed.{IsAlikeToOneOf}
 use Rattle.book.specs.Schedule.{IsMachine}
 use Rattle.book.specs.Findings.{machine_of}
 use Rattle.book.proofs.Machines.{is_machine, step_counts}
-use Rattle.book.proofs.EntryLemmas.{get-append_cases, get-append_left, get_within}
+use Rattle.book.proofs.EntryLemmas.{get_within}
 use Rattle.book.specs.declared.file.line.Line.{Line}
 use Rattle.book.specs.declared.file.fault.CheckFault.{CheckFault}
 use Rattle.book.specs.declared.file.fault.CheckFault.TheVariants.{OutOfMemory}

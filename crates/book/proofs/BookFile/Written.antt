@@ -18,6 +18,7 @@ use Rattle.tree_machine.specs.declared.state.Thread.{Thread}
 use Rattle.tree_machine.specs.declared.state.State.{State}
 use Rattle.tree_machine.proofs.Forms.{forms_alike}
 use Rattle.lin.specs.Linearization.{IsLinearization}
+use Rattle.tree_machine.proofs.Lists.{get-append_left, get-append_right, get_at}
 use Rattle.book.specs.declared.entry.Origin.{Origin}
 use Rattle.book.specs.declared.finding.Finding.{Finding}
 use Rattle.book.specs.declared.finding.Finding.TheVariants as found
@@ -28,7 +29,6 @@ use Rattle.book.specs.Schedule.{IsMachine, Merges}
 use Rattle.book.proofs.Closed.{worked_out_closed}
 use Rattle.book.specs.Closed.{AreClosed, IsWorkedOut, IsClosed, AreSound}
 use Rattle.book.specs.Books.{counted_as_one, machine_in, right_in, IsLawfulIn}
-use Rattle.book.proofs.EntryLemmas.{get-append_left, get-append_right, get_at}
 use Rattle.book.proofs.Unknown.{states-at}
 use Rattle.book.specs.declared.file.line.Line.{Line}
 use Rattle.book.specs.BookFile.Replays.{IsWell, IsShown, Tells, Continues}

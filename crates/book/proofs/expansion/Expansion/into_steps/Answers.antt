@@ -1,14 +1,14 @@
 use Rattle.std.proofs.Common.{◌≡◌, sym, subst, rules}
 use denote.Enum.Bare.{same_true}
 use Rattle.tree_machine.specs.Alike.{state_form}
+use Rattle.tree_machine.proofs.Lists.{map-get}
 use Rattle.book.specs.contracts.book.Merge.{the_type}
 use Rattle.book.specs.Labels.{AreStepsKnownBy, bare, form_by}
-use Rattle.book.proofs.EnabledThreads.{get-map_at}
 use Rattle.book.proofs.expansion.Expansion.into_steps.Goals as goal
 
 pub labelled-requires-after_bounds : goal.labelled-requires-after_bounds
 labelled-requires-after_bounds g c =
-    λ κs o k x at. c.self.invariant.0.fit k (bare x) (get-map_at bare c.self.inside.successors.items k x at)
+    λ κs o k x at. c.self.invariant.0.fit k (bare x) (map-get bare c.self.inside.successors.items k x at)
 
 pub returns-then-eq-clause-known : goal.returns-then-eq-clause-known
 returns-then-eq-clause-known g c =

@@ -1,11 +1,11 @@
 use Rattle.std.proofs.Common.{◌≡◌, ◌<◌, ◌≤◌, None, Some, [], ◌∷◌, ◌++◌, ◌∙◌, length, take, sym, ap, subst, arith}
 use Rattle.std.proofs.Common.{slice_get}
 use Rattle.std.proofs.lemmas.List.{take_all}
+use Rattle.tree_machine.proofs.Lists.{get_at}
 use Rattle.book.specs.Text.Files.{ended}
 use Rattle.book.specs.Text.Written.{head_text}
 use Rattle.book.specs.declared.finding.Finding.{Finding}
 use Rattle.book.specs.BookFile.Writing.{FindsOrder, IsLineOf}
-use Rattle.book.proofs.EntryLemmas.{get_at}
 use Rattle.book.proofs.BookFile.Writable.{HasWritten, written_none, written_next, written_all}
 use Rattle.book.proofs.file.writing.write_entries.Goals as goal
 

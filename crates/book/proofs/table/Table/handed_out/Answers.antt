@@ -1,6 +1,6 @@
 use Rattle.std.proofs.Common.{◌<◌, ◌≤◌, ℕ, ◌∙◌, arith, length, sym, refl, Global}
 use Rattle.std.specs.declared.sync.Arc.{Arc}
-use Rattle.book.proofs.EntryLemmas.{get_at}
+use Rattle.tree_machine.proofs.Lists.{get_at}
 use Rattle.book.proofs.Holding.{opened_is_left}
 use Rattle.book.proofs.Ranges.{numbers_more, states_more}
 use Rattle.book.proofs.table.Table.handed_out.Goals as goal
