@@ -45,16 +45,16 @@ word_record (word.Mark r) = Some r
 
 -- a node names its children, and the record of its update word
 abbrev pub node_part : Node → Part
-node_part (Leaf k) = record { facts = 0 ∷ k ∷ []; nodes = []; records = [] }
+node_part (Leaf k) = record { facts = k ∷ []; nodes = []; records = [] }
 node_part (Internal k u l r) =
-    record { facts = 1 ∷ k ∷ word_number u ∷ []; nodes = Some l ∷ Some r ∷ []; records = word_record u ∷ [] }
+    record { facts = k ∷ word_number u ∷ []; nodes = Some l ∷ Some r ∷ []; records = word_record u ∷ [] }
 
 -- a record names its nodes, and the record of the update word that it holds
 abbrev pub record_part : Record → Part
-record_part (Ins i) = record { facts = 0 ∷ []; nodes = Some i.parent ∷ Some i.leaf ∷ Some i.new ∷ []; records = [] }
+record_part (Ins i) = record { facts = []; nodes = Some i.parent ∷ Some i.leaf ∷ Some i.new ∷ []; records = [] }
 record_part (Del d) =
     record {
-      facts = 1 ∷ word_number d.parent_update ∷ [];
+      facts = word_number d.parent_update ∷ [];
       nodes = Some d.grandparent ∷ Some d.parent ∷ Some d.leaf ∷ [];
       records = word_record d.parent_update ∷ [];
     }

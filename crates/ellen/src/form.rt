@@ -53,14 +53,14 @@ fn write_node(node: Node, writer: &mut Writer) -> Result<(), OutOfMemory>
     ensures { OnOk result (writer.new ≡ with_part writer.old (node_part node)) }
 {
     match node {
-        Node::Leaf { key } => writer.put(&[0, u64::from(key)], &[], &[]),
+        Node::Leaf { key } => writer.put(&[u64::from(key)], &[], &[]),
         Node::Internal {
             key,
             update,
             left,
             right,
         } => writer.put(
-            &[1, u64::from(key), word_number(update)],
+            &[u64::from(key), word_number(update)],
             &[named(left), named(right)],
             &[word_record(update)],
         ),
@@ -74,12 +74,12 @@ fn write_record(kept: Record, writer: &mut Writer) -> Result<(), OutOfMemory>
 {
     match kept {
         Record::Ins(insert) => writer.put(
-            &[0],
+            &[],
             &[named(insert.parent), named(insert.leaf), named(insert.new)],
             &[],
         ),
         Record::Del(delete) => writer.put(
-            &[1, word_number(delete.parent_update)],
+            &[word_number(delete.parent_update)],
             &[
                 named(delete.grandparent),
                 named(delete.parent),

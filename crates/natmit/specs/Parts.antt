@@ -1,9 +1,10 @@
 -- The nodes and what the threads hold in parts: the numbers of nodes stand apart from all else.
-use Rattle.std.specs.Prelude.{ℕ, Bool, if◌then◌else◌, List, [], ◌∷◌, map, Option, Some, None}
+use Rattle.std.specs.Prelude.{ℕ, ◌+◌, ◌*◌, Bool, if◌then◌else◌, List, [], ◌∷◌, map, Option, Some, None}
 use Rattle.tree_machine.specs.declared.search_order.Side.{Side}
 use Rattle.tree_machine.specs.declared.search_order.Side.TheVariants.{Left, Right}
 use Rattle.tree_machine.specs.Flat.{flat_form}
 use Rattle.tree_machine.specs.Parts.{Part, Parts}
+use Rattle.natmit.specs.declared.memory.Word.{Word}
 use Rattle.natmit.specs.declared.memory.Node.{Node}
 use Rattle.natmit.specs.declared.memory.Node.TheVariants.{Leaf, Internal}
 use Rattle.natmit.specs.declared.memory.NatMitMem.{NatMitMem}
@@ -29,11 +30,15 @@ owned (Owner o) = Some o
 abbrev pub part_of : List ℕ → List (Option ℕ) → Part
 part_of facts nodes = record { facts = facts; nodes = nodes; records = [] }
 
--- the kind, the key, and the children with their flags and tags
+-- the flag and the tag of a child word
+abbrev pub mark_number : Word → ℕ
+mark_number w = bit w.flag + 2 * bit w.tag
+
+-- the key, and of an internal node the children with their flags and tags
 abbrev pub node_part : Node → Part
-node_part (Leaf k) = part_of (0 ∷ k ∷ []) []
+node_part (Leaf k) = part_of (k ∷ []) []
 node_part (Internal k l r) =
-    part_of (1 ∷ k ∷ bit l.flag ∷ bit l.tag ∷ bit r.flag ∷ bit r.tag ∷ []) (Some l.node ∷ Some r.node ∷ [])
+    part_of (k ∷ (mark_number l + 4 * mark_number r) ∷ []) (Some l.node ∷ Some r.node ∷ [])
 
 -- which place it is, and its locals
 abbrev pub place_part : NatMitLoc → Part
@@ -49,7 +54,7 @@ place_part (Swing a s f x m) = part_of (9 ∷ bit f ∷ []) (Some a ∷ Some s �
 
 -- a thread between operations holds nothing
 abbrev pub held_part : Option NatMitLoc → Part
-held_part None = part_of (0 ∷ []) []
+held_part None = part_of [] []
 held_part (Some place) = place_part place
 
 abbrev pub natmit_parts : NatMitMem → List (Option NatMitLoc) → Parts

@@ -1,12 +1,12 @@
 //! A memory with the places that the threads hold, as parts: the numbers of nodes stand apart from all else.
-ghost use Rattle.std.specs.Prelude.{◌≡◌, ◌∷◌, [], Some, OnOk};
+ghost use Rattle.std.specs.Prelude.{◌≡◌, ◌<◌, ◌∷◌, [], Some, OnOk};
 ghost use Rattle.tree_machine.specs.Alike.{places_of};
 ghost use Rattle.tree_machine.specs.Parts.{IsPartBelow};
 ghost use Rattle.tree_machine.specs.Written.{with_part};
-ghost use Rattle.natmit.specs.Parts.{side_number, owned, part_of, node_part, place_part, natmit_parts};
+ghost use Rattle.natmit.specs.Parts.{mark_number, side_number, owned, part_of, node_part, place_part, natmit_parts};
 ghost use Rattle.natmit.specs.Table.{IsHelping};
 
-use crate::memory::{NatMitMem, Node};
+use crate::memory::{NatMitMem, Node, Word};
 use crate::place::{Mode, NatMitLoc};
 use sched_program::OutOfMemory;
 use tree_machine::{Parts, Side, Thread, Writer};
@@ -37,22 +37,23 @@ fn owned(mode: Mode) -> Option<usize>
     }
 }
 
-/// Writes a node: its kind, its key, and its children with their flags and tags.
+/// The number that tells the flag and the tag of a child word.
+fn mark_number(word: Word) -> u64
+    ensures number { result ≡ mark_number word }
+    ensures small { result < 4 }
+{
+    u64::from(word.flag) + 2 * u64::from(word.tag)
+}
+
+/// Writes a node: its key, and of an internal one its children with their flags and tags.
 fn write_node(node: Node, writer: &mut Writer) -> Result<(), OutOfMemory>
     requires { IsPartBelow writer.old.nodes writer.old.records (node_part node) }
     ensures { OnOk result (writer.new ≡ with_part writer.old (node_part node)) }
 {
     match node {
-        Node::Leaf { key } => writer.put(&[0, u64::from(key)], &[], &[]),
+        Node::Leaf { key } => writer.put(&[u64::from(key)], &[], &[]),
         Node::Internal { key, left, right } => writer.put(
-            &[
-                1,
-                u64::from(key),
-                u64::from(left.flag),
-                u64::from(left.tag),
-                u64::from(right.flag),
-                u64::from(right.tag),
-            ],
+            &[u64::from(key), mark_number(left) + 4 * mark_number(right)],
             &[named(left.node), named(right.node)],
             &[],
         ),
@@ -220,7 +221,7 @@ impl Parts for Snapshot<'_> {
     fn write_held(&self, index: usize, writer: &mut Writer) -> Result<(), OutOfMemory> {
         match self.threads[index].place {
             Some(place) => write_place(place, writer),
-            None => writer.put(&[0], &[], &[]),
+            None => writer.put(&[], &[], &[]),
         }
     }
 }

@@ -215,7 +215,7 @@ part_below n m i j parts x e f h =
 -- where the cell was written, the walk made a visit
 pub cell_visited : (old new : Written) (cells : List Content) (roots before : List ℕ) (n x : ℕ)
     → old.order ≡ met_in cells roots n → old.bytes ≡ before ++ code_in cells roots n → slice_get old.order n ≡ Some x
-    → record new { kind = 0 } ≡ with_cell (record old { kind = 0 }) (content_at cells x) →
+    → new ≡ with_cell old (content_at cells x) →
     (new.order ≡ met_in cells roots (n + 1)) × (new.bytes ≡ before ++ code_in cells roots (n + 1))
 cell_visited old new cells roots before n x e b at is =
     let c = content_at cells x in
@@ -226,56 +226,52 @@ cell_visited old new cells roots before n x e b at is =
     (bytes ∙ ap (λ o. old.bytes ++ cell_code (renamed o c)) (sym order))
 
 -- what a writer has once it wrote a part
-pub is_written : (w : Written) (n r k : ℕ) (order bytes after more : List ℕ) (p : Part)
-    → record { nodes = n; records = r; kind = k; order = order; bytes = bytes } ≡ w
-    → after ≡ met_all order (part_cell n k p).refs → more ≡ bytes ++ cell_code (renamed after (part_cell n k p)) →
-    record { nodes = n; records = r; kind = k; order = after; bytes = more } ≡ with_part w p
-is_written w n r k order bytes after more p v e f =
-    let c = part_cell n k p in
+pub is_written : (w : Written) (n r : ℕ) (order bytes after more : List ℕ) (p : Part)
+    → record { nodes = n; records = r; order = order; bytes = bytes } ≡ w
+    → after ≡ met_all order (part_cell n p).refs → more ≡ bytes ++ cell_code (renamed after (part_cell n p)) →
+    record { nodes = n; records = r; order = after; bytes = more } ≡ with_part w p
+is_written w n r order bytes after more p v e f =
+    let c = part_cell n p in
     let put : more ≡ bytes ++ cell_code (renamed (met_all order c.refs) c) =
     f ∙ ap (λ o. bytes ++ cell_code (renamed o c)) e in
-    let there : record { nodes = n; records = r; kind = k; order = after; bytes = more }
-    ≡ with_part (record { nodes = n; records = r; kind = k; order = order; bytes = bytes }) p =
-    λ i. record { nodes = n; records = r; kind = k; order = e i; bytes = put i } in
+    let there : record { nodes = n; records = r; order = after; bytes = more }
+    ≡ with_part (record { nodes = n; records = r; order = order; bytes = bytes }) p =
+    λ i. record { nodes = n; records = r; order = e i; bytes = put i } in
     there ∙ ap (λ (o : Written). with_part o p) v
 
--- a part that is written as a cell of its kind
-pub cell_written : (old begun new : Written) (kind n : ℕ) (p : Part) (c : Content) → begun ≡ record old { kind = kind }
-    → new ≡ with_part begun p → old.nodes ≡ n → c ≡ part_cell n kind p
-    → record new { kind = 0 } ≡ with_cell (record old { kind = 0 }) c
-cell_written old begun new kind n p c b w e is =
-    let cell : part_cell old.nodes kind p ≡ c = ap (λ m. part_cell m kind p) e ∙ sym is in
-    ap (λ (w : Written). record w { kind = 0 }) (w ∙ ap (λ (o : Written). with_part o p) b)
-    ∙ ap (with_cell (record old { kind = 0 })) cell
+-- a part that is written is the cell that it is
+pub cell_written : (old new : Written) (n : ℕ) (p : Part) (c : Content) → new ≡ with_part old p → old.nodes ≡ n
+    → c ≡ part_cell n p → new ≡ with_cell old c
+cell_written old new n p c w e is = w ∙ ap (with_cell old) (ap (λ m. part_cell m p) e ∙ sym is)
 
 -- a node, a record and what a thread holds, among the cells
 module _ (s : Parts) (x n r : ℕ) (e : n ≡ length s.nodes) where
   pub node_cell_at : x < n → content_at (parts_graph s ++ parts_held s) x
-      ≡ part_cell (length s.nodes) 0 (part_at s.nodes x)
+      ≡ part_cell (length s.nodes) (part_at s.nodes x)
   node_cell_at l =
-      let of_nodes = map (part_cell (length s.nodes) 0) s.nodes in
-      let of_records = map (part_cell (length s.nodes) 1) s.records in
+      let of_nodes = map (part_cell (length s.nodes)) s.nodes in
+      let of_records = map (part_cell (length s.nodes)) s.records in
       let within : x < length s.nodes = omega arith in
-      let first : x < length of_nodes = omega (arith, length-map s.nodes (part_cell (length s.nodes) 0)) in
+      let first : x < length of_nodes = omega (arith, length-map s.nodes (part_cell (length s.nodes))) in
       let graph : x < length (parts_graph s) = omega (arith, length-parts_graph s) in
       content_front (parts_graph s) (parts_held s) x graph
-      ∙ (content_front of_nodes of_records x first ∙ content_map (part_cell (length s.nodes) 0) s.nodes x within)
+      ∙ (content_front of_nodes of_records x first ∙ content_map (part_cell (length s.nodes)) s.nodes x within)
 
   module _ (f : r ≡ length s.records) where
     pub record_cell_at : n ≤ x → x - n < r
-        → content_at (parts_graph s ++ parts_held s) x ≡ part_cell (length s.nodes) 1 (part_at s.records (x - n))
+        → content_at (parts_graph s ++ parts_held s) x ≡ part_cell (length s.nodes) (part_at s.records (x - n))
     record_cell_at l k =
-        let of_nodes = map (part_cell (length s.nodes) 0) s.nodes in
-        let of_records = map (part_cell (length s.nodes) 1) s.records in
+        let of_nodes = map (part_cell (length s.nodes)) s.nodes in
+        let of_records = map (part_cell (length s.nodes)) s.records in
         let graph : x < length (parts_graph s) = omega (arith, length-parts_graph s) in
-        let is : length of_nodes + (x - n) ≡ x = omega (arith, length-map s.nodes (part_cell (length s.nodes) 0)) in
+        let is : length of_nodes + (x - n) ≡ x = omega (arith, length-map s.nodes (part_cell (length s.nodes))) in
         content_front (parts_graph s) (parts_held s) x graph
         ∙ (ap (content_at (of_nodes ++ of_records)) (sym is)
         ∙ (content_back of_nodes of_records (x - n)
-        ∙ content_map (part_cell (length s.nodes) 1) s.records (x - n) (omega arith)))
+        ∙ content_map (part_cell (length s.nodes)) s.records (x - n) (omega arith)))
 
     pub held_cell_at : n ≤ x → r ≤ x - n → x < length (parts_graph s ++ parts_held s)
-        → content_at (parts_graph s ++ parts_held s) x ≡ part_cell (length s.nodes) 2 (part_at s.held (x - n - r))
+        → content_at (parts_graph s ++ parts_held s) x ≡ part_cell (length s.nodes) (part_at s.held (x - n - r))
     held_cell_at l k h =
         let graph : length (parts_graph s) ≡ length s.nodes + length s.records = length-parts_graph s in
         let is : length (parts_graph s) + (x - n - r) ≡ x = omega arith in
@@ -283,8 +279,8 @@ module _ (s : Parts) (x n r : ℕ) (e : n ≡ length s.nodes) where
         omega (
           arith,
           length-append (parts_graph s) (parts_held s),
-          length-map s.held (part_cell (length s.nodes) 2),
+          length-map s.held (part_cell (length s.nodes)),
         ) in
         ap (content_at (parts_graph s ++ parts_held s)) (sym is)
         ∙ (content_back (parts_graph s) (parts_held s) (x - n - r)
-        ∙ content_map (part_cell (length s.nodes) 2) s.held (x - n - r) within)
+        ∙ content_map (part_cell (length s.nodes)) s.held (x - n - r) within)

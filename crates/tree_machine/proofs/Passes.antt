@@ -17,7 +17,7 @@ use Rattle.tree_machine.specs.Laws.CellPlaces.{place_from_has, get_place}
 use Rattle.tree_machine.specs.Graphs.{numbers_from}
 use Rattle.tree_machine.specs.Laws.Graphs.{numbers_more}
 use Rattle.tree_machine.specs.Laws.CellLists.{numbers_all}
-use Rattle.tree_machine.specs.Flat.{number_code, reference_number, counted_codes, cell_code}
+use Rattle.tree_machine.specs.Flat.{number_code, reference_number, facts_code, cell_code}
 
 -- ---- a range of cells
 
@@ -171,42 +171,9 @@ places_code_append order refs sefs =
     ∙ flat_map-append number_code (map reference_number (map (option_and_then (place_in order)) refs))
     (map reference_number (map (option_and_then (place_in order)) sefs)))
 
-facts_code : (facts : List ℕ) (kind named : ℕ) → counted_codes (kind ∷ named ∷ facts) ≡ number_code (length facts + 2)
-    ++ (number_code kind ++ (number_code named ++ flat_map number_code facts))
-facts_code facts kind named =
-    let count : suc (suc (length facts)) ≡ length facts + 2 = omega arith in
-    ap (λ n. number_code n ++ flat_map number_code (kind ∷ named ∷ facts)) count
-    ∙ ap (λ l. number_code (length facts + 2) ++ l)
-    (flat_map-cons number_code kind (named ∷ facts)
-    ∙ ap (λ l. number_code kind ++ l) (flat_map-cons number_code named facts))
-
-references_code : (order : List ℕ) (refs sefs : List (Option ℕ))
-    → counted_codes (map reference_number (map (option_and_then (place_in order)) (refs ++ sefs)))
-    ≡ number_code (length refs + length sefs) ++ (places_code order refs ++ places_code order sefs)
-references_code order refs sefs =
-    let count : length (map reference_number (map (option_and_then (place_in order)) (refs ++ sefs)))
-    ≡ length refs + length sefs =
-    length-map (map (option_and_then (place_in order)) (refs ++ sefs)) reference_number
-    ∙ (length-map (refs ++ sefs) (option_and_then (place_in order)) ∙ length-append refs sefs) in
-    ap (λ n. number_code n ++ places_code order (refs ++ sefs)) count
-    ∙ ap (λ l. number_code (length refs + length sefs) ++ l) (places_code_append order refs sefs)
-
 -- what is put behind what was put
 joined : (x y z a b : List ℕ) → y ≡ x ++ a → z ≡ y ++ b → z ≡ x ++ (a ++ b)
 joined x y z a b e f = f ∙ (ap (λ l. l ++ b) e ∙ append_assoc x a b)
-
--- facts, number by number
-pub facts_written : (kind named count : ℕ) (facts b c d e f : List ℕ) → count ≡ length facts
-    → c ≡ b ++ number_code (count + 2) → d ≡ c ++ number_code kind → e ≡ d ++ number_code named
-    → f ≡ e ++ flat_map number_code facts →
-    f ≡ b ++ counted_codes (kind ∷ named ∷ facts)
-facts_written kind named count facts b c d e f is_count h1 h2 h3 h4 =
-    let g1 : c ≡ b ++ number_code (length facts + 2) = h1 ∙ ap (λ n. b ++ number_code (n + 2)) is_count in
-    joined b c f (number_code (length facts + 2))
-    (number_code kind ++ (number_code named ++ flat_map number_code facts)) g1
-    (joined c d f (number_code kind) (number_code named ++ flat_map number_code facts) h2
-    (joined d e f (number_code named) (flat_map number_code facts) h3 h4))
-    ∙ ap (λ l. b ++ l) (sym (facts_code facts kind named))
 
 -- references that are written one list after the other, in places of the order after both
 lists_met : (order first second : List ℕ) (xs ys : List (Option ℕ)) → first ≡ met_all order xs
@@ -229,45 +196,40 @@ lists_written order first second b c d xs ys e f g h =
     )
 
 -- a part, in the pieces in which it is written
-pub part_written : (n kind named : ℕ) (facts : List ℕ) (nodes records more : List (Option ℕ))
-    (order first second third b c d e f g : List ℕ) → named ≡ length nodes + length records + length more →
+pub part_written : (n named : ℕ) (facts : List ℕ) (nodes records more : List (Option ℕ))
+    (order first second third b c e f g : List ℕ) → named ≡ length nodes + length records + length more →
     first ≡ met_all order (shifted 0 nodes) → second ≡ met_all first (shifted n records)
     → third ≡ met_all second (shifted n more) →
-    c ≡ b ++ counted_codes (kind ∷ length nodes ∷ facts) → d ≡ c ++ number_code named
-    → e ≡ d ++ places_code first (shifted 0 nodes) → f ≡ e ++ places_code second (shifted n records)
+    c ≡ b ++ facts_code (length nodes ∷ facts) named
+    → e ≡ c ++ places_code first (shifted 0 nodes) → f ≡ e ++ places_code second (shifted n records)
     → g ≡ f ++ places_code third (shifted n more) →
     (third ≡ met_all order (nodes ++ shifted n (records ++ more)))
     × (g ≡ b
-    ++ cell_code
-    (renamed third (record { facts = kind ∷ length nodes ∷ facts; refs = nodes ++ shifted n (records ++ more) })))
-part_written n kind named facts nodes records more order first second third b c d e f g is_named m1 m2 m3 h1 h2 h3 h4
-    h5 =
+    ++ cell_code (renamed third (record { facts = length nodes ∷ facts; refs = nodes ++ shifted n (records ++ more) })))
+part_written n named facts nodes records more order first second third b c e f g is_named m1 m2 m3 h1 h3 h4 h5 =
+    let refs = nodes ++ shifted n (records ++ more) in
     let apart : shifted n (records ++ more) ≡ shifted n records ++ shifted n more =
     map-append (option_map (λ x. n + x)) records more in
     let n1 : first ≡ met_all order nodes = m1 ∙ ap (met_all order) (shifted_by_none nodes) in
-    let g3 : e ≡ d ++ places_code first nodes = h3 ∙ ap (λ l. d ++ places_code first l) (shifted_by_none nodes) in
+    let g3 : e ≡ c ++ places_code first nodes = h3 ∙ ap (λ l. c ++ places_code first l) (shifted_by_none nodes) in
     let both = lists_written first second third e f g (shifted n records) (shifted n more) m2 m3 h4 h5 in
     let m4 : third ≡ met_all first (shifted n (records ++ more)) = both.0 ∙ ap (met_all first) (sym apart) in
     let h6 : g ≡ e ++ places_code third (shifted n (records ++ more)) =
     both.1 ∙ ap (λ l. e ++ places_code third l) (sym apart) in
-    let all = lists_written order first third d e g nodes (shifted n (records ++ more)) n1 m4 g3 h6 in
-    let count : named ≡ length nodes + length (shifted n (records ++ more)) =
-    omega (arith, is_named, length-map (records ++ more) (option_map (λ x. n + x)), length-append records more) in
-    let refs : counted_codes
-    (map reference_number (map (option_and_then (place_in third)) (nodes ++ shifted n (records ++ more))))
-    ≡ number_code named ++ places_code third (nodes ++ shifted n (records ++ more)) =
-    references_code third nodes (shifted n (records ++ more))
-    ∙ (ap (λ k. number_code k ++ (places_code third nodes ++ places_code third (shifted n (records ++ more))))
-    (sym count) ∙ ap (λ l. number_code named ++ l)
-    (sym (places_code_append third nodes (shifted n (records ++ more))))) in
-    let rest : g ≡ c
-    ++ counted_codes
-    (map reference_number (map (option_and_then (place_in third)) (nodes ++ shifted n (records ++ more)))) =
-    joined c d g (number_code named) (places_code third (nodes ++ shifted n (records ++ more))) h2 all.1
-    ∙ ap (λ l. c ++ l) (sym refs) in (
+    let all = lists_written order first third c e g nodes (shifted n (records ++ more)) n1 m4 g3 h6 in
+    let count : named ≡ length (map (option_and_then (place_in third)) refs) =
+    omega (
+      arith,
+      is_named,
+      length-map refs (option_and_then (place_in third)),
+      length-append nodes (shifted n (records ++ more)),
+      length-map (records ++ more) (option_map (λ x. n + x)),
+      length-append records more,
+    ) in
+    let h2 : c ≡ b ++ facts_code (length nodes ∷ facts) (length (map (option_and_then (place_in third)) refs)) =
+    h1 ∙ ap (λ k. b ++ facts_code (length nodes ∷ facts) k) count in (
       all.0,
-      joined b c g (counted_codes (kind ∷ length nodes ∷ facts))
-          (counted_codes
-          (map reference_number (map (option_and_then (place_in third)) (nodes ++ shifted n (records ++ more))))) h1
-          rest,
+      joined b c g
+          (facts_code (length nodes ∷ facts) (length (map (option_and_then (place_in third)) refs)))
+          (places_code third refs) h2 all.1,
     )

@@ -56,18 +56,18 @@ pub record ArePartsInRange (fixed : ℕ) (s : Parts) : Type 0 where
   pub records : All (IsPartBelow (length s.nodes) (length s.records)) s.records
   pub held : All (IsPartBelow (length s.nodes) (length s.records)) s.held
 
--- a part of this kind as a cell, where records stand behind n nodes
-abbrev pub part_cell : ℕ → ℕ → Part → Content
-part_cell n kind p =
-    record { facts = kind ∷ length p.nodes ∷ p.facts; refs = p.nodes ++ map (option_map (λ x. n + x)) p.records }
+-- a part as a cell, where records stand behind n nodes: how many nodes it names stands before its facts
+abbrev pub part_cell : ℕ → Part → Content
+part_cell n p =
+    record { facts = length p.nodes ∷ p.facts; refs = p.nodes ++ map (option_map (λ x. n + x)) p.records }
 
 -- the nodes and the records as cells
 abbrev pub parts_graph : Parts → List Content
-parts_graph s = map (part_cell (length s.nodes) 0) s.nodes ++ map (part_cell (length s.nodes) 1) s.records
+parts_graph s = map (part_cell (length s.nodes)) s.nodes ++ map (part_cell (length s.nodes)) s.records
 
 -- what the threads hold as cells
 abbrev pub parts_held : Parts → List Content
-parts_held s = map (part_cell (length s.nodes) 2) s.held
+parts_held s = map (part_cell (length s.nodes)) s.held
 
 -- the canonical cells of nodes, records and what the threads hold
 abbrev pub parts_form : ℕ → Parts → List Content

@@ -4,11 +4,10 @@ use Rattle.tree_machine.specs.Cells.{Content, met_all, renamed}
 use Rattle.tree_machine.specs.Parts.{Part, part_cell}
 use Rattle.tree_machine.specs.Flat.{cell_code}
 
--- how many nodes and records there are, the kind of the part that comes next, the cells met, and the bytes
+-- how many nodes and records there are, the cells met, and the bytes
 pub record Written : Type 0 where
   pub nodes : ℕ
   pub records : ℕ
-  pub kind : ℕ
   pub order : List ℕ
   pub bytes : List ℕ
 
@@ -19,4 +18,4 @@ with_cell w c =
 
 -- the same once a part is written
 abbrev pub with_part : Written → Part → Written
-with_part w p = with_cell w (part_cell w.nodes w.kind p)
+with_part w p = with_cell w (part_cell w.nodes p)

@@ -56,20 +56,16 @@ fn write_cell<P: Parts>(parts: &P, cell: usize, writer: &mut Writer) -> Result<(
     requires parts_in_range { (fixed : ℕ) × ArePartsInRange fixed (P.parts parts.now) }
     requires nodes { writer.old.nodes ≡ length (P.parts parts.now).nodes }
     requires records { writer.old.records ≡ length (P.parts parts.now).records }
-    ensures { OnOk result (record writer.new { kind = 0 }
-        ≡ with_cell (record writer.old { kind = 0 })
-        (content_at (parts_graph (P.parts parts.now) ++ parts_held (P.parts parts.now)) cell)) }
+    ensures { OnOk result (writer.new
+        ≡ with_cell writer.old (content_at (parts_graph (P.parts parts.now) ++ parts_held (P.parts parts.now)) cell)) }
 {
     let nodes = parts.node_count();
     let records = parts.record_count();
     if cell < nodes {
-        writer.begin(0);
         parts.write_node(cell, writer)
     } else if cell - nodes < records {
-        writer.begin(1);
         parts.write_record(cell - nodes, writer)
     } else {
-        writer.begin(2);
         parts.write_held(cell - nodes - records, writer)
     }
 }

@@ -6,7 +6,7 @@ ghost use Rattle.std.specs.Option.{option_map, option_and_then};
 ghost use Rattle.tree_machine.specs.Cells.{met_all, place_in, renamed};
 ghost use Rattle.tree_machine.specs.Graphs.{numbers_from};
 ghost use Rattle.tree_machine.specs.Parts.{IsPartBelow, part_cell};
-ghost use Rattle.tree_machine.specs.Flat.{number_code, counted_codes, reference_number, cell_code};
+ghost use Rattle.tree_machine.specs.Flat.{number_code, long_code, short_head, facts_code, reference_number, cell_code};
 ghost use Rattle.tree_machine.specs.Written.{with_part};
 
 use crate::cells::Numbering;
@@ -51,16 +51,55 @@ fn put_numbers(bytes: &mut Vec<u8>, numbers: &[u64]) -> Result<(), OutOfMemory>
     Ok(())
 }
 
-/// Puts facts behind bytes, as a cell of this kind that names so many nodes has them.
+/// What one byte tells of a part: how many nodes it names, how many facts it has, and how many nodes and records it
+/// names. None where they are more than that.
 #[inline(always)]
-fn put_facts(bytes: &mut Vec<u8>, kind: u64, nodes: usize, facts: &[u64]) -> Result<(), OutOfMemory>
-    ensures { OnOk result (bytes.new.items ≡ bytes.old.items ++ counted_codes (kind ∷ nodes ∷ facts.now)) }
+fn short_head(nodes: usize, facts: usize, named: usize) -> Option<u8>
+    ensures { result ≡ short_head nodes facts named }
 {
-    put_number(bytes, facts.len() as u64 + 2)?;
-    put_number(bytes, kind)?;
+    if nodes < 6 && facts < 5 && named < 8 {
+        Some((facts + 5 * nodes + 30 * named) as u8)
+    } else {
+        None
+    }
+}
+
+/// Puts facts behind bytes where no byte tells what stands before them.
+#[cold]
+#[inline(never)]
+fn put_many(
+    bytes: &mut Vec<u8>,
+    nodes: usize,
+    named: usize,
+    facts: &[u64],
+) -> Result<(), OutOfMemory>
+    ensures { OnOk result (bytes.new.items ≡ bytes.old.items ++ long_code (nodes ∷ facts.now) named) }
+{
+    bytes.push(255)?;
+    put_number(bytes, facts.len() as u64 + 1)?;
+    put_number(bytes, named as u64)?;
     put_number(bytes, nodes as u64)?;
     put_numbers(bytes, facts)?;
     Ok(())
+}
+
+/// Puts facts behind bytes, as a part has them that names so many nodes, and so many nodes and records.
+#[inline(always)]
+fn put_facts(
+    bytes: &mut Vec<u8>,
+    nodes: usize,
+    named: usize,
+    facts: &[u64],
+) -> Result<(), OutOfMemory>
+    ensures { OnOk result (bytes.new.items ≡ bytes.old.items ++ facts_code (nodes ∷ facts.now) named) }
+{
+    match short_head(nodes, facts.len(), named) {
+        Some(head) => {
+            bytes.push(head)?;
+            put_numbers(bytes, facts)
+        }
+        None => put_many(bytes, nodes, named, facts),
+    }
 }
 
 /// The cells met, and the cells visited, in bytes.
@@ -177,14 +216,12 @@ impl Pass {
 
 /// What parts are written to: the cells met so far, and the parts written so far, in bytes.
 ///
-/// Contracts see it as these two lists, with how many nodes and records there are, and the kind of the part that comes
-/// next.
+/// Contracts see it as these two lists, with how many nodes and records there are.
 #[derive(Drop)]
 pub struct Writer {
     pass: Pass,
     nodes: usize,
     records: usize,
-    kind: u64,
     ghost room: { nodes + records ≤ length pass.numbering.numbers.items },
 }
 
@@ -196,7 +233,6 @@ impl Model for Writer {
     ghost view = { λ w. record {
       nodes = w.nodes;
       records = w.records;
-      kind = w.kind;
       order = w.pass.numbering.order.items;
       bytes = w.pass.bytes.items;
     } };
@@ -228,15 +264,7 @@ impl Writer {
             pass,
             nodes,
             records,
-            kind: 0,
         })
-    }
-
-    /// The part that comes next is of this kind.
-    pub(crate) fn begin(&mut self, kind: u64)
-        ensures { self.new ≡ record self.old { kind = kind } }
-    {
-        self.kind = kind;
     }
 
     /// The cell that was met after so many others, if so many were met.
@@ -291,9 +319,8 @@ impl Writer {
             (record { facts = facts.now; nodes = nodes.now; records = records.now ++ map Some stack.now })) }
     {
         let behind = self.nodes;
-        put_facts(&mut self.pass.bytes, self.kind, nodes.len(), facts)?;
         let named = nodes.len() + records.len() + stack.len();
-        put_number(&mut self.pass.bytes, named as u64)?;
+        put_facts(&mut self.pass.bytes, nodes.len(), named, facts)?;
         self.pass.put_references(0, nodes)?;
         self.pass.put_references(behind, records)?;
         self.pass.put_cells(behind, stack)?;

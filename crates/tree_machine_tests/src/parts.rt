@@ -240,14 +240,15 @@ fn turned_ring(alloc: Global) -> Result<Bytes, OutOfMemory> {
 
 /// The form of both.
 ///
-/// Each cell: how many facts, then its kind, how many nodes it names, and its own facts; how many references, and each
-/// as its place and one, or 0 for none. Places: 0 the root, 1 and 2 the threads, 3 the node, 4 the record.
-const FORM: [u8; 34] = [
-    3, 0, 2, 255, 255, 1, 2, 4, 0, // the root, of fact 511
-    3, 2, 1, 2, 2, 4, 5, // what the first thread holds
-    2, 2, 0, 0, // what the second holds
-    3, 0, 1, 255, 45, 2, 1, 5, // the node, of fact 300
-    2, 1, 1, 2, 4, 0, // the record
+/// Each cell: a byte that tells how many facts it has, how many nodes it names (times 5), and how many nodes and records
+/// (times 30); its facts; each node or record as its place and one, or 0 for none. Places: 0 the root, 1 and 2 the
+/// threads, 3 the node, 4 the record.
+const FORM: [u8; 19] = [
+    71, 255, 255, 1, 4, 0, // the root, of fact 511
+    66, 2, 4, 5, // what the first thread holds
+    0, // what the second holds
+    66, 255, 45, 1, 5, // the node, of fact 300
+    65, 4, 0, // the record
 ];
 
 /// Whether a ring has the form that is written here, whatever its numbers are.
@@ -296,5 +297,55 @@ fn a_reference_that_one_side_has_tells_apart(rt: HostRuntime) {
     for (record, node) in OTHERS {
         let is_told = holds!(is_told_apart(rt.alloc(), &[511], record, node));
         assert!(&rt; is_told, "with {record:?} and {node:?}");
+    }
+}
+
+/// Facts, how many nodes and how many records a root names, none of which is there, and its bytes: the most that one
+/// byte tells, and one more of each. Behind a byte of 255 numbers tell it: how many facts, the first of which is how
+/// many nodes it names, and how many nodes and records.
+const ROOTS: &[(&[u64], usize, usize, &[u8])] = &[
+    (&[1, 2, 3, 4], 1, 0, &[39, 1, 2, 3, 4, 0]),
+    (&[1, 2, 3, 4, 5], 1, 0, &[255, 6, 1, 1, 1, 2, 3, 4, 5, 0]),
+    (&[9], 5, 0, &[176, 9, 0, 0, 0, 0, 0]),
+    (&[9], 6, 0, &[255, 2, 6, 6, 9, 0, 0, 0, 0, 0, 0]),
+    (&[], 3, 4, &[225, 0, 0, 0, 0, 0, 0, 0]),
+    (&[], 3, 5, &[255, 1, 8, 3, 0, 0, 0, 0, 0, 0, 0, 0]),
+];
+
+/// Eight times none.
+const NONE: &[Option<usize>] = &[None, None, None, None, None, None, None, None];
+
+/// Whether a root of these facts, which names so many nodes and records that are none, has these bytes.
+fn has_bytes(
+    alloc: Global,
+    facts: &'static [u64],
+    nodes: usize,
+    records: usize,
+    bytes: &[u8],
+) -> Result<bool, OutOfMemory> {
+    let (Some(nodes), Some(records)) = (NONE.get(..nodes), NONE.get(..records)) else {
+        return Ok(false);
+    };
+    let root = [Row {
+        facts,
+        nodes,
+        records,
+    }];
+    let form = form_of(
+        alloc,
+        &Tables {
+            nodes: &root,
+            records: &[],
+            held: &[],
+        },
+    )?;
+    Ok(form.as_slice() == bytes)
+}
+
+#[test]
+fn one_byte_tells_what_is_few(rt: HostRuntime) {
+    for (facts, nodes, records, bytes) in ROOTS {
+        let is_so = holds!(has_bytes(rt.alloc(), facts, *nodes, *records, bytes));
+        assert!(&rt; is_so, "with {facts:?}, {nodes} and {records}");
     }
 }

@@ -60,7 +60,7 @@ module _ (P R : ℕ → ℕ → Type 0) where
   -- ---- nodes and records
 
   node_to : (a b : Node) → AreNodesPaired P R a b → Parted (node_part a) (node_part b)
-  node_to (Leaf k) (Leaf j) h = record { facts = ap (λ x. 0 ∷ x ∷ []) h; nodes = tt; records = tt }
+  node_to (Leaf k) (Leaf j) h = record { facts = ap (λ x. x ∷ []) h; nodes = tt; records = tt }
   node_to (Internal k u l r) (Internal j v m s) h = let key = h.0 in let w = word_to u v h.1 in
       let kind = w.0 in record { facts = cc; nodes = (h.2, (h.3, tt)); records = (w.1, tt) }
   node_to _ _ h = absurd h
@@ -74,7 +74,7 @@ module _ (P R : ℕ → ℕ → Type 0) where
   record_to : (a b : Record) → AreRecordsPaired P R a b → Parted (record_part a) (record_part b)
   record_to (Ins i) (Ins j) h = record { facts = refl; nodes = (h.0, (h.1, (h.2, tt))); records = tt }
   record_to (Del d) (Del e) h = let w = word_to d.parent_update e.parent_update h.3 in
-      record { facts = ap (λ x. 1 ∷ x ∷ []) w.0; nodes = (h.0, (h.1, (h.2, tt))); records = (w.1, tt) }
+      record { facts = ap (λ x. x ∷ []) w.0; nodes = (h.0, (h.1, (h.2, tt))); records = (w.1, tt) }
   record_to _ _ h = absurd h
 
   record_from : (a b : Record) → Parted (record_part a) (record_part b) → AreRecordsPaired P R a b

@@ -1,6 +1,6 @@
 -- Parts are paired exactly if the nodes and what the threads hold are.
-use Rattle.std.specs.Prelude.{◌≡◌, ℕ, zero, suc, ◌<◌, ◌↔◌, Bool, true, false, List, [], ◌∷◌, map, length, refl, Option}
-use Rattle.std.specs.Prelude.{Some, None, unwrap_or}
+use Rattle.std.specs.Prelude.{◌≡◌, ℕ, zero, suc, ◌+◌, ◌*◌, ◌<◌, ◌↔◌, Bool, true, false, List, [], ◌∷◌, map, length}
+use Rattle.std.specs.Prelude.{refl, Option, Some, None, unwrap_or}
 use Rattle.std.specs.List.{AllZip}
 use Rattle.std.proofs.Common.{arith, sym, ◌∙◌, ap, subst}
 use Rattle.std.proofs.lemmas.List.{length-map}
@@ -10,6 +10,7 @@ use Rattle.tree_machine.specs.declared.search_order.Side.TheVariants.{Left, Righ
 use Rattle.tree_machine.specs.Cells.{IsPairedOrNone}
 use Rattle.tree_machine.specs.Pairing.{IsAmong, AreHeldPaired, AreAlike}
 use Rattle.tree_machine.specs.Parts.{Parts, part_at, ArePartsPaired, IsPartsPairing, CanPartsBePaired}
+use Rattle.natmit.specs.declared.memory.Word.{Word}
 use Rattle.natmit.specs.declared.memory.Node.{Node}
 use Rattle.natmit.specs.declared.memory.Node.TheVariants.{Leaf, Internal}
 use Rattle.natmit.specs.declared.memory.NatMitMem.{NatMitMem}
@@ -20,7 +21,8 @@ use Rattle.natmit.specs.declared.place.NatMitLoc.TheVariants.{Begin, Down, Put, 
 use Rattle.natmit.specs.declared.place.NatMitLoc.TheVariants.{Swing}
 use Rattle.natmit.specs.Memory.{node_at}
 use Rattle.natmit.specs.Pairs.{AreNodesPaired, AreModesPaired, ArePlacesPaired, AreMemoriesPaired, natmit_pairs}
-use Rattle.natmit.specs.Parts.{bit, side_number, owned, part_of, node_part, place_part, held_part, natmit_parts}
+use Rattle.natmit.specs.Parts.{bit, mark_number, side_number, owned, part_of, node_part, place_part, held_part}
+use Rattle.natmit.specs.Parts.{natmit_parts}
 
 -- ---- facts tell what they are of
 
@@ -29,6 +31,31 @@ bit_tells false false e = refl
 bit_tells false true e = absurd (omega arith)
 bit_tells true false e = absurd (omega arith)
 bit_tells true true e = refl
+
+-- the flags and the tags of two children
+marks_tell : (a b c d : Word) → mark_number a + 4 * mark_number b ≡ mark_number c + 4 * mark_number d
+    → (a.flag ≡ c.flag) × (a.tag ≡ c.tag) × (b.flag ≡ d.flag) × (b.tag ≡ d.tag)
+marks_tell a b c d e =
+    let same =
+    digits (bit a.flag) (bit a.tag) (bit b.flag) (bit b.tag) (bit c.flag) (bit c.tag) (bit d.flag) (bit d.tag)
+    (bit_small a.flag, bit_small a.tag, bit_small b.flag, bit_small b.tag)
+    (bit_small c.flag, bit_small c.tag, bit_small d.flag, bit_small d.tag) e in (
+      bit_tells a.flag c.flag same.0,
+      bit_tells a.tag c.tag same.1,
+      bit_tells b.flag d.flag same.2,
+      bit_tells b.tag d.tag same.3,
+    )
+  where
+    bit_small : (b : Bool) → bit b < 2
+    bit_small false = omega arith
+    bit_small true = omega arith
+
+    digits : (a b c d p q r s : ℕ) → (a < 2) × (b < 2) × (c < 2) × (d < 2) → (p < 2) × (q < 2) × (r < 2) × (s < 2)
+        → a + 2 * b + 4 * (c + 2 * d) ≡ p + 2 * q + 4 * (r + 2 * s) → (a ≡ p) × (b ≡ q) × (c ≡ r) × (d ≡ s)
+    digits a b c d p q r s h g e =
+        let h0 = h.0 in let h1 = h.1 in let h2 = h.2 in let h3 = h.3 in
+        let g0 = g.0 in let g1 = g.1 in let g2 = g.2 in let g3 = g.3 in
+        (omega arith, omega arith, omega arith, omega arith)
 
 side_tells : (a b : Side) → side_number a ≡ side_number b → a ≡ b
 side_tells Left Left e = refl
@@ -40,13 +67,14 @@ side_tells Right Right e = refl
 
 module _ (P R : ℕ → ℕ → Type 0) where
   parts_of_nodes : (a b : Node) → AreNodesPaired P a b → ArePartsPaired P R (node_part a) (node_part b)
-  parts_of_nodes (Leaf k) (Leaf j) h = record { facts = ap (λ x. 0 ∷ x ∷ []) h; nodes = tt; records = tt }
+  parts_of_nodes (Leaf k) (Leaf j) h = record { facts = ap (λ x. x ∷ []) h; nodes = tt; records = tt }
   parts_of_nodes (Internal k l r) (Internal j m s) h =
       let key : k ≡ j = h.0 in
       let left : (l.flag ≡ m.flag) × (l.tag ≡ m.tag) × P l.node m.node = h.1 in
       let right : (r.flag ≡ s.flag) × (r.tag ≡ s.tag) × P r.node s.node = h.2 in
       record {
-        facts = λ i. 1 ∷ key i ∷ bit (left.0 i) ∷ bit (left.1 i) ∷ bit (right.0 i) ∷ bit (right.1 i) ∷ [];
+        facts = λ i.
+            key i ∷ (bit (left.0 i) + 2 * bit (left.1 i) + 4 * (bit (right.0 i) + 2 * bit (right.1 i))) ∷ [];
         nodes = (left.2, (right.2, tt));
         records = tt;
       }
@@ -55,10 +83,11 @@ module _ (P R : ℕ → ℕ → Type 0) where
   nodes_of_parts : (a b : Node) → ArePartsPaired P R (node_part a) (node_part b) → AreNodesPaired P a b
   nodes_of_parts (Leaf k) (Leaf j) h = let f = h.facts in cc
   nodes_of_parts (Internal k l r) (Internal j m s) h =
-      let f = h.facts in (
+      let f = h.facts in
+      let marks = marks_tell l r m s (cc) in (
         (let e : k ≡ j = cc in e),
-        (bit_tells l.flag m.flag cc, bit_tells l.tag m.tag cc, h.nodes.0),
-        (bit_tells r.flag s.flag cc, bit_tells r.tag s.tag cc, h.nodes.1.0),
+        (marks.0, marks.1, h.nodes.0),
+        (marks.2, marks.3, h.nodes.1.0),
       )
   nodes_of_parts _ _ h = let f = h.facts in cc
 

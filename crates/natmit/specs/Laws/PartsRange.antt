@@ -56,7 +56,7 @@ module _ (n r : ℕ) where
   place_below (Swing a s f x m) h = three_below (9 ∷ bit f ∷ []) a s x m h
 
   held_below : (place : Option NatMitLoc) → IfSome place (IsPlaceIn n) → IsPartBelow n r (held_part place)
-  held_below None h = part_below (0 ∷ []) [] tt
+  held_below None h = part_below [] [] tt
   held_below (Some place) h = place_below place h
 
 pub parts_in_range : (memory : NatMitMem) (held : List (Option NatMitLoc)) → IsInRange memory

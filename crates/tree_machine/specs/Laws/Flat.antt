@@ -1,12 +1,14 @@
 -- Forms in bytes are equal exactly where the parts can be paired.
-use Rattle.std.proofs.Common.{◌≡◌, ℕ, zero, suc, ◌+◌, ◌*◌, ◌/◌, ◌%◌, ◌<◌, ◌↔◌, List, [], ◌∷◌, ◌++◌, map, length}
-use Rattle.std.proofs.Common.{replicate, refl, sym, ◌∙◌, ap, arith, append_assoc, length-append}
-use Rattle.std.specs.Prelude.{Option, Some, None}
+use Rattle.std.proofs.Common.{◌≡◌, ℕ, zero, suc, ◌+◌, ◌*◌, ◌/◌, ◌%◌, ◌<◌, ◌⊎◌, ◌↔◌, Bool, true, false, List, []}
+use Rattle.std.proofs.Common.{◌∷◌, ◌++◌, map, length, replicate, refl, sym, ◌∙◌, ap, inl, inr, arith, append_assoc}
+use Rattle.std.specs.Prelude.{Option, Some, None, nat_lt}
 use Rattle.std.specs.List.{flat_map}
 use Rattle.std.proofs.Math.Nat.{mod-lt, div-add-mod}
+use Rattle.std.proofs.lemmas.Bool.Decides.{nat_tests}
+use Rattle.std.proofs.lemmas.List.{length-map}
 use Rattle.std.proofs.lemmas.List.Concat.{flat_map-cons}
 use Rattle.tree_machine.specs.Cells.{Content}
-use Rattle.tree_machine.specs.Flat.{number_code, counted_codes, reference_number, cell_code, flat, flat_form}
+use Rattle.tree_machine.specs.Flat.{number_code, long_code, facts_code, reference_number, cell_code, flat, flat_form}
 use Rattle.tree_machine.specs.Parts.{Parts, ArePartsInRange, CanPartsBePaired}
 use Rattle.tree_machine.specs.Laws.Parts.{parts_exactly}
 
@@ -53,15 +55,103 @@ codes_split (n ∷ ns) (m ∷ ms) xs ys l e =
     codes_before n ns xs =
         ap (λ l. l ++ xs) (flat_map-cons number_code n ns) ∙ append_assoc (number_code n) (flat_map number_code ns) xs
 
-counted_before : (ns xs : List ℕ) → counted_codes ns ++ xs ≡ number_code (length ns) ++ (flat_map number_code ns ++ xs)
-counted_before ns xs = append_assoc (number_code (length ns)) (flat_map number_code ns) xs
+-- ---- facts
 
-counted_split : (ns ms xs ys : List ℕ) → counted_codes ns ++ xs ≡ counted_codes ms ++ ys → (ns ≡ ms) × (xs ≡ ys)
-counted_split ns ms xs ys e =
+-- facts that a head of one byte tells, or the long code of all
+Told : List ℕ → ℕ → Type 0
+Told facts refs =
+    ((first : ℕ) × (more : List ℕ) × (facts ≡ first ∷ more) × (first < 6) × (length more < 5) × (refs < 8)
+    × (facts_code facts refs ≡ (length more + 5 * first + 30 * refs) ∷ flat_map number_code more))
+    ⊎ (facts_code facts refs ≡ long_code facts refs)
+
+facts_told : (facts : List ℕ) (refs : ℕ) → Told facts refs
+unfolding Told
+facts_told [] refs = inr refl
+facts_told (first ∷ more) refs =
+    go (nat_lt first 6) (nat_lt (length more) 5) (nat_lt refs 8) refl refl refl
+  where
+    go : (a b c : Bool) → nat_lt first 6 ≡ a → nat_lt (length more) 5 ≡ b → nat_lt refs 8 ≡ c
+        → Told (first ∷ more) refs
+    go true true true e f g = inl (
+      first,
+      more,
+      refl,
+      grind (arith, nat_tests),
+      grind (arith, nat_tests),
+      grind (arith, nat_tests),
+      rw (e, f, g) refl,
+    )
+    go true true false e f g = inr (rw (e, f, g) refl)
+    go true false c e f g = inr (rw (e, f) refl)
+    go false b c e f g = inr (rw e refl)
+
+long_before : (facts : List ℕ) (refs : ℕ) (xs : List ℕ) → long_code facts refs ++ xs
+    ≡ 255 ∷ (number_code (length facts) ++ (number_code refs ++ (flat_map number_code facts ++ xs)))
+long_before facts refs xs =
+    ap (λ l. 255 ∷ l)
+    (append_assoc (number_code (length facts)) (number_code refs ++ flat_map number_code facts) xs
+    ∙ ap (λ l. number_code (length facts) ++ l) (append_assoc (number_code refs) (flat_map number_code facts) xs))
+
+long_split : (fs gs : List ℕ) (r s : ℕ) (xs ys : List ℕ) → long_code fs r ++ xs ≡ long_code gs s ++ ys
+    → (fs ≡ gs) × (r ≡ s) × (xs ≡ ys)
+long_split fs gs r s xs ys e =
+    let whole = sym (long_before fs r xs) ∙ (e ∙ long_before gs s ys) in
+    let behind : number_code (length fs) ++ (number_code r ++ (flat_map number_code fs ++ xs))
+    ≡ number_code (length gs) ++ (number_code s ++ (flat_map number_code gs ++ ys)) = cc in
     let lengths =
-    number_split (length ns) (length ms) (flat_map number_code ns ++ xs) (flat_map number_code ms ++ ys)
-    (sym (counted_before ns xs) ∙ (e ∙ counted_before ms ys)) in
-    codes_split ns ms xs ys lengths.0 lengths.1
+    number_split (length fs) (length gs) (number_code r ++ (flat_map number_code fs ++ xs))
+    (number_code s ++ (flat_map number_code gs ++ ys)) behind in
+    let refs = number_split r s (flat_map number_code fs ++ xs) (flat_map number_code gs ++ ys) lengths.1 in
+    let facts = codes_split fs gs xs ys lengths.0 refs.1 in
+    (facts.0, refs.0, facts.1)
+
+short_split : (a b : ℕ) (ms ns : List ℕ) (r s : ℕ) (xs ys : List ℕ) → a < 6 → length ms < 5 → r < 8 → b < 6
+    → length ns < 5 → s < 8 → (length ms + 5 * a + 30 * r) ∷ (flat_map number_code ms ++ xs)
+    ≡ (length ns + 5 * b + 30 * s) ∷ (flat_map number_code ns ++ ys) →
+    (a ∷ ms ≡ b ∷ ns) × (r ≡ s) × (xs ≡ ys)
+short_split a b ms ns r s xs ys h1 h2 h3 h4 h5 h6 e =
+    let head : length ms + 5 * a + 30 * r ≡ length ns + 5 * b + 30 * s = cc in
+    let behind : flat_map number_code ms ++ xs ≡ flat_map number_code ns ++ ys = cc in
+    let refs : r ≡ s = omega arith in
+    let first : a ≡ b = omega arith in
+    let lengths : length ms ≡ length ns = omega arith in
+    let facts = codes_split ms ns xs ys lengths behind in
+    (ap (λ k. k ∷ ms) first ∙ ap (λ l. b ∷ l) facts.0, refs, facts.1)
+
+facts_split : (fs gs : List ℕ) (r s : ℕ) (xs ys : List ℕ) → facts_code fs r ++ xs ≡ facts_code gs s ++ ys
+    → (fs ≡ gs) × (r ≡ s) × (xs ≡ ys)
+unfolding Told
+facts_split fs gs r s xs ys e = go (facts_told fs r) (facts_told gs s)
+  where
+    go : Told fs r → Told gs s → (fs ≡ gs) × (r ≡ s) × (xs ≡ ys)
+    go (inl p) (inl q) =
+        let same =
+        short_split p.0 q.0 p.1 q.1 r s xs ys p.3 p.4 p.5 q.3 q.4 q.5
+        (sym (ap (λ l. l ++ xs) p.6) ∙ (e ∙ ap (λ l. l ++ ys) q.6)) in
+        (p.2 ∙ (same.0 ∙ sym q.2), same.1, same.2)
+    go (inl p) (inr q) =
+        let heads : (length p.1 + 5 * p.0 + 30 * r) ∷ (flat_map number_code p.1 ++ xs) ≡ long_code gs s ++ ys =
+        sym (ap (λ l. l ++ xs) p.6) ∙ (e ∙ ap (λ l. l ++ ys) q) in
+        let head : length p.1 + 5 * p.0 + 30 * r ≡ 255 = cc in
+        absurd (omega (arith, p.3, p.4, p.5, head))
+    go (inr p) (inl q) =
+        let heads : long_code fs r ++ xs ≡ (length q.1 + 5 * q.0 + 30 * s) ∷ (flat_map number_code q.1 ++ ys) =
+        sym (ap (λ l. l ++ xs) p) ∙ (e ∙ ap (λ l. l ++ ys) q.6) in
+        let head : 255 ≡ length q.1 + 5 * q.0 + 30 * s = cc in
+        absurd (omega (arith, q.3, q.4, q.5, head))
+    go (inr p) (inr q) =
+        long_split fs gs r s xs ys (sym (ap (λ l. l ++ xs) p) ∙ (e ∙ ap (λ l. l ++ ys) q))
+
+facts_are_some : (fs : List ℕ) (r : ℕ) (xs : List ℕ) → [] ≡ facts_code fs r ++ xs → ⊥
+unfolding Told
+facts_are_some fs r xs e = go (facts_told fs r)
+  where
+    go : Told fs r → ⊥
+    go (inl p) =
+        let none : [] ≡ (length p.1 + 5 * p.0 + 30 * r) ∷ (flat_map number_code p.1 ++ xs) =
+        e ∙ ap (λ l. l ++ xs) p.6 in
+        cc
+    go (inr p) = let none : [] ≡ long_code fs r ++ xs = e ∙ ap (λ l. l ++ xs) p in cc
 
 -- ---- cells
 
@@ -81,31 +171,27 @@ references_equal (r ∷ refs) (s ∷ sefs) e =
     same (Some x) None e = absurd (omega arith)
     same (Some x) (Some y) e = let inner : x ≡ y = omega arith in ap Some inner
 
-cell_before : (c : Content) (xs : List ℕ)
-    → cell_code c ++ xs ≡ counted_codes c.facts ++ (counted_codes (map reference_number c.refs) ++ xs)
-cell_before c xs = append_assoc (counted_codes c.facts) (counted_codes (map reference_number c.refs)) xs
+cell_before : (c : Content) (xs : List ℕ) → cell_code c ++ xs
+    ≡ facts_code c.facts (length c.refs) ++ (flat_map number_code (map reference_number c.refs) ++ xs)
+cell_before c xs =
+    append_assoc (facts_code c.facts (length c.refs)) (flat_map number_code (map reference_number c.refs)) xs
 
 cell_split : (c d : Content) (xs ys : List ℕ) → cell_code c ++ xs ≡ cell_code d ++ ys → (c ≡ d) × (xs ≡ ys)
 cell_split c d xs ys e =
     let facts =
-    counted_split c.facts d.facts (counted_codes (map reference_number c.refs) ++ xs)
-    (counted_codes (map reference_number d.refs) ++ ys) (sym (cell_before c xs) ∙ (e ∙ cell_before d ys)) in
-    let refs = counted_split (map reference_number c.refs) (map reference_number d.refs) xs ys facts.1 in
+    facts_split c.facts d.facts (length c.refs) (length d.refs)
+    (flat_map number_code (map reference_number c.refs) ++ xs)
+    (flat_map number_code (map reference_number d.refs) ++ ys) (sym (cell_before c xs) ∙ (e ∙ cell_before d ys)) in
+    let lengths : length (map reference_number c.refs) ≡ length (map reference_number d.refs) =
+    length-map c.refs reference_number ∙ (facts.1 ∙ sym (length-map d.refs reference_number)) in
+    let refs = codes_split (map reference_number c.refs) (map reference_number d.refs) xs ys lengths facts.2 in
     let same = references_equal c.refs d.refs refs.0 in
     (λ i. record { facts = facts.0 i; refs = same i }, refs.1)
 
 cell_is_some : (c : Content) (xs : List ℕ) → [] ≡ cell_code c ++ xs → ⊥
 cell_is_some c xs e =
-    let first =
-    number_before (length c.facts)
-    (flat_map number_code c.facts ++ (counted_codes (map reference_number c.refs) ++ xs)) in
-    let whole =
-    e ∙ (cell_before c xs ∙ (counted_before c.facts (counted_codes (map reference_number c.refs) ++ xs) ∙ first)) in
-    let counts =
-    ap length whole ∙ length-append (replicate (length c.facts / 255) 255)
-    ((length c.facts % 255)
-    ∷ (flat_map number_code c.facts ++ (counted_codes (map reference_number c.refs) ++ xs))) in
-    omega (arith, counts)
+    facts_are_some c.facts (length c.refs) (flat_map number_code (map reference_number c.refs) ++ xs)
+    (e ∙ cell_before c xs)
 
 flat_equal : (cells others : List Content) → flat cells ≡ flat others → cells ≡ others
 flat_equal [] [] e = refl

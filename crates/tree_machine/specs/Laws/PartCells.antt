@@ -115,10 +115,10 @@ refs_part Q n m (x ∷ ns) (y ∷ ms) rs ss e z = let r = refs_part Q n m ns ms 
 
 -- ---- parts and their cells
 
-pub cells_from_parts : (P R Q : ℕ → ℕ → Type 0) (n m kind : ℕ) → ((x y : ℕ) → P x y → Q x y)
+pub cells_from_parts : (P R Q : ℕ → ℕ → Type 0) (n m : ℕ) → ((x y : ℕ) → P x y → Q x y)
     → ((x y : ℕ) → R x y → Q (n + x) (m + y)) → (a b : Part) → ArePartsPaired P R a b
-    → AreCellsPaired Q (part_cell n kind a) (part_cell m kind b)
-cells_from_parts P R Q n m kind f g a b h = record {
+    → AreCellsPaired Q (part_cell n a) (part_cell m b)
+cells_from_parts P R Q n m f g a b h = record {
   facts = (let e = length_zip (IsPairedOrNone P) a.nodes b.nodes h.nodes in let d = h.facts in cc);
   refs = refs_join P R Q n m f g a.nodes b.nodes a.records b.records h.nodes h.records;
 }
@@ -129,10 +129,10 @@ cells_from_parts P R Q n m kind f g a b h = record {
     length_zip T (x ∷ xs) [] z = absurd z
     length_zip T (x ∷ xs) (y ∷ ys) z = ap suc (length_zip T xs ys z.1)
 
-pub parts_from_cells : (pairs : List (ℕ × ℕ)) (n m r s kind : ℕ) (a b : Part) → IsPartBelow n r a → IsPartBelow m s b
-    → AreCellsPaired (IsAmong pairs) (part_cell n kind a) (part_cell m kind b) →
+pub parts_from_cells : (pairs : List (ℕ × ℕ)) (n m r s : ℕ) (a b : Part) → IsPartBelow n r a → IsPartBelow m s b
+    → AreCellsPaired (IsAmong pairs) (part_cell n a) (part_cell m b) →
     ArePartsPaired (IsAmong (filter (are_below n m) pairs)) (IsAmong (lowered n m pairs)) a b
-parts_from_cells pairs n m r s kind a b below_a below_b h =
+parts_from_cells pairs n m r s a b below_a below_b h =
     let d = h.facts in
     let lengths : length a.nodes ≡ length b.nodes = cc in
     let facts : a.facts ≡ b.facts = cc in

@@ -37,28 +37,28 @@ pub length-parts_graph : (s : Parts) → length (parts_graph s) ≡ length s.nod
 length-parts_graph s =
     omega (
       arith,
-      length-append (map (part_cell (length s.nodes) 0) s.nodes)
-          (map (part_cell (length s.nodes) 1) s.records),
-      length-map s.nodes (part_cell (length s.nodes) 0),
-      length-map s.records (part_cell (length s.nodes) 1),
+      length-append (map (part_cell (length s.nodes)) s.nodes)
+          (map (part_cell (length s.nodes)) s.records),
+      length-map s.nodes (part_cell (length s.nodes)),
+      length-map s.records (part_cell (length s.nodes)),
     )
 
 node_cell_at : (s : Parts) (x : ℕ) → x < length s.nodes
-    → content_at (parts_graph s) x ≡ part_cell (length s.nodes) 0 (part_at s.nodes x)
+    → content_at (parts_graph s) x ≡ part_cell (length s.nodes) (part_at s.nodes x)
 node_cell_at s x l =
-    content_front (map (part_cell (length s.nodes) 0) s.nodes) (map (part_cell (length s.nodes) 1) s.records) x
-    (subst (λ n. x < n) (sym (length-map s.nodes (part_cell (length s.nodes) 0))) l)
-    ∙ content_map (part_cell (length s.nodes) 0) s.nodes x l
+    content_front (map (part_cell (length s.nodes)) s.nodes) (map (part_cell (length s.nodes)) s.records) x
+    (subst (λ n. x < n) (sym (length-map s.nodes (part_cell (length s.nodes)))) l)
+    ∙ content_map (part_cell (length s.nodes)) s.nodes x l
 
 record_cell_at : (s : Parts) (x : ℕ) → x < length s.records
-    → content_at (parts_graph s) (length s.nodes + x) ≡ part_cell (length s.nodes) 1 (part_at s.records x)
+    → content_at (parts_graph s) (length s.nodes + x) ≡ part_cell (length s.nodes) (part_at s.records x)
 record_cell_at s x l =
-    ap (λ n. content_at (parts_graph s) (n + x)) (sym (length-map s.nodes (part_cell (length s.nodes) 0)))
-    ∙ (content_back (map (part_cell (length s.nodes) 0) s.nodes) (map (part_cell (length s.nodes) 1) s.records) x
-    ∙ content_map (part_cell (length s.nodes) 1) s.records x l)
+    ap (λ n. content_at (parts_graph s) (n + x)) (sym (length-map s.nodes (part_cell (length s.nodes))))
+    ∙ (content_back (map (part_cell (length s.nodes)) s.nodes) (map (part_cell (length s.nodes)) s.records) x
+    ∙ content_map (part_cell (length s.nodes)) s.records x l)
 
-part_refs_below : (n r kind : ℕ) (p : Part) → IsPartBelow n r p → RefsBelow (n + r) (part_cell n kind p)
-part_refs_below n r kind p h =
+part_refs_below : (n r : ℕ) (p : Part) → IsPartBelow n r p → RefsBelow (n + r) (part_cell n p)
+part_refs_below n r p h =
     All-append (λ x. IfSome x (λ y. y < n + r)) p.nodes (map (option_map (λ x. n + x)) p.records)
     (All-weaker (λ x. IfSome x (λ y. y < n)) (λ x. IfSome x (λ y. y < n + r)) wider p.nodes h.nodes)
     (All-map (λ x. IfSome x (λ y. y < n + r)) (option_map (λ x. n + x)) p.records
@@ -79,18 +79,17 @@ parts_fit fixed s h =
     let r = length s.records in
     let same : length (parts_graph s) ≡ n + r = length-parts_graph s in
     let base : fixed ≤ n = h.fixed_in_range in
-    let each : (kind : ℕ) (parts : List Part) → All (IsPartBelow n r) parts
-    → All (RefsBelow (n + r)) (map (part_cell n kind) parts) =
-    λ kind parts k. All-map (RefsBelow (n + r)) (part_cell n kind) parts
-    (All-weaker (IsPartBelow n r) (λ p. RefsBelow (n + r) (part_cell n kind p))
-    (λ p b. part_refs_below n r kind p b) parts k) in
+    let each : (parts : List Part) → All (IsPartBelow n r) parts
+    → All (RefsBelow (n + r)) (map (part_cell n) parts) =
+    λ parts k. All-map (RefsBelow (n + r)) (part_cell n) parts
+    (All-weaker (IsPartBelow n r) (λ p. RefsBelow (n + r) (part_cell n p)) (λ p b. part_refs_below n r p b) parts k) in
     record {
       fixed_in_range = omega arith;
       graph_in_range =
           subst (λ m. All (RefsBelow m) (parts_graph s)) (sym same)
-          (All-append (RefsBelow (n + r)) (map (part_cell n 0) s.nodes) (map (part_cell n 1) s.records)
-          (each 0 s.nodes h.nodes) (each 1 s.records h.records));
-      held_in_range = subst (λ m. All (RefsBelow m) (parts_held s)) (sym same) (each 2 s.held h.held);
+          (All-append (RefsBelow (n + r)) (map (part_cell n) s.nodes) (map (part_cell n) s.records)
+          (each s.nodes h.nodes) (each s.records h.records));
+      held_in_range = subst (λ m. All (RefsBelow m) (parts_held s)) (sym same) (each s.held h.held);
     }
 
 below_or : (x n : ℕ) → (x < n) ⊎ ((a : ℕ) × (n + a ≡ x))
@@ -110,16 +109,16 @@ module _ (fixed : ℕ) (here there : Parts) (here_fits : ArePartsInRange fixed h
   held_parts : (pairs : List (ℕ × ℕ)) (ps qs : List Part)
       → AllByRecursion (IsPartBelow (length here.nodes) (length here.records)) ps
       → AllByRecursion (IsPartBelow (length there.nodes) (length there.records)) qs →
-      AllZip (AreCellsPaired (IsAmong pairs)) (map (part_cell (length here.nodes) 2) ps)
-      (map (part_cell (length there.nodes) 2) qs) →
+      AllZip (AreCellsPaired (IsAmong pairs)) (map (part_cell (length here.nodes)) ps)
+      (map (part_cell (length there.nodes)) qs) →
       AllZip (ArePartsPaired (IsAmong (filter (are_below (length here.nodes) (length there.nodes)) pairs))
       (IsAmong (lowered (length here.nodes) (length there.nodes) pairs))) ps qs
   held_parts pairs [] [] h g z = tt
   held_parts pairs [] (b ∷ qs) h g z = absurd z
   held_parts pairs (a ∷ ps) [] h g z = absurd z
   held_parts pairs (a ∷ ps) (b ∷ qs) h g z = (
-    parts_from_cells pairs (length here.nodes) (length there.nodes) (length here.records) (length there.records) 2 a
-        b h.0 g.0 z.0,
+    parts_from_cells pairs (length here.nodes) (length there.nodes) (length here.records) (length there.records) a b
+        h.0 g.0 z.0,
     held_parts pairs ps qs h.1 g.1 z.1,
   )
 
@@ -154,24 +153,24 @@ module _ (fixed : ℕ) (here there : Parts) (here_fits : ArePartsInRange fixed h
         records_in_range = λ x y p. range x y (lowered_pair n m pairs x y p);
         nodes_paired = λ x y p.
             let r = among_below n m pairs x y p in
-            parts_from_cells pairs n m (length here.records) (length there.records) 0 (part_at here.nodes x)
+            parts_from_cells pairs n m (length here.records) (length there.records) (part_at here.nodes x)
             (part_at there.nodes y)
             (part_all (IsPartBelow n (length here.records)) here.nodes (recursion_from_All _ _ here_fits.nodes) x r.1)
             (part_all (IsPartBelow m (length there.records)) there.nodes (recursion_from_All _ _ there_fits.nodes) y
             r.2)
-            (subst (λ c. AreCellsPaired (IsAmong pairs) c (part_cell m 0 (part_at there.nodes y)))
+            (subst (λ c. AreCellsPaired (IsAmong pairs) c (part_cell m (part_at there.nodes y)))
             (node_cell_at here x r.1)
             (subst (λ c. AreCellsPaired (IsAmong pairs) (content_at (parts_graph here) x) c) (node_cell_at there y r.2)
             (h.cells_paired x y r.0)));
         records_paired = λ x y p.
             let q = lowered_pair n m pairs x y p in
             let r = range x y q in
-            parts_from_cells pairs n m (length here.records) (length there.records) 1 (part_at here.records x)
+            parts_from_cells pairs n m (length here.records) (length there.records) (part_at here.records x)
             (part_at there.records y)
             (part_all (IsPartBelow n (length here.records)) here.records (recursion_from_All _ _ here_fits.records) x
             r.0) (part_all (IsPartBelow m (length there.records)) there.records
             (recursion_from_All _ _ there_fits.records) y r.1)
-            (subst (λ c. AreCellsPaired (IsAmong pairs) c (part_cell m 1 (part_at there.records y)))
+            (subst (λ c. AreCellsPaired (IsAmong pairs) c (part_cell m (part_at there.records y)))
             (record_cell_at here x r.0)
             (subst (λ c. AreCellsPaired (IsAmong pairs) (content_at (parts_graph here) (n + x)) c)
             (record_cell_at there y r.1) (h.cells_paired (n + x) (m + y) q)));
@@ -240,9 +239,9 @@ module _ (fixed : ℕ) (here there : Parts) (here_fits : ArePartsInRange fixed h
         let r = h.nodes_in_range x y p in
         subst (λ c. AreCellsPaired (IsAmong joined) c (content_at (parts_graph there) y))
         (sym (node_cell_at here x r.0))
-        (subst (λ c. AreCellsPaired (IsAmong joined) (part_cell (length here.nodes) 0 (part_at here.nodes x)) c)
+        (subst (λ c. AreCellsPaired (IsAmong joined) (part_cell (length here.nodes) (part_at here.nodes x)) c)
         (sym (node_cell_at there y r.1))
-        (cells_from_parts (IsAmong nodes) (IsAmong records) (IsAmong joined) (length here.nodes) (length there.nodes) 0
+        (cells_from_parts (IsAmong nodes) (IsAmong records) (IsAmong joined) (length here.nodes) (length there.nodes)
         node_in record_in (part_at here.nodes x) (part_at there.nodes y) (h.nodes_paired x y p)))
     joined_cells x y (inr p) =
         let r = h.records_in_range p.0 p.1 p.2 in
@@ -252,19 +251,19 @@ module _ (fixed : ℕ) (here there : Parts) (here_fits : ArePartsInRange fixed h
         (content_at (parts_graph there) z)) p.4
         (subst (λ c. AreCellsPaired (IsAmong joined) c (content_at (parts_graph there) (length there.nodes + p.1)))
         (sym (record_cell_at here p.0 r.0))
-        (subst (λ c. AreCellsPaired (IsAmong joined) (part_cell (length here.nodes) 1 (part_at here.records p.0)) c)
+        (subst (λ c. AreCellsPaired (IsAmong joined) (part_cell (length here.nodes) (part_at here.records p.0)) c)
         (sym (record_cell_at there p.1 r.1))
-        (cells_from_parts (IsAmong nodes) (IsAmong records) (IsAmong joined) (length here.nodes) (length there.nodes) 1
+        (cells_from_parts (IsAmong nodes) (IsAmong records) (IsAmong joined) (length here.nodes) (length there.nodes)
         node_in record_in (part_at here.records p.0) (part_at there.records p.1) (h.records_paired p.0 p.1 p.2)))))
 
     joined_held : (ps qs : List Part) → AllZip (ArePartsPaired (IsAmong nodes) (IsAmong records)) ps qs
-        → AllZip (AreCellsPaired (IsAmong joined)) (map (part_cell (length here.nodes) 2) ps)
-        (map (part_cell (length there.nodes) 2) qs)
+        → AllZip (AreCellsPaired (IsAmong joined)) (map (part_cell (length here.nodes)) ps)
+        (map (part_cell (length there.nodes)) qs)
     joined_held [] [] z = tt
     joined_held [] (b ∷ qs) z = absurd z
     joined_held (a ∷ ps) [] z = absurd z
     joined_held (a ∷ ps) (b ∷ qs) z = (
-      cells_from_parts (IsAmong nodes) (IsAmong records) (IsAmong joined) (length here.nodes) (length there.nodes) 2
+      cells_from_parts (IsAmong nodes) (IsAmong records) (IsAmong joined) (length here.nodes) (length there.nodes)
           node_in record_in a b z.0,
       joined_held ps qs z.1,
     )
@@ -283,8 +282,8 @@ module _ (fixed : ℕ) (here there : Parts) (here_fits : ArePartsInRange fixed h
   pub parts_exactly : length here.held ≡ length there.held → (parts_form fixed here ≡ parts_form fixed there)
       ↔ CanPartsBePaired fixed here there
   parts_exactly l =
-      let lengths = length-map here.held (part_cell (length here.nodes) 2)
-      ∙ (l ∙ sym (length-map there.held (part_cell (length there.nodes) 2))) in
+      let lengths = length-map here.held (part_cell (length here.nodes))
+      ∙ (l ∙ sym (length-map there.held (part_cell (length there.nodes)))) in
       let exactly =
       forms_exactly fixed (parts_graph here) (parts_held here) (parts_graph there) (parts_held there)
       (parts_fit fixed here here_fits) (parts_fit fixed there there_fits) lengths in (

@@ -39,18 +39,18 @@ returns c =
     ≡ length c.args.nodes.now + length c.args.records.now + length stack =
     omega (arith, length-map c.args.stack.now (λ x. Some x)) in
     let both =
-    part_written inside.nodes inside.kind
+    part_written inside.nodes
     (length c.args.nodes.now + length c.args.records.now + length c.args.stack.now) c.args.facts.now
     c.args.nodes.now c.args.records.now stack
     inside.pass.numbering.order.items c.put_references.new.self.numbering.order.items
     c.put_references-2.new.self.numbering.order.items c.put_cells.new.self.numbering.order.items
-    inside.pass.bytes.items c.put_facts.new.bytes.items c.put_number.new.bytes.items
+    inside.pass.bytes.items c.put_facts.new.bytes.items
     c.put_references.new.self.bytes.items c.put_references-2.new.self.bytes.items c.put_cells.new.self.bytes.items
     named
     c.in_ok-put_references.ensures.order c.in_ok-put_references-2.ensures.order c.in_ok-put_cells.ensures.order
-    c.in_ok-put_facts.ensures c.in_ok-put_number.ensures c.in_ok-put_references.ensures.bytes
+    c.in_ok-put_facts.ensures c.in_ok-put_references.ensures.bytes
     c.in_ok-put_references-2.ensures.bytes c.in_ok-put_cells.ensures.bytes in
-    is_written c.args.self.now inside.nodes inside.records inside.kind inside.pass.numbering.order.items
+    is_written c.args.self.now inside.nodes inside.records inside.pass.numbering.order.items
     inside.pass.bytes.items c.put_cells.new.self.numbering.order.items c.put_cells.new.self.bytes.items
     (record { facts = c.args.facts.now; nodes = c.args.nodes.now; records = c.args.records.now ++ stack })
     c.self.view_is both.0 both.1
