@@ -11,18 +11,18 @@ ghost use Rattle.book.specs.Findings.{IsSound};
 ghost use Rattle.book.specs.Slots.{AllStates, IsLeft, IsOpenFrom};
 ghost use Rattle.tree_machine.specs.Alike.{state_form};
 ghost use Rattle.book.specs.Labels.{AreStepsKnownBy, bares, form_by};
-ghost use Rattle.book.specs.Books.{counted_as_one, machine_in, right_in, IsLawfulIn};
+ghost use Rattle.book.specs.Books.{machine_in, right_in, IsLawfulIn};
 ghost use Rattle.book.specs.Law.{FindsAlike, IsExpansion, StandsForReached};
 ghost use Rattle.book.specs.Leftovers.{Keeps};
 ghost use Rattle.book.specs.Schedule.{IsMachine, Merges};
 
+use crate::counting::Counting;
 use crate::entry::Mark;
-use crate::exactly::tests_exactly;
 use crate::expansion::{Expansion, Stepped, label};
 use crate::finding::find;
 use crate::leftovers::Leftovers;
 use crate::table::{Table, TableFault};
-use sched_program::{OutOfMemory, Program, same};
+use sched_program::{OutOfMemory, Program, same, tests_exactly};
 use std::alloc::Global;
 use std::marker::Model;
 use std::sync::Arc;
@@ -168,19 +168,15 @@ impl<M: Machine> Book<M> {
         ensures law { IsLawfulIn M.rules M.Loc.PartialEq.eq M.Mem.PartialEq.eq M.Form.PartialEq.eq M.form_of self.now }
         ensures machine { IsMachine (machine_in M.rules self.now) }
         ensures merges { Merges (machine_in M.rules self.now)
-            (counted_as_one M.Loc.PartialEq.eq M.Mem.PartialEq.eq M.Form.PartialEq.eq
-            (M.form_of self.now.machine) self.now.merge) }
+            (⟦<M as Counting>⟧.counted self.now.machine self.now.merge) }
         ensures alike { (r s : State M M.Mem M.Loc M.Form) → Fits (M.rules self.now.machine) self.now.program r
             → Fits (M.rules self.now.machine) self.now.program s
-            → counted_as_one M.Loc.PartialEq.eq M.Mem.PartialEq.eq M.Form.PartialEq.eq
-            (M.form_of self.now.machine) self.now.merge r s ≡ true
+            → ⟦<M as Counting>⟧.counted self.now.machine self.now.merge r s ≡ true
             → IsSound (right_in M.rules self.now) r → IsSound (right_in M.rules self.now) s }
         ensures findings { FindsAlike (machine_in M.rules self.now)
-            (counted_as_one M.Loc.PartialEq.eq M.Mem.PartialEq.eq M.Form.PartialEq.eq
-            (M.form_of self.now.machine) self.now.merge) (right_in M.rules self.now) }
+            (⟦<M as Counting>⟧.counted self.now.machine self.now.merge) (right_in M.rules self.now) }
         ensures reaches { StandsForReached (machine_in M.rules self.now)
-            (counted_as_one M.Loc.PartialEq.eq M.Mem.PartialEq.eq M.Form.PartialEq.eq
-            (M.form_of self.now.machine) self.now.merge) self.now.entries }
+            (⟦<M as Counting>⟧.counted self.now.machine self.now.merge) self.now.entries }
         ensures limits { IsWithinLimits self.now.program }
     {
         let _ = &self.table;
@@ -249,8 +245,7 @@ impl<M: Machine> Book<M> {
         ensures admitted { OnOk result (IsTaken self.now.entries id
             × IsOwn self.now id expansion.now.machine expansion.now.program expansion.now.source) }
         ensures refused { IfErr result
-            (Refuses (counted_as_one M.Loc.PartialEq.eq M.Mem.PartialEq.eq M.Form.PartialEq.eq
-            (M.form_of self.now.machine) self.now.merge) self.now id expansion.now) }
+            (Refuses (⟦<M as Counting>⟧.counted self.now.machine self.now.merge) self.now id expansion.now) }
     {
         let Some(row) = self.table.row(id) else {
             return Err(EnterFault::NotTaken);
@@ -277,11 +272,11 @@ impl<M: Machine> Book<M> {
         requires known { AreStepsKnownBy
             (form_by self.old.merge (state_form (M.form_of self.old.machine))) successors.items }
         ensures entries { OnOk result (self.new.entries
-            ≡ with_successors (counted_as_one M.Loc.PartialEq.eq M.Mem.PartialEq.eq M.Form.PartialEq.eq
-            (M.form_of self.old.machine) self.old.merge) self.old.entries id (bares successors.items)) }
+            ≡ with_successors (⟦<M as Counting>⟧.counted self.old.machine self.old.merge) self.old.entries id
+            (bares successors.items)) }
         ensures counts { IfOk result
-            (λ r. (r.entered ≡ length (unknown (counted_as_one M.Loc.PartialEq.eq M.Mem.PartialEq.eq M.Form.PartialEq.eq
-            (M.form_of self.old.machine) self.old.merge) (states self.old.entries) (bares successors.items)))
+            (λ r. (r.entered ≡ length (unknown (⟦<M as Counting>⟧.counted self.old.machine self.old.merge)
+            (states self.old.entries) (bares successors.items)))
             × (r.entered + r.met ≡ length (bares successors.items)) × (self.new.met ≡ self.old.met + r.met)) }
         ensures room { IfOk result (λ r. length self.old.entries + r.entered ≤ self.old.limit) }
         ensures left { IfOk result (λ r. Keeps leftovers.old leftovers.new r.met) }
@@ -289,8 +284,8 @@ impl<M: Machine> Book<M> {
             × (self.new.merge ≡ self.old.merge) × (self.new.limit ≡ self.old.limit) }
         ensures full { IfErr result (λ fault. (fault ≡ EnterFault.OutOfMemory)
             ⊎ ((fault ≡ EnterFault.Full) × (self.old.limit < length self.old.entries
-            + length (unknown (counted_as_one M.Loc.PartialEq.eq M.Mem.PartialEq.eq M.Form.PartialEq.eq
-            (M.form_of self.old.machine) self.old.merge) (states self.old.entries) (bares successors.items))))) }
+            + length (unknown (⟦<M as Counting>⟧.counted self.old.machine self.old.merge)
+            (states self.old.entries) (bares successors.items))))) }
         ensures err { OnErr result (self.new ≡ self.old) }
     {
         let was = self.table.len();
@@ -312,11 +307,10 @@ impl<M: Machine> Book<M> {
     /// the book yet, as an open entry. After a refusal the book is unchanged.
     pub fn enter(&mut self, id: usize, expansion: Expansion<'_, M>) -> Result<Entered, EnterFault>
         ensures entered { IfOk result
-            (λ r. Enters (counted_as_one M.Loc.PartialEq.eq M.Mem.PartialEq.eq M.Form.PartialEq.eq
-            (M.form_of self.old.machine) self.old.merge) self.old self.new id expansion.entry r.entered r.met) }
+            (λ r. Enters (⟦<M as Counting>⟧.counted self.old.machine self.old.merge)
+            self.old self.new id expansion.entry r.entered r.met) }
         ensures refused { IfErr result
-            (Refuses (counted_as_one M.Loc.PartialEq.eq M.Mem.PartialEq.eq M.Form.PartialEq.eq
-            (M.form_of self.old.machine) self.old.merge) self.old id expansion.entry) }
+            (Refuses (⟦<M as Counting>⟧.counted self.old.machine self.old.merge) self.old id expansion.entry) }
         ensures err { OnErr result (self.new ≡ self.old) }
     {
         let mut leftovers = Leftovers::none(self.table.allocator());
@@ -331,12 +325,11 @@ impl<M: Machine> Book<M> {
         leftovers: &mut Leftovers<State<M>, StateForm<M>>,
     ) -> Result<Entered, EnterFault>
         ensures entered { IfOk result
-            (λ r. Enters (counted_as_one M.Loc.PartialEq.eq M.Mem.PartialEq.eq M.Form.PartialEq.eq
-            (M.form_of self.old.machine) self.old.merge) self.old self.new id expansion.entry r.entered r.met) }
+            (λ r. Enters (⟦<M as Counting>⟧.counted self.old.machine self.old.merge)
+            self.old self.new id expansion.entry r.entered r.met) }
         ensures left { IfOk result (λ r. Keeps leftovers.old leftovers.new r.met) }
         ensures refused { IfErr result
-            (Refuses (counted_as_one M.Loc.PartialEq.eq M.Mem.PartialEq.eq M.Form.PartialEq.eq
-            (M.form_of self.old.machine) self.old.merge) self.old id expansion.entry) }
+            (Refuses (⟦<M as Counting>⟧.counted self.old.machine self.old.merge) self.old id expansion.entry) }
         ensures err { OnErr result (self.new ≡ self.old) }
     {
         match self.admits(id, &expansion) {

@@ -1,11 +1,12 @@
 //! An entry, apart from its state.
-ghost use Rattle.std.specs.Prelude.{◌≡◌, ◌<◌, IfOk};
+ghost use Rattle.std.specs.Prelude.{◌≡◌, ◌<◌, ◌≤◌, IfErr, IfOk, IfSome, IsSome};
 ghost use Rattle.book.specs.Findings.{is_sound};
 ghost use Rattle.book.specs.Entries.{is_open, is_taken, is_expanded};
 
 use crate::finding::Finding;
 use std::alloc::AllocError;
 use std::marker::Model;
+use tree_machine::number_of;
 
 /// How far an entry is worked on.
 #[derive(Clone, Copy, Debug, PartialEq, Eq)]
@@ -36,7 +37,7 @@ pub struct Row {
 }
 
 /// The number of a parent that stands for none.
-const NO_PARENT: u32 = 4294967295;
+const NO_PARENT: u32 = u32::MAX;
 
 /// A row in 32 bytes, since a book has one for each state. Contracts see the row itself.
 #[derive(Drop)]
@@ -59,7 +60,9 @@ impl Model for PackedRow {
 impl PackedRow {
     /// A row, packed. Where the parent's number is too large to be, it is refused as memory that there is not.
     pub fn new(row: Row) -> Result<PackedRow, AllocError>
-        ensures { IfOk result (λ packed. packed ≡ row) }
+        ensures row { IfOk result (λ packed. packed ≡ row) }
+        ensures refused { IfErr result
+            (λ _. IfSome row.origin (λ origin. 4294967295 ≤ origin.parent) × IsSome row.origin) }
     {
         let Row {
             finding,
@@ -98,6 +101,7 @@ impl PackedRow {
         })
     }
 
+    /// Marks the row, and leaves the rest as it is.
     pub fn set_mark(&mut self, mark: Mark)
         ensures { self.new ≡ record self.old { mark = mark } }
     {
@@ -133,8 +137,9 @@ impl PackedRow {
 fn parent_number(parent: usize) -> Result<u32, AllocError>
     ensures number { IfOk result (λ number. number ≡ parent) }
     ensures some { IfOk result (λ number. number < 4294967295) }
+    ensures refused { IfErr result (λ _. 4294967295 ≤ parent) }
 {
-    match u32::try_from(parent) {
+    match number_of(parent) {
         Ok(number) if number < NO_PARENT => Ok(number),
         _ => Err(AllocError),
     }

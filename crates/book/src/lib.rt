@@ -3,8 +3,8 @@
 #![tactic(auto)]
 
 mod book;
+mod counting;
 mod entry;
-mod exactly;
 mod expansion;
 mod file;
 mod finding;
@@ -21,6 +21,7 @@ mod stock;
 mod table;
 
 pub use crate::book::{Book, EnterFault, Entered, Merge, Totals};
+pub use crate::counting::Counting;
 pub use crate::entry::{Mark, Origin};
 pub use crate::expansion::Expansion;
 pub use crate::file::{CheckFault, check_book};

@@ -1,6 +1,6 @@
 //! The expansion of the layers on one thread, entry by entry.
 ghost use Rattle.std.specs.Prelude.{◌≡◌, ℕ, ◌+◌, ◌<◌, ◌≤◌, IfOk, IfSome, IfNone, OnOk, None, count_by};
-ghost use Rattle.book.specs.Books.{counted_as_one, machine_in, right_in};
+ghost use Rattle.book.specs.Books.{machine_in, right_in};
 ghost use Rattle.book.specs.Entries.{is_expanded};
 ghost use Rattle.book.specs.Layers.{IsLeftTo};
 ghost use Rattle.crew.specs.Driving.{IsInLayer, IsKept, IsLedgerOf};
@@ -8,7 +8,7 @@ ghost use Rattle.crew.specs.Reading.{first_fault, IsCutAt, IsWorkedOff, StandsAt
 
 use crate::answer::Share;
 use crate::leads::found_of;
-use book::{Book, EnterFault, Expansion, Stock};
+use book::{Book, Counting, EnterFault, Expansion, Stock};
 use sched_program::{OutOfMemory, Program};
 use std::alloc::Global;
 use tree_machine::Machine;
@@ -31,8 +31,7 @@ fn expand_next<M: Machine>(
     ensures more { IfOk result (λ o. IfNone o (count_by (λ e. is_expanded e.mark) book.new.entries
         ≡ count_by (λ e. is_expanded e.mark) book.old.entries + 1)) }
     ensures cut { IfOk result (λ o. IfSome o (λ i. IsCutAt (machine_in M.rules book.old)
-        (counted_as_one M.Loc.PartialEq.eq M.Mem.PartialEq.eq M.Form.PartialEq.eq
-        (M.form_of book.old.machine) book.old.merge) (right_in M.rules book.old) book.new depth i)) }
+        (⟦<M as Counting>⟧.counted book.old.machine book.old.merge) (right_in M.rules book.old) book.new depth i)) }
 {
     book.law();
     let Some((id, state)) = book.take()? else {
@@ -81,8 +80,7 @@ fn expand_layer<M: Machine>(
     ensures next { IfOk result
         (λ o. IfNone o (StandsAt (machine_in M.rules book.old).steps book.new.entries (depth + 1))) }
     ensures cut { IfOk result (λ o. IfSome o (λ i. IsCutAt (machine_in M.rules book.old)
-        (counted_as_one M.Loc.PartialEq.eq M.Mem.PartialEq.eq M.Form.PartialEq.eq
-        (M.form_of book.old.machine) book.old.merge) (right_in M.rules book.old) book.new depth i)) }
+        (⟦<M as Counting>⟧.counted book.old.machine book.old.merge) (right_in M.rules book.old) book.new depth i)) }
 {
     'layer: while book.is_left_to(depth) {
         if let Some(id) = expand_next(alloc, program, book, depth, share)? {
@@ -110,8 +108,7 @@ pub(crate) fn drive<M: Machine>(
     ensures done { IfOk result
         (λ o. IfNone o (IsWorkedOff (machine_in M.rules book.old).steps book.new.entries steps)) }
     ensures cut { IfOk result (λ o. IfSome o (λ i. (d : ℕ) × (d < steps) × IsCutAt (machine_in M.rules book.old)
-        (counted_as_one M.Loc.PartialEq.eq M.Mem.PartialEq.eq M.Form.PartialEq.eq
-        (M.form_of book.old.machine) book.old.merge) (right_in M.rules book.old) book.new d i)) }
+        (⟦<M as Counting>⟧.counted book.old.machine book.old.merge) (right_in M.rules book.old) book.new d i)) }
 {
     'layers: for depth in 0..steps {
         if book.first_fault().is_some() || !book.is_left_to(u64::from(depth)) {

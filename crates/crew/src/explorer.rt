@@ -1,6 +1,6 @@
 //! The exploration by several workers, and anew on one thread where the book that they leave does not tell the answer.
 ghost use Rattle.std.specs.Prelude.{◌≡◌, ℕ, ◌+◌, ◌<◌, IfOk, IfSome, length};
-ghost use Rattle.book.specs.Books.{counted_as_one, machine_in, totals_of};
+ghost use Rattle.book.specs.Books.{machine_in, totals_of};
 ghost use Rattle.book.specs.Findings.{machine_of, IsFindingOf};
 ghost use Rattle.crew.specs.declared.answer.Answer.{Answer};
 ghost use Rattle.crew.specs.Due.{IsDue, IsSameVerdict};
@@ -19,7 +19,7 @@ use crate::reporting::report_of;
 use crate::settling::{merged, shares_of};
 use crate::tally::{Blanks, Desk, Ledgers};
 use crate::working::Exploration;
-use book::Book;
+use book::{Book, Counting};
 use sched_program::{OutOfMemory, Program};
 use std::alloc::Global;
 use std::marker::Brand;
@@ -139,12 +139,12 @@ pub fn explore<M: Machine, G: Gate, R: Threads + Wait + Sync>(
     gate: &G,
 ) -> Result<Report<M>, OutOfMemory>
     ensures due { IfOk result (λ r. IsDue (machine_of {Machine = M} {Form = M.Form} (M.rules machine) program.now)
-        (counted_as_one M.Loc.PartialEq.eq M.Mem.PartialEq.eq M.Form.PartialEq.eq (M.form_of machine) options.merge)
+        (⟦<M as Counting>⟧.counted machine options.merge)
         (IsFindingOf (M.rules machine) program.now)
         options.merge options.steps options.limit r.totals.entries r.answer) }
     ensures only { IfOk result (λ r. (count : ℕ) (other : Answer)
         → IsDue (machine_of {Machine = M} {Form = M.Form} (M.rules machine) program.now)
-        (counted_as_one M.Loc.PartialEq.eq M.Mem.PartialEq.eq M.Form.PartialEq.eq (M.form_of machine) options.merge)
+        (⟦<M as Counting>⟧.counted machine options.merge)
         (IsFindingOf (M.rules machine) program.now)
         options.merge options.steps options.limit count other
         → IsSameVerdict r.totals.entries r.answer count other) }

@@ -1,7 +1,7 @@
 //! The due answer, read off the book in hand.
 ghost use Rattle.std.specs.Prelude.{◌≡◌, ℕ, ◌<◌, ◌≤◌, ◌↔◌};
 ghost use Rattle.std.specs.Prelude.{IsTrue, IsSome, IfOk, IfSome, Some, None, length, false, true};
-ghost use Rattle.book.specs.Books.{counted_as_one, machine_in, right_in};
+ghost use Rattle.book.specs.Books.{machine_in, right_in};
 ghost use Rattle.tree_machine.specs.declared.state.State.{State};
 ghost use Rattle.book.specs.Entries.{At, Entry};
 ghost use Rattle.book.specs.Schedule.{after};
@@ -14,7 +14,7 @@ ghost use Rattle.crew.specs.Reading.{TellsFirst};
 
 use crate::answer::Answer;
 use crate::options::Options;
-use book::{Book, EnterFault, Expansion, Finding, Merge, ReplayFault, replay};
+use book::{Book, Counting, EnterFault, Expansion, Finding, Merge, ReplayFault, replay};
 use sched_program::{OutOfMemory, Program};
 use std::alloc::Global;
 use tree_machine::Machine;
@@ -83,8 +83,8 @@ fn tell_fault<M: Machine>(
 ) -> Result<Option<Answer>, OutOfMemory>
     requires { first_fault book.now.entries ≡ Some id }
     ensures due { IfOk result (λ o. IfSome o
-        (IsDue (machine_in M.rules book.now) (counted_as_one M.Loc.PartialEq.eq M.Mem.PartialEq.eq M.Form.PartialEq.eq
-        (M.form_of book.now.machine) book.now.merge) (right_in M.rules book.now) book.now.merge steps book.now.limit
+        (IsDue (machine_in M.rules book.now) (⟦<M as Counting>⟧.counted book.now.machine book.now.merge)
+        (right_in M.rules book.now) book.now.merge steps book.now.limit
         (length book.now.entries))) }
     ensures headline { IfOk result (λ o. IfSome o (IsTrueOf M M.Form (M.rules book.now.machine) book.now.program)) }
     ensures first { IfOk result (λ o. IfSome o (TellsFirst (machine_in M.rules book.now) book.now.entries)) }
@@ -110,8 +110,8 @@ fn read_finished<M: Machine>(
     steps: u16,
 ) -> Result<Option<Answer>, OutOfMemory>
     ensures due { IfOk result (λ o. IfSome o
-        (IsDue (machine_in M.rules book.now) (counted_as_one M.Loc.PartialEq.eq M.Mem.PartialEq.eq M.Form.PartialEq.eq
-        (M.form_of book.now.machine) book.now.merge) (right_in M.rules book.now) book.now.merge steps book.now.limit
+        (IsDue (machine_in M.rules book.now) (⟦<M as Counting>⟧.counted book.now.machine book.now.merge)
+        (right_in M.rules book.now) book.now.merge steps book.now.limit
         (length book.now.entries))) }
     ensures headline { IfOk result (λ o. IfSome o (IsTrueOf M M.Form (M.rules book.now.machine) book.now.program)) }
     ensures first { IfOk result (λ o. IfSome o (TellsFirst (machine_in M.rules book.now) book.now.entries)) }
@@ -152,11 +152,9 @@ fn is_full_at<M: Machine>(
     requires way { (e : Entry (State M M.Mem M.Loc M.Form)) × At book.old.entries id e
         × (after (machine_in M.rules book.old) schedule.now ≡ Some e.state) }
     ensures full { IfOk result (λ yes. yes ≡ true → IsFullAt (machine_in M.rules book.old)
-        (counted_as_one M.Loc.PartialEq.eq M.Mem.PartialEq.eq M.Form.PartialEq.eq
-        (M.form_of book.old.machine) book.old.merge) (right_in M.rules book.old) book.old id) }
+        (⟦<M as Counting>⟧.counted book.old.machine book.old.merge) (right_in M.rules book.old) book.old id) }
     ensures yes { IsFullAt (machine_in M.rules book.old)
-        (counted_as_one M.Loc.PartialEq.eq M.Mem.PartialEq.eq M.Form.PartialEq.eq
-        (M.form_of book.old.machine) book.old.merge) (right_in M.rules book.old) book.old id
+        (⟦<M as Counting>⟧.counted book.old.machine book.old.merge) (right_in M.rules book.old) book.old id
         → IfOk result (λ yes. yes ≡ true) }
     ensures same { IfOk result (λ yes. yes ≡ true → book.new ≡ book.old) }
 {
@@ -189,16 +187,14 @@ fn read_stopped<M: Machine>(
     requires program { program.now ≡ book.old.program }
     requires limit { book.old.limit ≡ options.limit }
     ensures due { IfOk result (λ o. IfSome o
-        (IsDue (machine_in M.rules book.old) (counted_as_one M.Loc.PartialEq.eq M.Mem.PartialEq.eq M.Form.PartialEq.eq
-        (M.form_of book.old.machine) book.old.merge)
+        (IsDue (machine_in M.rules book.old) (⟦<M as Counting>⟧.counted book.old.machine book.old.merge)
         (right_in M.rules book.old) book.old.merge options.steps book.old.limit (length book.old.entries))) }
     ensures headline { IfOk result (λ o. IfSome o (IsTrueOf M M.Form (M.rules book.old.machine) book.old.program)) }
     ensures first { IfOk result (λ o. IfSome o (TellsFirst (machine_in M.rules book.old) book.old.entries)) }
     ensures closed { IfOk result (λ o. IfSome o (TellsClosed book.old)) }
     ensures same { IfOk result (λ o. IfSome o (λ _. book.new ≡ book.old)) }
     ensures some { (d : ℕ) → d < options.steps → IsCutAt (machine_in M.rules book.old)
-        (counted_as_one M.Loc.PartialEq.eq M.Mem.PartialEq.eq M.Form.PartialEq.eq
-        (M.form_of book.old.machine) book.old.merge) (right_in M.rules book.old) book.old d id
+        (⟦<M as Counting>⟧.counted book.old.machine book.old.merge) (right_in M.rules book.old) book.old d id
         → IfOk result (λ o. IsSome o) }
 {
     if id >= book.len() {
@@ -231,8 +227,7 @@ pub(crate) fn read_answer<M: Machine>(
     requires program { program.now ≡ book.old.program }
     requires limit { book.old.limit ≡ options.limit }
     ensures due { IfOk result (λ o. IfSome o
-        (IsDue (machine_in M.rules book.old) (counted_as_one M.Loc.PartialEq.eq M.Mem.PartialEq.eq M.Form.PartialEq.eq
-        (M.form_of book.old.machine) book.old.merge)
+        (IsDue (machine_in M.rules book.old) (⟦<M as Counting>⟧.counted book.old.machine book.old.merge)
         (right_in M.rules book.old) book.old.merge options.steps book.old.limit (length book.old.entries))) }
     ensures headline { IfOk result (λ o. IfSome o (IsTrueOf M M.Form (M.rules book.old.machine) book.old.program)) }
     ensures first { IfOk result (λ o. IfSome o (TellsFirst (machine_in M.rules book.old) book.old.entries)) }
@@ -241,8 +236,7 @@ pub(crate) fn read_answer<M: Machine>(
     ensures finished { cut ≡ None → IsWorkedOff (machine_in M.rules book.old).steps book.old.entries options.steps
         → IfOk result (λ o. IsSome o) }
     ensures stopped { IfSome cut (λ id. (d : ℕ) → d < options.steps → IsCutAt (machine_in M.rules book.old)
-        (counted_as_one M.Loc.PartialEq.eq M.Mem.PartialEq.eq M.Form.PartialEq.eq
-        (M.form_of book.old.machine) book.old.merge) (right_in M.rules book.old) book.old d id
+        (⟦<M as Counting>⟧.counted book.old.machine book.old.merge) (right_in M.rules book.old) book.old d id
         → IfOk result (λ o. IsSome o)) }
 {
     match cut {

@@ -1,6 +1,6 @@
 //! The report on a book.
 ghost use Rattle.std.specs.Prelude.{◌≡◌, ℕ, ◌<◌, ◌↔◌, IsTrue, IsSome, IfOk, IfSome, IfNone, length};
-ghost use Rattle.book.specs.Books.{counted_as_one, machine_in, right_in};
+ghost use Rattle.book.specs.Books.{machine_in, right_in};
 ghost use Rattle.crew.specs.Driving.{IsLedgerOf};
 ghost use Rattle.crew.specs.Ledger.{ledger};
 ghost use Rattle.crew.specs.Reading.{IsCutAt, IsWorkedOff};
@@ -10,7 +10,7 @@ use crate::answer::{Report, Share};
 use crate::options::Options;
 use crate::reading::read_answer;
 use crate::tally::is_of;
-use book::Book;
+use book::{Book, Counting};
 use sched_program::{OutOfMemory, Program};
 use std::alloc::Global;
 use tree_machine::Machine;
@@ -43,8 +43,8 @@ pub fn report_of<M: Machine>(
     ensures finished { IsBookOf machine program.now options book → cut ≡ None
         → IsWorkedOff (machine_in M.rules book).steps book.entries options.steps → IfOk result (λ o. IsSome o) }
     ensures stopped { IsBookOf machine program.now options book → IfSome cut (λ id. (d : ℕ) → d < options.steps
-        → IsCutAt (machine_in M.rules book) (counted_as_one M.Loc.PartialEq.eq M.Mem.PartialEq.eq M.Form.PartialEq.eq
-        (M.form_of book.machine) book.merge) (right_in M.rules book) book d id → IfOk result (λ o. IsSome o)) }
+        → IsCutAt (machine_in M.rules book) (⟦<M as Counting>⟧.counted book.machine book.merge) (right_in M.rules book)
+        book d id → IfOk result (λ o. IsSome o)) }
 {
     if !is_asked(&book, machine, program, options) {
         return Ok(None);

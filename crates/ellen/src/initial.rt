@@ -2,10 +2,10 @@
 ghost use Rattle.std.specs.Prelude.{◌≡◌, IfOk, OnErr};
 ghost use Rattle.ellen.specs.Initial.{empty_tree, put_in, initial_memory};
 
-use crate::memory::{EllenMem, Node, UpdateWord, key_in, number_of};
+use crate::memory::{EllenMem, Node, UpdateWord, key_in};
 use sched_program::{OutOfMemory, Sequence};
 use std::alloc::Global;
-use tree_machine::{search_end, side_of};
+use tree_machine::{number_of, search_end, side_of};
 
 /// The root, over the two greatest sentinels.
 fn empty_tree(alloc: Global) -> Result<EllenMem, OutOfMemory>

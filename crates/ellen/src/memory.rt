@@ -1,5 +1,5 @@
 //! The nodes and the records of the shared memory.
-ghost use Rattle.std.specs.Prelude.{◌≡◌, ◌+◌, ◌^◌, ◌<◌, ◌≤◌, length, IfOk, IfErr, OnErr, Some};
+ghost use Rattle.std.specs.Prelude.{◌≡◌, ◌+◌, ◌<◌, length, IfOk, OnErr, Some};
 ghost use Rattle.ellen.specs.declared.memory.Record.TheVariants.{Ins};
 ghost use Rattle.tree_machine.specs.SearchOrder.{side_of};
 ghost use Rattle.ellen.specs.Memory.{node_at, record_at, key_at, update_of, child_on};
@@ -8,7 +8,7 @@ ghost use Rattle.ellen.specs.Memory.{with_internal, new_internal, internal_over,
 
 use sched_program::{OutOfMemory, Sequence};
 use std::alloc::Global;
-use tree_machine::{Shape, Shapes, Side, copied_in, extended, side_of};
+use tree_machine::{Shape, Shapes, Side, copied_in, extended, number_of, side_of};
 
 /// An update word: its state, with the number of the record that was written there last.
 #[derive(Clone, Copy, Debug, PartialEq, Eq, Hash)]
@@ -156,18 +156,6 @@ fn internal_over(key: u8, other: u8, x: u32, y: u32) -> Node
             left: y,
             right: x,
         }
-    }
-}
-
-/// A number of a node or record as others hold it. It takes no memory: a number that does not fit is refused as memory
-/// is.
-pub fn number_of(x: usize) -> Result<u32, OutOfMemory>
-    ensures number { IfOk result (λ number. number ≡ x) }
-    ensures refused { IfErr result (λ _. 2 ^ 32 ≤ x) }
-{
-    match u32::try_from(x) {
-        Ok(number) => Ok(number),
-        Err(_) => Err(OutOfMemory),
     }
 }
 

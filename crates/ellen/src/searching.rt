@@ -9,13 +9,12 @@ ghost use Rattle.ellen.specs.Table.{search_act, flagging, decide, arrived};
 use crate::helping::{first_place, help_first, marking, with_base};
 use crate::machine::Ellen;
 use crate::memory::{
-    DeleteRecord, EllenMem, Node, Record, UpdateWord, child_on, is_word, key_in, number_of,
-    update_of,
+    DeleteRecord, EllenMem, Node, Record, UpdateWord, child_on, is_word, key_in, update_of,
 };
 use crate::place::{Above, Base, EllenLoc, HelpLoc, SearchLoc};
 use sched_program::{Op, OutOfMemory};
 use std::alloc::Global;
-use tree_machine::{Outcome, side_of};
+use tree_machine::{Outcome, number_of, side_of};
 
 /// The place that flags the parent of an insert, or the one that writes without a flag.
 fn flagging(machine: Ellen, parent: u32, update: UpdateWord, leaf: u32) -> SearchLoc
@@ -132,14 +131,6 @@ fn arrived(
     }
 }
 
-fn key_of(op: Op) -> u8
-    ensures { result ≡ key_of op }
-{
-    match op {
-        Op::Insert(key) | Op::Delete(key) | Op::Find(key) => key,
-    }
-}
-
 fn update_row(
     machine: Ellen,
     op: Op,
@@ -172,7 +163,7 @@ fn child_row(
         ≡ (mem.now, outcome)) }
 {
     let node = mem.node(parent);
-    match child_on(side_of(key_of(op), key_in(node)), node) {
+    match child_on(side_of(op.key(), key_in(node)), node) {
         Some(child) => arrived(
             alloc,
             machine,
@@ -208,7 +199,7 @@ fn insert_flag_row(
         return help_first(alloc, machine, found);
     }
     let record = number_of(mem.records.len())?;
-    mem.add_insert(alloc, key_of(op), parent, leaf)?;
+    mem.add_insert(alloc, op.key(), parent, leaf)?;
     mem.set_update(parent, UpdateWord::InsertFlag(record));
     let resume = with_base(alloc, Base::Insert);
     Ok(Outcome::Goes(EllenLoc::Help(HelpLoc::InsChild(record), resume)))
@@ -227,7 +218,7 @@ fn insert_only_row(
         ≡ (mem.new, outcome)) }
     ensures err { OnErr result (mem.new ≡ mem.old) }
 {
-    let key = key_of(op);
+    let key = op.key();
     let side = mem.side_of_new(parent, key, leaf);
     let Some(child) = child_on(side, mem.node(parent)) else {
         return Ok(Outcome::Astray);

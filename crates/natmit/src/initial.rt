@@ -2,10 +2,10 @@
 ghost use Rattle.std.specs.Prelude.{◌≡◌, ◌<◌, length, IfOk};
 ghost use Rattle.natmit.specs.Initial.{empty_tree, put_in, initial_memory};
 
-use crate::memory::{NatMitMem, Node, number_of, plain};
+use crate::memory::{NatMitMem, Node, plain};
 use sched_program::{OutOfMemory, Sequence};
 use std::alloc::Global;
-use tree_machine::search_end;
+use tree_machine::{number_of, search_end};
 
 /// The root, node 1, and three leaves of keys above all that programs name.
 fn empty_tree(alloc: Global) -> Result<NatMitMem, OutOfMemory>

@@ -1,11 +1,11 @@
 //! The nodes of the shared memory.
-ghost use Rattle.std.specs.Prelude.{◌≡◌, ◌+◌, ◌^◌, ◌<◌, ◌≤◌, length, IfOk, IfErr, OnErr};
+ghost use Rattle.std.specs.Prelude.{◌≡◌, ◌+◌, ◌<◌, length, IfOk, OnErr};
 ghost use Rattle.natmit.specs.Memory.{plain, is_plain, key_in, shape_in, shapes, word_on, with_word, node_at};
 ghost use Rattle.natmit.specs.Memory.{key_at, set_word, internal_over, with_internal, new_internal, put_at};
 
 use sched_program::{OutOfMemory, Sequence};
 use std::alloc::Global;
-use tree_machine::{Shape, Shapes, Side, copied_in, extended, side_of};
+use tree_machine::{Shape, Shapes, Side, copied_in, extended, number_of, side_of};
 
 /// A child word.
 #[derive(Clone, Copy, Debug, PartialEq, Eq, Hash)]
@@ -123,17 +123,6 @@ fn internal_over(key: u8, other: u8, new: u32, leaf: u32) -> Node
             left: plain(leaf),
             right: plain(new),
         }
-    }
-}
-
-/// A number of a node as words hold it. It takes no memory: a number that does not fit is refused as memory is.
-pub(crate) fn number_of(x: usize) -> Result<u32, OutOfMemory>
-    ensures number { IfOk result (λ number. number ≡ x) }
-    ensures refused { IfErr result (λ _. 2 ^ 32 ≤ x) }
-{
-    match u32::try_from(x) {
-        Ok(number) => Ok(number),
-        Err(_) => Err(OutOfMemory),
     }
 }
 

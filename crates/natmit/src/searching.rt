@@ -12,19 +12,11 @@ use sched_program::{Op, OutOfMemory};
 use std::alloc::Global;
 use tree_machine::{Outcome, Side, side_of};
 
-fn key_of(op: Op) -> u8
-    ensures { result ≡ key_of op }
-{
-    match op {
-        Op::Insert(key) | Op::Delete(key) | Op::Find(key) => key,
-    }
-}
-
 /// The side of a node on which the operation's key is looked for.
 pub(crate) fn side_at(op: Op, mem: &NatMitMem, x: u32) -> Side
     ensures { result ≡ side_at (key_of op) mem.now x }
 {
-    side_of(key_of(op), key_in(mem.node(x)))
+    side_of(op.key(), key_in(mem.node(x)))
 }
 
 /// What a delete does at the leaf, of this key, at which its search has ended.
@@ -229,7 +221,7 @@ impl NatMit {
                 leaf,
             }));
         }
-        mem.put_at(alloc, key_of(op), parent, leaf)?;
+        mem.put_at(alloc, op.key(), parent, leaf)?;
         Ok(Outcome::Replies(true))
     }
 

@@ -1,9 +1,6 @@
 //! The answer to a request: the status and all that is to be written.
 ghost use Rattle.std.specs.Prelude.{◌≡◌, ◌-◌, ◌^◌, ◌<◌, ◌⊎◌, IfOk, IfSome, None, MatchOption, if◌then◌else◌, length};
-ghost use Rattle.std.specs.Cmp.{IsEquivalence};
 ghost use Rattle.std.specs.String.{string_bytes};
-ghost use Rattle.sched_program.specs.Exact.{IsExact};
-ghost use Rattle.book.specs.Books.{counted_as_one};
 ghost use Rattle.book.specs.Closed.{AreSound, IsClosed};
 ghost use Rattle.book.specs.Findings.{is_sound};
 ghost use Rattle.treesched.specs.Devices.{LeavesBehind};
@@ -15,11 +12,11 @@ ghost use Rattle.treesched.specs.Serving.{IsExplored, IsReplayed, IsServed, IsSe
 use crate::lines::{put_operations, put_passed, put_report, put_verdict};
 use crate::refusals::{book_refused, no_step, not_loaded, unreadable};
 use crate::request::Request;
-use book::{Finding, Merge, ReplayFault, check_book, replay};
+use book::{Counting, Finding, Merge, ReplayFault, check_book, replay};
 use crew::{Answer, Open, Options, Report, explore};
 use ellen::Ellen;
 use natmit::NatMit;
-use sched_program::{Counted, Exact, OutOfMemory, Program, ReadFault, Tree};
+use sched_program::{Counted, OutOfMemory, Program, ReadFault, Tree, tests_exactly};
 use std::alloc::Global;
 use std::io::Read;
 use std::mem::forget;
@@ -74,22 +71,16 @@ fn status_of(answer: &Answer) -> u8
     }
 }
 
-/// Values of such a type test equal exactly if they are equal. It is there for proofs alone, and does nothing.
-fn tests_equality<T: Exact>()
-    ensures exact { IsExact T.PartialEq.eq }
-    ensures laws { IsEquivalence T.PartialEq.eq }
-{}
-
 /// A book counts states as one as the merge says. It is there for proofs alone, and does nothing.
 fn counts_as_one<M: Machine>(machine: M, program: &Program, merge: Merge)
     ensures { CountsAsOne M M.Form (M.rules machine) program.now merge
-        (counted_as_one M.Loc.PartialEq.eq M.Mem.PartialEq.eq M.Form.PartialEq.eq (M.form_of machine) merge) }
+        (⟦<M as Counting>⟧.counted machine merge) }
 {
     let _ = machine;
     let _ = program;
     let _ = merge;
-    tests_equality::<State<M>>();
-    tests_equality::<StateForm<M>>();
+    tests_exactly::<State<M>>();
+    tests_exactly::<StateForm<M>>();
 }
 
 /// The text of the book, where it is asked for and the answer is for every schedule.

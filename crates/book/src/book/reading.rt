@@ -5,7 +5,7 @@ ghost use Rattle.std.specs.Option.{option_copied, option_map};
 ghost use Rattle.tree_machine.specs.declared.state.State.{State};
 ghost use Rattle.book.specs.Entries.{Entry, At};
 ghost use Rattle.book.specs.Findings.{is_sound};
-ghost use Rattle.book.specs.Books.{counted_as_one, machine_in, right_in, totals_of};
+ghost use Rattle.book.specs.Books.{machine_in, right_in, totals_of};
 ghost use Rattle.book.specs.Counts.{IsCount};
 ghost use Rattle.book.specs.Layers.{IsExpandedTo, IsExpandedBelow, IsLeftTo};
 ghost use Rattle.book.specs.BookFile.Checks.{PassAs};
@@ -15,10 +15,10 @@ ghost use Rattle.book.specs.Schedule.{after};
 ghost use Rattle.book.specs.Ways.{IsWay};
 
 use crate::book::{Book, Merge, Totals, steps_at};
-use crate::exactly::tests_exactly;
+use crate::counting::Counting;
 use crate::file::write_entries;
 use crate::finding::Finding;
-use sched_program::{OutOfMemory, Program};
+use sched_program::{OutOfMemory, Program, tests_exactly};
 use std::alloc::Global;
 use tree_machine::{Machine, StateForm};
 
@@ -83,8 +83,7 @@ impl<M: Machine> Book<M> {
         ensures within { result ≤ length self.now.entries }
         ensures count { IsExpandedBelow (machine_in M.rules self.now).steps self.now.entries steps
             → IsCount (machine_in M.rules self.now)
-            (counted_as_one M.Loc.PartialEq.eq M.Mem.PartialEq.eq M.Form.PartialEq.eq
-            (M.form_of self.now.machine) self.now.merge) steps result }
+            (⟦<M as Counting>⟧.counted self.now.machine self.now.merge) steps result }
     {
         self.law();
         self.first_above(steps)

@@ -11,10 +11,9 @@ ghost use Rattle.book.specs.Findings.{machine_of};
 ghost use Rattle.book.specs.BookFile.Closing.{IsFirstOpen};
 ghost use Rattle.book.specs.BookFile.Forms.{AreFormsOf, AreStepsKnown, IsStepUnknown};
 
-use crate::exactly::tests_exactly;
 use crate::file::fault::CheckFault;
 use crate::stock::Stock;
-use sched_program::{OutOfMemory, Program, Sequence};
+use sched_program::{OutOfMemory, Program, Sequence, tests_exactly};
 use std::alloc::Global;
 use std::collections::HashSet;
 use tree_machine::{Machine, Room, State, StateForm, StepFault};

@@ -14,7 +14,7 @@ returns-in_ok-push-in-None-clause-put g c =
     let equivalence = same_label_equiv g.S.PartialEq.eq g.F.PartialEq.eq g.met.S.Eq.laws g.met.F.Eq.laws in
     put_step eq eq equivalence.symm c.args.slots.now.entries c.put_new.new.slots.entries c.args.parent c.args.step
     fields.result.2 c.in_ok-row.row
-    c.in_ok-put_new.ensures.put (ap (λ (row : Row). keyed_of (fields.result.2, row)) c.in_ok-row.ensures
+    c.in_ok-put_new.ensures.put (ap (λ (row : Row). keyed_of (fields.result.2, row)) c.in_ok-row.ensures.row
     ∙ step_row c.args.parent c.args.step fields.result.2 fields.result.0 fields.result.3 fields.ensures.0
     fields.ensures.2 fields.ensures.3)
 
@@ -26,6 +26,6 @@ returns-in-Some-clause-put g c =
     let equivalence = same_label_equiv g.S.PartialEq.eq g.F.PartialEq.eq g.met.S.Eq.laws g.met.F.Eq.laws in
     put_step eq eq equivalence.symm c.args.slots.now.entries c.put_new.new.slots.entries c.args.parent c.args.step
     fields.result.2 c.in_ok-row.row
-    c.in_ok-put_new.ensures.put (ap (λ (row : Row). keyed_of (fields.result.2, row)) c.in_ok-row.ensures
+    c.in_ok-put_new.ensures.put (ap (λ (row : Row). keyed_of (fields.result.2, row)) c.in_ok-row.ensures.row
     ∙ step_row c.args.parent c.args.step fields.result.2 fields.result.0 fields.result.3 fields.ensures.0
     fields.ensures.2 fields.ensures.3)

@@ -23,7 +23,7 @@ invariant_of-result g c =
     ∙ (ap (λ (es : List (Labelled g.row.S.Denot g.row.F.Denot × Row)). es
     ++ cond (list_any (same_label g.S.PartialEq.eq g.F.PartialEq.eq c.args.known) (keys_of es)) []
     ((c.args.known, c.in_ok-row.row) ∷ [])) empty
-    ∙ ap (λ (packed : Row). (c.args.known, packed) ∷ []) c.in_ok-row.ensures) in
+    ∙ ap (λ (packed : Row). (c.args.known, packed) ∷ []) c.in_ok-row.ensures.row) in
     let fault : c.if-is_sound.fault ≡ cond (is_sound c.args.finding) None (Some 0) = (elim c.if-is_sound.branch [
       | then-is_sound w ↦ w.fault-is ∙ ap (λ b. cond b None (Some 0))
           (sym (sym c.is_sound.ensures ∙ w.if-is_sound.true))

@@ -1,4 +1,4 @@
-use Rattle.treesched.proofs.serve.tests_equality.Goals as goal
+use Rattle.sched_program.proofs.exact.tests_exactly.Goals as goal
 
 pub returns-clause-exact : goal.returns-clause-exact
 returns-clause-exact g c = g.met.T.Exact.exact

@@ -1,0 +1,15 @@
+//! Numbers of nodes and records, as others hold them.
+ghost use Rattle.std.specs.Prelude.{◌≡◌, ◌^◌, ◌≤◌, IfOk, IfErr};
+
+use sched_program::OutOfMemory;
+
+/// A number in four bytes. It takes no memory: a number that does not fit is refused as memory is.
+pub fn number_of(x: usize) -> Result<u32, OutOfMemory>
+    ensures number { IfOk result (λ number. number ≡ x) }
+    ensures refused { IfErr result (λ _. 2 ^ 32 ≤ x) }
+{
+    match u32::try_from(x) {
+        Ok(number) => Ok(number),
+        Err(_) => Err(OutOfMemory),
+    }
+}
