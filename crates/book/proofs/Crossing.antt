@@ -25,18 +25,19 @@ row_send = search (sendable, crosses) depth 30
 program_send : IsSend Program.the_row
 program_send = search (sendable, crosses) depth 30
 
-module _ (S F : RattleType) (s : IsSend S) (f : IsSend F) (s' : IsSync S) where
-  known_send : IsSend (Known.the_row S F)
+module _ (S F : RattleType) (a : coded.Ghosts S.Denot) (b : partial.Ghosts S.Denot) (s : IsSend S) (f : IsSend F)
+    (s' : IsSync S) where
+  known_send : IsSend (Known.the_row S F a b)
   known_send = search (sendable, crosses) depth 30
 
 module _ (K : RattleType) (h : hash.Ghosts K.Denot) (p : partial.Ghosts K.Denot) (k : IsSend K) where
   hashed_send : IsSend (Hashed.the_row K h p)
   hashed_send = search (sendable, crosses) depth 30
 
-module _ (S F : RattleType) (a : eq.Ghosts S.Denot) (b : partial.Ghosts S.Denot) (c : hash.Ghosts S.Denot)
-    (d : eq.Ghosts F.Denot) (e : partial.Ghosts F.Denot) (g : hash.Ghosts F.Denot)
+module _ (S F : RattleType) (a : coded.Ghosts S.Denot) (b : exact.Ghosts S.Denot) (c : eq.Ghosts S.Denot)
+    (p : partial.Ghosts S.Denot) (d : eq.Ghosts F.Denot) (e : partial.Ghosts F.Denot) (g : hash.Ghosts F.Denot)
     (s : IsSend S) (f : IsSend F) (s' : IsSync S) where
-  table_send : IsSend (Table.the_row S F a b c d e g)
+  table_send : IsSend (Table.the_row S F a b c p d e g)
   table_send = search (row_send, hashed_send, known_send, sendable, crosses) depth 30
 
 module _ (M Mem Loc Form : RattleType) (m : IsSend M) (mem : IsSend Mem) (loc : IsSend Loc) (form : IsSend Form)

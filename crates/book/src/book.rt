@@ -147,9 +147,9 @@ impl<M: Machine> Book<M> {
         tests_exactly::<StateForm<M>>();
         let state = State::start(alloc, machine, &program)?;
         let finding = find(alloc, machine, &program, &state)?;
-        let state = Arc::new(alloc, state)?;
         let mut room = Room::new(alloc);
         let known = label(alloc, machine, &program, &state, merge, &mut room)?;
+        let state = Arc::new(alloc, state)?;
         let table = Table::new(alloc, state, known, finding)?;
         Ok(Book {
             machine,

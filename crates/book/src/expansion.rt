@@ -21,18 +21,18 @@ use std::alloc::Global;
 use std::hash::Hash;
 use std::marker::Model;
 use std::sync::Arc;
-use tree_machine::{Machine, Room, State, StateForm, StepFault};
+use tree_machine::{Coded, Machine, Room, State, StateForm, StepFault};
 
 /// The step of a thread: the state that it leads to, with its label, and what was found of it.
 #[derive(Drop)]
-pub struct Stepped<S: Hash, F: Hash> {
+pub struct Stepped<S: Coded, F: Hash> {
     thread: u8,
     state: Arc<S>,
     known: Hashed<Known<S, F>>,
     finding: Finding,
 }
 
-impl<S: Hash, F: Hash> Model for Stepped<S, F> {
+impl<S: Coded, F: Hash> Model for Stepped<S, F> {
     ghost use Rattle.std.specs.Prelude.{◌≡◌};
     ghost use Rattle.book.specs.Entries.{Successor};
     ghost use Rattle.book.specs.Labels.{Labelled};
@@ -44,7 +44,7 @@ impl<S: Hash, F: Hash> Model for Stepped<S, F> {
     ghost invariant = { λ x. x.known.state ≡ x.state.value };
 }
 
-impl<S: Hash, F: Hash> Stepped<S, F> {
+impl<S: Coded, F: Hash> Stepped<S, F> {
     pub(crate) fn into_fields(self) -> (u8, Arc<S>, Hashed<Known<S, F>>, Finding)
         ensures { (result.0 ≡ self.thread) × (result.1.value ≡ self.state.state) × (result.2 ≡ self.state)
             × (result.3 ≡ self.finding) }
@@ -64,23 +64,21 @@ pub(crate) fn label<M: Machine>(
     alloc: Global,
     machine: M,
     program: &Program,
-    state: &Arc<State<M>>,
+    state: &State<M>,
     merge: Merge,
     room: &mut Room,
 ) -> Result<Hashed<Known<State<M>, StateForm<M>>>, OutOfMemory>
-    requires { Fits (M.rules machine) program.now state.now.value }
-    ensures state { IfOk result (λ known. known.state ≡ state.now.value) }
-    ensures form { IfOk result (λ known. known.form ≡ form_by merge (state_form (M.form_of machine)) state.now.value) }
+    requires { Fits (M.rules machine) program.now state.now }
+    ensures state { IfOk result (λ known. known.state ≡ state.now) }
+    ensures form { IfOk result (λ known. known.form ≡ form_by merge (state_form (M.form_of machine)) state.now) }
 {
-    let form = match merge {
-        Merge::Exact => None,
-        Merge::Names => {
-            // Whoever reads a program knows that it meets the limits.
-            let _ = program.initial();
-            Some(state.form_in(alloc, machine, room)?)
-        }
+    // Whoever reads a program knows that it meets the limits.
+    let _ = program.initial();
+    let known = match merge {
+        Merge::Exact => Known::by_itself(state, state.code_in(alloc, machine, room)?),
+        Merge::Names => Known::by_form(state, state.form_in(alloc, machine, room)?),
     };
-    Ok(Hashed::new(Known::new(state, form)?))
+    Ok(Hashed::new(known))
 }
 
 /// The same step, labelled for a book that merges so.
@@ -98,7 +96,7 @@ fn relabelled<M: Machine>(
         ≡ form_by merge (state_form (M.form_of machine)) made.state.state) }
 {
     let (thread, state, _, finding) = step.into_fields();
-    let known = label(alloc, machine, program, &state, merge, room)?;
+    let known = label(alloc, machine, program, &*state, merge, room)?;
     Ok(Stepped {
         thread,
         state,
@@ -160,8 +158,8 @@ fn step_of<M: Machine>(
         Err(StepFault::OutOfMemory) => return Err(OutOfMemory),
     };
     let finding = find_after(alloc, machine, program, source, &next, thread, loan)?;
+    let known = label(alloc, machine, program, &next, merge, &mut stock.room)?;
     let state = Arc::new(alloc, next)?;
-    let known = label(alloc, machine, program, &state, merge, &mut stock.room)?;
     Ok(Some(Stepped {
         thread,
         state,

@@ -10,15 +10,16 @@ use std::alloc::Global;
 use std::hash::Hash;
 use std::marker::Model;
 use std::sync::Arc;
+use tree_machine::Coded;
 
 /// States that a book knew already, with what else the expansions that were entered held of them. Whoever enters under
 /// a lock can drop these after it.
 #[derive(Drop)]
-pub struct Leftovers<S: Hash, F: Hash> {
+pub struct Leftovers<S: Coded, F: Hash> {
     known: Vec<(Hashed<Known<S, F>>, PackedRow, Arc<S>)>,
 }
 
-impl<S: Hash, F: Hash> Model for Leftovers<S, F> {
+impl<S: Coded, F: Hash> Model for Leftovers<S, F> {
     ghost use Rattle.std.specs.Prelude.{◌-◌, vec_len, vec_capacity};
     ghost use Rattle.book.specs.Leftovers.{Left};
 
@@ -27,7 +28,7 @@ impl<S: Hash, F: Hash> Model for Leftovers<S, F> {
     ghost view = { λ l. record { kept = vec_len l.known; room = vec_capacity l.known - vec_len l.known } };
 }
 
-impl<S: Hash + Drop, F: Hash + Drop> Leftovers<S, F> {
+impl<S: Coded + Drop, F: Hash + Drop> Leftovers<S, F> {
     /// Nothing, with room for so many states. A refused growth is answered by `OutOfMemory`.
     pub fn with_room(alloc: Global, room: usize) -> Result<Leftovers<S, F>, OutOfMemory>
         ensures kept { IfOk result (λ l. l.kept ≡ 0) }

@@ -15,9 +15,10 @@ use crate::slots::put_new;
 use indexmap::IndexMap;
 use std::alloc::AllocError;
 use std::hash::Hash;
+use tree_machine::Coded;
 
 /// Puts in an open row for a step that leads to a new state, which is held. Else the step goes to the leftovers.
-fn put_step<S: Eq + Hash + Drop, F: Eq + Hash + Drop>(
+fn put_step<S: Coded + Drop, F: Eq + Hash + Drop>(
     slots: &mut IndexMap<Hashed<Known<S, F>>, PackedRow>,
     held: &mut Held<S>,
     parent: usize,
@@ -51,7 +52,7 @@ fn put_step<S: Eq + Hash + Drop, F: Eq + Hash + Drop>(
 
 /// Puts in, in their order, open rows for the steps that lead to new states, which are held. The others go to the
 /// leftovers.
-pub(crate) fn put_steps<S: Eq + Hash + Drop, F: Eq + Hash + Drop>(
+pub(crate) fn put_steps<S: Coded + Drop, F: Eq + Hash + Drop>(
     slots: &mut IndexMap<Hashed<Known<S, F>>, PackedRow>,
     held: &mut Held<S>,
     parent: usize,

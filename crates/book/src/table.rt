@@ -1,6 +1,7 @@
 //! The entries by number and by state, and the places among them that are looked for again and again.
 ghost use Rattle.std.specs.Prelude.{◌≡◌, ℕ, ◌+◌, ◌-◌, ◌^◌, ◌<◌, ◌≤◌, ◌++◌, ◌∷◌, [], count_by, length, map, not};
-ghost use Rattle.std.specs.Prelude.{position, true, OnOk, OnErr, IfOk, IfErr, IfSome, IfNone, Some, None, Option, slice_get, take};
+ghost use Rattle.std.specs.Prelude.{position, true, OnOk, OnErr, IfOk, IfErr, IfSome, IfNone, Some, None};
+ghost use Rattle.std.specs.Prelude.{Option, slice_get, take};
 ghost use Rattle.std.specs.List.{range_with_len};
 ghost use Rattle.indexmap.specs.IndexMap.{values};
 ghost use Rattle.book.specs.Entries.{Entry, At, IsTaken, is_open, is_taken, is_expanded, opened, states, unknown};
@@ -25,6 +26,7 @@ use std::alloc::{AllocError, Global};
 use std::hash::Hash;
 use std::marker::Model;
 use std::sync::Arc;
+use tree_machine::Coded;
 
 /// Why rows were not put in.
 #[derive(Clone, Copy, PartialEq, Eq)]
@@ -36,7 +38,7 @@ pub enum TableFault {
 /// The entries of a book: states, each with its row. The key of a row is the state's label. The states from the first
 /// entry on that is not expanded are held; those of the entries before it are given back.
 #[derive(Drop)]
-pub struct Table<S: Eq + Hash + Drop, F: Eq + Hash + Drop> {
+pub struct Table<S: Coded + Drop, F: Eq + Hash + Drop> {
     slots: IndexMap<Hashed<Known<S, F>>, PackedRow>,
     held: Held<S>,
     next_open: usize,
@@ -44,7 +46,7 @@ pub struct Table<S: Eq + Hash + Drop, F: Eq + Hash + Drop> {
     fault: Option<usize>,
 }
 
-impl<S: Eq + Hash + Drop, F: Eq + Hash + Drop> Model for Table<S, F> {
+impl<S: Coded + Drop, F: Eq + Hash + Drop> Model for Table<S, F> {
     ghost use Rattle.book.specs.Labels.{Kept};
     ghost use Rattle.book.specs.Slots.{entries_of, forms_of, AreCursors, AreHeld};
 
@@ -57,7 +59,7 @@ impl<S: Eq + Hash + Drop, F: Eq + Hash + Drop> Model for Table<S, F> {
 }
 
 /// Marks the row at an index.
-fn mark_at<S: Eq + Hash, F: Eq + Hash>(
+fn mark_at<S: Coded, F: Eq + Hash>(
     slots: &mut IndexMap<Hashed<Known<S, F>>, PackedRow>,
     index: usize,
     mark: Mark,
@@ -71,7 +73,7 @@ fn mark_at<S: Eq + Hash, F: Eq + Hash>(
 }
 
 /// Marks the rows at the indices from `start` to below `end`.
-fn mark_range<S: Eq + Hash, F: Eq + Hash>(
+fn mark_range<S: Coded, F: Eq + Hash>(
     slots: &mut IndexMap<Hashed<Known<S, F>>, PackedRow>,
     start: usize,
     end: usize,
@@ -88,7 +90,7 @@ fn mark_range<S: Eq + Hash, F: Eq + Hash>(
 }
 
 /// The row at an index.
-fn row_at<S: Eq + Hash, F: Eq + Hash>(
+fn row_at<S: Coded, F: Eq + Hash>(
     slots: &IndexMap<Hashed<Known<S, F>>, PackedRow>,
     index: usize,
 ) -> &PackedRow
@@ -103,7 +105,7 @@ fn row_at<S: Eq + Hash, F: Eq + Hash>(
 }
 
 /// The first row that is not sound, where all before `start` are.
-fn first_fault_from<S: Eq + Hash, F: Eq + Hash>(
+fn first_fault_from<S: Coded, F: Eq + Hash>(
     slots: &IndexMap<Hashed<Known<S, F>>, PackedRow>,
     start: usize,
 ) -> Option<usize>
@@ -119,7 +121,7 @@ fn first_fault_from<S: Eq + Hash, F: Eq + Hash>(
 }
 
 /// The first row that is not expanded, where all before `start` are, or the number of rows.
-fn first_left_from<S: Eq + Hash, F: Eq + Hash>(
+fn first_left_from<S: Coded, F: Eq + Hash>(
     slots: &IndexMap<Hashed<Known<S, F>>, PackedRow>,
     start: usize,
 ) -> usize
@@ -137,29 +139,27 @@ fn first_left_from<S: Eq + Hash, F: Eq + Hash>(
 }
 
 /// The number of open rows.
-fn open_rows<S: Eq + Hash, F: Eq + Hash>(slots: &IndexMap<Hashed<Known<S, F>>, PackedRow>) -> usize
+fn open_rows<S: Coded, F: Eq + Hash>(slots: &IndexMap<Hashed<Known<S, F>>, PackedRow>) -> usize
     ensures { result ≡ count_by (λ row. is_open row.mark) (values slots.now) }
 {
     slots.values().filter(|row| row.is_open()).count()
 }
 
 /// The number of taken rows.
-fn taken_rows<S: Eq + Hash, F: Eq + Hash>(slots: &IndexMap<Hashed<Known<S, F>>, PackedRow>) -> usize
+fn taken_rows<S: Coded, F: Eq + Hash>(slots: &IndexMap<Hashed<Known<S, F>>, PackedRow>) -> usize
     ensures { result ≡ count_by (λ row. is_taken row.mark) (values slots.now) }
 {
     slots.values().filter(|row| row.is_taken()).count()
 }
 
 /// The number of expanded rows.
-fn expanded_rows<S: Eq + Hash, F: Eq + Hash>(
-    slots: &IndexMap<Hashed<Known<S, F>>, PackedRow>,
-) -> usize
+fn expanded_rows<S: Coded, F: Eq + Hash>(slots: &IndexMap<Hashed<Known<S, F>>, PackedRow>) -> usize
     ensures { result ≡ count_by (λ row. is_expanded row.mark) (values slots.now) }
 {
     slots.values().filter(|row| row.is_expanded()).count()
 }
 
-impl<S: Eq + Hash + Drop, F: Eq + Hash + Drop> Table<S, F> {
+impl<S: Coded + Drop, F: Eq + Hash + Drop> Table<S, F> {
     /// A table with one open entry, which has no parent.
     pub fn new(
         alloc: Global,

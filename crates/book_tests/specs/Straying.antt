@@ -5,6 +5,7 @@ use Rattle.std.proofs.Common.{◌∙◌, ap, arith}
 use Rattle.std.proofs.lemmas.Option.{same_Some}
 use Rattle.sched_program.specs.declared.operation.Op.{Op}
 use Rattle.tree_machine.specs.Rules.{Rules, AreLawful, IsOutcomeInRange}
+use Rattle.tree_machine.specs.FormCode.{TellsWholly}
 use Rattle.tree_machine.specs.Pairing.{AreAlike}
 use Rattle.tree_machine.specs.Unnumbered.{equal_pairs}
 use Rattle.tree_machine.specs.Laws.Unnumbered.{equal_pairs_lawful, equal_alike}
@@ -79,15 +80,18 @@ all_read (place ∷ held) (twin ∷ twins) e =
 abbrev pub straying_form : Bool → List (Option Bool) → List ℕ
 straying_form memory held = held_code (Some memory) ∷ map held_code held
 
+-- it tells both
+pub straying_tells : TellsWholly straying_form
+straying_tells memory other held twins same =
+    let first : held_code (Some memory) ≡ held_code (Some other) = cc in
+    let rest : map held_code held ≡ map held_code twins = cc in
+    (same_Some memory other (held_read (Some memory) (Some other) first), all_read held twins rest)
+
 -- forms are equal exactly if the memories and the places are
 pub straying_forms : (memory other : Bool) (held twins : List (Option Bool))
     → (straying_form memory held ≡ straying_form other twins) ↔ AreAlike straying_rules.pairs memory held other twins
 straying_forms memory other held twins =
     let alike = equal_alike memory other held twins in (
-      (λ same.
-          let first : held_code (Some memory) ≡ held_code (Some other) = cc in
-          let rest : map held_code held ≡ map held_code twins = cc in
-          let memories : memory ≡ other = same_Some memory other (held_read (Some memory) (Some other) first) in
-          alike.0 (memories, all_read held twins rest)),
+      (λ same. alike.0 (straying_tells memory other held twins same)),
       (λ h. let same = alike.1 h in λ i. straying_form (same.0 i) (same.1 i)),
     )

@@ -1,7 +1,8 @@
 //! A machine that goes astray.
 ghost use Rattle.std.specs.Prelude.{◌≡◌, ◌++◌, map, refl, OnOk};
 ghost use Rattle.tree_machine.specs.Alike.{places_of};
-ghost use Rattle.book_tests.specs.Straying.{straying_rules, straying_lawful, straying_form, straying_forms, held_code};
+ghost use Rattle.book_tests.specs.Straying.{straying_rules, straying_lawful, straying_form, straying_forms, straying_tells};
+ghost use Rattle.book_tests.specs.Straying.{held_code};
 
 use sched_program::{Exact, Op, OutOfMemory};
 use std::alloc::Global;
@@ -46,6 +47,8 @@ impl Machine for Straying {
     ghost rules = { λ _. straying_rules };
 
     ghost form_of = { λ _. straying_form };
+
+    ghost whole_code = { straying_form };
 
     fn copy_mem(&self, _alloc: Global, mem: &bool) -> Result<bool, OutOfMemory> {
         Ok(*mem)
@@ -107,7 +110,19 @@ impl Machine for Straying {
         room.put(self.form(alloc, mem, threads)?.as_slice())
     }
 
+    fn write_whole(
+        &self,
+        alloc: Global,
+        mem: &bool,
+        threads: &[Thread<bool>],
+        room: &mut Room,
+    ) -> Result<(), OutOfMemory> {
+        room.put(self.form(alloc, mem, threads)?.as_slice())
+    }
+
     ghost lawful = { λ _. straying_lawful };
 
     ghost forms = { λ _ memory other held twins _ _ _ _ _. straying_forms memory other held twins };
+
+    ghost tells = { straying_tells };
 }

@@ -7,6 +7,7 @@ use Rattle.std.proofs.lemmas.Option.{same_Some}
 use Rattle.sched_program.specs.declared.operation.Op.{Op}
 use Rattle.sched_program.specs.declared.operation.Op.TheVariants.{Insert, Delete, Find}
 use Rattle.tree_machine.specs.Rules.{Rules, AreLawful, IsOutcomeInRange}
+use Rattle.tree_machine.specs.FormCode.{TellsWholly}
 use Rattle.tree_machine.specs.Pairing.{AreAlike}
 use Rattle.tree_machine.specs.Unnumbered.{equal_pairs}
 use Rattle.tree_machine.specs.Laws.Unnumbered.{equal_pairs_lawful, equal_alike}
@@ -85,15 +86,18 @@ all_read (place ∷ held) (twin ∷ twins) e =
 abbrev pub faulty_form : Bool → List (Option Bool) → List ℕ
 faulty_form memory held = held_code (Some memory) ∷ map held_code held
 
+-- it tells both
+pub faulty_tells : TellsWholly faulty_form
+faulty_tells memory other held twins same =
+    let first : held_code (Some memory) ≡ held_code (Some other) = cc in
+    let rest : map held_code held ≡ map held_code twins = cc in
+    (same_Some memory other (held_read (Some memory) (Some other) first), all_read held twins rest)
+
 -- forms are equal exactly if the memories and the places are
 pub faulty_forms : (memory other : Bool) (held twins : List (Option Bool))
     → (faulty_form memory held ≡ faulty_form other twins) ↔ AreAlike faulty_rules.pairs memory held other twins
 faulty_forms memory other held twins =
     let alike = equal_alike memory other held twins in (
-      (λ same.
-          let first : held_code (Some memory) ≡ held_code (Some other) = cc in
-          let rest : map held_code held ≡ map held_code twins = cc in
-          let memories : memory ≡ other = same_Some memory other (held_read (Some memory) (Some other) first) in
-          alike.0 (memories, all_read held twins rest)),
+      (λ same. alike.0 (faulty_tells memory other held twins same)),
       (λ h. let same = alike.1 h in λ i. faulty_form (same.0 i) (same.1 i)),
     )

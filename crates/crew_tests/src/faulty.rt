@@ -1,7 +1,8 @@
 //! A machine with a fault for each kind of operation.
 ghost use Rattle.std.specs.Prelude.{◌≡◌, ◌++◌, map, refl, OnOk};
 ghost use Rattle.tree_machine.specs.Alike.{places_of};
-ghost use Rattle.crew_tests.specs.Faulty.{faulty_rules, faulty_lawful, faulty_form, faulty_forms, held_code};
+ghost use Rattle.crew_tests.specs.Faulty.{faulty_rules, faulty_lawful, faulty_form, faulty_forms, faulty_tells};
+ghost use Rattle.crew_tests.specs.Faulty.{held_code};
 
 use sched_program::{Exact, Op, OutOfMemory};
 use std::alloc::Global;
@@ -47,6 +48,8 @@ impl Machine for Faulty {
     ghost rules = { λ _. faulty_rules };
 
     ghost form_of = { λ _. faulty_form };
+
+    ghost whole_code = { faulty_form };
 
     fn copy_mem(&self, _alloc: Global, mem: &bool) -> Result<bool, OutOfMemory> {
         Ok(*mem)
@@ -117,7 +120,19 @@ impl Machine for Faulty {
         room.put(self.form(alloc, mem, threads)?.as_slice())
     }
 
+    fn write_whole(
+        &self,
+        alloc: Global,
+        mem: &bool,
+        threads: &[Thread<bool>],
+        room: &mut Room,
+    ) -> Result<(), OutOfMemory> {
+        room.put(self.form(alloc, mem, threads)?.as_slice())
+    }
+
     ghost lawful = { λ _. faulty_lawful };
 
     ghost forms = { λ _ memory other held twins _ _ _ _ _. faulty_forms memory other held twins };
+
+    ghost tells = { faulty_tells };
 }

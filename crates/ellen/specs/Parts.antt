@@ -1,7 +1,7 @@
 -- Nodes, records and what the threads hold as parts: what is told of them, and the nodes and the records that they
 -- name.
 use Rattle.std.specs.Prelude.{ℕ, suc, List, [], ◌∷◌, map, Option, Some, None}
-use Rattle.tree_machine.specs.Flat.{flat_form}
+use Rattle.tree_machine.specs.Flat.{flat_form, parts_code}
 use Rattle.tree_machine.specs.Parts.{Part, Parts, no_part}
 use Rattle.tree_machine.specs.declared.search_order.Side.{Side}
 use Rattle.tree_machine.specs.declared.search_order.Side.TheVariants as side
@@ -164,3 +164,7 @@ ellen_parts memory held =
 -- the form of a memory with what the threads hold; the root is paired with itself
 abbrev pub ellen_form : EllenMem → List (Option EllenLoc) → List ℕ
 ellen_form memory held = flat_form 1 (ellen_parts memory held)
+
+-- all of a memory and what the threads hold, by the numbers of nodes and records
+abbrev pub ellen_code : EllenMem → List (Option EllenLoc) → List ℕ
+ellen_code memory held = parts_code (ellen_parts memory held)

@@ -1,6 +1,6 @@
 //! The machine and its variants.
 
-use crate::form::{form, write_form};
+use crate::form::{form, write_all, write_form};
 use crate::helping::{first_place, help_act};
 use crate::initial::build;
 use crate::memory::{DeleteRecord, EllenMem, InsertRecord, Node, Record, UpdateWord};
@@ -24,7 +24,8 @@ impl Machine for Ellen {
     ghost use Rattle.ellen.specs.EllenRules.{ellen_rules};
     ghost use Rattle.ellen.specs.Laws.Rules.{ellen_lawful};
     ghost use Rattle.ellen.specs.Laws.Forms.{ellen_forms};
-    ghost use Rattle.ellen.specs.Parts.{ellen_form};
+    ghost use Rattle.ellen.specs.Laws.Codes.{ellen_tells};
+    ghost use Rattle.ellen.specs.Parts.{ellen_code, ellen_form};
 
     type Mem = EllenMem;
 
@@ -35,6 +36,8 @@ impl Machine for Ellen {
     ghost rules = { ellen_rules };
 
     ghost form_of = { λ _. ellen_form };
+
+    ghost whole_code = { ellen_code };
 
     fn copy_mem(&self, alloc: Global, mem: &EllenMem) -> Result<EllenMem, OutOfMemory> {
         mem.copy(alloc)
@@ -92,9 +95,21 @@ impl Machine for Ellen {
         write_form(alloc, mem, threads, room)
     }
 
+    fn write_whole(
+        &self,
+        alloc: Global,
+        mem: &EllenMem,
+        threads: &[Thread<EllenLoc>],
+        room: &mut Room,
+    ) -> Result<(), OutOfMemory> {
+        write_all(alloc, mem, threads, room)
+    }
+
     ghost lawful = { ellen_lawful };
 
     ghost forms = { ellen_forms };
+
+    ghost tells = { ellen_tells };
 }
 
 impl Exact for Ellen {

@@ -2,7 +2,7 @@
 use Rattle.std.specs.Prelude.{ℕ, ◌+◌, ◌*◌, Bool, if◌then◌else◌, List, [], ◌∷◌, map, Option, Some, None}
 use Rattle.tree_machine.specs.declared.search_order.Side.{Side}
 use Rattle.tree_machine.specs.declared.search_order.Side.TheVariants.{Left, Right}
-use Rattle.tree_machine.specs.Flat.{flat_form}
+use Rattle.tree_machine.specs.Flat.{flat_form, parts_code}
 use Rattle.tree_machine.specs.Parts.{Part, Parts}
 use Rattle.natmit.specs.declared.memory.Word.{Word}
 use Rattle.natmit.specs.declared.memory.Node.{Node}
@@ -63,3 +63,7 @@ natmit_parts memory held = record { nodes = map node_part memory.nodes; records 
 -- the form of a memory with what the threads hold; nodes 0 and 1 are paired with themselves
 abbrev pub natmit_form : NatMitMem → List (Option NatMitLoc) → List ℕ
 natmit_form memory held = flat_form 2 (natmit_parts memory held)
+
+-- all of a memory and what the threads hold, by the numbers of the nodes
+abbrev pub natmit_code : NatMitMem → List (Option NatMitLoc) → List ℕ
+natmit_code memory held = parts_code (natmit_parts memory held)

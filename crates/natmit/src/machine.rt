@@ -1,9 +1,10 @@
 //! The machine and its variant.
+ghost use Rattle.natmit.specs.Laws.Codes.{natmit_tells};
 ghost use Rattle.natmit.specs.Laws.Exact.{machine_exact, memory_exact, place_exact};
 ghost use Rattle.natmit.specs.Laws.Forms.{natmit_forms};
 ghost use Rattle.natmit.specs.Laws.Rules.{natmit_lawful};
 ghost use Rattle.natmit.specs.NatMitRules.{natmit_rules};
-ghost use Rattle.natmit.specs.Parts.{natmit_form};
+ghost use Rattle.natmit.specs.Parts.{natmit_code, natmit_form};
 
 use crate::form::Snapshot;
 use crate::initial::build;
@@ -12,7 +13,7 @@ use crate::place::{Mode, NatMitLoc};
 use sched_program::{Exact, Op, OutOfMemory};
 use std::alloc::Global;
 use tree_machine::{
-    Bytes, Machine, Outcome, Room, Thread, form_parts, keeps_search_order, write_parts,
+    Bytes, Machine, Outcome, Room, Thread, form_parts, keeps_search_order, write_parts, write_whole,
 };
 
 /// The machine of Natarajan and Mittal (PPoPP 2014), whole where `tag` is true.
@@ -44,6 +45,8 @@ impl Machine for NatMit {
     ghost rules = { natmit_rules };
 
     ghost form_of = { λ _. natmit_form };
+
+    ghost whole_code = { natmit_code };
 
     fn copy_mem(&self, alloc: Global, mem: &NatMitMem) -> Result<NatMitMem, OutOfMemory> {
         mem.copy(alloc)
@@ -99,7 +102,19 @@ impl Machine for NatMit {
         write_parts(alloc, 2, &Snapshot { mem, threads }, room)
     }
 
+    fn write_whole(
+        &self,
+        alloc: Global,
+        mem: &NatMitMem,
+        threads: &[Thread<NatMitLoc>],
+        room: &mut Room,
+    ) -> Result<(), OutOfMemory> {
+        write_whole(alloc, &Snapshot { mem, threads }, room)
+    }
+
     ghost lawful = { natmit_lawful };
 
     ghost forms = { natmit_forms };
+
+    ghost tells = { natmit_tells };
 }

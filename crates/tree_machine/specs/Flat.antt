@@ -3,7 +3,7 @@ use Rattle.std.specs.Prelude.{ℕ, zero, suc, ◌+◌, ◌*◌, ◌/◌, ◌%◌
 use Rattle.std.specs.Prelude.{map, length, replicate, Option, Some, None}
 use Rattle.std.specs.List.{flat_map}
 use Rattle.tree_machine.specs.Cells.{Content}
-use Rattle.tree_machine.specs.Parts.{Parts, parts_form}
+use Rattle.tree_machine.specs.Parts.{Parts, parts_graph, parts_held, parts_form}
 
 -- a number in bytes: 255 for each 255 in it, and then the rest
 abbrev pub number_code : ℕ → List ℕ
@@ -44,3 +44,9 @@ flat cells = flat_map cell_code cells
 -- the form of nodes, records and what the threads hold, in bytes
 abbrev pub flat_form : ℕ → Parts → List ℕ
 flat_form fixed s = flat (parts_form fixed s)
+
+-- nodes, records and what the threads hold in bytes, by their numbers: how many nodes and records there are, and all of
+-- them as cells
+abbrev pub parts_code : Parts → List ℕ
+parts_code s =
+    number_code (length s.nodes) ++ (number_code (length s.records) ++ flat (parts_graph s ++ parts_held s))

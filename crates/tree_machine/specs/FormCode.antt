@@ -1,7 +1,9 @@
--- What the form of a state tells, in bytes.
+-- What the form of a state tells, and whole states, in bytes.
 use Rattle.std.specs.Prelude.{◌≡◌, ℕ, Bool, if◌then◌else◌, List, [], ◌∷◌, ◌++◌, length, Option, Some, None}
 use Rattle.std.specs.List.{flat_map}
-use Rattle.tree_machine.specs.Alike.{FormContent}
+use Rattle.tree_machine.specs.Alike.{FormContent, places_of, replies_of, notes_of}
+use Rattle.tree_machine.specs.Flat.{number_code}
+use Rattle.tree_machine.specs.declared.state.State.{State}
 
 -- a list: how many there are, and each of them
 abbrev pub list_code : {A : Type 0} → (A → List ℕ) → List A → List ℕ
@@ -30,3 +32,17 @@ content_code code content = deeds_code content.replies content.notes content.ast
 -- equal bytes are bytes of equal values
 abbrev pub IsInjective : {A : Type 0} → (A → List ℕ) → Type 0
 IsInjective {A} code = (a b : A) → code a ≡ code b → a ≡ b
+
+-- equal bytes are bytes of equal memories with equal places held
+abbrev pub TellsWholly : {Memory Place : Type 0} → (Memory → List (Option Place) → List ℕ) → Type 0
+TellsWholly {Memory} {Place} code =
+    (memory other : Memory) (held others : List (Option Place)) → code memory held ≡ code other others
+    → (memory ≡ other) × (held ≡ others)
+
+-- a whole state: the number of steps, what the threads did, who went astray, and the memory with the places held
+abbrev pub state_code : {Machine Memory Place Form : Type 0} → (Memory → List (Option Place) → List ℕ)
+    → State Machine Memory Place Form → List ℕ
+state_code code state =
+    number_code state.steps
+    ++ (deeds_code (replies_of state.threads) (notes_of state.threads) state.astray
+    ++ code state.memory (places_of state.threads))

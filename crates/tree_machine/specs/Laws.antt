@@ -7,6 +7,7 @@ pub mod CellOrder
 pub mod CellPlaces
 pub mod CellSteps
 pub mod Cells
+pub mod Codes
 pub mod Flat
 pub mod FormCode
 pub mod Graphs

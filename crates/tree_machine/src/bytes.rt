@@ -65,7 +65,7 @@ impl Exact for Bytes {
 impl Coded for Bytes {
     ghost code = { λ bytes. bytes };
 
-    ghost codes = { λ a b same. same };
+    ghost codes = { λ _ a b same. same };
 }
 
 impl Hash for Bytes {

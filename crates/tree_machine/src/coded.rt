@@ -1,21 +1,24 @@
 //! Values in bytes, one after the other.
 ghost use Rattle.std.specs.Prelude.{◌≡◌, ◌≤◌, ◌++◌, List, ℕ, OnOk, length};
+ghost use Rattle.sched_program.specs.Exact.{IsExact};
 ghost use Rattle.tree_machine.specs.Alike.{notes_of, replies_of};
 ghost use Rattle.tree_machine.specs.FormCode.{IsInjective, astray_code, list_code, note_code, reply_code};
 
 use crate::state::Thread;
-use sched_program::{Note, OutOfMemory, ShortList};
+use sched_program::{Exact, Note, OutOfMemory, ShortList};
 
 /// Values that bytes tell.
-pub trait Coded {
+pub trait Coded: Exact {
     /// Its bytes.
     ghost code: { Self → List ℕ };
 
-    /// Equal bytes are bytes of equal values.
-    ghost codes: { IsInjective code };
+    /// Equal bytes are bytes of equal values. That such values test equal only if they are is a premise here because a
+    /// law has to name what it may rest on.
+    ghost codes: { IsExact Self.eq → IsInjective code };
 }
 
 /// Puts the replies of a thread behind bytes.
+#[inline(always)]
 fn put_replies(bytes: &mut Vec<u8>, replies: &ShortList<bool, 6>) -> Result<(), OutOfMemory>
     ensures { OnOk result (bytes.new.items ≡ bytes.old.items ++ list_code reply_code replies.now) }
 {
@@ -42,16 +45,21 @@ pub(crate) fn put_all_replies<L>(
     Ok(())
 }
 
-/// Puts a note behind bytes.
+/// Puts a note behind bytes. A note has a few counts: each is put by itself, since a copy of so few bytes at once takes
+/// longer.
+#[inline(always)]
 fn put_note(bytes: &mut Vec<u8>, note: &Note) -> Result<(), OutOfMemory>
     ensures { OnOk result (bytes.new.items ≡ bytes.old.items ++ note_code note.now) }
 {
     bytes.push(note.len() as u8)?;
-    bytes.extend_from_slice(note.as_slice())?;
+    for count in note.as_slice() {
+        bytes.push(*count)?;
+    }
     Ok(())
 }
 
 /// Puts the notes of a thread behind bytes.
+#[inline(always)]
 fn put_notes(bytes: &mut Vec<u8>, notes: &ShortList<Note, 6>) -> Result<(), OutOfMemory>
     ensures { OnOk result (bytes.new.items ≡ bytes.old.items ++ list_code note_code notes.now) }
 {

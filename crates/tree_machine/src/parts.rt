@@ -3,12 +3,12 @@ ghost use Rattle.std.specs.Prelude.{◌≡◌, ◌<◌, ◌+◌, ◌++◌, ◌^�
 ghost use Rattle.tree_machine.specs.Cells.{content_at};
 ghost use Rattle.tree_machine.specs.Parts.{Parts as Contents, part_at, parts_graph, parts_held};
 ghost use Rattle.tree_machine.specs.Parts.{IsPartBelow, ArePartsInRange, CanPartsBePaired};
-ghost use Rattle.tree_machine.specs.Flat.{flat_form};
+ghost use Rattle.tree_machine.specs.Flat.{flat, flat_form, parts_code};
 ghost use Rattle.tree_machine.specs.Written.{with_cell, with_part};
 
 use crate::bytes::Bytes;
 use crate::room::Room;
-use crate::writer::{Pass, Writer};
+use crate::writer::{Pass, Writer, put_number};
 use sched_program::OutOfMemory;
 use std::alloc::Global;
 use std::mem;
@@ -51,6 +51,7 @@ pub trait Parts {
 }
 
 /// Writes the part that is a cell of this number: nodes stand first, then records, then what the threads hold.
+#[inline(always)]
 fn write_cell<P: Parts>(parts: &P, cell: usize, writer: &mut Writer) -> Result<(), OutOfMemory>
     requires cell_in_range { cell < length (parts_graph (P.parts parts.now) ++ parts_held (P.parts parts.now)) }
     requires parts_in_range { (fixed : ℕ) × ArePartsInRange fixed (P.parts parts.now) }
@@ -118,6 +119,51 @@ pub fn write_parts<P: Parts>(
     let _cells = graph.checked_add(held).ok_or(OutOfMemory)?;
     let pass = mem::replace(&mut room.pass, Pass::none(alloc));
     room.pass = walk_parts(pass, fixed, parts, graph, held)?;
+    Ok(())
+}
+
+/// Writes each node, each record and what each thread holds behind the bytes, in the order of their numbers.
+fn write_all<P: Parts>(
+    pass: Pass,
+    parts: &P,
+    graph: usize,
+    held: usize,
+) -> Result<Pass, OutOfMemory>
+    requires in_range { (fixed : ℕ) × ArePartsInRange fixed (P.parts parts.now) }
+    requires graph { graph ≡ length (parts_graph (P.parts parts.now)) }
+    requires held { held ≡ length (parts_held (P.parts parts.now)) }
+    requires fits { graph + held < 2 ^ 64 }
+    ensures { IfOk result (λ after. after.bytes.items
+        ≡ pass.bytes.items ++ flat (parts_graph (P.parts parts.now) ++ parts_held (P.parts parts.now))) }
+{
+    let nodes = parts.node_count();
+    let records = parts.record_count();
+    let mut writer = Writer::behind(pass, graph, nodes, records, held)?;
+    for cell in 0..graph + held {
+        write_cell(parts, cell, &mut writer)?;
+    }
+    Ok(writer.into_pass())
+}
+
+/// Writes nodes, records and what the threads hold behind the bytes in a room, all by their numbers, so that the bytes
+/// tell them wholly.
+///
+/// # Errors
+/// `OutOfMemory` where a growth was refused, or the parts are more than a `usize` counts. What stands in the room is
+/// then of no use.
+pub fn write_whole<P: Parts>(alloc: Global, parts: &P, room: &mut Room) -> Result<(), OutOfMemory>
+    requires { (fixed : ℕ) × ArePartsInRange fixed (P.parts parts.now) }
+    ensures { OnOk result (room.new ≡ room.old ++ parts_code (P.parts parts.now)) }
+{
+    let nodes = parts.node_count();
+    let records = parts.record_count();
+    let held = parts.held_count();
+    let graph = nodes.checked_add(records).ok_or(OutOfMemory)?;
+    let _cells = graph.checked_add(held).ok_or(OutOfMemory)?;
+    let mut pass = mem::replace(&mut room.pass, Pass::none(alloc));
+    put_number(&mut pass.bytes, nodes as u64)?;
+    put_number(&mut pass.bytes, records as u64)?;
+    room.pass = write_all(pass, parts, graph, held)?;
     Ok(())
 }
 

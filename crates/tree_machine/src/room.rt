@@ -1,12 +1,13 @@
 //! Room in which forms are written, one after the other.
 ghost use Rattle.std.specs.Prelude.{◌≡◌, ◌≤◌, ◌++◌, [], length, OnOk, OnErr};
 ghost use Rattle.tree_machine.specs.Alike.{notes_of, replies_of};
+ghost use Rattle.tree_machine.specs.Flat.{number_code};
 ghost use Rattle.tree_machine.specs.FormCode.{deeds_code};
 
 use crate::bytes::Bytes;
 use crate::coded::{put_all_notes, put_all_replies, put_astray};
 use crate::state::Thread;
-use crate::writer::Pass;
+use crate::writer::{Pass, put_number};
 use sched_program::OutOfMemory;
 use std::alloc::Global;
 use std::marker::Model;
@@ -64,6 +65,13 @@ impl Room {
         ensures { result ≡ self }
     {
         Bytes::from_vec(self.pass.bytes)
+    }
+
+    /// Puts a number behind the bytes.
+    pub(crate) fn put_number(&mut self, number: u64) -> Result<(), OutOfMemory>
+        ensures { OnOk result (self.new ≡ self.old ++ number_code number) }
+    {
+        put_number(&mut self.pass.bytes, number)
     }
 
     /// Puts what the threads did, and who went astray, behind the bytes.

@@ -16,7 +16,7 @@ use std::marker::Model;
 
 /// Puts a number behind bytes: 255 for each 255 in it, and then the rest. Nearly all numbers of a form are small.
 #[inline(always)]
-fn put_number(bytes: &mut Vec<u8>, number: u64) -> Result<(), OutOfMemory>
+pub(crate) fn put_number(bytes: &mut Vec<u8>, number: u64) -> Result<(), OutOfMemory>
     ensures { OnOk result (bytes.new.items ≡ bytes.old.items ++ number_code number) }
 {
     if number < 255 {
@@ -239,8 +239,8 @@ impl Model for Writer {
 }
 
 impl Writer {
-    /// Nothing is written behind these bytes, and the roots are met: the first nodes, as many as are fixed, and what
-    /// the threads hold.
+    /// Nothing is written behind these bytes, and the roots are met: the first nodes and records, as many as are fixed,
+    /// and what the threads hold.
     pub(crate) fn behind(
         pass: Pass,
         fixed: usize,
@@ -248,7 +248,7 @@ impl Writer {
         records: usize,
         held: usize,
     ) -> Result<Self, OutOfMemory>
-        requires fixed { fixed ≤ nodes }
+        requires fixed { fixed ≤ nodes + records }
         requires fits { nodes + records + held < 2 ^ 64 }
         ensures nodes { IfOk result (λ writer. writer.nodes ≡ nodes) }
         ensures records { IfOk result (λ writer. writer.records ≡ records) }

@@ -1,5 +1,5 @@
 //! Forms of a few nodes and records.
-ghost use Rattle.std.specs.Prelude.{◌≡◌, ◌<◌, IsTrue, IfSome, OnOk};
+ghost use Rattle.std.specs.Prelude.{◌≡◌, ◌<◌, ℕ, IsTrue, IfSome, OnOk};
 ghost use Rattle.std.specs.List.{All};
 ghost use Rattle.tree_machine.specs.Parts.{IsPartBelow, ArePartsInRange};
 ghost use Rattle.tree_machine.specs.Written.{with_part};
@@ -8,7 +8,7 @@ use crate::once_more::holds;
 use sched_program::OutOfMemory;
 use std::alloc::Global;
 use std::marker::Model;
-use tree_machine::{Bytes, Parts, Writer, form_parts};
+use tree_machine::{Bytes, Parts, Room, Writer, form_parts, write_whole};
 
 /// A part that is there already.
 #[derive(Drop)]
@@ -24,6 +24,19 @@ impl Model for Row {
     ghost Value = { Contents };
 
     ghost view = { λ r. record { facts = r.facts.now; nodes = r.nodes.now; records = r.records.now } };
+}
+
+/// A row of these.
+fn row_of(
+    facts: &'static [u64],
+    nodes: &'static [Option<usize>],
+    records: &'static [Option<usize>],
+) -> Row {
+    Row {
+        facts,
+        nodes,
+        records,
+    }
 }
 
 impl Row {
@@ -115,16 +128,37 @@ fn are_in_range(fixed: usize, tables: &Tables) -> bool
     rows_below(tables.held, nodes, records)
 }
 
-/// The form of tables whose node 0 is fixed; nothing where a number is out of range.
-fn form_of(alloc: Global, tables: &Tables) -> Result<Bytes, OutOfMemory> {
-    if are_in_range(1, tables) {
-        form_parts(alloc, 1, tables)
-    } else {
-        Ok(Bytes::from_vec(Vec::new(alloc)))
+/// What is written of tables.
+#[derive(Clone, Copy)]
+enum Written {
+    /// The form, where node 0 is fixed.
+    Form,
+    /// All of them, by their numbers.
+    Whole,
+}
+
+/// All of the tables in bytes, by their numbers.
+fn whole_of(alloc: Global, tables: &Tables) -> Result<Bytes, OutOfMemory>
+    requires { (fixed : ℕ) × ArePartsInRange fixed
+        (record { nodes = tables.now.nodes.now; records = tables.now.records.now; held = tables.now.held.now }) }
+{
+    let mut room = Room::new(alloc);
+    write_whole(alloc, tables, &mut room)?;
+    Ok(Bytes::from_vec(Vec::from_slice(alloc, room.as_slice())?))
+}
+
+/// The bytes of tables; nothing where a number is out of range.
+fn bytes_of(alloc: Global, tables: &Tables, written: Written) -> Result<Bytes, OutOfMemory> {
+    if !are_in_range(1, tables) {
+        return Ok(Bytes::from_vec(Vec::new(alloc)));
+    }
+    match written {
+        Written::Form => form_parts(alloc, 1, tables),
+        Written::Whole => whole_of(alloc, tables),
     }
 }
 
-/// The form of a root of this fact above a ring of a node and a record, which a thread holds, and of a node and a
+/// The bytes of a root of this fact above a ring of a node and a record, which a thread holds, and of a node and a
 /// record that nothing names. They stand in the order in which they are met. The record of the ring names this record,
 /// and the thread this node.
 fn ring(
@@ -132,55 +166,26 @@ fn ring(
     fact: &'static [u64],
     record: &'static [Option<usize>],
     node: &'static [Option<usize>],
+    written: Written,
 ) -> Result<Bytes, OutOfMemory> {
     let nodes = [
-        Row {
-            facts: fact,
-            nodes: &[Some(1), None],
-            records: &[],
-        },
-        Row {
-            facts: &[300],
-            nodes: &[Some(0)],
-            records: &[Some(0)],
-        },
-        Row {
-            facts: fact,
-            nodes: &[Some(2)],
-            records: &[Some(1)],
-        },
+        row_of(fact, &[Some(1), None], &[]),
+        row_of(&[300], &[Some(0)], &[Some(0)]),
+        row_of(fact, &[Some(2)], &[Some(1)]),
     ];
     let records = [
-        Row {
-            facts: &[],
-            nodes: &[Some(1)],
-            records: record,
-        },
-        Row {
-            facts: &[4, 5],
-            nodes: &[],
-            records: &[Some(0)],
-        },
+        row_of(&[], &[Some(1)], record),
+        row_of(&[4, 5], &[], &[Some(0)]),
     ];
-    let held = [
-        Row {
-            facts: &[2],
-            nodes: node,
-            records: &[Some(0)],
-        },
-        Row {
-            facts: &[],
-            nodes: &[],
-            records: &[],
-        },
-    ];
-    form_of(
+    let held = [row_of(&[2], node, &[Some(0)]), row_of(&[], &[], &[])];
+    bytes_of(
         alloc,
         &Tables {
             nodes: &nodes,
             records: &records,
             held: &held,
         },
+        written,
     )
 }
 
@@ -188,60 +193,30 @@ fn ring(
 /// stand the other way round.
 fn turned_ring(alloc: Global) -> Result<Bytes, OutOfMemory> {
     let nodes = [
-        Row {
-            facts: &[511],
-            nodes: &[Some(2), None],
-            records: &[],
-        },
-        Row {
-            facts: &[511],
-            nodes: &[Some(1)],
-            records: &[Some(0)],
-        },
-        Row {
-            facts: &[300],
-            nodes: &[Some(0)],
-            records: &[Some(1)],
-        },
+        row_of(&[511], &[Some(2), None], &[]),
+        row_of(&[511], &[Some(1)], &[Some(0)]),
+        row_of(&[300], &[Some(0)], &[Some(1)]),
     ];
     let records = [
-        Row {
-            facts: &[4, 5],
-            nodes: &[],
-            records: &[Some(1)],
-        },
-        Row {
-            facts: &[],
-            nodes: &[Some(2)],
-            records: &[None],
-        },
+        row_of(&[4, 5], &[], &[Some(1)]),
+        row_of(&[], &[Some(2)], &[None]),
     ];
-    let held = [
-        Row {
-            facts: &[2],
-            nodes: &[Some(2)],
-            records: &[Some(1)],
-        },
-        Row {
-            facts: &[],
-            nodes: &[],
-            records: &[],
-        },
-    ];
-    form_of(
+    let held = [row_of(&[2], &[Some(2)], &[Some(1)]), row_of(&[], &[], &[])];
+    bytes_of(
         alloc,
         &Tables {
             nodes: &nodes,
             records: &records,
             held: &held,
         },
+        Written::Form,
     )
 }
 
 /// The form of both.
 ///
-/// Each cell: a byte that tells how many facts it has, how many nodes it names (times 5), and how many nodes and records
-/// (times 30); its facts; each node or record as its place and one, or 0 for none. Places: 0 the root, 1 and 2 the
+/// Each cell: a byte that tells how many facts it has, how many nodes it names (times 5), and how many nodes and
+/// records (times 30); its facts; each node or record as its place and one, or 0 for none. Places: 0 the root, 1 and 2 the
 /// threads, 3 the node, 4 the record.
 const FORM: [u8; 19] = [
     71, 255, 255, 1, 4, 0, // the root, of fact 511
@@ -251,9 +226,33 @@ const FORM: [u8; 19] = [
     65, 4, 0, // the record
 ];
 
+/// All of the same ring: how many nodes and records there are, and then the nodes, the records and what the threads
+/// hold, each with the numbers of what it names and one; records are numbered behind the nodes.
+const WHOLE: [u8; 31] = [
+    3, 2, // three nodes and two records
+    71, 255, 255, 1, 2, 0, // the root
+    66, 255, 45, 1, 4, // the node
+    66, 255, 255, 1, 3, 5, // the node that nothing names
+    65, 2, 0, // the record
+    32, 4, 5, 4, // the record that nothing names
+    66, 2, 2, 4, // what the first thread holds
+    0, // what the second holds
+];
+
+/// Whether all of the ring is written as it is here.
+fn is_ring_whole(alloc: Global) -> Result<bool, OutOfMemory> {
+    let whole = ring(alloc, &[511], &[None], &[Some(1)], Written::Whole)?;
+    Ok(whole.as_slice() == WHOLE.as_slice())
+}
+
+#[test]
+fn all_of_the_parts_is_written_by_number(rt: HostRuntime) {
+    assert!(rt; holds!(is_ring_whole(rt.alloc())));
+}
+
 /// Whether a ring has the form that is written here, whatever its numbers are.
 fn is_ring_one(alloc: Global) -> Result<bool, OutOfMemory> {
-    let here = ring(alloc, &[511], &[None], &[Some(1)])?;
+    let here = ring(alloc, &[511], &[None], &[Some(1)], Written::Form)?;
     let there = turned_ring(alloc)?;
     Ok(here.as_slice() == FORM.as_slice() && here == there)
 }
@@ -265,8 +264,8 @@ fn is_told_apart(
     record: &'static [Option<usize>],
     node: &'static [Option<usize>],
 ) -> Result<bool, OutOfMemory> {
-    let here = ring(alloc, &[511], &[None], &[Some(1)])?;
-    let there = ring(alloc, fact, record, node)?;
+    let here = ring(alloc, &[511], &[None], &[Some(1)], Written::Form)?;
+    let there = ring(alloc, fact, record, node, Written::Form)?;
     Ok(here.as_slice().len() > 0 && there.as_slice().len() > 0 && here != there)
 }
 
@@ -331,13 +330,14 @@ fn has_bytes(
         nodes,
         records,
     }];
-    let form = form_of(
+    let form = bytes_of(
         alloc,
         &Tables {
             nodes: &root,
             records: &[],
             held: &[],
         },
+        Written::Form,
     )?;
     Ok(form.as_slice() == bytes)
 }

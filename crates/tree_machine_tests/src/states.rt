@@ -6,7 +6,7 @@ ghost use Rattle.tree_machine.specs.Step.{Fits};
 use crate::once_more::holds;
 use sched_program::{History, OpId, OutOfMemory, Program, ProgramFault};
 use std::alloc::Global;
-use tree_machine::{Atomic, AtomicLoc, State, StateForm, StepFault, Thread};
+use tree_machine::{Atomic, AtomicLoc, Bytes, Room, State, StateForm, StepFault, Thread};
 
 /// Two threads that each insert 1.
 const TWO_INSERTS: &str =
@@ -78,6 +78,15 @@ fn form_of(
     // Whoever reads a program knows that it meets the limits.
     let _ = program.initial();
     Ok(state.form(alloc, Atomic)?)
+}
+
+/// All of a state in bytes.
+fn code_of(alloc: Global, program: &Program, state: &State<Atomic>) -> Result<Bytes, StepFault>
+    requires { Fits atomic_rules program.now state.now }
+{
+    // Whoever reads a program knows that it meets the limits.
+    let _ = program.initial();
+    Ok(state.code_in(alloc, Atomic, &mut Room::new(alloc))?)
 }
 
 /// The history that leads to a state.
@@ -302,4 +311,27 @@ fn forms_tell_replies_apart_and_copies_not(rt: HostRuntime) {
         assert!(&rt; is_right, "{schedule:?} and {other:?}");
     }
     assert!(rt; holds!(is_form_of_copy(alloc, &[0, 1])));
+}
+
+/// Schedules, and the state after each in bytes: the number of steps, the replies and the notes of each thread, who
+/// went astray, what each thread holds, and behind a 0 the keys.
+const CODES: &[(&[u8], &[u8])] = &[
+    (&[], &[0, 2, 0, 0, 2, 0, 0, 0, 1, 1, 0]),
+    (&[0], &[1, 2, 1, 1, 0, 2, 1, 2, 0, 0, 0, 0, 1, 1, 0, 1]),
+];
+
+/// Whether the state after a schedule has these bytes.
+fn has_code(alloc: Global, schedule: &[u8], code: &[u8]) -> Result<bool, StepFault> {
+    let program = two_inserts(alloc)?;
+    let state = after(alloc, &program, schedule)?;
+    Ok(code_of(alloc, &program, &state)?.as_slice() == code)
+}
+
+#[test]
+fn bytes_are_of_the_whole_state(rt: HostRuntime) {
+    let alloc = rt.alloc();
+    for (schedule, code) in CODES {
+        let is_right = holds!(has_code(alloc, schedule, code));
+        assert!(&rt; is_right, "after {schedule:?}");
+    }
 }

@@ -13,6 +13,7 @@ use crate::table::Table;
 use sched_program::OutOfMemory;
 use std::alloc::Global;
 use std::hash::Hash;
+use tree_machine::Coded;
 
 /// Adds the line of an entry after the first, by its row.
 fn push_row(text: &mut Vec<u8>, row: &PackedRow) -> Result<(), OutOfMemory>
@@ -31,7 +32,7 @@ fn push_row(text: &mut Vec<u8>, row: &PackedRow) -> Result<(), OutOfMemory>
 }
 
 /// The text of the entries.
-pub fn write_entries<S: Eq + Hash + Drop, F: Eq + Hash + Drop>(
+pub fn write_entries<S: Coded + Drop, F: Eq + Hash + Drop>(
     alloc: Global,
     table: &Table<S, F>,
 ) -> Result<Vec<u8>, OutOfMemory>

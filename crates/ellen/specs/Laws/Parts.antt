@@ -65,7 +65,7 @@ module _ (P R : ℕ → ℕ → Type 0) where
       let kind = w.0 in record { facts = cc; nodes = (h.2, (h.3, tt)); records = (w.1, tt) }
   node_to _ _ h = absurd h
 
-  node_from : (a b : Node) → Parted (node_part a) (node_part b) → AreNodesPaired P R a b
+  pub node_from : (a b : Node) → Parted (node_part a) (node_part b) → AreNodesPaired P R a b
   node_from (Leaf k) (Leaf j) h = let f = h.facts in cc
   node_from (Internal k u l r) (Internal j v m s) h =
       let f = h.facts in ((let e : k ≡ j = cc in e), word_from u v (cc) h.records.0, h.nodes.0, h.nodes.1.0)
@@ -77,7 +77,7 @@ module _ (P R : ℕ → ℕ → Type 0) where
       record { facts = ap (λ x. x ∷ []) w.0; nodes = (h.0, (h.1, (h.2, tt))); records = (w.1, tt) }
   record_to _ _ h = absurd h
 
-  record_from : (a b : Record) → Parted (record_part a) (record_part b) → AreRecordsPaired P R a b
+  pub record_from : (a b : Record) → Parted (record_part a) (record_part b) → AreRecordsPaired P R a b
   record_from (Ins i) (Ins j) h = (h.nodes.0, h.nodes.1.0, h.nodes.1.1.0)
   record_from (Del d) (Del e) h = let f = h.facts in
       (h.nodes.0, h.nodes.1.0, h.nodes.1.1.0, word_from d.parent_update e.parent_update (cc) h.records.0)
@@ -215,7 +215,7 @@ module _ (P R : ℕ → ℕ → Type 0) where
   held_to (Some a) (Some b) h = place_to a b h
   held_to _ _ h = absurd h
 
-  held_from : (a b : Option EllenLoc) → Parted (held_part a) (held_part b) → AreHeldPaired (ArePlacesPaired P R) a b
+  pub held_from : (a b : Option EllenLoc) → Parted (held_part a) (held_part b) → AreHeldPaired (ArePlacesPaired P R) a b
   held_from None None h = tt
   held_from (Some a) (Some b) h = place_from a b h
   held_from None (Some b) h = place_is_some b (sym h.facts)

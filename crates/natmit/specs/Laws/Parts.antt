@@ -26,14 +26,14 @@ use Rattle.natmit.specs.Parts.{natmit_parts}
 
 -- ---- facts tell what they are of
 
-bit_tells : (a b : Bool) → bit a ≡ bit b → a ≡ b
+pub bit_tells : (a b : Bool) → bit a ≡ bit b → a ≡ b
 bit_tells false false e = refl
 bit_tells false true e = absurd (omega arith)
 bit_tells true false e = absurd (omega arith)
 bit_tells true true e = refl
 
 -- the flags and the tags of two children
-marks_tell : (a b c d : Word) → mark_number a + 4 * mark_number b ≡ mark_number c + 4 * mark_number d
+pub marks_tell : (a b c d : Word) → mark_number a + 4 * mark_number b ≡ mark_number c + 4 * mark_number d
     → (a.flag ≡ c.flag) × (a.tag ≡ c.tag) × (b.flag ≡ d.flag) × (b.tag ≡ d.tag)
 marks_tell a b c d e =
     let same =
@@ -57,7 +57,7 @@ marks_tell a b c d e =
         let g0 = g.0 in let g1 = g.1 in let g2 = g.2 in let g3 = g.3 in
         (omega arith, omega arith, omega arith, omega arith)
 
-side_tells : (a b : Side) → side_number a ≡ side_number b → a ≡ b
+pub side_tells : (a b : Side) → side_number a ≡ side_number b → a ≡ b
 side_tells Left Left e = refl
 side_tells Left Right e = absurd (omega arith)
 side_tells Right Left e = absurd (omega arith)
@@ -158,7 +158,7 @@ module _ (P R : ℕ → ℕ → Type 0) where
   places_of_parts _ _ h = let f = h.facts in cc
 
   -- no place has the part of a thread that holds none
-  never_idle : (place : NatMitLoc) → (held_part None).facts ≡ (place_part place).facts → ⊥
+  pub never_idle : (place : NatMitLoc) → (held_part None).facts ≡ (place_part place).facts → ⊥
   never_idle (Begin m) e = cc
   never_idle _ e = cc
 

@@ -2,7 +2,8 @@
 use Rattle.std.specs.Prelude.{◌≡◌, ℕ, List, [], ◌∷◌, ◌++◌, Option, Some, None, refl}
 use Rattle.std.specs.List.{flat_map}
 use Rattle.std.proofs.Common.{arith, ap}
-use Rattle.tree_machine.specs.FormCode.{IsInjective}
+use Rattle.tree_machine.specs.FormCode.{IsInjective, TellsWholly}
+use Rattle.tree_machine.specs.Atomic.{atomic_form}
 use Rattle.tree_machine.specs.AtomicCode.{held_code, atomic_code}
 use Rattle.tree_machine.specs.declared.atomic.AtomicLoc.{AtomicLoc}
 use Rattle.tree_machine.specs.declared.atomic.AtomicLoc.TheVariants.{Do}
@@ -32,3 +33,7 @@ pub atomic_codes : IsInjective atomic_code
 atomic_codes a b e =
     let same = held_readable a.places b.places a.keys b.keys e in
     λ i. record { keys = same.1 i; places = same.0 i }
+
+-- there are no numbers to leave out: the bytes of the form tell the keys and what the threads hold
+pub atomic_tells : TellsWholly (λ keys held. atomic_code (atomic_form keys held))
+atomic_tells keys others held twins e = let same = held_readable held twins keys others e in (same.1, same.0)

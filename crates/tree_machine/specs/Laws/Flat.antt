@@ -27,7 +27,7 @@ digits_split (suc k) (suc l) r s xs ys h g e =
 pub number_before : (n : ℕ) (xs : List ℕ) → number_code n ++ xs ≡ replicate (n / 255) 255 ++ (n % 255) ∷ xs
 number_before n xs = append_assoc (replicate (n / 255) 255) ((n % 255) ∷ []) xs
 
-number_split : (n m : ℕ) (xs ys : List ℕ) → number_code n ++ xs ≡ number_code m ++ ys → (n ≡ m) × (xs ≡ ys)
+pub number_split : (n m : ℕ) (xs ys : List ℕ) → number_code n ++ xs ≡ number_code m ++ ys → (n ≡ m) × (xs ≡ ys)
 number_split n m xs ys e =
     let split =
     digits_split (n / 255) (m / 255) (n % 255) (m % 255) xs ys (mod-lt n (omega arith)) (mod-lt m (omega arith))
@@ -193,7 +193,7 @@ cell_is_some c xs e =
     facts_are_some c.facts (length c.refs) (flat_map number_code (map reference_number c.refs) ++ xs)
     (e ∙ cell_before c xs)
 
-flat_equal : (cells others : List Content) → flat cells ≡ flat others → cells ≡ others
+pub flat_equal : (cells others : List Content) → flat cells ≡ flat others → cells ≡ others
 flat_equal [] [] e = refl
 flat_equal [] (d ∷ others) e = absurd (cell_is_some d (flat others) (e ∙ flat_map-cons cell_code d others))
 flat_equal (c ∷ cells) [] e = absurd (cell_is_some c (flat cells) (sym e ∙ flat_map-cons cell_code c cells))

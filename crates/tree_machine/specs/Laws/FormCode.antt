@@ -71,6 +71,15 @@ astray_readable (Some t) (Some u) xs ys e =
     let rest : xs ≡ ys = cc in
     (ap Some same, rest)
 
+-- what bytes tell is compared as they are
+pub codes_same : {A : Type 0} (code : A → List ℕ) → IsInjective code → (E : A → A → Bool) → IsExact E
+    → IsEquivalence E → (a b : A) → pointwise nat_eq (code a) (code b) ≡ E a b
+codes_same {A} code readable E exact equivalence a b =
+    same_answer _ _
+    (λ h. subst (λ (c : A). E a c ≡ true) (readable a b (list_exact nat_exact _ _ h)) (equivalence.refl a))
+    (λ h. subst (λ (c : A). pointwise nat_eq (code a) (code c) ≡ true) (exact a b h)
+    ((lists_equiv nat_equivalence).refl (code a)))
+
 module _ {Form : Type 0} (code : Form → List ℕ) (readable : IsInjective code) where
   in_row : (replies : List (List Bool)) (notes : List (List (List ℕ))) (astray : Option ℕ) (xs : List ℕ)
       → deeds_code replies notes astray ++ xs ≡ list_code (list_code reply_code) replies
@@ -101,9 +110,4 @@ module _ {Form : Type 0} (code : Form → List ℕ) (readable : IsInjective code
   -- forms are compared as their bytes are
   pub content_same : (E : FormContent Form → FormContent Form → Bool) → IsExact E → IsEquivalence E
       → (a b : FormContent Form) → pointwise nat_eq (content_code code a) (content_code code b) ≡ E a b
-  content_same E exact equivalence a b =
-      same_answer _ _
-      (λ h. subst (λ (c : FormContent Form). E a c ≡ true) (content_readable a b (list_exact nat_exact _ _ h))
-      (equivalence.refl a))
-      (λ h. subst (λ (c : FormContent Form). pointwise nat_eq (content_code code a) (content_code code c) ≡ true)
-      (exact a b h) ((lists_equiv nat_equivalence).refl (content_code code a)))
+  content_same = codes_same (content_code code) content_readable

@@ -15,7 +15,7 @@ invariant_of-result g c =
     let rules = g.M.Machine.rules in
     let bound = g.met.M.Machine g.world.𝓛 g.world.𝓜 g.world.𝓡 ((λ s x. x), (λ x. x), (λ x. x), λ x. x) in
     let is : c.in_ok-known.known.state ≡ c.in_ok-state.state =
-    c.in_ok-known.ensures.state ∙ c.in_ok-state-2.ensures.ok in
+    c.in_ok-known.ensures.state in
     let states = c.tests_exactly.ensures in
     let forms = c.tests_exactly-2.ensures in
     let label = form_by c.args.merge (state_form (g.M.Machine.form_of c.args.machine)) in
@@ -40,7 +40,6 @@ returns-clause-start g c =
     record { state = c.in_ok-known.known.state; finding = c.in_ok-finding.finding; origin = None; mark = Open } in (
       e,
       c.in_ok-table.ensures.entries,
-      c.in_ok-known.ensures.state ∙ c.in_ok-state-2.ensures.ok
-          ∙ c.in_ok-state.ensures.start,
+      c.in_ok-known.ensures.state ∙ c.in_ok-state.ensures.start,
       refl,
     )

@@ -1,0 +1,141 @@
+-- Parts tell the memory and the places that they are of.
+use Rattle.std.specs.Prelude.{◌≡◌, ℕ, List, [], ◌∷◌, map, Option, Some, None, refl}
+use Rattle.std.specs.List.{AllZip}
+use Rattle.std.proofs.Common.{ap, sym, subst}
+use Rattle.std.proofs.lemmas.List.Elements.{same_from_all_zip}
+use Rattle.tree_machine.specs.FormCode.{TellsWholly}
+use Rattle.tree_machine.specs.Laws.Codes.{map_tells, parts_code_tells}
+use Rattle.tree_machine.specs.Pairing.{AreHeldPaired}
+use Rattle.tree_machine.specs.Cells.{IsPairedOrNone}
+use Rattle.tree_machine.specs.Parts.{Part, Parts, ArePartsPaired}
+use Rattle.ellen.specs.declared.memory.UpdateWord.{UpdateWord}
+use Rattle.ellen.specs.declared.memory.UpdateWord.TheVariants as word
+use Rattle.ellen.specs.declared.memory.Node.{Node}
+use Rattle.ellen.specs.declared.memory.Node.TheVariants.{Leaf, Internal}
+use Rattle.ellen.specs.declared.memory.Record.{Record}
+use Rattle.ellen.specs.declared.memory.Record.TheVariants.{Ins, Del}
+use Rattle.ellen.specs.declared.memory.EllenMem.{EllenMem}
+use Rattle.ellen.specs.declared.place.Above.{Above}
+use Rattle.ellen.specs.declared.place.Resume.{Resume}
+use Rattle.ellen.specs.declared.place.SearchLoc.{SearchLoc}
+use Rattle.ellen.specs.declared.place.SearchLoc.TheVariants.{Update, Child, IFlag, InsOnly, DFlag}
+use Rattle.ellen.specs.declared.place.HelpLoc.{HelpLoc}
+use Rattle.ellen.specs.declared.place.HelpLoc.TheVariants.{InsChild, InsClean, Mark, Right, Other, Splice, DelClean}
+use Rattle.ellen.specs.declared.place.HelpLoc.TheVariants.{Back}
+use Rattle.ellen.specs.declared.place.EllenLoc.{EllenLoc}
+use Rattle.ellen.specs.declared.place.EllenLoc.TheVariants.{Search, Help}
+use Rattle.ellen.specs.Pairs.{AreBoth, AreWordsPaired, AreNodesPaired, AreRecordsPaired, AreAbovesPaired}
+use Rattle.ellen.specs.Pairs.{AreSearchesPaired, AreHelpsPaired, AreResumesPaired, ArePlacesPaired}
+use Rattle.ellen.specs.Parts.{node_part, record_part, held_part, ellen_parts, ellen_code}
+use Rattle.ellen.specs.Laws.Parts.{node_from, record_from, held_from}
+
+-- a number is paired with itself alone
+abbrev Same : ℕ → ℕ → Type 0
+Same x y = x ≡ y
+
+-- what equality pairs is equal
+
+words_equal : (u v : UpdateWord) → AreWordsPaired Same u v → u ≡ v
+words_equal word.Untouched word.Untouched h = refl
+words_equal (word.Clean r) (word.Clean s) h = ap word.Clean h
+words_equal (word.InsertFlag r) (word.InsertFlag s) h = ap word.InsertFlag h
+words_equal (word.DeleteFlag r) (word.DeleteFlag s) h = ap word.DeleteFlag h
+words_equal (word.Mark r) (word.Mark s) h = ap word.Mark h
+words_equal _ _ h = absurd h
+
+nodes_equal : (a b : Node) → AreNodesPaired Same Same a b → a ≡ b
+nodes_equal (Leaf k) (Leaf j) h = ap Leaf h
+nodes_equal (Internal k u l r) (Internal j v m s) h =
+    let update = words_equal u v h.1 in λ i. Internal (h.0 i) (update i) (h.2 i) (h.3 i)
+nodes_equal _ _ h = absurd h
+
+records_equal : (a b : Record) → AreRecordsPaired Same Same a b → a ≡ b
+records_equal (Ins a) (Ins b) h = λ i. Ins (record { parent = h.0 i; leaf = h.1 i; new = h.2 i })
+records_equal (Del a) (Del b) h =
+    let update = words_equal a.parent_update b.parent_update h.3 in
+    λ i. Del (record { grandparent = h.0 i; parent = h.1 i; leaf = h.2 i; parent_update = update i })
+records_equal _ _ h = absurd h
+
+above_equal : (a b : Above) → AreAbovesPaired Same Same a b → a ≡ b
+above_equal a b h =
+    let update = words_equal a.update b.update h.1 in λ i. record { node = h.0 i; update = update i }
+
+aboves_equal : (a b : Option Above) → AreBoth (AreAbovesPaired Same Same) a b → a ≡ b
+aboves_equal None None h = refl
+aboves_equal (Some a) (Some b) h = ap Some (above_equal a b h)
+aboves_equal _ _ h = absurd h
+
+searches_equal : (a b : SearchLoc) → AreSearchesPaired Same Same a b → a ≡ b
+searches_equal (Update a p) (Update b q) h = let above = aboves_equal a b h.0 in λ i. Update (above i) (h.1 i)
+searches_equal (Child a p u) (Child b q v) h =
+    let above = aboves_equal a b h.0 in
+    let update = words_equal u v h.2 in
+    λ i. Child (above i) (h.1 i) (update i)
+searches_equal (IFlag p u l) (IFlag q v m) h =
+    let update = words_equal u v h.1 in λ i. IFlag (h.0 i) (update i) (h.2 i)
+searches_equal (InsOnly p l) (InsOnly q m) h = λ i. InsOnly (h.0 i) (h.1 i)
+searches_equal (DFlag a p u l) (DFlag b q v m) h =
+    let above = above_equal a b h.0 in
+    let update = words_equal u v h.2 in
+    λ i. DFlag (above i) (h.1 i) (update i) (h.3 i)
+searches_equal _ _ h = absurd h
+
+helps_equal : (a b : HelpLoc) → AreHelpsPaired Same Same a b → a ≡ b
+helps_equal (InsChild r) (InsChild s) h = ap InsChild h
+helps_equal (InsClean r) (InsClean s) h = ap InsClean h
+helps_equal (Mark r) (Mark s) h = ap Mark h
+helps_equal (Right r) (Right s) h = ap Right h
+helps_equal (Other r c) (Other s d) h = λ i. Other (h.0 i) (h.1 i)
+helps_equal (Splice r o) (Splice s q) h = λ i. Splice (h.0 i) (h.1 i)
+helps_equal (DelClean r) (DelClean s) h = ap DelClean h
+helps_equal (Back r) (Back s) h = ap Back h
+helps_equal _ _ h = absurd h
+
+resumes_equal : (y z : Resume) → AreResumesPaired Same Same y z → y ≡ z
+resumes_equal y z h =
+    let stack : y.stack ≡ z.stack = sym (same_from_all_zip Same y.stack z.stack h.0 (λ r s e. sym e)) in
+    λ i. record { stack = stack i; base = h.1 i }
+
+places_equal : (a b : EllenLoc) → ArePlacesPaired Same Same a b → a ≡ b
+places_equal (Search a) (Search b) h = ap Search (searches_equal a b h)
+places_equal (Help a y) (Help b z) h =
+    let at = helps_equal a b h.0 in
+    let resume = resumes_equal y z h.1 in
+    λ i. Help (at i) (resume i)
+places_equal _ _ h = absurd h
+
+held_equal : (a b : Option EllenLoc) → AreHeldPaired (ArePlacesPaired Same Same) a b → a ≡ b
+held_equal None None h = refl
+held_equal (Some a) (Some b) h = ap Some (places_equal a b h)
+held_equal _ _ h = absurd h
+
+-- equality pairs a part with each part equal to it
+
+names_paired : (xs : List (Option ℕ)) → AllZip (IsPairedOrNone Same) xs xs
+names_paired [] = tt
+names_paired (None ∷ xs) = (tt, names_paired xs)
+names_paired (Some x ∷ xs) = (refl, names_paired xs)
+
+parts_paired : (a b : Part) → a ≡ b → ArePartsPaired Same Same a b
+parts_paired a b e = subst (ArePartsPaired Same Same a) e
+    (record { facts = refl; nodes = names_paired a.nodes; records = names_paired a.records })
+
+-- parts tell the memory and the places that they are of
+pub parts_tell : (memory other : EllenMem) (held others : List (Option EllenLoc))
+    → ellen_parts memory held ≡ ellen_parts other others → (memory ≡ other) × (held ≡ others)
+parts_tell memory other held others e =
+    let nodes : memory.nodes ≡ other.nodes =
+    map_tells node_part (λ a b e. nodes_equal a b (node_from Same Same a b (parts_paired _ _ e))) memory.nodes
+    other.nodes (ap (λ (p : Parts). p.nodes) e) in
+    let records : memory.records ≡ other.records =
+    map_tells record_part (λ a b e. records_equal a b (record_from Same Same a b (parts_paired _ _ e))) memory.records
+    other.records (ap (λ (p : Parts). p.records) e) in (
+      (λ i. record { nodes = nodes i; records = records i }),
+      map_tells held_part (λ a b e. held_equal a b (held_from Same Same a b (parts_paired _ _ e))) held others
+          (ap (λ (p : Parts). p.held) e),
+    )
+
+-- and so do their bytes
+pub ellen_tells : TellsWholly ellen_code
+ellen_tells memory other held others e =
+    parts_tell memory other held others (parts_code_tells (ellen_parts memory held) (ellen_parts other others) e)
