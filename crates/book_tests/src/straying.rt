@@ -1,8 +1,8 @@
 //! A machine that goes astray.
 ghost use Rattle.std.specs.Prelude.{◌≡◌, ◌++◌, map, refl, OnOk};
 ghost use Rattle.tree_machine.specs.Alike.{places_of};
-ghost use Rattle.book_tests.specs.Straying.{straying_rules, straying_lawful, straying_form, straying_forms, straying_tells};
-ghost use Rattle.book_tests.specs.Straying.{held_code};
+ghost use Rattle.book_tests.specs.Straying.{straying_rules, straying_lawful, straying_form, straying_forms};
+ghost use Rattle.book_tests.specs.Straying.{straying_tells, held_code};
 
 use sched_program::{Exact, Op, OutOfMemory};
 use std::alloc::Global;

@@ -216,8 +216,8 @@ fn turned_ring(alloc: Global) -> Result<Bytes, OutOfMemory> {
 /// The form of both.
 ///
 /// Each cell: a byte that tells how many facts it has, how many nodes it names (times 5), and how many nodes and
-/// records (times 30); its facts; each node or record as its place and one, or 0 for none. Places: 0 the root, 1 and 2 the
-/// threads, 3 the node, 4 the record.
+/// records (times 30); its facts; each node or record as its place and one, or 0 for none. Places: 0 the root, 1 and 2
+/// the threads, 3 the node, 4 the record.
 const FORM: [u8; 19] = [
     71, 255, 255, 1, 4, 0, // the root, of fact 511
     66, 2, 4, 5, // what the first thread holds
