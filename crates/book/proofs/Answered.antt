@@ -1,19 +1,19 @@
 -- An order that a state lends to a step that ended an operation.
-use Rattle.std.proofs.Common.{◌≡◌, ◌≢◌, ℕ, zero, suc, ◌+◌, ◌<◌, ◌≤◌, ◌⊎◌, inl, inr, Bool, true, false, cond, Option}
-use Rattle.std.proofs.Common.{Some, None, IsSome, is_some, All, List, [], ◌∷◌, ◌++◌, length, map, refl, sym, ap, ap₂}
-use Rattle.std.proofs.Common.{◌∙◌, arith, slice_get, slice_set, get_or, subst, ◌==◌, eqb, eqb-true, eq-eqb}
-use Rattle.std.specs.Prelude.{IfSome, IsSomeAnd, option_and_then, slice_index}
+use Rattle.std.proofs.Common.{◌≡◌, ◌≢◌, ℕ, zero, suc, ◌+◌, ◌<◌, ◌≤◌, Bool, true, false, cond, Option}
+use Rattle.std.proofs.Common.{Some, None, IsSome, All, List, [], ◌∷◌, ◌++◌, length, map, refl, sym, ap, ap₂}
+use Rattle.std.proofs.Common.{◌∙◌, arith, slice_get, slice_set, subst, ◌==◌, eqb-true, eq-eqb}
+use Rattle.std.specs.Prelude.{IsSomeAnd, option_and_then, slice_index}
 use Rattle.std.proofs.lemmas.Option.{get_or_from_slice_get, slice_get_within}
-use Rattle.std.proofs.lemmas.Bool.{true≢false, and_parts, false_from_ne_true}
+use Rattle.std.proofs.lemmas.Bool.{true≢false, false_from_ne_true}
 use Rattle.std.proofs.lemmas.List.{length_push}
-use Rattle.sched_program.specs.Program.{Program, op_at}
+use Rattle.sched_program.specs.Program.{Program}
 use Rattle.sched_program.specs.Name.{same_name, value_at}
-use Rattle.sched_program.specs.History.{History, IsBegun, EndedBefore, reply}
+use Rattle.sched_program.specs.History.{IsBegun, EndedBefore, reply}
 use Rattle.sched_program.specs.declared.operation.OpId.{OpId}
 use Rattle.lin.specs.Reply.{HasReplied}
 use Rattle.tree_machine.specs.Rules.{Rules}
 use Rattle.tree_machine.specs.History.{named, all_named, history_of}
-use Rattle.tree_machine.specs.Step.{step, stepped, after_access, at_step, notes_at_step, finished_counts, place_or}
+use Rattle.tree_machine.specs.Step.{step, stepped, after_access, at_step, finished_counts, place_or}
 use Rattle.tree_machine.specs.Step.{Fits, ThreadFits}
 use Rattle.tree_machine.specs.declared.machine.Outcome.{Outcome}
 use Rattle.tree_machine.specs.declared.machine.Outcome.TheVariants.{Goes, Replies, Astray}

@@ -4,7 +4,7 @@ use Rattle.std.proofs.Common.{length, refl, sym, ap, ◌∙◌, append_assoc, ap
 use Rattle.std.proofs.lemmas.List.Sums.{sum_by-cons}
 use Rattle.book.specs.declared.entry.Mark.{Mark}
 use Rattle.book.specs.declared.entry.Mark.TheVariants.{Open, Taken, Expanded}
-use Rattle.tree_machine.proofs.Lists.{get-append_left, get-append_right, get-append_cases, get_at}
+use Rattle.tree_machine.proofs.Lists.{get-append_right}
 use Rattle.book.specs.Entries.{Entry, At, is_open, is_taken, is_expanded, with_mark}
 
 module _ {X : Type 0} where

@@ -1,16 +1,14 @@
 -- The states that a book holds: those of its entries from the first on that is not expanded.
-use Rattle.std.proofs.Common.{◌≡◌, ◌≢◌, ℕ, zero, suc, ◌+◌, ◌-◌, ◌<◌, ◌≤◌, inl, inr, Bool, true, false, cond, Option}
-use Rattle.std.proofs.Common.{Some, None, List, [], ◌∷◌, ◌++◌, drop, not, position, length, map, take, refl, sym, ap}
-use Rattle.std.proofs.Common.{◌∙◌, arith, slice_get, subst}
+use Rattle.std.proofs.Common.{◌≡◌, ℕ, zero, suc, ◌+◌, ◌-◌, ◌<◌, ◌≤◌, inl, inr, Bool, true, false, cond, Option}
+use Rattle.std.proofs.Common.{Some, None, List, [], ◌∷◌, ◌++◌, drop, not, position, length, refl, sym, ap}
+use Rattle.std.proofs.Common.{◌∙◌, arith, slice_get}
 use Rattle.std.proofs.Math.Seq.{take-length}
 use Rattle.std.proofs.lemmas.Bool.{cases_lt}
 use Rattle.std.proofs.lemmas.List.{map-append, take-append-drop}
 use Rattle.tree_machine.proofs.Lists.{get_at}
 use Rattle.book.specs.declared.entry.Mark.{Mark}
 use Rattle.book.specs.declared.entry.Mark.TheVariants.{Open, Taken, Expanded}
-use Rattle.book.specs.declared.entry.Row.{Row}
 use Rattle.book.specs.Entries.{Entry, At, is_expanded, is_open, states, with_mark, with_marks}
-use Rattle.book.specs.Labels.{Labelled}
 use Rattle.book.specs.Slots.{AreCursors, IsFirstLeft, IsGrown, IsLeft, AreHeld, StayHeld}
 use Rattle.book.proofs.Cursors.{still_expanded}
 use Rattle.book.proofs.EntryLemmas.{length-with_mark}

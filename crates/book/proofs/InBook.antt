@@ -1,6 +1,6 @@
 -- What follows for the entries of a book. The book tells its machine, which states it counts as one, and which findings
 -- are right.
-use Rattle.std.proofs.Common.{◌≡◌, ℕ, ◌+◌, ◌-◌, ◌<◌, ◌≤◌, ◌++◌, ◌∷◌, [], Bool, not, Option, Some, None, List, length}
+use Rattle.std.proofs.Common.{◌≡◌, ℕ, ◌-◌, ◌<◌, ◌≤◌, ◌++◌, ◌∷◌, [], Bool, not, Option, Some, None, List, length}
 use Rattle.std.proofs.Common.{map, reverse, sym, ap, ◌∙◌, arith, slice_get, position, subst}
 use Rattle.std.specs.List.{range_with_len}
 use Rattle.std.specs.declared.sync.Arc.{Arc}

@@ -1,5 +1,5 @@
 -- The labels by which a book knows states.
-use Rattle.std.specs.Prelude.{◌≡◌, ℕ, Bool, true, false, Option, Some, None, List, fold, map}
+use Rattle.std.specs.Prelude.{◌≡◌, ℕ, Bool, false, Option, Some, None, List, fold, map}
 use Rattle.std.specs.Hash.FoldHasher.{initial, write, finish}
 use Rattle.book.specs.Entries.{Entry, Successor}
 use Rattle.book.specs.declared.book.Merge.{Merge}

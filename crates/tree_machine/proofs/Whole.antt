@@ -9,7 +9,7 @@ use Rattle.std.proofs.lemmas.List.{append-nil}
 use Rattle.std.proofs.lemmas.List.Concat.{flat_map-cons}
 use Rattle.std.proofs.lemmas.List.Elements.{All-append}
 use Rattle.tree_machine.specs.Cells.{Content, content_at, met, met_all, place_in, renamed}
-use Rattle.tree_machine.specs.Graphs.{numbers_from, roots_of}
+use Rattle.tree_machine.specs.Graphs.{numbers_from}
 use Rattle.tree_machine.specs.Parts.{Parts, ArePartsInRange, parts_graph, parts_held}
 use Rattle.tree_machine.specs.Flat.{cell_code, flat}
 use Rattle.tree_machine.specs.Written.{Written, with_cell}

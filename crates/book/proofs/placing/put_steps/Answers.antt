@@ -1,4 +1,4 @@
-use Rattle.std.proofs.Common.{◌∷◌, ◌≡◌, ◌≤◌, ◌+◌, [], Bool, map, length, refl, sym, append-nil, arith}
+use Rattle.std.proofs.Common.{◌≡◌, ◌≤◌, Bool, map, length, refl, sym, append-nil, arith}
 use Rattle.std.proofs.lemmas.List.{length_push}
 use Rattle.book.specs.Labels.{Labelled, same_label}
 use Rattle.book.specs.Slots.{entries_of, keyed_of}

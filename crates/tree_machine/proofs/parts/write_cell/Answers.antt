@@ -1,7 +1,6 @@
-use Rattle.std.proofs.Common.{length, arith, ap, ◌∙◌, ◌-◌}
+use Rattle.std.proofs.Common.{length, arith, ◌-◌}
 use Rattle.std.proofs.lemmas.Result.{on_ok_weaker}
 use Rattle.tree_machine.specs.Parts.{part_at}
-use Rattle.tree_machine.specs.Written.{Written}
 use Rattle.tree_machine.proofs.CodedWalks.{part_below, cell_written, node_cell_at, record_cell_at, held_cell_at}
 use Rattle.tree_machine.proofs.parts.write_cell.Goals as goal
 

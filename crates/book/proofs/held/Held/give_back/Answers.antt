@@ -1,4 +1,4 @@
-use Rattle.std.proofs.Common.{◌≡◌, ◌∷◌, [], ap, drop, map, sym, ◌∙◌}
+use Rattle.std.proofs.Common.{ap, drop, map, sym, ◌∙◌}
 use Rattle.std.proofs.lemmas.List.{drop-map}
 use Rattle.std.specs.declared.sync.Arc.{Arc}
 use Rattle.book.proofs.Holding.{drop-twice}
