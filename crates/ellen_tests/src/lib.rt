@@ -7,5 +7,6 @@ mod forms;
 mod memories;
 #[cfg(test)]
 mod schedules;
+pub mod small_tree;
 #[cfg(test)]
 mod transcript;

@@ -1,11 +1,8 @@
 //! The machine at memories of its own and at memories that no run reaches.
-ghost use Rattle.std.specs.Prelude.{◌≡◌, ◌<◌, length, IfOk};
-ghost use Rattle.ellen.specs.Range.{IsInRange, IsPlaceIn};
+ghost use Rattle.ellen.specs.Range.{IsPlaceIn};
 
-use ellen::{
-    Base, DeleteRecord, Ellen, EllenLoc, EllenMem, HelpLoc, Node, Record, Resume, SearchLoc,
-    UpdateWord,
-};
+use crate::small_tree::small_tree;
+use ellen::{Base, Ellen, EllenLoc, HelpLoc, Node, Resume, SearchLoc, UpdateWord};
 use sched_program::{Op, OutOfMemory, Sequence};
 use std::alloc::Global;
 use std::process::Abort;
@@ -16,34 +13,6 @@ const WHOLE: Ellen = Ellen {
     mark: true,
     iflag: true,
 };
-
-/// The root over a left child and the greatest sentinel, a leaf of this key, and the record of a delete of that leaf
-/// for which the root is parent and grandparent.
-fn small_tree(alloc: Global, left: u32, key: u8) -> Result<EllenMem, OutOfMemory>
-    requires { left < 3 }
-    ensures in_range { IfOk result IsInRange }
-    ensures nodes { IfOk result (λ memory. length memory.nodes ≡ 3) }
-    ensures records { IfOk result (λ memory. length memory.records ≡ 1) }
-{
-    let root = Node::Internal {
-        key: 102,
-        update: UpdateWord::Untouched,
-        left,
-        right: 2,
-    };
-    let nodes = vec![in alloc; root, Node::Leaf { key }, Node::Leaf { key: 102 }]?;
-    let record = Record::Del(DeleteRecord {
-        grandparent: 0,
-        parent: 0,
-        leaf: 1,
-        parent_update: UpdateWord::Untouched,
-    });
-    let records = vec![in alloc; record]?;
-    Ok(EllenMem {
-        nodes: Sequence::from_vec(nodes),
-        records: Sequence::from_vec(records),
-    })
-}
 
 /// Search order where the root is its own child, where two leaves have one key, and where it is kept.
 fn orders(rt: &impl Abort, alloc: Global) -> Result<(), OutOfMemory> {

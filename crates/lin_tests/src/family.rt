@@ -1,6 +1,7 @@
 //! The judge beside the two plainer searchers, on the histories of many interleavings.
 
-use crate::fixtures::{Broken, ensure, is_order, note, program_of};
+use crate::broken::{Broken, ensure};
+use crate::fixtures::{is_order, note, program_of};
 use crate::searchers::agree;
 use lin::{Order, check_order, judge_order, order_with_reply};
 use sched_program::{History, Note, OpId, OutOfMemory, Program};

@@ -2,6 +2,7 @@
 //! but, one of them, the test of a finished order.
 #![tactic(auto)]
 
+pub mod broken;
 #[cfg(test)]
 mod family;
 #[cfg(test)]

@@ -1,6 +1,7 @@
 //! Orders that one reply more is put to.
 
-use crate::fixtures::{Broken, ensure, is_order, order_of, program_of};
+use crate::broken::{Broken, ensure};
+use crate::fixtures::{is_order, order_of, program_of};
 use crate::rows::{A, B, C, D, ROWS, SMALL, history_of};
 use crate::twelve::{NAMES, PROGRAM};
 use lin::{check_order, judge_order, order_with_reply};

@@ -1,6 +1,7 @@
 //! Worked histories.
 
-use crate::fixtures::{Broken, ensure, is_answer, note, program_of};
+use crate::broken::{Broken, ensure};
+use crate::fixtures::{is_answer, note, program_of};
 use lin::{check_order, judge};
 use sched_program::{History, Note, OpId, OutOfMemory, Program};
 use std::alloc::Global;

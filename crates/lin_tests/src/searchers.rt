@@ -1,6 +1,7 @@
 //! The judge beside the two plainer searchers.
 
-use crate::fixtures::{Broken, ensure, is_order};
+use crate::broken::{Broken, ensure};
+use crate::fixtures::is_order;
 use crate::plain::judge_plain;
 use crate::pruned::judge_pruned;
 use lin::{check_order, judge, judge_order};

@@ -1,6 +1,7 @@
 //! Twelve operations of four threads at once.
 
-use crate::fixtures::{Broken, ensure, is_answer, note, program_of};
+use crate::broken::{Broken, ensure};
+use crate::fixtures::{is_answer, note, program_of};
 use crate::searchers::agree;
 use lin::{judge, judge_counted};
 use sched_program::{History, Note, OpId, OutOfMemory, Program};

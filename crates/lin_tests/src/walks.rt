@@ -2,7 +2,8 @@
 ghost use Rattle.std.specs.Prelude.{IfOk};
 ghost use Rattle.tree_machine.specs.Step.{Fits};
 
-use crate::fixtures::{Broken, ensure, program_of};
+use crate::broken::{Broken, ensure};
+use crate::fixtures::program_of;
 use crate::searchers::agree;
 use ellen::Ellen;
 use natmit::NatMit;

@@ -1,6 +1,7 @@
 //! Tests of `natmit`: runs of programs, step by step. Each expected value is worked out by hand from the place table.
 #![tactic(auto)]
 
+pub mod cycle;
 #[cfg(test)]
 mod follow;
 #[cfg(test)]

@@ -1,6 +1,7 @@
 //! Tests of `sched_program`, by its public calls alone.
 #![tactic(auto)]
 
+pub mod failing;
 #[cfg(test)]
 mod from_json;
 #[cfg(test)]

@@ -1,9 +1,8 @@
 //! Programs out of readers, some of which fail.
+use crate::failing::failing;
 use crate::refused_texts::{NOT_JSON, OF_KEY, OF_TREE, OF_VERSION};
 use sched_program::{Counted, LoadFault, Program, ProgramFault};
 use std::alloc::{AllocGlobal, Global};
-use std::io;
-use std::io::{ErrorKind, Read};
 use std::process::Abort;
 
 /// The number of no read.
@@ -11,39 +10,6 @@ const NEVER: usize = usize::MAX;
 
 const TWO_INSERTS: &str =
     r#"{"version":1,"tree":"atomic","initial":[],"threads":[[{"op":"insert","key":1}],[{"op":"insert","key":1}]]}"#;
-
-/// A reader of bytes, one a read, of which the read of this number fails; the first is that of number 0. After the last
-/// byte one more read finds the end. A read that failed fails again.
-#[derive(Drop)]
-struct FailingReader<'a> {
-    bytes: &'a [u8],
-    reads: usize,
-    fails_at: usize,
-}
-
-impl<'a> Read for FailingReader<'a> {
-    fn read(&mut self, buf: &mut [u8]) -> io::Result<usize> {
-        if self.reads == self.fails_at {
-            return Err(io::Error::from(ErrorKind::Interrupted));
-        }
-        self.reads = self.reads.saturating_add(1);
-        let rest = self.bytes;
-        if buf.is_empty() || rest.is_empty() {
-            return Ok(0);
-        }
-        buf[0] = rest[0];
-        self.bytes = &rest[1..];
-        Ok(1)
-    }
-}
-
-fn failing(text: &str, fails_at: usize) -> FailingReader<'_> {
-    FailingReader {
-        bytes: text.as_bytes(),
-        reads: 0,
-        fails_at,
-    }
-}
 
 /// What is told of a text whose read of this number fails, and how many reads the reader counts as failed.
 fn load_once(alloc: Global, text: &str, fails_at: usize) -> (Option<LoadFault>, u64) {

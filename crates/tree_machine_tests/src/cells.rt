@@ -3,6 +3,7 @@ ghost use Rattle.std.specs.Prelude.{◌≡◌, ◌<◌, length, IsTrue, IfSome};
 ghost use Rattle.std.specs.List.{All};
 
 use crate::once_more::holds;
+use crate::ranges::are_below;
 use sched_program::OutOfMemory;
 use std::alloc::Global;
 use tree_machine::{Cell, canon};
@@ -33,16 +34,6 @@ fn cells_of(alloc: Global, rows: &[Row]) -> Result<Vec<Cell>, OutOfMemory> {
         cells.push(Cell::new(facts, Vec::from_slice(alloc, refs)?))?;
     }
     Ok(cells)
-}
-
-/// Whether each reference is none or below a bound.
-fn are_below(refs: &[Option<usize>], bound: usize) -> bool
-    ensures { IsTrue result → All (λ r. IfSome r (λ x. x < bound)) refs.now }
-{
-    refs.iter().all(|reference| match reference {
-        Some(x) => *x < bound,
-        None => true,
-    })
 }
 
 /// Whether each reference is none or a cell.

@@ -11,5 +11,6 @@ mod cells;
 mod once_more;
 #[cfg(test)]
 mod parts;
+pub mod ranges;
 #[cfg(test)]
 mod states;

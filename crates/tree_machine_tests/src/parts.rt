@@ -5,6 +5,7 @@ ghost use Rattle.tree_machine.specs.Parts.{IsPartBelow, ArePartsInRange};
 ghost use Rattle.tree_machine.specs.Written.{with_part};
 
 use crate::once_more::holds;
+use crate::ranges::are_below;
 use sched_program::OutOfMemory;
 use std::alloc::Global;
 use std::marker::Model;
@@ -54,16 +55,6 @@ impl Row {
     {
         are_below(self.nodes, nodes) && are_below(self.records, records)
     }
-}
-
-/// Whether each number is none or below a bound.
-fn are_below(numbers: &[Option<usize>], bound: usize) -> bool
-    ensures { IsTrue result → All (λ r. IfSome r (λ x. x < bound)) numbers.now }
-{
-    numbers.iter().all(|number| match number {
-        Some(x) => *x < bound,
-        None => true,
-    })
 }
 
 /// Rows for nodes, records and threads.
