@@ -3,11 +3,12 @@
 ghost use Rattle.std.specs.Prelude.{◌≡◌, ℕ, ◌+◌, ◌-◌, ◌<◌, ◌≤◌, [], ◌∷◌, ◌⊎◌};
 ghost use Rattle.std.specs.Prelude.{length, IfOk, IfSome, IfNone, OnOk, OnErr, IfErr, Some, None, position, true};
 ghost use Rattle.sched_program.specs.Program.{IsWithinLimits};
-ghost use Rattle.tree_machine.specs.Step.{Fits};
+ghost use Rattle.tree_machine.specs.Step.{Fits, start};
 ghost use Rattle.tree_machine.specs.declared.state.State.{State};
 ghost use Rattle.book.specs.Entries.{Entry, At, Enters, IsNext, IsOwn, IsTaken, Refuses, Takes, TakesLayer, is_open};
 ghost use Rattle.book.specs.Entries.{states, unknown, with_successors};
-ghost use Rattle.book.specs.Findings.{IsSound};
+ghost use Rattle.book.specs.Findings.{IsFindingOf, IsSound};
+ghost use Rattle.book.specs.declared.finding.Finding.{Finding};
 ghost use Rattle.book.specs.Slots.{AllStates, IsLeft, IsOpenFrom};
 ghost use Rattle.tree_machine.specs.Alike.{state_form};
 ghost use Rattle.book.specs.Labels.{AreStepsKnownBy, bares, form_by};
@@ -125,6 +126,33 @@ fn steps_at<M: Machine>(table: &Table<State<M>, StateForm<M>>, index: usize) -> 
     table.state(index).steps()
 }
 
+/// The table with the start of a program alone, which is open.
+fn first_table<M: Machine>(
+    alloc: Global,
+    machine: M,
+    program: &Program,
+    merge: Merge,
+) -> Result<Table<State<M>, StateForm<M>>, OutOfMemory>
+    ensures { IfOk result (λ t. (state : State M M.Mem M.Loc M.Form) × (finding : Finding)
+        × (state ≡ start (M.rules machine) program.now)
+        × (t.entries ≡ record { state = state; finding = finding; origin = None; mark = Mark.Open } ∷ [])
+        × (t.forms ≡ form_by merge (state_form (M.form_of machine)) state ∷ [])
+        × Fits (M.rules machine) program.now state × IsFindingOf (M.rules machine) program.now state finding) }
+{
+    let state = State::start(alloc, machine, program)?;
+    let finding = find(alloc, machine, program, &state)?;
+    let known = label(
+        alloc,
+        machine,
+        program,
+        &state,
+        merge,
+        &mut Room::new(alloc),
+    )?;
+    let state = Arc::new(alloc, state)?;
+    Ok(Table::new(alloc, state, known, finding)?)
+}
+
 impl<M: Machine> Book<M> {
     /// A book with the start alone, which is open. The limit is 1 to 2,000,000 entries.
     pub fn open(
@@ -145,12 +173,7 @@ impl<M: Machine> Book<M> {
     {
         tests_exactly::<State<M>>();
         tests_exactly::<StateForm<M>>();
-        let state = State::start(alloc, machine, &program)?;
-        let finding = find(alloc, machine, &program, &state)?;
-        let mut room = Room::new(alloc);
-        let known = label(alloc, machine, &program, &state, merge, &mut room)?;
-        let state = Arc::new(alloc, state)?;
-        let table = Table::new(alloc, state, known, finding)?;
+        let table = first_table(alloc, machine, &program, merge)?;
         Ok(Book {
             machine,
             program,
@@ -221,8 +244,7 @@ impl<M: Machine> Book<M> {
     }
 
     /// Takes at once all entries that `take` would give one after the other: the open ones of the fewest steps of those
-    /// that are not expanded, each by its number and its state, in the order of their numbers. After a refusal none is
-    /// taken.
+    /// that are not expanded, each by its number and its state, in their order. After a refusal none is taken.
     pub fn take_layer(&mut self) -> Result<Vec<(usize, Arc<State<M>>)>, OutOfMemory>
         ensures taken { IfOk result
             (λ layer. TakesLayer (machine_in M.rules self.old).steps self.old.entries self.new.entries layer.items) }
@@ -313,7 +335,7 @@ impl<M: Machine> Book<M> {
             (Refuses (⟦<M as Counting>⟧.counted self.old.machine self.old.merge) self.old id expansion.entry) }
         ensures err { OnErr result (self.new ≡ self.old) }
     {
-        let mut leftovers = Leftovers::none(self.table.allocator());
+        let mut leftovers = self.table.no_leftovers();
         self.enter_leaving(id, expansion, &mut leftovers)
     }
 
@@ -355,8 +377,7 @@ impl<M: Machine> Book<M> {
         steps
     }
 
-    /// The number of the first entry of more than so many steps, or the number of entries. Step counts never fall along
-    /// the entries.
+    /// The number of the first entry of more than so many steps, or the number of entries. Step counts never fall.
     fn first_above(&self, steps: u64) -> usize
         ensures below { (i : ℕ) (e : Entry (State M M.Mem M.Loc M.Form)) → At self.now.entries i e → i < result
             → e.state.steps ≤ steps }

@@ -5,6 +5,7 @@ ghost use Rattle.book.specs.Leftovers.{Keeps};
 use crate::entry::PackedRow;
 use crate::hashed::Hashed;
 use crate::known::Known;
+use crate::stock::keep_in;
 use sched_program::OutOfMemory;
 use std::alloc::Global;
 use std::hash::Hash;
@@ -52,10 +53,11 @@ impl<S: Coded + Drop, F: Hash + Drop> Leftovers<S, F> {
         self.known.len()
     }
 
-    /// Takes a state out, if one is kept. What else was held of it is dropped.
-    pub(crate) fn pop(&mut self) -> Option<Arc<S>> {
-        let (_known, _row, state) = self.known.pop()?;
-        Some(state)
+    /// Puts the states that nobody else holds into spare ones. What else was held of them is dropped.
+    pub(crate) fn return_to(self, spares: &mut Vec<S>) {
+        for (_known, _row, state) in self.known {
+            keep_in(spares, state);
+        }
     }
 
     /// Keeps a state, if there is one, where there is room, and else drops it.

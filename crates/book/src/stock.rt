@@ -26,19 +26,20 @@ impl<M: Machine> Stock<M> {
         let _ = self.spares.push(state);
     }
 
-    /// Takes a state in, unless somebody else holds it.
+    /// Takes a state in, unless somebody else holds it. A refused growth lets it go.
     pub fn take_in(&mut self, state: Arc<State<M>>) {
-        if let Some(state) = Arc::into_inner(state) {
-            self.keep(state);
-        }
+        keep_in(&mut self.spares, state);
     }
 
     /// Takes in the states that a book knew already.
-    pub fn take_leftovers(&mut self, mut leftovers: Leftovers<State<M>, StateForm<M>>) {
-        for _each in 0..leftovers.len() {
-            if let Some(state) = leftovers.pop() {
-                self.take_in(state);
-            }
-        }
+    pub fn take_leftovers(&mut self, leftovers: Leftovers<State<M>, StateForm<M>>) {
+        leftovers.return_to(&mut self.spares);
+    }
+}
+
+/// Puts a state into spare ones, unless somebody else holds it. A refused growth lets it go.
+pub(crate) fn keep_in<S: Drop>(spares: &mut Vec<S>, state: Arc<S>) {
+    if let Some(state) = Arc::into_inner(state) {
+        let _ = spares.push(state);
     }
 }

@@ -12,6 +12,7 @@ ghost use Rattle.book.specs.Leftovers.{KeepsMet};
 ghost use Rattle.book.specs.Slots.{entries_of, forms_of, keyed_of, AreStatesOf, IsFirstLeft, IsGrown, IsLeft};
 ghost use Rattle.book.specs.Slots.{IsOpenFrom, StayHeld};
 
+use crate::book::Totals;
 use crate::entry::{Mark, Origin, PackedRow, Row};
 use crate::expansion::Stepped;
 use crate::finding::Finding;
@@ -196,6 +197,11 @@ impl<S: Coded + Drop, F: Eq + Hash + Drop> Table<S, F> {
         *self.slots.allocator()
     }
 
+    /// Leftovers that keep nothing.
+    pub fn no_leftovers(&self) -> Leftovers<S, F> {
+        Leftovers::none(self.allocator())
+    }
+
     /// The number of entries.
     pub fn len(&self) -> usize
         ensures { result ≡ length self.now.entries }
@@ -366,24 +372,26 @@ impl<S: Coded + Drop, F: Eq + Hash + Drop> Table<S, F> {
         row_at(&self.slots, index).origin()
     }
 
-    /// The number of open entries.
-    pub fn count_open(&self) -> usize
-        ensures { result ≡ count_by (λ e. is_open e.mark) self.now.entries }
+    /// How many entries there are, and how many are marked each way, with so many steps that led to known states.
+    pub fn totals(&self, met: usize) -> Totals
+        requires { 1 ≤ length self.now.entries }
+        ensures { result ≡ record {
+          entries = length self.now.entries;
+          fresh = count_by (λ e. is_open e.mark) self.now.entries;
+          taken = count_by (λ e. is_taken e.mark) self.now.entries;
+          expanded = count_by (λ e. is_expanded e.mark) self.now.entries;
+          entered = length self.now.entries - 1;
+          met = met;
+        } }
     {
-        open_rows(&self.slots)
-    }
-
-    /// The number of taken entries.
-    pub fn count_taken(&self) -> usize
-        ensures { result ≡ count_by (λ e. is_taken e.mark) self.now.entries }
-    {
-        taken_rows(&self.slots)
-    }
-
-    /// The number of expanded entries.
-    pub fn count_expanded(&self) -> usize
-        ensures { result ≡ count_by (λ e. is_expanded e.mark) self.now.entries }
-    {
-        expanded_rows(&self.slots)
+        let entries = self.slots.len();
+        Totals {
+            entries,
+            fresh: open_rows(&self.slots),
+            taken: taken_rows(&self.slots),
+            expanded: expanded_rows(&self.slots),
+            entered: entries - 1,
+            met,
+        }
     }
 }

@@ -1,58 +1,43 @@
 -- Cells that are all met, in the order of their numbers, are written as they are.
 use Rattle.std.proofs.Common.{◌≡◌, ℕ, zero, suc, ◌+◌, ◌<◌, ◌≤◌, List, [], ◌∷◌, ◌++◌, map, length, take, refl, sym, ◌∙◌}
-use Rattle.std.proofs.Common.{ap, cond, arith, add-one, append_assoc}
-use Rattle.std.specs.Prelude.{slice_get, Option, Some, None, IfSome}
+use Rattle.std.proofs.Common.{ap, arith, add-one, append_assoc}
+use Rattle.std.specs.Prelude.{Option, Some, None, IfSome}
 use Rattle.std.specs.List.{AllByRecursion}
 use Rattle.std.specs.Option.{option_and_then}
 use Rattle.std.proofs.lemmas.Grind.{flat_map-append}
 use Rattle.std.proofs.lemmas.List.{append-nil}
 use Rattle.std.proofs.lemmas.List.Concat.{flat_map-cons}
 use Rattle.std.proofs.lemmas.List.Elements.{All-append}
-use Rattle.tree_machine.specs.Cells.{Content, content_at, met, met_all, place_in, renamed}
+use Rattle.tree_machine.specs.Cells.{Content, content_at, met_all, place_in, renamed}
 use Rattle.tree_machine.specs.Graphs.{numbers_from}
 use Rattle.tree_machine.specs.Parts.{Parts, ArePartsInRange, parts_graph, parts_held}
 use Rattle.tree_machine.specs.Flat.{cell_code, flat}
 use Rattle.tree_machine.specs.Written.{Written, with_cell}
-use Rattle.tree_machine.specs.Laws.CellLists.{numbers_distinct}
-use Rattle.tree_machine.specs.Laws.CellPlaces.{has_at, place_at}
 use Rattle.tree_machine.specs.Laws.Graphs.{RefsBelow, refs_below_at}
 use Rattle.tree_machine.specs.Laws.Parts.{parts_fit}
-use Rattle.tree_machine.proofs.Lists.{get-append_left, take_whole}
-
-number_at : (a n i : ℕ) → i < n → slice_get (numbers_from a n) i ≡ Some (a + i)
-number_at a zero i l = absurd (omega arith)
-number_at a (suc n) zero l = let same : a ≡ a + 0 = omega arith in ap Some same
-number_at a (suc n) (suc i) l =
-    let same : suc a + i ≡ a + suc i = omega arith in number_at (suc a) n i (omega arith) ∙ ap Some same
+use Rattle.tree_machine.proofs.AllCells.{all_met, all_placed}
+use Rattle.tree_machine.proofs.Lists.{take_whole}
 
 module _ (graph held : ℕ) where
   -- all cells, in the order of their numbers
   abbrev pub all_cells : List ℕ
-  all_cells = numbers_from 0 graph ++ numbers_from graph held
-
-  there : (x : ℕ) → x < graph → slice_get all_cells x ≡ Some x
-  there x l =
-      let same : 0 + x ≡ x = omega arith in
-      get-append_left (numbers_from 0 graph) (numbers_from graph held) x x (number_at 0 graph x l ∙ ap Some same)
-
-  placed : (x : ℕ) → x < graph → place_in all_cells x ≡ Some x
-  placed x l = place_at all_cells (numbers_distinct 0 graph graph held (omega arith)) x x (there x l)
+  all_cells = numbers_from 0 (graph + held)
 
   none_met : (refs : List (Option ℕ)) → AllByRecursion (λ r. IfSome r (λ x. x < graph)) refs
       → met_all all_cells refs ≡ all_cells
   none_met [] h = refl
   none_met (None ∷ refs) h = none_met refs h.1
   none_met (Some x ∷ refs) h =
-      let known : met all_cells x ≡ all_cells =
-      ap (λ b. cond b all_cells (all_cells ++ x ∷ [])) (has_at all_cells x x (there x h.0)) in
-      ap (λ o. met_all o refs) known ∙ none_met refs h.1
+      let less : x < graph = h.0 in
+      ap (λ o. met_all o refs) (all_met (graph + held) x (omega arith)) ∙ none_met refs h.1
 
   none_renamed : (refs : List (Option ℕ)) → AllByRecursion (λ r. IfSome r (λ x. x < graph)) refs
       → map (option_and_then (place_in all_cells)) refs ≡ refs
   none_renamed [] h = refl
   none_renamed (None ∷ refs) h = ap (λ l. None ∷ l) (none_renamed refs h.1)
   none_renamed (Some x ∷ refs) h =
-      ap (λ o. o ∷ map (option_and_then (place_in all_cells)) refs) (placed x h.0)
+      let less : x < graph = h.0 in
+      ap (λ o. o ∷ map (option_and_then (place_in all_cells)) refs) (all_placed (graph + held) x (omega arith))
       ∙ ap (λ l. Some x ∷ l) (none_renamed refs h.1)
 
   -- a cell that is written

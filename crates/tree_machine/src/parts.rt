@@ -138,7 +138,7 @@ fn write_all<P: Parts>(
 {
     let nodes = parts.node_count();
     let records = parts.record_count();
-    let mut writer = Writer::behind(pass, graph, nodes, records, held)?;
+    let mut writer = Writer::of_all(pass, nodes, records, held);
     for cell in 0..graph + held {
         write_cell(parts, cell, &mut writer)?;
     }

@@ -3,13 +3,14 @@ ghost use Rattle.std.specs.Prelude.{◌≡◌, ◌<◌, ◌≤◌, ◌+◌, ◌^
 ghost use Rattle.std.specs.Prelude.{length, map, slice_get, IfOk, OnOk, IfSome};
 ghost use Rattle.std.specs.List.{All, flat_map};
 ghost use Rattle.std.specs.Option.{option_map, option_and_then};
+ghost use Rattle.tree_machine.specs.CellsMet.{order_met, cells_to_meet};
 ghost use Rattle.tree_machine.specs.Cells.{met_all, place_in, renamed};
 ghost use Rattle.tree_machine.specs.Graphs.{numbers_from};
 ghost use Rattle.tree_machine.specs.Parts.{IsPartBelow, part_cell};
 ghost use Rattle.tree_machine.specs.Flat.{number_code, long_code, short_head, facts_code, reference_number, cell_code};
 ghost use Rattle.tree_machine.specs.Written.{with_part};
 
-use crate::cells::Numbering;
+use crate::met::Met;
 use sched_program::OutOfMemory;
 use std::alloc::Global;
 use std::marker::Model;
@@ -105,8 +106,9 @@ fn put_facts(
 /// The cells met, and the cells visited, in bytes.
 #[derive(Drop)]
 pub(crate) struct Pass {
-    numbering: Numbering,
+    met: Met,
     pub(crate) bytes: Vec<u8>,
+    ghost fits: { cells_to_meet met < 2 ^ 64 },
 }
 
 impl Pass {
@@ -115,35 +117,48 @@ impl Pass {
         ensures { result.bytes.items ≡ [] }
     {
         Pass {
-            numbering: Numbering::none(alloc),
+            met: Met::All(0),
             bytes: Vec::new(alloc),
         }
     }
 
     /// Nothing of so many cells is met yet. The bytes stay, and the memory serves again.
     fn restarted(self, cells: usize) -> Result<Self, OutOfMemory>
-        ensures nothing { IfOk result (λ pass. pass.numbering.order.items ≡ []) }
+        ensures nothing { IfOk result (λ pass. order_met pass.met ≡ []) }
         ensures bytes { IfOk result (λ pass. pass.bytes.items ≡ self.bytes.items) }
-        ensures range { IfOk result (λ pass. length pass.numbering.numbers.items ≡ cells) }
+        ensures range { IfOk result (λ pass. cells_to_meet pass.met ≡ cells) }
     {
-        let Pass { numbering, bytes } = self;
+        let Pass { met, bytes } = self;
+        let alloc = *bytes.allocator();
         Ok(Pass {
-            numbering: numbering.restarted(cells)?,
+            met: met.restarted(alloc, cells)?,
             bytes,
         })
     }
 
+    /// All of so many cells are met, in the order of their numbers. It takes no memory.
+    fn of_all(self, cells: usize) -> Self
+        ensures order { order_met result.met ≡ numbers_from 0 cells }
+        ensures bytes { result.bytes.items ≡ self.bytes.items }
+        ensures range { cells_to_meet result.met ≡ cells }
+    {
+        Pass {
+            met: Met::All(cells),
+            bytes: self.bytes,
+        }
+    }
+
     /// Meets so many cells from one on, all behind those met before.
     fn meet_range(&mut self, first: usize, count: usize) -> Result<(), OutOfMemory>
-        requires in_range { first + count ≤ length self.old.numbering.numbers.items }
-        requires behind { All (λ x. x < first) self.old.numbering.order.items }
-        ensures order { OnOk result (self.new.numbering.order.items
-            ≡ self.old.numbering.order.items ++ numbers_from first count) }
+        requires in_range { first + count ≤ cells_to_meet self.old.met }
+        requires behind { All (λ x. x < first) (order_met self.old.met) }
+        ensures order { OnOk result ((order_met self.new.met)
+            ≡ order_met self.old.met ++ numbers_from first count) }
         ensures bytes { self.new.bytes.items ≡ self.old.bytes.items }
-        ensures range { length self.new.numbering.numbers.items ≡ length self.old.numbering.numbers.items }
+        ensures range { cells_to_meet self.new.met ≡ cells_to_meet self.old.met }
     {
         for i in 0..count {
-            let _place = self.numbering.meet(first + i)?;
+            let _place = self.met.meet(first + i)?;
         }
         Ok(())
     }
@@ -151,17 +166,17 @@ impl Pass {
     /// Meets what is referred to, and puts its place behind the bytes.
     #[inline(always)]
     fn put_reference(&mut self, reference: Option<usize>) -> Result<(), OutOfMemory>
-        requires { IfSome reference (λ x. x < length self.old.numbering.numbers.items) }
-        ensures order { OnOk result (self.new.numbering.order.items
-            ≡ met_all self.old.numbering.order.items (reference ∷ [])) }
+        requires { IfSome reference (λ x. x < cells_to_meet self.old.met) }
+        ensures order { OnOk result ((order_met self.new.met)
+            ≡ met_all (order_met self.old.met) (reference ∷ [])) }
         ensures bytes { OnOk result (self.new.bytes.items
             ≡ self.old.bytes.items
-            ++ number_code (reference_number (option_and_then (place_in self.new.numbering.order.items) reference))) }
-        ensures range { length self.new.numbering.numbers.items ≡ length self.old.numbering.numbers.items }
+            ++ number_code (reference_number (option_and_then (place_in (order_met self.new.met)) reference))) }
+        ensures range { cells_to_meet self.new.met ≡ cells_to_meet self.old.met }
     {
         match reference {
             Some(cell) => {
-                let place = self.numbering.meet(cell)?;
+                let place = self.met.meet(cell)?;
                 put_number(&mut self.bytes, place as u64 + 1)
             }
             None => put_number(&mut self.bytes, 0),
@@ -175,15 +190,15 @@ impl Pass {
         first: usize,
         references: &[Option<usize>],
     ) -> Result<(), OutOfMemory>
-        requires { All (λ r. IfSome r (λ x. first + x < length self.old.numbering.numbers.items)) references.now }
-        ensures order { OnOk result (self.new.numbering.order.items
-            ≡ met_all self.old.numbering.order.items (map (option_map (λ x. first + x)) references.now)) }
+        requires { All (λ r. IfSome r (λ x. first + x < cells_to_meet self.old.met)) references.now }
+        ensures order { OnOk result ((order_met self.new.met)
+            ≡ met_all (order_met self.old.met) (map (option_map (λ x. first + x)) references.now)) }
         ensures bytes { OnOk result (self.new.bytes.items
             ≡ self.old.bytes.items
             ++ flat_map number_code (map reference_number
-            (map (option_and_then (place_in self.new.numbering.order.items))
+            (map (option_and_then (place_in (order_met self.new.met)))
             (map (option_map (λ x. first + x)) references.now)))) }
-        ensures range { length self.new.numbering.numbers.items ≡ length self.old.numbering.numbers.items }
+        ensures range { cells_to_meet self.new.met ≡ cells_to_meet self.old.met }
     {
         for reference in references {
             self.put_reference(match reference {
@@ -197,15 +212,15 @@ impl Pass {
     /// The same for cells that are told by their numbers.
     #[inline(always)]
     fn put_cells(&mut self, first: usize, cells: &[u32]) -> Result<(), OutOfMemory>
-        requires { All (λ x. first + x < length self.old.numbering.numbers.items) cells.now }
-        ensures order { OnOk result (self.new.numbering.order.items
-            ≡ met_all self.old.numbering.order.items (map (option_map (λ x. first + x)) (map Some cells.now))) }
+        requires { All (λ x. first + x < cells_to_meet self.old.met) cells.now }
+        ensures order { OnOk result ((order_met self.new.met)
+            ≡ met_all (order_met self.old.met) (map (option_map (λ x. first + x)) (map Some cells.now))) }
         ensures bytes { OnOk result (self.new.bytes.items
             ≡ self.old.bytes.items
             ++ flat_map number_code (map reference_number
-            (map (option_and_then (place_in self.new.numbering.order.items))
+            (map (option_and_then (place_in (order_met self.new.met)))
             (map (option_map (λ x. first + x)) (map Some cells.now))))) }
-        ensures range { length self.new.numbering.numbers.items ≡ length self.old.numbering.numbers.items }
+        ensures range { cells_to_meet self.new.met ≡ cells_to_meet self.old.met }
     {
         for cell in cells {
             self.put_reference(Some(first + *cell as usize))?;
@@ -222,10 +237,11 @@ pub struct Writer {
     pass: Pass,
     nodes: usize,
     records: usize,
-    ghost room: { nodes + records ≤ length pass.numbering.numbers.items },
+    ghost room: { nodes + records ≤ cells_to_meet pass.met },
 }
 
 impl Model for Writer {
+    ghost use Rattle.tree_machine.specs.CellsMet.{order_met};
     ghost use Rattle.tree_machine.specs.Written.{Written};
 
     ghost Value = { Written };
@@ -233,7 +249,7 @@ impl Model for Writer {
     ghost view = { λ w. record {
       nodes = w.nodes;
       records = w.records;
-      order = w.pass.numbering.order.items;
+      order = order_met w.pass.met;
       bytes = w.pass.bytes.items;
     } };
 }
@@ -267,11 +283,26 @@ impl Writer {
         })
     }
 
+    /// Nothing is written behind these bytes, and all cells are met, in the order of their numbers.
+    pub(crate) fn of_all(pass: Pass, nodes: usize, records: usize, held: usize) -> Self
+        requires { nodes + records + held < 2 ^ 64 }
+        ensures nodes { result.nodes ≡ nodes }
+        ensures records { result.records ≡ records }
+        ensures order { result.order ≡ numbers_from 0 (nodes + records + held) }
+        ensures bytes { result.bytes ≡ pass.bytes.items }
+    {
+        Writer {
+            pass: pass.of_all(nodes + records + held),
+            nodes,
+            records,
+        }
+    }
+
     /// The cell that was met after so many others, if so many were met.
     pub(crate) fn cell_at(&self, place: usize) -> Option<usize>
         ensures { result ≡ slice_get self.now.order place }
     {
-        self.pass.numbering.cell_at(place)
+        self.pass.met.cell_at(place)
     }
 
     /// The cells met and the bytes.

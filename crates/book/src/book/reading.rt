@@ -65,15 +65,7 @@ impl<M: Machine> Book<M> {
         ensures marks { result.entries ≡ result.fresh + result.taken + result.expanded }
         ensures entered { result.entries ≡ result.entered + 1 }
     {
-        let entries = self.table.len();
-        Totals {
-            entries,
-            fresh: self.table.count_open(),
-            taken: self.table.count_taken(),
-            expanded: self.table.count_expanded(),
-            entered: entries - 1,
-            met: self.met,
-        }
+        self.table.totals(self.met)
     }
 
     /// How many entries have at most so many steps. Once all of fewer steps are expanded, so many states are reached by

@@ -1,10 +1,11 @@
 use Rattle.std.proofs.Common.{◌≤◌, length, arith}
 use Rattle.tree_machine.proofs.Passes.{cells_done}
+use Rattle.tree_machine.specs.CellsMet.{order_met}
 use Rattle.tree_machine.proofs.writer.Pass.put_cells.Goals as goal
 
 pub returns-clause-bytes : goal.returns-clause-bytes
 returns-clause-bytes c =
     let done : length c.args.cells.now ≤ c.loop-cell.cell-index = omega (arith, c.loop-cell-test.false) in
-    cells_done c.args.self.now.numbering.order.items c.loop-cell.self.numbering.order.items c.args.self.now.bytes.items
+    cells_done (order_met c.args.self.now.met) (order_met c.loop-cell.self.met) c.args.self.now.bytes.items
     c.loop-cell.self.bytes.items c.args.first c.loop-cell.cell-index c.args.cells.now
     done c.loop-cell.invariant.order c.loop-cell.invariant.bytes

@@ -5,6 +5,7 @@ use Rattle.std.proofs.lemmas.List.{length-map}
 use Rattle.tree_machine.specs.Written.{Written}
 use Rattle.tree_machine.proofs.Passes.{part_written}
 use Rattle.tree_machine.proofs.CodedWalks.{below_behind, stack_below, before_stack, is_written}
+use Rattle.tree_machine.specs.CellsMet.{order_met, cells_to_meet}
 use Rattle.tree_machine.proofs.writer.Writer.put_with_stack.Goals as goal
 
 pub put_references-requires-2 : goal.put_references-requires-2
@@ -14,7 +15,7 @@ put_references-requires-2 c =
     let below =
     subst (λ b. All (λ x. IfSome x (λ y. y < b)) (c.args.records.now ++ map Some c.args.stack.now)) same
     c.requires.records in
-    below_behind c.self.inside.nodes records (length c.put_references.new.self.numbering.numbers.items)
+    below_behind c.self.inside.nodes records (cells_to_meet c.put_references.new.self.met)
     c.args.records.now
     (omega (arith, c.self.inside.room, c.in_ok-put_references.ensures.range))
     (before_stack records c.args.records.now (map Some c.args.stack.now) below)
@@ -26,7 +27,7 @@ put_cells-requires c =
     let below =
     subst (λ b. All (λ x. IfSome x (λ y. y < b)) (c.args.records.now ++ map Some c.args.stack.now)) same
     c.requires.records in
-    stack_below c.self.inside.nodes records (length c.put_references-2.new.self.numbering.numbers.items)
+    stack_below c.self.inside.nodes records (cells_to_meet c.put_references-2.new.self.met)
     c.args.records.now c.args.stack.now
     (omega (arith, c.self.inside.room, c.in_ok-put_references.ensures.range, c.in_ok-put_references-2.ensures.range))
     below
@@ -42,15 +43,15 @@ returns c =
     part_written inside.nodes
     (length c.args.nodes.now + length c.args.records.now + length c.args.stack.now) c.args.facts.now
     c.args.nodes.now c.args.records.now stack
-    inside.pass.numbering.order.items c.put_references.new.self.numbering.order.items
-    c.put_references-2.new.self.numbering.order.items c.put_cells.new.self.numbering.order.items
+    (order_met inside.pass.met) (order_met c.put_references.new.self.met)
+    (order_met c.put_references-2.new.self.met) (order_met c.put_cells.new.self.met)
     inside.pass.bytes.items c.put_facts.new.bytes.items
     c.put_references.new.self.bytes.items c.put_references-2.new.self.bytes.items c.put_cells.new.self.bytes.items
     named
     c.in_ok-put_references.ensures.order c.in_ok-put_references-2.ensures.order c.in_ok-put_cells.ensures.order
     c.in_ok-put_facts.ensures c.in_ok-put_references.ensures.bytes
     c.in_ok-put_references-2.ensures.bytes c.in_ok-put_cells.ensures.bytes in
-    is_written c.args.self.now inside.nodes inside.records inside.pass.numbering.order.items
-    inside.pass.bytes.items c.put_cells.new.self.numbering.order.items c.put_cells.new.self.bytes.items
+    is_written c.args.self.now inside.nodes inside.records (order_met inside.pass.met)
+    inside.pass.bytes.items (order_met c.put_cells.new.self.met) c.put_cells.new.self.bytes.items
     (record { facts = c.args.facts.now; nodes = c.args.nodes.now; records = c.args.records.now ++ stack })
     c.self.view_is both.0 both.1
