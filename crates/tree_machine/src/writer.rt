@@ -152,7 +152,7 @@ impl Pass {
     fn meet_range(&mut self, first: usize, count: usize) -> Result<(), OutOfMemory>
         requires in_range { first + count ≤ cells_to_meet self.old.met }
         requires behind { All (λ x. x < first) (order_met self.old.met) }
-        ensures order { OnOk result ((order_met self.new.met)
+        ensures order { OnOk result (order_met self.new.met
             ≡ order_met self.old.met ++ numbers_from first count) }
         ensures bytes { self.new.bytes.items ≡ self.old.bytes.items }
         ensures range { cells_to_meet self.new.met ≡ cells_to_meet self.old.met }
@@ -167,7 +167,7 @@ impl Pass {
     #[inline(always)]
     fn put_reference(&mut self, reference: Option<usize>) -> Result<(), OutOfMemory>
         requires { IfSome reference (λ x. x < cells_to_meet self.old.met) }
-        ensures order { OnOk result ((order_met self.new.met)
+        ensures order { OnOk result (order_met self.new.met
             ≡ met_all (order_met self.old.met) (reference ∷ [])) }
         ensures bytes { OnOk result (self.new.bytes.items
             ≡ self.old.bytes.items
@@ -191,7 +191,7 @@ impl Pass {
         references: &[Option<usize>],
     ) -> Result<(), OutOfMemory>
         requires { All (λ r. IfSome r (λ x. first + x < cells_to_meet self.old.met)) references.now }
-        ensures order { OnOk result ((order_met self.new.met)
+        ensures order { OnOk result (order_met self.new.met
             ≡ met_all (order_met self.old.met) (map (option_map (λ x. first + x)) references.now)) }
         ensures bytes { OnOk result (self.new.bytes.items
             ≡ self.old.bytes.items
@@ -213,7 +213,7 @@ impl Pass {
     #[inline(always)]
     fn put_cells(&mut self, first: usize, cells: &[u32]) -> Result<(), OutOfMemory>
         requires { All (λ x. first + x < cells_to_meet self.old.met) cells.now }
-        ensures order { OnOk result ((order_met self.new.met)
+        ensures order { OnOk result (order_met self.new.met
             ≡ met_all (order_met self.old.met) (map (option_map (λ x. first + x)) (map Some cells.now))) }
         ensures bytes { OnOk result (self.new.bytes.items
             ≡ self.old.bytes.items

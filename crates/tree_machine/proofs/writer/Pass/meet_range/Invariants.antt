@@ -7,7 +7,7 @@ use Rattle.tree_machine.proofs.writer.Pass.meet_range.Given as goal
 abbrev pub invariant-loop-i : goal.invariant-loop-i
 invariant-loop-i l =
     record {
-      order : (order_met l.self.met) ≡ (order_met l.fn.self.met) ++ numbers_from l.first l.i;
+      order : order_met l.self.met ≡ order_met l.fn.self.met ++ numbers_from l.first l.i;
       bytes : l.self.bytes.items ≡ l.fn.self.bytes.items;
-      range : (cells_to_meet l.self.met) ≡ (cells_to_meet l.fn.self.met);
+      range : cells_to_meet l.self.met ≡ cells_to_meet l.fn.self.met;
     }

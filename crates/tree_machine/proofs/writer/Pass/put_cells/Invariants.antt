@@ -13,5 +13,5 @@ invariant-loop-cell l =
       bytes : l.self.bytes.items ++ met_codes (order_met l.self.met)
           (shifted l.first (map Some (drop l.cell-index l.cells))) ≡ l.fn.self.bytes.items
           ++ met_codes (order_met l.fn.self.met) (shifted l.first (map Some l.cells));
-      range : (cells_to_meet l.self.met) ≡ (cells_to_meet l.fn.self.met);
+      range : cells_to_meet l.self.met ≡ cells_to_meet l.fn.self.met;
     }

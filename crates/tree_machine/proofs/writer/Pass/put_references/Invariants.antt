@@ -13,5 +13,5 @@ invariant-loop-reference l =
       bytes : l.self.bytes.items ++ met_codes (order_met l.self.met)
           (shifted l.first (drop l.reference-index l.references)) ≡ l.fn.self.bytes.items
           ++ met_codes (order_met l.fn.self.met) (shifted l.first l.references);
-      range : (cells_to_meet l.self.met) ≡ (cells_to_meet l.fn.self.met);
+      range : cells_to_meet l.self.met ≡ cells_to_meet l.fn.self.met;
     }
