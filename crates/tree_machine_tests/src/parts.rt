@@ -155,8 +155,8 @@ fn bytes_of(alloc: Global, tables: &Tables, written: Written) -> Result<Bytes, O
 fn ring(
     alloc: Global,
     fact: &'static [u64],
-    record: &'static [Option<usize>],
-    node: &'static [Option<usize>],
+    named_record: &'static [Option<usize>],
+    named_node: &'static [Option<usize>],
     written: Written,
 ) -> Result<Bytes, OutOfMemory> {
     let nodes = [
@@ -165,10 +165,10 @@ fn ring(
         row_of(fact, &[Some(2)], &[Some(1)]),
     ];
     let records = [
-        row_of(&[], &[Some(1)], record),
+        row_of(&[], &[Some(1)], named_record),
         row_of(&[4, 5], &[], &[Some(0)]),
     ];
-    let held = [row_of(&[2], node, &[Some(0)]), row_of(&[], &[], &[])];
+    let held = [row_of(&[2], named_node, &[Some(0)]), row_of(&[], &[], &[])];
     bytes_of(
         alloc,
         &Tables {
@@ -252,11 +252,11 @@ fn is_ring_one(alloc: Global) -> Result<bool, OutOfMemory> {
 fn is_told_apart(
     alloc: Global,
     fact: &'static [u64],
-    record: &'static [Option<usize>],
-    node: &'static [Option<usize>],
+    named_record: &'static [Option<usize>],
+    named_node: &'static [Option<usize>],
 ) -> Result<bool, OutOfMemory> {
     let here = ring(alloc, &[511], &[None], &[Some(1)], Written::Form)?;
-    let there = ring(alloc, fact, record, node, Written::Form)?;
+    let there = ring(alloc, fact, named_record, named_node, Written::Form)?;
     Ok(here.as_slice().len() > 0 && there.as_slice().len() > 0 && here != there)
 }
 
