@@ -1,19 +1,16 @@
 -- Cells that are all met, in the order of their numbers: each has its number as its place.
 use Rattle.std.proofs.Common.{◌≡◌, ℕ, zero, suc, ◌+◌, ◌<◌, ◌≤◌, ◌⊎◌, true, false, cond, ◌||◌, [], ◌∷◌, ◌++◌, refl}
-use Rattle.std.proofs.Common.{◌∙◌, ap, inl, inr, arith}
+use Rattle.std.proofs.Common.{sym, ◌∙◌, ap, inl, inr, arith}
 use Rattle.std.specs.Prelude.{slice_get, Some, None, nat_eq}
 use Rattle.std.specs.List.{list_any}
 use Rattle.std.specs.Option.{option_map}
 use Rattle.std.proofs.lemmas.Bool.Decides.{eqb_tells}
 use Rattle.tree_machine.specs.Cells.{met, place_in}
 use Rattle.tree_machine.specs.Graphs.{numbers_from}
+use Rattle.tree_machine.specs.Laws.CellOrder.{has_itself}
 
 is_itself : (x y : ℕ) → x ≡ y → nat_eq x y ≡ true
-is_itself x y h = go (eqb_tells x y)
-  where
-    go : ((nat_eq x y ≡ true) × (x ≡ y)) ⊎ ((nat_eq x y ≡ false) × (x ≡ y → ⊥)) → nat_eq x y ≡ true
-    go (inl e) = e.0
-    go (inr e) = absurd (e.1 h)
+is_itself x y h = ap (nat_eq x) (sym h) ∙ has_itself x
 
 is_other : (x y : ℕ) → (x ≡ y → ⊥) → nat_eq x y ≡ false
 is_other x y h = go (eqb_tells x y)
