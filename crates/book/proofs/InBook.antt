@@ -79,10 +79,10 @@ module _ {Machine Memory Place Form : Type 0} {rules : Machine → Rules Memory 
     pub taken_one : (r : State Machine Memory Place Form) → (e : Entry (State Machine Memory Place Form))
         × At b.entries i e × (e.state ≡ r)
         → (state : State Machine Memory Place Form) → state ≡ r
-        → {F : Type 0} {forms : List (Option F)} (new : Kept (State Machine Memory Place Form) F)
-        → new ≡ record { entries = with_mark b.entries i Taken; forms = forms }
+        → {labels : List (List ℕ)} (new : Kept (State Machine Memory Place Form))
+        → new ≡ record { entries = with_mark b.entries i Taken; labels = labels }
         → IsTakenOne rules now i state new.entries
-    taken_one r there state is {F} new after =
+    taken_one r there state is new after =
         let entry = next_here in
         let same_entry : entry.0 ≡ there.0 = (let u : slice_get b.entries i ≡ Some entry.0 = entry.1.entry in
         let v : slice_get b.entries i ≡ Some there.0 = there.1 in cc) in
@@ -94,7 +94,7 @@ module _ {Machine Memory Place Form : Type 0} {rules : Machine → Rules Memory 
             entry = entry.0;
             next = entry.1;
             state = own;
-            after = ap (λ (kept : Kept (State Machine Memory Place Form) F). kept.entries) after;
+            after = ap (λ (kept : Kept (State Machine Memory Place Form)). kept.entries) after;
           };
           fits = subst (λ (v : State Machine Memory Place Form). Fits (rules b.machine) b.program v) own
               (book.law.law.fit i entry.0 entry.1.entry);
@@ -151,15 +151,15 @@ module _ {Machine Memory Place Form : Type 0} {rules : Machine → Rules Memory 
 
     pub layer_given : {A : Type 0} (range : List (ℕ × Arc (State Machine Memory Place Form) A))
         → map (λ (p : ℕ × Arc (State Machine Memory Place Form) A). p.0) range ≡ range_with_len start (end - start)
-        → AreStatesOf b.entries range → {F : Type 0} {forms : List (Option F)}
-        (new : Kept (State Machine Memory Place Form) F)
-        → new ≡ record { entries = with_marks b.entries (range_with_len start (end - start)) Taken; forms = forms }
+        → AreStatesOf b.entries range → {labels : List (List ℕ)}
+        (new : Kept (State Machine Memory Place Form))
+        → new ≡ record { entries = with_marks b.entries (range_with_len start (end - start)) Taken; labels = labels }
         → TakesLayer (machine_in rules b).steps b.entries new.entries range
-    layer_given range numbers states {F} new after =
+    layer_given range numbers states new after =
         let some : start < end = layer.some in
         takes_layer (machine_in rules b).steps b.entries new.entries start (end - start) range layer.range
         (omega arith) layer.entry layer.there layer.later numbers states
-        (ap (λ (kept : Kept (State Machine Memory Place Form) F). kept.entries) after)
+        (ap (λ (kept : Kept (State Machine Memory Place Form)). kept.entries) after)
 
   -- none is next where all are expanded, or none is open
   pub none_of_expanded : position (λ (e : Entry (State Machine Memory Place Form)). not (is_expanded e.mark)) b.entries

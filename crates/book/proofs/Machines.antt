@@ -7,6 +7,8 @@ use Rattle.sched_program.specs.Exact.{IsExact}
 use Rattle.sched_program.specs.Program.{Program, IsWithinLimits}
 use Rattle.tree_machine.specs.Rules.{Rules, AreLawful, AreFormsExact}
 use Rattle.tree_machine.specs.Alike.{AreStatesAlike, FormContent, state_form}
+use Rattle.tree_machine.specs.FormCode.{IsInjective, state_code}
+use Rattle.tree_machine.specs.Laws.FormCode.{codes_same, content_same}
 use Rattle.tree_machine.specs.Step.{start, step, after_access, Fits}
 use Rattle.tree_machine.specs.StateEq.{state_eq, state_form_eq}
 use Rattle.tree_machine.specs.declared.machine.Outcome.{Outcome}
@@ -25,7 +27,7 @@ use Rattle.book.specs.declared.finding.Finding.TheVariants as found
 use Rattle.book.specs.Schedule.{StepMachine, IsMachine, Merges}
 use Rattle.book.specs.Law.{FindsAlike}
 use Rattle.book.specs.Findings.{machine_of, IsFindingOf}
-use Rattle.book.specs.Labels.{form_by, same_as}
+use Rattle.book.specs.Labels.{label_by, same_as}
 use Rattle.book.specs.Books.{counted_as_one, IsBook}
 use Rattle.book.proofs.EntryLemmas.{get_within}
 use Rattle.book.proofs.Exact.{exact_merges}
@@ -67,12 +69,6 @@ module _ {Machine Memory Place Form : Type 0} (rules : Rules Memory Place) (prog
 module _ {Machine Memory Place Form : Type 0} (place_eq : Place → Place → Bool) (memory_eq : Memory → Memory → Bool)
     (form_eq : Form → Form → Bool)
     (form_of : Memory → List (Option Place) → Form) where
-  -- labels test equal exactly as the merge counts states as one
-  pub counted_by_label : (merge : Merge) → counted_as_one {Machine = Machine} place_eq memory_eq form_eq form_of merge
-      ≡ same_as (state_eq place_eq memory_eq) (state_form_eq form_eq) (form_by merge (state_form form_of))
-  counted_by_label Exact = refl
-  counted_by_label Names = refl
-
   module _ (rules : Rules Memory Place) (program : Program) (lawful : AreLawful rules)
       (forms : AreFormsExact rules form_of)
       (states_exact : IsExact (state_eq place_eq {Machine = Machine} {Form = Form} memory_eq))
@@ -80,6 +76,16 @@ module _ {Machine Memory Place Form : Type 0} (place_eq : Place → Place → Bo
       (forms_exact : IsExact (state_form_eq form_eq)) (form_tests : IsEquivalence (state_form_eq form_eq)) where
     abbrev form : State Machine Memory Place Form → FormContent Form
     form = state_form form_of
+
+    -- labels test equal exactly as the merge counts states as one
+    pub counted_by_label : (whole_code : Memory → List (Option Place) → List ℕ) (form_code : Form → List ℕ)
+        → IsInjective (state_code {Machine = Machine} {Form = Form} whole_code) → IsInjective form_code
+        → (merge : Merge) → same_as (label_by {Machine = Machine} whole_code form_code form_of merge)
+        ≡ counted_as_one {Machine = Machine} place_eq memory_eq form_eq form_of merge
+    counted_by_label whole_code form_code tells codes Exact = λ i r s. codes_same (state_code whole_code) tells
+        (state_eq place_eq memory_eq) states_exact states r s i
+    counted_by_label whole_code form_code tells codes Names = λ i r s. content_same form_code codes
+        (state_form_eq form_eq) forms_exact form_tests (form r) (form s) i
 
     -- states that fit are alike where their forms test equal
     alike_by : (r s : State Machine Memory Place Form) → Fits rules program r → Fits rules program s

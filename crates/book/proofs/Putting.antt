@@ -2,20 +2,17 @@
 use Rattle.std.proofs.Common.{◌≡◌, ℕ, ◌+◌, ◌-◌, ◌^◌, ◌<◌, ◌≤◌, ◌++◌, Bool, Option, List, length, map, refl, sym, ap}
 use Rattle.std.proofs.Common.{◌∙◌, arith, subst}
 use Rattle.std.proofs.Math.ListN.{length-map}
-use Rattle.tree_machine.specs.Alike.{FormContent, state_form}
 use Rattle.tree_machine.specs.Rules.{Rules}
-use Rattle.tree_machine.specs.StateEq.{state_eq, state_form_eq}
 use Rattle.tree_machine.specs.declared.state.State.{State}
 use Rattle.book.specs.declared.entry.Mark.TheVariants.{Taken, Expanded}
 use Rattle.book.specs.Books.{machine_in, right_in, counted_as_one, IsBook}
 use Rattle.book.specs.Entries.{Entry, Successor, Contents, At, IsTaken, opened, states, unknown, with_mark}
 use Rattle.book.specs.Entries.{with_successors}
-use Rattle.book.specs.Labels.{AreKnownBy, AreStepsKnownBy, Kept, Labelled, bare, bares, form_by, same_as}
+use Rattle.book.specs.Labels.{AreKnownBy, AreStepsKnownBy, Kept, Labelled, bare, bares, label_by, same_as}
 use Rattle.book.specs.Law.{IsExpansion}
 use Rattle.book.proofs.Entering.{length_appended, entered_is, few_entered, still_taken, entered_entries, lawful_entered}
 use Rattle.book.proofs.Entering.{small_met}
 use Rattle.book.proofs.Labels.{known_mark}
-use Rattle.book.proofs.Machines.{counted_by_label}
 
 module _ {Machine Memory Place Form : Type 0} {rules : Machine → Rules Memory Place} {place_eq : Place → Place → Bool}
     {memory_eq : Memory → Memory → Bool}
@@ -23,53 +20,63 @@ module _ {Machine Memory Place Form : Type 0} {rules : Machine → Rules Memory 
     {b : Contents Machine (State Machine Memory Place Form)}
     (book : IsBook rules place_eq memory_eq form_eq form_of b)
     (now : Contents Machine (State Machine Memory Place Form)) (view : b ≡ now)
-    (xs : List (Successor (Labelled (State Machine Memory Place Form) (FormContent Form)))) where
+    (xs : List (Successor (Labelled (State Machine Memory Place Form)))) where
   abbrev same : State Machine Memory Place Form → State Machine Memory Place Form → Bool
   same = counted_as_one place_eq memory_eq form_eq (form_of b.machine) b.merge
 
-  -- by which form the book knows a state, if it knows it by one
-  abbrev pub label_in : State Machine Memory Place Form → Option (FormContent Form)
-  label_in = form_by b.merge (state_form (form_of b.machine))
+  -- by which label the book knows a state
+  abbrev pub label_in : (Memory → List (Option Place) → List ℕ) → (Form → List ℕ)
+      → State Machine Memory Place Form → List ℕ
+  label_in whole_code form_code = label_by whole_code form_code (form_of b.machine) b.merge
 
-  module _ (steps_known : AreStepsKnownBy (form_by now.merge (state_form (form_of now.machine))) xs) where
-    -- the steps are known by the forms by which the book knows its states
-    steps_here : AreStepsKnownBy label_in xs
+  module _ (whole_code : Memory → List (Option Place) → List ℕ) (form_code : Form → List ℕ)
+      (steps_known : AreStepsKnownBy (label_by whole_code form_code (form_of now.machine) now.merge) xs) where
+    -- the steps are known by the labels by which the book knows its states
+    steps_here : AreStepsKnownBy (label_in whole_code form_code) xs
     steps_here =
         subst (λ (q : Contents Machine (State Machine Memory Place Form)). AreStepsKnownBy
-        (form_by q.merge (state_form (form_of q.machine))) xs) (sym view) steps_known
+        (label_by whole_code form_code (form_of q.machine) q.merge) xs) (sym view) steps_known
 
-    module _ (forms : List (Option (FormContent Form)))
-        (known : AreKnownBy label_in (record { entries = b.entries; forms = forms })) where
+    module _ (labels : List (List ℕ))
+        (known : AreKnownBy (label_in whole_code form_code) (record { entries = b.entries; labels = labels }))
+        (tests : same_as (label_in whole_code form_code) ≡ same) where
       -- what is put in by labels is put in by what counts as one
       pub put_in : (i : ℕ) (appended : List (Entry (State Machine Memory Place Form)))
-          → ((f : State Machine Memory Place Form → Option (FormContent Form))
-          → AreKnownBy f (record { entries = b.entries; forms = forms }) → AreStepsKnownBy f xs
+          → ((f : State Machine Memory Place Form → List ℕ)
+          → AreKnownBy f (record { entries = b.entries; labels = labels }) → AreStepsKnownBy f xs
           → appended ≡ b.entries ++ map (opened i)
-          (unknown (same_as (state_eq place_eq memory_eq) (state_form_eq form_eq) f) (states b.entries) (bares xs)))
+          (unknown (same_as f) (states b.entries) (bares xs)))
           → appended ≡ b.entries ++ map (opened i) (unknown same (states b.entries) (bares xs))
       put_in i appended put =
-          rw (counted_by_label place_eq memory_eq form_eq (form_of b.machine) b.merge) (put label_in known steps_here)
+          subst
+          (λ (test : State Machine Memory Place Form → State Machine Memory Place Form → Bool).
+          appended ≡ b.entries ++ map (opened i) (unknown test (states b.entries) (bares xs))) tests
+          (put (label_in whole_code form_code) known steps_here)
 
       pub no_room : (limit : ℕ)
-          → ((f : State Machine Memory Place Form → Option (FormContent Form))
-          → AreKnownBy f (record { entries = b.entries; forms = forms }) → AreStepsKnownBy f xs
+          → ((f : State Machine Memory Place Form → List ℕ)
+          → AreKnownBy f (record { entries = b.entries; labels = labels }) → AreStepsKnownBy f xs
           → limit < length b.entries
           + length
-          (unknown (same_as (state_eq place_eq memory_eq) (state_form_eq form_eq) f) (states b.entries) (bares xs)))
+          (unknown (same_as f) (states b.entries) (bares xs)))
           → limit < length b.entries + length (unknown same (states b.entries) (bares xs))
       no_room limit full =
-          rw (counted_by_label place_eq memory_eq form_eq (form_of b.machine) b.merge) (full label_in known steps_here)
+          subst
+          (λ (test : State Machine Memory Place Form → State Machine Memory Place Form → Bool).
+          limit < length b.entries + length (unknown test (states b.entries) (bares xs))) tests
+          (full (label_in whole_code form_code) known steps_here)
 
       -- and all are known by their labels
-      pub still_known : (i : ℕ) (kept : Kept (State Machine Memory Place Form) (FormContent Form))
-          → ((f : State Machine Memory Place Form → Option (FormContent Form))
-          → AreKnownBy f (record { entries = b.entries; forms = forms }) → AreStepsKnownBy f xs → AreKnownBy f kept)
-          → (new : Kept (State Machine Memory Place Form) (FormContent Form))
-          → new ≡ record { entries = with_mark kept.entries i Expanded; forms = kept.forms }
-          → AreKnownBy label_in new
+      pub still_known : (i : ℕ) (kept : Kept (State Machine Memory Place Form))
+          → ((f : State Machine Memory Place Form → List ℕ)
+          → AreKnownBy f (record { entries = b.entries; labels = labels }) → AreStepsKnownBy f xs → AreKnownBy f kept)
+          → (new : Kept (State Machine Memory Place Form))
+          → new ≡ record { entries = with_mark kept.entries i Expanded; labels = kept.labels }
+          → AreKnownBy (label_in whole_code form_code) new
       still_known i kept all new is =
-          subst (λ (k : Kept (State Machine Memory Place Form) (FormContent Form)). AreKnownBy label_in k) (sym is)
-          (known_mark label_in kept i Expanded (all label_in known steps_here))
+          subst (λ (k : Kept (State Machine Memory Place Form)). AreKnownBy (label_in whole_code form_code) k) (sym is)
+          (known_mark (label_in whole_code form_code) kept i Expanded
+          (all (label_in whole_code form_code) known steps_here))
 
   module _ (i : ℕ) (taken : (e : Entry (State Machine Memory Place Form)) × At now.entries i e × (e.mark ≡ Taken)
       × IsExpansion (machine_in rules now) (right_in rules now) e.state (bares xs))
@@ -120,10 +127,10 @@ module _ {Machine Memory Place Form : Type 0} {rules : Machine → Rules Memory 
         small_met (machine_in rules b) same (right_in rules b) book.machine book.merges b book.law i here.0 here.1
         here.2 (bares xs) here.3 appended put (steps - (len - was)) (omega arith)
 
-    module _ {F : Type 0} {forms : List (Option F)} (new : Kept (State Machine Memory Place Form) F)
-        (marked : new ≡ record { entries = with_mark appended i Expanded; forms = forms }) where
+    module _ {labels : List (List ℕ)} (new : Kept (State Machine Memory Place Form))
+        (marked : new ≡ record { entries = with_mark appended i Expanded; labels = labels }) where
       entries_marked : new.entries ≡ with_mark appended i Expanded
-      entries_marked = ap (λ (k : Kept (State Machine Memory Place Form) F). k.entries) marked
+      entries_marked = ap (λ (k : Kept (State Machine Memory Place Form)). k.entries) marked
 
       pub entries_entered : new.entries ≡ with_successors same b.entries i (bares xs)
       entries_entered =

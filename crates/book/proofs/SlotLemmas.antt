@@ -13,7 +13,7 @@ use Rattle.book.specs.declared.entry.Row.{Row}
 use Rattle.book.specs.declared.finding.Finding.{Finding}
 use Rattle.book.specs.Entries.{Entry, Successor, with_mark, knows, unknown, opened, states}
 use Rattle.book.specs.Labels.{Labelled}
-use Rattle.book.specs.Slots.{unlisted, keyed_of, entry_of, entries_of, forms_of}
+use Rattle.book.specs.Slots.{unlisted, keyed_of, entry_of, entries_of, labels_of}
 
 module _ {K V : Type 0} (eq : K → K → Bool) where
   -- a key that is not there goes last
@@ -65,9 +65,9 @@ take_kept (x ∷ old) (y ∷ mid) new rest h e =
     ap (take (suc (length old))) e ∙ ap (λ xs. y ∷ xs) (take_kept old mid (mid ++ rest) rest tail refl)
     ∙ ap (λ z. z ∷ old) head
 
-module _ {S F : Type 0} where
+module _ {S : Type 0} where
   -- a row written with another mark
-  pub write_mark_at : (es : List (Labelled S F × Row)) (i : ℕ) (r w : Row) (mark : Mark)
+  pub write_mark_at : (es : List (Labelled S × Row)) (i : ℕ) (r w : Row) (mark : Mark)
       → slice_get (values_of es) i ≡ Some r → w ≡ record r { mark = mark }
       → entries_of (set_value_at es i w) ≡ with_mark (entries_of es) i mark
   write_mark_at [] i r w mark at is = refl
@@ -77,32 +77,32 @@ module _ {S F : Type 0} where
   write_mark_at (p ∷ es) (suc i) r w mark at is = ap (λ xs. entry_of p ∷ xs) (write_mark_at es i r w mark at is)
 
   -- the keys stay
-  pub write_keeps_forms : (es : List (Labelled S F × Row)) (i : ℕ) (w : Row)
-      → forms_of (set_value_at es i w) ≡ forms_of es
-  write_keeps_forms [] i w = refl
-  write_keeps_forms (p ∷ es) zero w = refl
-  write_keeps_forms (p ∷ es) (suc i) w = ap (λ xs. p.0.form ∷ xs) (write_keeps_forms es i w)
+  pub write_keeps_labels : (es : List (Labelled S × Row)) (i : ℕ) (w : Row)
+      → labels_of (set_value_at es i w) ≡ labels_of es
+  write_keeps_labels [] i w = refl
+  write_keeps_labels (p ∷ es) zero w = refl
+  write_keeps_labels (p ∷ es) (suc i) w = ap (λ xs. p.0.label ∷ xs) (write_keeps_labels es i w)
 
   -- where there is no row, none is marked
-  pub no_mark_at : (es : List (Labelled S F × Row)) (i : ℕ) (mark : Mark) → slice_get (values_of es) i ≡ None
+  pub no_mark_at : (es : List (Labelled S × Row)) (i : ℕ) (mark : Mark) → slice_get (values_of es) i ≡ None
       → entries_of es ≡ with_mark (entries_of es) i mark
   no_mark_at [] i mark none = refl
   no_mark_at (e ∷ es) zero mark none = absurd (let q : Some e.1 ≡ None = none in cc)
   no_mark_at (e ∷ es) (suc i) mark none = ap (λ xs. entry_of e ∷ xs) (no_mark_at es i mark none)
 
-  pub entry_at : (es : List (Labelled S F × Row)) (i : ℕ) (p : Labelled S F × Row) → slice_get es i ≡ Some p
+  pub entry_at : (es : List (Labelled S × Row)) (i : ℕ) (p : Labelled S × Row) → slice_get es i ≡ Some p
       → slice_get (entries_of es) i ≡ Some (entry_of p)
   entry_at [] i p h = absurd (let q : None ≡ Some p = h in cc)
   entry_at (e ∷ es) zero p h = let q : e ≡ p = cc in ap (λ x. Some (entry_of x)) q
   entry_at (e ∷ es) (suc i) p h = entry_at es i p h
 
-  pub no_entry_at : (es : List (Labelled S F × Row)) (i : ℕ) → slice_get es i ≡ None
+  pub no_entry_at : (es : List (Labelled S × Row)) (i : ℕ) → slice_get es i ≡ None
       → slice_get (entries_of es) i ≡ None
   no_entry_at [] i h = refl
   no_entry_at (e ∷ es) zero h = absurd (let q : Some e ≡ None = h in cc)
   no_entry_at (e ∷ es) (suc i) h = no_entry_at es i h
 
-  pub length-entries : (es : List (Labelled S F × Row)) → length (entries_of es) ≡ length es
+  pub length-entries : (es : List (Labelled S × Row)) → length (entries_of es) ≡ length es
   length-entries es = length-map es entry_of
 
 -- ---- rows that are put in for steps

@@ -1,60 +1,59 @@
 -- The labels by which a book knows states.
-use Rattle.std.specs.Prelude.{◌≡◌, ℕ, Bool, false, Option, Some, None, List, fold, map}
+use Rattle.std.specs.Prelude.{◌≡◌, ℕ, Bool, Option, List, fold, map, nat_eq}
+use Rattle.std.specs.Cmp.Lexicographic.{pointwise}
 use Rattle.std.specs.Hash.FoldHasher.{initial, write, finish}
+use Rattle.tree_machine.specs.Alike.{state_form}
+use Rattle.tree_machine.specs.FormCode.{content_code, state_code}
+use Rattle.tree_machine.specs.declared.state.State.{State}
 use Rattle.book.specs.Entries.{Entry, Successor}
 use Rattle.book.specs.declared.book.Merge.{Merge}
 use Rattle.book.specs.declared.book.Merge.TheVariants.{Exact, Names}
 
--- a state, with its form where states are merged by their forms
-pub record Labelled (S F : Type 0) : Type 0 where
+-- a state with the bytes by which it is known
+pub record Labelled (S : Type 0) : Type 0 where
   pub state : S
-  pub form : Option F
+  pub label : List ℕ
 
--- the form by which a state is known, if it is known by one
-abbrev pub form_by : {S F : Type 0} → Merge → (S → F) → S → Option F
-form_by Exact form_of s = None
-form_by Names form_of s = Some (form_of s)
+-- the bytes of the form of a state, given those of forms and what the machine's form is
+abbrev pub named_by : {Machine Memory Place Form : Type 0} → (Form → List ℕ) → (Memory → List (Option Place) → Form)
+    → State Machine Memory Place Form → List ℕ
+named_by form_code form_of state = content_code form_code (state_form form_of state)
+
+-- the bytes by which a state is known, given those of memories with the places held, those of forms, and what the
+-- machine's form is: with exact merging the bytes of the whole state, by names those of its form
+abbrev pub label_by : {Machine Memory Place Form : Type 0} → (Memory → List (Option Place) → List ℕ) → (Form → List ℕ)
+    → (Memory → List (Option Place) → Form) → Merge → State Machine Memory Place Form → List ℕ
+label_by whole_code form_code form_of Exact = state_code whole_code
+label_by whole_code form_code form_of Names = named_by form_code form_of
 
 -- a step without the label of its state
-abbrev pub bare : {S F : Type 0} → Successor (Labelled S F) → Successor S
+abbrev pub bare : {S : Type 0} → Successor (Labelled S) → Successor S
 bare x = record { thread = x.thread; state = x.state.state; finding = x.finding }
 
-abbrev pub bares : {S F : Type 0} → List (Successor (Labelled S F)) → List (Successor S)
+abbrev pub bares : {S : Type 0} → List (Successor (Labelled S)) → List (Successor S)
 bares xs = map bare xs
 
--- the state of each step is known by the form that this gives
-abbrev pub AreStepsKnownBy : {S F : Type 0} → (S → Option F) → List (Successor (Labelled S F)) → Type 0
-AreStepsKnownBy form_of xs = map (λ x. x.state.form) xs ≡ map (λ x. form_of x.state.state) xs
+-- the state of each step is known by the label that this gives
+abbrev pub AreStepsKnownBy : {S : Type 0} → (S → List ℕ) → List (Successor (Labelled S)) → Type 0
+AreStepsKnownBy label_of xs = map (λ x. x.state.label) xs ≡ map (λ x. label_of x.state.state) xs
 
--- what a table shows: its entries, and the form by which the state of each is known, if it is known by one
-pub record Kept (S F : Type 0) : Type 0 where
+-- what a table shows: its entries, and the label by which the state of each is known
+pub record Kept (S : Type 0) : Type 0 where
   pub entries : List (Entry S)
-  pub forms : List (Option F)
+  pub labels : List (List ℕ)
 
--- each state is known by the form that this gives
-abbrev pub AreKnownBy : {S F : Type 0} → (S → Option F) → Kept S F → Type 0
-AreKnownBy form_of kept = kept.forms ≡ map (λ e. form_of e.state) kept.entries
+-- each state is known by the label that this gives
+abbrev pub AreKnownBy : {S : Type 0} → (S → List ℕ) → Kept S → Type 0
+AreKnownBy label_of kept = kept.labels ≡ map (λ e. label_of e.state) kept.entries
 
 -- the hash of what is written into a hasher
 unfoldable pub hash_of : List (List ℕ) → ℕ
 hash_of input = finish (fold write initial input)
 
--- what is written for a label: its form, or the state if it has none
-abbrev pub input_by : {S F : Type 0} → (S → List (List ℕ)) → (F → List (List ℕ)) → Option F → S → List (List ℕ)
-input_by state_input form_input (Some f) s = form_input f
-input_by state_input form_input None s = state_input s
+-- whether two labels are the same
+abbrev pub same_label : {S : Type 0} → Labelled S → Labelled S → Bool
+same_label a b = pointwise nat_eq a.label b.label
 
-module _ {S F : Type 0} (state_eq : S → S → Bool) (form_eq : F → F → Bool) where
-  -- whether two labels test equal: their forms do, or the states if they have none
-  abbrev pub same_by : Option F → Option F → S → S → Bool
-  same_by (Some f) (Some g) r s = form_eq f g
-  same_by (Some f) None r s = false
-  same_by None (Some g) r s = false
-  same_by None None r s = state_eq r s
-
-  abbrev pub same_label : Labelled S F → Labelled S F → Bool
-  same_label a b = same_by a.form b.form a.state b.state
-
-  -- the same of states whose labels have these forms
-  abbrev pub same_as : (S → Option F) → S → S → Bool
-  same_as form_of r s = same_by (form_of r) (form_of s) r s
+-- the same of states whose labels these are
+abbrev pub same_as : {S : Type 0} → (S → List ℕ) → S → S → Bool
+same_as label_of r s = pointwise nat_eq (label_of r) (label_of s)

@@ -13,7 +13,6 @@ pub mod Correct
 pub mod Books
 pub mod Packed
 pub mod Replay
-pub mod Shown
 pub mod Slots
 pub mod Text
 pub mod BookFile

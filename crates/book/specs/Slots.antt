@@ -23,15 +23,15 @@ abbrev pub keyed_of : {K : Type 0} → K × Row → Entry K
 keyed_of slot = record { state = slot.0; finding = slot.1.finding; origin = slot.1.origin; mark = slot.1.mark }
 
 -- a labelled state with its row, as an entry
-abbrev pub entry_of : {S F : Type 0} → Labelled S F × Row → Entry S
+abbrev pub entry_of : {S : Type 0} → Labelled S × Row → Entry S
 entry_of slot = record { state = slot.0.state; finding = slot.1.finding; origin = slot.1.origin; mark = slot.1.mark }
 
-abbrev pub entries_of : {S F : Type 0} → List (Labelled S F × Row) → List (Entry S)
+abbrev pub entries_of : {S : Type 0} → List (Labelled S × Row) → List (Entry S)
 entries_of slots = map entry_of slots
 
--- the form by which each state is known, if it is known by one
-abbrev pub forms_of : {S F : Type 0} → List (Labelled S F × Row) → List (Option F)
-forms_of slots = map (λ slot. slot.0.form) slots
+-- the label by which each state is known
+abbrev pub labels_of : {S : Type 0} → List (Labelled S × Row) → List (List ℕ)
+labels_of slots = map (λ slot. slot.0.label) slots
 
 -- each number is that of an entry, whose state stands beside it
 abbrev pub AreStatesOf : {S A : Type 0} → List (Entry S) → List (ℕ × Arc S A) → Type 0

@@ -10,8 +10,7 @@ ghost use Rattle.book.specs.Entries.{states, unknown, with_successors};
 ghost use Rattle.book.specs.Findings.{IsFindingOf, IsSound};
 ghost use Rattle.book.specs.declared.finding.Finding.{Finding};
 ghost use Rattle.book.specs.Slots.{AllStates, IsLeft, IsOpenFrom};
-ghost use Rattle.tree_machine.specs.Alike.{state_form};
-ghost use Rattle.book.specs.Labels.{AreStepsKnownBy, bares, form_by};
+ghost use Rattle.book.specs.Labels.{AreStepsKnownBy, bares, label_by};
 ghost use Rattle.book.specs.Books.{machine_in, right_in, IsLawfulIn};
 ghost use Rattle.book.specs.Law.{FindsAlike, IsExpansion, StandsForReached};
 ghost use Rattle.book.specs.Leftovers.{Keeps};
@@ -84,16 +83,16 @@ pub struct Book<M: Machine> {
     program: Program,
     merge: Merge,
     limit: usize,
-    table: Table<State<M>, StateForm<M>>,
+    table: Table<State<M>>,
     met: usize,
 }
 
 impl<M: Machine> Model for Book<M> {
     ghost use Rattle.tree_machine.specs.declared.state.State.{State};
     ghost use Rattle.book.specs.Entries.{Contents};
-    ghost use Rattle.book.specs.Books.{IsBook};
-    ghost use Rattle.book.specs.Labels.{AreKnownBy, form_by};
-    ghost use Rattle.tree_machine.specs.Alike.{state_form};
+    ghost use Rattle.std.specs.Prelude.{◌≡◌};
+    ghost use Rattle.book.specs.Books.{IsBook, counted_as_one};
+    ghost use Rattle.book.specs.Labels.{AreKnownBy, label_by, same_as};
 
     ghost Value = { Contents M (State M M.Mem M.Loc M.Form) };
 
@@ -115,11 +114,13 @@ impl<M: Machine> Model for Book<M> {
           entries = b.table.entries;
           met = b.met;
         })
-        × AreKnownBy (form_by b.merge (state_form (M.form_of b.machine))) b.table };
+        × AreKnownBy (label_by M.whole_code M.Form.code (M.form_of b.machine) b.merge) b.table
+        × (same_as {S = State M M.Mem M.Loc M.Form} (label_by M.whole_code M.Form.code (M.form_of b.machine) b.merge)
+        ≡ counted_as_one M.Loc.PartialEq.eq M.Mem.PartialEq.eq M.Form.PartialEq.eq (M.form_of b.machine) b.merge) };
 }
 
 /// How many steps the state of an entry that is not expanded has behind it.
-fn steps_at<M: Machine>(table: &Table<State<M>, StateForm<M>>, index: usize) -> u64
+fn steps_at<M: Machine>(table: &Table<State<M>>, index: usize) -> u64
     requires { IsLeft table.now.entries index }
     ensures { (e : Entry (State M M.Mem M.Loc M.Form)) × At table.now.entries index e × (e.state.steps ≡ result) }
 {
@@ -132,23 +133,17 @@ fn first_table<M: Machine>(
     machine: M,
     program: &Program,
     merge: Merge,
-) -> Result<Table<State<M>, StateForm<M>>, OutOfMemory>
+) -> Result<Table<State<M>>, OutOfMemory>
     ensures { IfOk result (λ t. (state : State M M.Mem M.Loc M.Form) × (finding : Finding)
         × (state ≡ start (M.rules machine) program.now)
         × (t.entries ≡ record { state = state; finding = finding; origin = None; mark = Mark.Open } ∷ [])
-        × (t.forms ≡ form_by merge (state_form (M.form_of machine)) state ∷ [])
+        × (t.labels ≡ label_by M.whole_code M.Form.code (M.form_of machine) merge state ∷ [])
         × Fits (M.rules machine) program.now state × IsFindingOf (M.rules machine) program.now state finding) }
 {
     let state = State::start(alloc, machine, program)?;
     let finding = find(alloc, machine, program, &state)?;
-    let known = label(
-        alloc,
-        machine,
-        program,
-        &state,
-        merge,
-        &mut Room::new(alloc),
-    )?;
+    let mut room = Room::new(alloc);
+    let known = label(alloc, machine, program, &state, merge, &mut room)?;
     let state = Arc::new(alloc, state)?;
     Ok(Table::new(alloc, state, known, finding)?)
 }
@@ -286,13 +281,13 @@ impl<M: Machine> Book<M> {
     fn put(
         &mut self,
         id: usize,
-        successors: Vec<Stepped<State<M>, StateForm<M>>>,
-        leftovers: &mut Leftovers<State<M>, StateForm<M>>,
+        successors: Vec<Stepped<State<M>>>,
+        leftovers: &mut Leftovers<State<M>>,
     ) -> Result<Entered, EnterFault>
         requires taken { (e : Entry (State M M.Mem M.Loc M.Form)) × At self.old.entries id e × (e.mark ≡ Mark.Taken)
             × IsExpansion (machine_in M.rules self.old) (right_in M.rules self.old) e.state (bares successors.items) }
         requires known { AreStepsKnownBy
-            (form_by self.old.merge (state_form (M.form_of self.old.machine))) successors.items }
+            (label_by M.whole_code M.Form.code (M.form_of self.old.machine) self.old.merge) successors.items }
         ensures entries { OnOk result (self.new.entries
             ≡ with_successors (⟦<M as Counting>⟧.counted self.old.machine self.old.merge) self.old.entries id
             (bares successors.items)) }
@@ -344,7 +339,7 @@ impl<M: Machine> Book<M> {
         &mut self,
         id: usize,
         expansion: Expansion<'_, M>,
-        leftovers: &mut Leftovers<State<M>, StateForm<M>>,
+        leftovers: &mut Leftovers<State<M>>,
     ) -> Result<Entered, EnterFault>
         ensures entered { IfOk result
             (λ r. Enters (⟦<M as Counting>⟧.counted self.old.machine self.old.merge)

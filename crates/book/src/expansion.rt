@@ -4,8 +4,7 @@ ghost use Rattle.std.specs.Prelude.{length, IsTrue, IfOk, IfSome, IfNone, Some, 
 ghost use Rattle.tree_machine.specs.Step.{Fits, step};
 ghost use Rattle.book.specs.Books.{HoldsSteps};
 ghost use Rattle.book.specs.Entries.{Successor};
-ghost use Rattle.book.specs.Labels.{AreStepsKnownBy, Labelled, bare, bares, form_by};
-ghost use Rattle.tree_machine.specs.Alike.{FormContent, state_form};
+ghost use Rattle.book.specs.Labels.{AreStepsKnownBy, Labelled, bare, bares, label_by};
 ghost use Rattle.tree_machine.specs.declared.state.State.{State};
 ghost use Rattle.tree_machine.specs.History.{history_of};
 ghost use Rattle.book.specs.Findings.{IsFindingOf, IsLoan};
@@ -18,34 +17,33 @@ use crate::lending::{Loan, find_after};
 use crate::stock::Stock;
 use sched_program::{OutOfMemory, Program, same};
 use std::alloc::Global;
-use std::hash::Hash;
 use std::marker::Model;
 use std::sync::Arc;
-use tree_machine::{Coded, Machine, Room, State, StateForm, StepFault};
+use tree_machine::{Machine, Room, State, StepFault};
 
 /// The step of a thread: the state that it leads to, with its label, and what was found of it.
 #[derive(Drop)]
-pub struct Stepped<S: Coded, F: Hash> {
+pub struct Stepped<S> {
     thread: u8,
     state: Arc<S>,
-    known: Hashed<Known<S, F>>,
+    known: Hashed<Known<S>>,
     finding: Finding,
 }
 
-impl<S: Coded, F: Hash> Model for Stepped<S, F> {
+impl<S> Model for Stepped<S> {
     ghost use Rattle.std.specs.Prelude.{◌≡◌};
     ghost use Rattle.book.specs.Entries.{Successor};
     ghost use Rattle.book.specs.Labels.{Labelled};
 
-    ghost Value = { Successor (Labelled S F) };
+    ghost Value = { Successor (Labelled S) };
 
     ghost view = { λ x. record { thread = x.thread; state = x.known; finding = x.finding } };
 
     ghost invariant = { λ x. x.known.state ≡ x.state.value };
 }
 
-impl<S: Coded, F: Hash> Stepped<S, F> {
-    pub(crate) fn into_fields(self) -> (u8, Arc<S>, Hashed<Known<S, F>>, Finding)
+impl<S> Stepped<S> {
+    pub(crate) fn into_fields(self) -> (u8, Arc<S>, Hashed<Known<S>>, Finding)
         ensures { (result.0 ≡ self.thread) × (result.1.value ≡ self.state.state) × (result.2 ≡ self.state)
             × (result.3 ≡ self.finding) }
     {
@@ -59,7 +57,7 @@ impl<S: Coded, F: Hash> Stepped<S, F> {
     }
 }
 
-/// A state of a program with its label, for a book that merges so. A form is written in the room.
+/// A state of a program with its label, for a book that merges so. The label is written in the room.
 pub(crate) fn label<M: Machine>(
     alloc: Global,
     machine: M,
@@ -67,18 +65,19 @@ pub(crate) fn label<M: Machine>(
     state: &State<M>,
     merge: Merge,
     room: &mut Room,
-) -> Result<Hashed<Known<State<M>, StateForm<M>>>, OutOfMemory>
+) -> Result<Hashed<Known<State<M>>>, OutOfMemory>
     requires { Fits (M.rules machine) program.now state.now }
     ensures state { IfOk result (λ known. known.state ≡ state.now) }
-    ensures form { IfOk result (λ known. known.form ≡ form_by merge (state_form (M.form_of machine)) state.now) }
+    ensures label { IfOk result
+        (λ known. known.label ≡ label_by M.whole_code M.Form.code (M.form_of machine) merge state.now) }
 {
     // Whoever reads a program knows that it meets the limits.
     let _ = program.initial();
-    let known = match merge {
-        Merge::Exact => Known::by_itself(state, state.code_in(alloc, machine, room)?),
-        Merge::Names => Known::by_form(state, state.form_in(alloc, machine, room)?),
+    let label = match merge {
+        Merge::Exact => state.code_in(alloc, machine, room)?,
+        Merge::Names => state.form_code_in(alloc, machine, room)?,
     };
-    Ok(Hashed::new(known))
+    Ok(Hashed::new(Known::by(label, state)))
 }
 
 /// The same step, labelled for a book that merges so.
@@ -86,14 +85,14 @@ fn relabelled<M: Machine>(
     alloc: Global,
     machine: M,
     program: &Program,
-    step: Stepped<State<M>, StateForm<M>>,
+    step: Stepped<State<M>>,
     merge: Merge,
     room: &mut Room,
-) -> Result<Stepped<State<M>, StateForm<M>>, OutOfMemory>
+) -> Result<Stepped<State<M>>, OutOfMemory>
     requires { Fits (M.rules machine) program.now step.state.state }
     ensures same { IfOk result (λ made. bare made ≡ bare step) }
-    ensures form { IfOk result (λ made. made.state.form
-        ≡ form_by merge (state_form (M.form_of machine)) made.state.state) }
+    ensures label { IfOk result (λ made. made.state.label
+        ≡ label_by M.whole_code M.Form.code (M.form_of machine) merge made.state.state) }
 {
     let (thread, state, _, finding) = step.into_fields();
     let known = label(alloc, machine, program, &*state, merge, room)?;
@@ -110,13 +109,14 @@ fn labelled<M: Machine>(
     alloc: Global,
     machine: M,
     program: &Program,
-    steps: Vec<Stepped<State<M>, StateForm<M>>>,
+    steps: Vec<Stepped<State<M>>>,
     merge: Merge,
-) -> Result<Vec<Stepped<State<M>, StateForm<M>>>, OutOfMemory>
-    requires { (k : ℕ) (x : Successor (Labelled (State M M.Mem M.Loc M.Form) (FormContent M.Form)))
+) -> Result<Vec<Stepped<State<M>>>, OutOfMemory>
+    requires { (k : ℕ) (x : Successor (Labelled (State M M.Mem M.Loc M.Form)))
         → slice_get steps.items k ≡ Some x → Fits (M.rules machine) program.now x.state.state }
     ensures same { IfOk result (λ made. bares made.items ≡ bares steps.items) }
-    ensures known { IfOk result (λ made. AreStepsKnownBy (form_by merge (state_form (M.form_of machine))) made.items) }
+    ensures known { IfOk result
+        (λ made. AreStepsKnownBy (label_by M.whole_code M.Form.code (M.form_of machine) merge) made.items) }
 {
     let mut made = Vec::with_capacity(alloc, steps.len())?;
     let mut room = Room::new(alloc);
@@ -137,7 +137,7 @@ fn step_of<M: Machine>(
     merge: Merge,
     loan: &mut Loan,
     stock: &mut Stock<M>,
-) -> Result<Option<Stepped<State<M>, StateForm<M>>>, OutOfMemory>
+) -> Result<Option<Stepped<State<M>>>, OutOfMemory>
     requires fits { Fits (M.rules machine) program.now source.now }
     requires room { source.now.steps + 1 < 2 ^ 64 }
     requires loan { IsLoan program.now (history_of source.now) loan.old }
@@ -148,8 +148,8 @@ fn step_of<M: Machine>(
     ensures finding { IfOk result
         (λ o. IfSome o (λ x. IsFindingOf (M.rules machine) program.now x.state.state x.finding)) }
     ensures fits { IfOk result (λ o. IfSome o (λ x. Fits (M.rules machine) program.now x.state.state)) }
-    ensures form { IfOk result
-        (λ o. IfSome o (λ x. x.state.form ≡ form_by merge (state_form (M.form_of machine)) x.state.state)) }
+    ensures label { IfOk result (λ o. IfSome o
+        (λ x. x.state.label ≡ label_by M.whole_code M.Form.code (M.form_of machine) merge x.state.state)) }
     ensures none { IfOk result (λ o. IfNone o (step (M.rules machine) program.now source.now thread ≡ None)) }
 {
     let next = match source.step_in(alloc, machine, program, thread, &mut stock.spares) {
@@ -176,14 +176,13 @@ pub struct Expansion<'a, M: Machine> {
     program: &'a Program,
     merge: Merge,
     source: &'a State<M>,
-    successors: Vec<Stepped<State<M>, StateForm<M>>>,
+    successors: Vec<Stepped<State<M>>>,
 }
 
 impl<'a, M: Machine> Model for Expansion<'a, M> {
     ghost use Rattle.book.specs.Entries.{Steps};
     ghost use Rattle.book.specs.Books.{HoldsSteps};
-    ghost use Rattle.book.specs.Labels.{AreStepsKnownBy, bares, form_by};
-    ghost use Rattle.tree_machine.specs.Alike.{state_form};
+    ghost use Rattle.book.specs.Labels.{AreStepsKnownBy, bares, label_by};
     ghost use Rattle.tree_machine.specs.declared.state.State.{State};
 
     ghost Value = { Steps M (State M M.Mem M.Loc M.Form) };
@@ -201,7 +200,7 @@ impl<'a, M: Machine> Model for Expansion<'a, M> {
       source = x.source.now;
       successors = bares x.successors.items;
     })
-        × AreStepsKnownBy (form_by x.merge (state_form (M.form_of x.machine))) x.successors.items };
+        × AreStepsKnownBy (label_by M.whole_code M.Form.code (M.form_of x.machine) x.merge) x.successors.items };
 }
 
 impl<'a, M: Machine> Expansion<'a, M> {
@@ -315,10 +314,11 @@ impl<'a, M: Machine> Expansion<'a, M> {
         self,
         alloc: Global,
         merge: Merge,
-    ) -> Result<Vec<Stepped<State<M>, StateForm<M>>>, OutOfMemory>
+    ) -> Result<Vec<Stepped<State<M>>>, OutOfMemory>
         ensures steps { IfOk result (λ steps. bares steps.items ≡ self.entry.successors) }
         ensures known { IfOk result
-            (λ steps. AreStepsKnownBy (form_by merge (state_form (M.form_of self.entry.machine))) steps.items) }
+            (λ steps. AreStepsKnownBy (label_by M.whole_code M.Form.code (M.form_of self.entry.machine) merge)
+            steps.items) }
         ensures law { HoldsSteps M.rules self.entry }
     {
         let Expansion {

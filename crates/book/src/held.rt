@@ -20,7 +20,7 @@ impl<S> Model for Held<S> {
     ghost view = { λ h. map (λ state. state.value) h.states.items };
 }
 
-impl<S: Drop> Held<S> {
+impl<S> Held<S> {
     /// No state.
     pub fn none(alloc: Global) -> Held<S>
         ensures { result ≡ [] }
@@ -47,7 +47,9 @@ impl<S: Drop> Held<S> {
         };
         state
     }
+}
 
+impl<S: Drop> Held<S> {
     /// Puts a state behind the others.
     pub fn push(&mut self, state: Arc<S>) -> Result<(), AllocError>
         ensures ok { OnOk result (self.new ≡ self.old ++ state.value ∷ []) }

@@ -8,19 +8,17 @@ use crate::known::Known;
 use crate::stock::keep_in;
 use sched_program::OutOfMemory;
 use std::alloc::Global;
-use std::hash::Hash;
 use std::marker::Model;
 use std::sync::Arc;
-use tree_machine::Coded;
 
 /// States that a book knew already, with what else the expansions that were entered held of them. Whoever enters under
 /// a lock can drop these after it.
 #[derive(Drop)]
-pub struct Leftovers<S: Coded, F: Hash> {
-    known: Vec<(Hashed<Known<S, F>>, PackedRow, Arc<S>)>,
+pub struct Leftovers<S> {
+    known: Vec<(Hashed<Known<S>>, PackedRow, Arc<S>)>,
 }
 
-impl<S: Coded, F: Hash> Model for Leftovers<S, F> {
+impl<S> Model for Leftovers<S> {
     ghost use Rattle.std.specs.Prelude.{◌-◌, vec_len, vec_capacity};
     ghost use Rattle.book.specs.Leftovers.{Left};
 
@@ -29,9 +27,9 @@ impl<S: Coded, F: Hash> Model for Leftovers<S, F> {
     ghost view = { λ l. record { kept = vec_len l.known; room = vec_capacity l.known - vec_len l.known } };
 }
 
-impl<S: Coded + Drop, F: Hash + Drop> Leftovers<S, F> {
+impl<S> Leftovers<S> {
     /// Nothing, with room for so many states. A refused growth is answered by `OutOfMemory`.
-    pub fn with_room(alloc: Global, room: usize) -> Result<Leftovers<S, F>, OutOfMemory>
+    pub fn with_room(alloc: Global, room: usize) -> Result<Leftovers<S>, OutOfMemory>
         ensures kept { IfOk result (λ l. l.kept ≡ 0) }
         ensures room { IfOk result (λ l. room ≤ l.room) }
     {
@@ -40,7 +38,7 @@ impl<S: Coded + Drop, F: Hash + Drop> Leftovers<S, F> {
     }
 
     /// Nothing, with no room.
-    pub(crate) fn none(alloc: Global) -> Leftovers<S, F> {
+    pub(crate) fn none(alloc: Global) -> Leftovers<S> {
         Leftovers {
             known: Vec::new(alloc),
         }
@@ -52,7 +50,9 @@ impl<S: Coded + Drop, F: Hash + Drop> Leftovers<S, F> {
     {
         self.known.len()
     }
+}
 
+impl<S: Drop> Leftovers<S> {
     /// Puts the states that nobody else holds into spare ones. What else was held of them is dropped.
     pub(crate) fn return_to(self, spares: &mut Vec<S>) {
         for (_known, _row, state) in self.known {
@@ -61,7 +61,7 @@ impl<S: Coded + Drop, F: Hash + Drop> Leftovers<S, F> {
     }
 
     /// Keeps a state, if there is one, where there is room, and else drops it.
-    pub(crate) fn keep(&mut self, state: Option<(Hashed<Known<S, F>>, PackedRow, Arc<S>)>)
+    pub(crate) fn keep(&mut self, state: Option<(Hashed<Known<S>>, PackedRow, Arc<S>)>)
         ensures { Keeps self.old self.new (if is_some state then 1 else 0) }
     {
         if let Some(state) = state {

@@ -14,19 +14,17 @@ use crate::leftovers::Leftovers;
 use crate::slots::put_new;
 use indexmap::IndexMap;
 use std::alloc::AllocError;
-use std::hash::Hash;
-use tree_machine::Coded;
 
 /// Puts in an open row for a step that leads to a new state, which is held. Else the step goes to the leftovers.
-fn put_step<S: Coded + Drop, F: Eq + Hash + Drop>(
-    slots: &mut IndexMap<Hashed<Known<S, F>>, PackedRow>,
+fn put_step<S: Drop>(
+    slots: &mut IndexMap<Hashed<Known<S>>, PackedRow>,
     held: &mut Held<S>,
     parent: usize,
-    step: Stepped<S, F>,
-    leftovers: &mut Leftovers<S, F>,
+    step: Stepped<S>,
+    leftovers: &mut Leftovers<S>,
 ) -> Result<(), AllocError>
     ensures put { OnOk result (map keyed_of slots.new.entries ≡ map keyed_of slots.old.entries
-        ++ map (opened parent) (unknown (same_label S.eq F.eq) (states (map keyed_of slots.old.entries)) (step ∷ []))) }
+        ++ map (opened parent) (unknown (same_label) (states (map keyed_of slots.old.entries)) (step ∷ []))) }
     ensures kept { IsGrown slots.old.entries slots.new.entries }
     ensures held { OnOk result (StayHeld (entries_of slots.old.entries) (entries_of slots.new.entries)
         held.old held.new) }
@@ -52,16 +50,16 @@ fn put_step<S: Coded + Drop, F: Eq + Hash + Drop>(
 
 /// Puts in, in their order, open rows for the steps that lead to new states, which are held. The others go to the
 /// leftovers.
-pub(crate) fn put_steps<S: Coded + Drop, F: Eq + Hash + Drop>(
-    slots: &mut IndexMap<Hashed<Known<S, F>>, PackedRow>,
+pub(crate) fn put_steps<S: Drop>(
+    slots: &mut IndexMap<Hashed<Known<S>>, PackedRow>,
     held: &mut Held<S>,
     parent: usize,
-    successors: Vec<Stepped<S, F>>,
-    leftovers: &mut Leftovers<S, F>,
+    successors: Vec<Stepped<S>>,
+    leftovers: &mut Leftovers<S>,
 ) -> Result<(), AllocError>
     ensures put { OnOk result (map keyed_of slots.new.entries ≡ map keyed_of slots.old.entries
         ++ map (opened parent)
-        (unknown (same_label S.eq F.eq) (states (map keyed_of slots.old.entries)) successors.items)) }
+        (unknown (same_label) (states (map keyed_of slots.old.entries)) successors.items)) }
     ensures kept { IsGrown slots.old.entries slots.new.entries }
     ensures held { OnOk result (StayHeld (entries_of slots.old.entries) (entries_of slots.new.entries)
         held.old held.new) }

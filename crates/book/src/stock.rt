@@ -2,7 +2,7 @@
 use crate::leftovers::Leftovers;
 use std::alloc::Global;
 use std::sync::Arc;
-use tree_machine::{Machine, Room, State, StateForm};
+use tree_machine::{Machine, Room, State};
 
 /// What expansions are made in, used again from one to the next: room for forms, and states that nobody needs any more,
 /// whose memory serves for steps.
@@ -32,7 +32,7 @@ impl<M: Machine> Stock<M> {
     }
 
     /// Takes in the states that a book knew already.
-    pub fn take_leftovers(&mut self, leftovers: Leftovers<State<M>, StateForm<M>>) {
+    pub fn take_leftovers(&mut self, leftovers: Leftovers<State<M>>) {
         leftovers.return_to(&mut self.spares);
     }
 }

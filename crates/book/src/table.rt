@@ -1,15 +1,15 @@
 //! The entries by number and by state, and the places among them that are looked for again and again.
 ghost use Rattle.std.specs.Prelude.{◌≡◌, ℕ, ◌+◌, ◌-◌, ◌^◌, ◌<◌, ◌≤◌, ◌++◌, ◌∷◌, [], count_by, length, map, not};
 ghost use Rattle.std.specs.Prelude.{position, true, OnOk, OnErr, IfOk, IfErr, IfSome, IfNone, Some, None};
-ghost use Rattle.std.specs.Prelude.{Option, slice_get, take};
+ghost use Rattle.std.specs.Prelude.{List, slice_get, take};
 ghost use Rattle.std.specs.List.{range_with_len};
 ghost use Rattle.indexmap.specs.IndexMap.{values};
 ghost use Rattle.book.specs.Entries.{Entry, At, IsTaken, is_open, is_taken, is_expanded, opened, states, unknown};
 ghost use Rattle.book.specs.Entries.{with_mark, with_marks};
 ghost use Rattle.book.specs.Findings.{is_sound};
-ghost use Rattle.book.specs.Labels.{AreKnownBy, AreStepsKnownBy, bares, same_as, same_label};
+ghost use Rattle.book.specs.Labels.{AreKnownBy, AreStepsKnownBy, bares, same_as};
 ghost use Rattle.book.specs.Leftovers.{KeepsMet};
-ghost use Rattle.book.specs.Slots.{entries_of, forms_of, keyed_of, AreStatesOf, IsFirstLeft, IsGrown, IsLeft};
+ghost use Rattle.book.specs.Slots.{entries_of, keyed_of, labels_of, AreStatesOf, IsFirstLeft, IsGrown, IsLeft};
 ghost use Rattle.book.specs.Slots.{IsOpenFrom, StayHeld};
 
 use crate::book::Totals;
@@ -24,10 +24,8 @@ use crate::placing::put_steps;
 use crate::slots::put_new;
 use indexmap::IndexMap;
 use std::alloc::{AllocError, Global};
-use std::hash::Hash;
 use std::marker::Model;
 use std::sync::Arc;
-use tree_machine::Coded;
 
 /// Why rows were not put in.
 #[derive(Clone, Copy, PartialEq, Eq)]
@@ -39,34 +37,30 @@ pub enum TableFault {
 /// The entries of a book: states, each with its row. The key of a row is the state's label. The states from the first
 /// entry on that is not expanded are held; those of the entries before it are given back.
 #[derive(Drop)]
-pub struct Table<S: Coded + Drop, F: Eq + Hash + Drop> {
-    slots: IndexMap<Hashed<Known<S, F>>, PackedRow>,
+pub struct Table<S> {
+    slots: IndexMap<Hashed<Known<S>>, PackedRow>,
     held: Held<S>,
     next_open: usize,
     first_left: usize,
     fault: Option<usize>,
 }
 
-impl<S: Coded + Drop, F: Eq + Hash + Drop> Model for Table<S, F> {
+impl<S> Model for Table<S> {
     ghost use Rattle.book.specs.Labels.{Kept};
-    ghost use Rattle.book.specs.Slots.{entries_of, forms_of, AreCursors, AreHeld};
+    ghost use Rattle.book.specs.Slots.{entries_of, labels_of, AreCursors, AreHeld};
 
-    ghost Value = { Kept S F };
+    ghost Value = { Kept S };
 
-    ghost view = { λ t. record { entries = entries_of t.slots.entries; forms = forms_of t.slots.entries } };
+    ghost view = { λ t. record { entries = entries_of t.slots.entries; labels = labels_of t.slots.entries } };
 
     ghost invariant = { λ t. AreCursors (entries_of t.slots.entries) t.next_open t.first_left t.fault
         × AreHeld (entries_of t.slots.entries) t.first_left t.held };
 }
 
 /// Marks the row at an index.
-fn mark_at<S: Coded, F: Eq + Hash>(
-    slots: &mut IndexMap<Hashed<Known<S, F>>, PackedRow>,
-    index: usize,
-    mark: Mark,
-)
+fn mark_at<S>(slots: &mut IndexMap<Hashed<Known<S>>, PackedRow>, index: usize, mark: Mark)
     ensures entries { entries_of slots.new.entries ≡ with_mark (entries_of slots.old.entries) index mark }
-    ensures forms { forms_of slots.new.entries ≡ forms_of slots.old.entries }
+    ensures labels { labels_of slots.new.entries ≡ labels_of slots.old.entries }
 {
     if let Some(row) = slots.get_index_mut(index) {
         row.set_mark(mark);
@@ -74,8 +68,8 @@ fn mark_at<S: Coded, F: Eq + Hash>(
 }
 
 /// Marks the rows at the indices from `start` to below `end`.
-fn mark_range<S: Coded, F: Eq + Hash>(
-    slots: &mut IndexMap<Hashed<Known<S, F>>, PackedRow>,
+fn mark_range<S>(
+    slots: &mut IndexMap<Hashed<Known<S>>, PackedRow>,
     start: usize,
     end: usize,
     mark: Mark,
@@ -83,7 +77,7 @@ fn mark_range<S: Coded, F: Eq + Hash>(
     requires { start ≤ end }
     ensures entries { entries_of slots.new.entries
         ≡ with_marks (entries_of slots.old.entries) (range_with_len start (end - start)) mark }
-    ensures forms { forms_of slots.new.entries ≡ forms_of slots.old.entries }
+    ensures labels { labels_of slots.new.entries ≡ labels_of slots.old.entries }
 {
     for index in start..end {
         mark_at(slots, index, mark);
@@ -91,10 +85,7 @@ fn mark_range<S: Coded, F: Eq + Hash>(
 }
 
 /// The row at an index.
-fn row_at<S: Coded, F: Eq + Hash>(
-    slots: &IndexMap<Hashed<Known<S, F>>, PackedRow>,
-    index: usize,
-) -> &PackedRow
+fn row_at<S>(slots: &IndexMap<Hashed<Known<S>>, PackedRow>, index: usize) -> &PackedRow
     requires { index < length slots.now.entries }
     ensures { (e : Entry S) × At (entries_of slots.now.entries) index e × (e.finding ≡ result.now.finding)
         × (e.origin ≡ result.now.origin) × (e.mark ≡ result.now.mark) }
@@ -106,10 +97,7 @@ fn row_at<S: Coded, F: Eq + Hash>(
 }
 
 /// The first row that is not sound, where all before `start` are.
-fn first_fault_from<S: Coded, F: Eq + Hash>(
-    slots: &IndexMap<Hashed<Known<S, F>>, PackedRow>,
-    start: usize,
-) -> Option<usize>
+fn first_fault_from<S>(slots: &IndexMap<Hashed<Known<S>>, PackedRow>, start: usize) -> Option<usize>
     requires { (i : ℕ) (e : Entry S) → At (entries_of slots.now.entries) i e → i < start → is_sound e.finding ≡ true }
     ensures { result ≡ position (λ e. not (is_sound e.finding)) (entries_of slots.now.entries) }
 {
@@ -122,10 +110,7 @@ fn first_fault_from<S: Coded, F: Eq + Hash>(
 }
 
 /// The first row that is not expanded, where all before `start` are, or the number of rows.
-fn first_left_from<S: Coded, F: Eq + Hash>(
-    slots: &IndexMap<Hashed<Known<S, F>>, PackedRow>,
-    start: usize,
-) -> usize
+fn first_left_from<S>(slots: &IndexMap<Hashed<Known<S>>, PackedRow>, start: usize) -> usize
     requires before { (i : ℕ) (e : Entry S) → At (entries_of slots.now.entries) i e → i < start
         → e.mark ≡ Mark.Expanded }
     requires within { start ≤ length slots.now.entries }
@@ -140,65 +125,34 @@ fn first_left_from<S: Coded, F: Eq + Hash>(
 }
 
 /// The number of open rows.
-fn open_rows<S: Coded, F: Eq + Hash>(slots: &IndexMap<Hashed<Known<S, F>>, PackedRow>) -> usize
+fn open_rows<S>(slots: &IndexMap<Hashed<Known<S>>, PackedRow>) -> usize
     ensures { result ≡ count_by (λ row. is_open row.mark) (values slots.now) }
 {
     slots.values().filter(|row| row.is_open()).count()
 }
 
 /// The number of taken rows.
-fn taken_rows<S: Coded, F: Eq + Hash>(slots: &IndexMap<Hashed<Known<S, F>>, PackedRow>) -> usize
+fn taken_rows<S>(slots: &IndexMap<Hashed<Known<S>>, PackedRow>) -> usize
     ensures { result ≡ count_by (λ row. is_taken row.mark) (values slots.now) }
 {
     slots.values().filter(|row| row.is_taken()).count()
 }
 
 /// The number of expanded rows.
-fn expanded_rows<S: Coded, F: Eq + Hash>(slots: &IndexMap<Hashed<Known<S, F>>, PackedRow>) -> usize
+fn expanded_rows<S>(slots: &IndexMap<Hashed<Known<S>>, PackedRow>) -> usize
     ensures { result ≡ count_by (λ row. is_expanded row.mark) (values slots.now) }
 {
     slots.values().filter(|row| row.is_expanded()).count()
 }
 
-impl<S: Coded + Drop, F: Eq + Hash + Drop> Table<S, F> {
-    /// A table with one open entry, which has no parent.
-    pub fn new(
-        alloc: Global,
-        state: Arc<S>,
-        known: Hashed<Known<S, F>>,
-        finding: Finding,
-    ) -> Result<Table<S, F>, AllocError>
-        requires { known.state ≡ state.value }
-        ensures entries { IfOk result (λ t. t.entries
-            ≡ record { state = known.state; finding = finding; origin = None; mark = Mark.Open } ∷ []) }
-        ensures forms { IfOk result (λ t. t.forms ≡ known.form ∷ []) }
-    {
-        let fault = if finding.is_sound() { None } else { Some(0) };
-        let row = PackedRow::new(Row {
-            finding,
-            origin: None,
-            mark: Mark::Open,
-        })?;
-        let mut slots = IndexMap::new(alloc);
-        put_new(&mut slots, known, row)?;
-        let mut held = Held::none(alloc);
-        held.push(state)?;
-        Ok(Table {
-            slots,
-            held,
-            next_open: 0,
-            first_left: 0,
-            fault,
-        })
-    }
-
+impl<S> Table<S> {
     /// What the entries take memory of.
     pub fn allocator(&self) -> Global {
         *self.slots.allocator()
     }
 
     /// Leftovers that keep nothing.
-    pub fn no_leftovers(&self) -> Leftovers<S, F> {
+    pub fn no_leftovers(&self) -> Leftovers<S> {
         Leftovers::none(self.allocator())
     }
 
@@ -228,23 +182,6 @@ impl<S: Coded + Drop, F: Eq + Hash + Drop> Table<S, F> {
         ensures { (e : Entry S) × At self.now.entries index e × (e.state ≡ result.now.value) }
     {
         self.held.at(index - self.first_left)
-    }
-
-    /// The entries from `start` to below `end`, which are open, each by its number and its state, which the table holds
-    /// too.
-    pub fn handed_out(&self, start: usize, end: usize) -> Result<Vec<(usize, Arc<S>)>, AllocError>
-        requires some { start ≤ end }
-        requires within { end ≤ length self.now.entries }
-        requires open { IsOpenFrom self.now.entries start }
-        ensures numbers { IfOk result (λ range. map (λ p. p.0) range.items ≡ range_with_len start (end - start)) }
-        ensures states { IfOk result (λ range. AreStatesOf self.now.entries range.items) }
-    {
-        let mut range = Vec::with_capacity(self.allocator(), end - start)?;
-        for index in start..end {
-            let state = Arc::try_clone(self.state(index))?;
-            range.push((index, state))?;
-        }
-        Ok(range)
     }
 
     /// The first open entry. All entries from it on are open.
@@ -301,6 +238,87 @@ impl<S: Coded + Drop, F: Eq + Hash + Drop> Table<S, F> {
         self.next_open = end;
     }
 
+    /// The step that an entry is.
+    pub fn origin(&self, index: usize) -> Option<Origin>
+        requires { index < length self.now.entries }
+        ensures { (e : Entry S) × At self.now.entries index e × (e.origin ≡ result) }
+    {
+        row_at(&self.slots, index).origin()
+    }
+
+    /// How many entries there are, and how many are marked each way, with so many steps that led to known states.
+    pub fn totals(&self, met: usize) -> Totals
+        requires { 1 ≤ length self.now.entries }
+        ensures { result ≡ record {
+          entries = length self.now.entries;
+          fresh = count_by (λ e. is_open e.mark) self.now.entries;
+          taken = count_by (λ e. is_taken e.mark) self.now.entries;
+          expanded = count_by (λ e. is_expanded e.mark) self.now.entries;
+          entered = length self.now.entries - 1;
+          met = met;
+        } }
+    {
+        let entries = self.slots.len();
+        Totals {
+            entries,
+            fresh: open_rows(&self.slots),
+            taken: taken_rows(&self.slots),
+            expanded: expanded_rows(&self.slots),
+            entered: entries - 1,
+            met,
+        }
+    }
+}
+
+impl<S: Drop> Table<S> {
+    /// A table with one open entry, which has no parent.
+    pub fn new(
+        alloc: Global,
+        state: Arc<S>,
+        known: Hashed<Known<S>>,
+        finding: Finding,
+    ) -> Result<Table<S>, AllocError>
+        requires { known.state ≡ state.value }
+        ensures entries { IfOk result (λ t. t.entries
+            ≡ record { state = known.state; finding = finding; origin = None; mark = Mark.Open } ∷ []) }
+        ensures labels { IfOk result (λ t. t.labels ≡ known.label ∷ []) }
+    {
+        let fault = if finding.is_sound() { None } else { Some(0) };
+        let row = PackedRow::new(Row {
+            finding,
+            origin: None,
+            mark: Mark::Open,
+        })?;
+        let mut slots = IndexMap::new(alloc);
+        put_new(&mut slots, known, row)?;
+        let mut held = Held::none(alloc);
+        held.push(state)?;
+        Ok(Table {
+            slots,
+            held,
+            next_open: 0,
+            first_left: 0,
+            fault,
+        })
+    }
+
+    /// The entries from `start` to below `end`, which are open, each by its number and its state, which the table holds
+    /// too.
+    pub fn handed_out(&self, start: usize, end: usize) -> Result<Vec<(usize, Arc<S>)>, AllocError>
+        requires some { start ≤ end }
+        requires within { end ≤ length self.now.entries }
+        requires open { IsOpenFrom self.now.entries start }
+        ensures numbers { IfOk result (λ range. map (λ p. p.0) range.items ≡ range_with_len start (end - start)) }
+        ensures states { IfOk result (λ range. AreStatesOf self.now.entries range.items) }
+    {
+        let mut range = Vec::with_capacity(self.allocator(), end - start)?;
+        for index in start..end {
+            let state = Arc::try_clone(self.state(index))?;
+            range.push((index, state))?;
+        }
+        Ok(range)
+    }
+
     /// Marks a taken entry expanded.
     pub fn mark_expanded(&mut self, index: usize)
         requires { IsTaken self.old.entries index }
@@ -318,20 +336,20 @@ impl<S: Coded + Drop, F: Eq + Hash + Drop> Table<S, F> {
         &mut self,
         limit: usize,
         parent: usize,
-        successors: Vec<Stepped<S, F>>,
-        leftovers: &mut Leftovers<S, F>,
+        successors: Vec<Stepped<S>>,
+        leftovers: &mut Leftovers<S>,
     ) -> Result<(), TableFault>
         requires { length self.old.entries ≤ limit }
-        ensures put { OnOk result ((form_of : S → Option F) → AreKnownBy form_of self.old
-            → AreStepsKnownBy form_of successors.items
+        ensures put { OnOk result ((label_of : S → List ℕ) → AreKnownBy label_of self.old
+            → AreStepsKnownBy label_of successors.items
             → (self.new.entries ≡ self.old.entries ++ map (opened parent)
-            (unknown (same_as S.eq F.eq form_of) (states self.old.entries) (bares successors.items)))) }
-        ensures known { OnOk result ((form_of : S → Option F) → AreKnownBy form_of self.old
-            → AreStepsKnownBy form_of successors.items → AreKnownBy form_of self.new) }
-        ensures full { IfErr result (λ fault. fault ≡ TableFault.Full → (form_of : S → Option F)
-            → AreKnownBy form_of self.old → AreStepsKnownBy form_of successors.items
+            (unknown (same_as label_of) (states self.old.entries) (bares successors.items)))) }
+        ensures known { OnOk result ((label_of : S → List ℕ) → AreKnownBy label_of self.old
+            → AreStepsKnownBy label_of successors.items → AreKnownBy label_of self.new) }
+        ensures full { IfErr result (λ fault. fault ≡ TableFault.Full → (label_of : S → List ℕ)
+            → AreKnownBy label_of self.old → AreStepsKnownBy label_of successors.items
             → limit < length self.old.entries
-            + length (unknown (same_as S.eq F.eq form_of) (states self.old.entries) (bares successors.items))) }
+            + length (unknown (same_as label_of) (states self.old.entries) (bares successors.items))) }
         ensures room { OnOk result (length self.new.entries ≤ limit) }
         ensures left { OnOk result (KeepsMet leftovers.old leftovers.new (length self.old.entries)
             (length self.new.entries) (length successors.items)) }
@@ -361,37 +379,6 @@ impl<S: Coded + Drop, F: Eq + Hash + Drop> Table<S, F> {
                 self.fault = first_fault_from(&self.slots, was);
                 Ok(())
             }
-        }
-    }
-
-    /// The step that an entry is.
-    pub fn origin(&self, index: usize) -> Option<Origin>
-        requires { index < length self.now.entries }
-        ensures { (e : Entry S) × At self.now.entries index e × (e.origin ≡ result) }
-    {
-        row_at(&self.slots, index).origin()
-    }
-
-    /// How many entries there are, and how many are marked each way, with so many steps that led to known states.
-    pub fn totals(&self, met: usize) -> Totals
-        requires { 1 ≤ length self.now.entries }
-        ensures { result ≡ record {
-          entries = length self.now.entries;
-          fresh = count_by (λ e. is_open e.mark) self.now.entries;
-          taken = count_by (λ e. is_taken e.mark) self.now.entries;
-          expanded = count_by (λ e. is_expanded e.mark) self.now.entries;
-          entered = length self.now.entries - 1;
-          met = met;
-        } }
-    {
-        let entries = self.slots.len();
-        Totals {
-            entries,
-            fresh: open_rows(&self.slots),
-            taken: taken_rows(&self.slots),
-            expanded: expanded_rows(&self.slots),
-            entered: entries - 1,
-            met,
         }
     }
 }

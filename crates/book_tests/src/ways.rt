@@ -8,7 +8,7 @@ use ellen::Ellen;
 use sched_program::OutOfMemory;
 use std::alloc::Global;
 use std::test::Fail;
-use tree_machine::{Machine, State, StateForm};
+use tree_machine::{Machine, State};
 
 const WHOLE: Ellen = Ellen {
     mark: true,
@@ -67,9 +67,7 @@ const THREE_EXPANDED: Totals = Totals {
 };
 
 /// Room for as many known states as four threads' steps lead to.
-fn room_for_four<M: Machine>(
-    alloc: Global,
-) -> Result<Box<Leftovers<State<M>, StateForm<M>>>, OutOfMemory> {
+fn room_for_four<M: Machine>(alloc: Global) -> Result<Box<Leftovers<State<M>>>, OutOfMemory> {
     boxed(alloc, Leftovers::with_room(alloc, 4)?)
 }
 
@@ -79,7 +77,7 @@ fn enter_leaving<M: Machine>(
     book: &mut Book<M>,
     id: usize,
     state: &State<M>,
-    leftovers: &mut Leftovers<State<M>, StateForm<M>>,
+    leftovers: &mut Leftovers<State<M>>,
 ) -> Result<Entered, Broken>
     requires fits { Fits (M.rules book.old.machine) book.old.program state.now }
     requires room { state.now.steps + 1 < 2 ^ 64 }

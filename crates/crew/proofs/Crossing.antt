@@ -9,14 +9,11 @@ use denote.RattleType.{RattleType}
 use denote.Param.Send.{IsSend, IsSync, sendable, shr_sync, struct_sync}
 use Rattle.std.proofs.Crossing.{crosses}
 use Rattle.std.proofs.sync.ledger.Book.TheSendSync as ledger
-use Rattle.std.specs.declared.clone.Clone as clone
-use Rattle.std.specs.declared.cmp.Eq as eq
 use Rattle.atomic_table.proofs.shared.Shared.TheSendSync as shared
 use Rattle.atomic_table.proofs.send_lease.SendLease.TheSendSync as lease
 use Rattle.std.specs.declared.cmp.PartialEq as partial
 use Rattle.std.specs.declared.hash.Hash as hash
 use Rattle.sched_program.specs.contracts.program.Program as Program
-use Rattle.sched_program.specs.declared.exact.Exact as exact
 use Rattle.tree_machine.specs.declared.coded.Coded as coded
 use Rattle.tree_machine.specs.declared.machine.Machine as machine
 use Rattle.book.specs.contracts.finding.Finding as Finding
@@ -81,15 +78,13 @@ module _ (J M Mem Loc Form : RattleType) (g : machine.Ghosts M.Denot Mem.Denot L
     (ap : partial.Ghosts Mem.Denot) (ah : hash.Ghosts Mem.Denot) (lp : partial.Ghosts Loc.Denot)
     (lh : hash.Ghosts Loc.Denot) (fc : coded.Ghosts Form.Denot) (fp : partial.Ghosts Form.Denot)
     (fh : hash.Ghosts Form.Denot)
-    (r : ledgers.Ghosts J.Denot) (c : clone.Ghosts M.Denot) (me : exact.Ghosts M.Denot) (mq : eq.Ghosts M.Denot)
-    (ae : exact.Ghosts Mem.Denot) (aq : eq.Ghosts Mem.Denot)
-    (le : exact.Ghosts Loc.Denot) (lq : eq.Ghosts Loc.Denot) (fe : exact.Ghosts Form.Denot) (fq : eq.Ghosts Form.Denot)
+    (r : ledgers.Ghosts J.Denot)
     (j : IsSend J) (m : IsSend M) (mem : IsSend Mem) (loc : IsSend Loc) (form : IsSend Form) (m' : IsSync M)
     (mem' : IsSync Mem) (loc' : IsSync Loc) (form' : IsSync Form) where
-  desk_send : IsSend (Desk.the_row J M Mem Loc Form g mp ap ah lp lh fc fp fh r c me mq ae aq le lq fe fq)
+  desk_send : IsSend (Desk.the_row J M Mem Loc Form g mp ap ah lp lh fc fp fh r)
   desk_send = search (book_send, ledger.the_send, sendable, crosses) depth 30 fits 10000
 
   module _ (a : NamedLft) (G R : RattleType) (gate : IsSync G) (threads : IsSync R) where
     pub exploration_sync : IsSync
-        (Exploration.the_row a J M G R Mem Loc Form g mp ap ah lp lh fc fp fh r c me mq ae aq le lq fe fq)
+        (Exploration.the_row a J M G R Mem Loc Form g mp ap ah lp lh fc fp fh r)
     exploration_sync = search (program_sync, desk_send, sendable, crosses) depth 30 fits 10000

@@ -1,5 +1,5 @@
 -- What is found of the entries that a book gave out.
-use Rattle.std.proofs.Common.{◌≡◌, ℕ, ◌+◌, ◌<◌, ◌≤◌, suc, Option, Some, None, List, [], ◌∷◌, All, refl, sym, ap, ◌∙◌}
+use Rattle.std.proofs.Common.{◌≡◌, ℕ, ◌<◌, ◌≤◌, Option, Some, None, List, [], ◌∷◌, All, refl, sym, ap, ◌∙◌}
 use Rattle.std.proofs.Common.{arith, subst, slice_get, get_or, map}
 use Rattle.std.specs.Option.{option_map}
 use Rattle.std.specs.declared.sync.Arc.{Arc}

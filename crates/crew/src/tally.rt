@@ -12,7 +12,7 @@ use std::alloc::Global;
 use std::marker::{Brand, PhantomData};
 use std::sync::ledger;
 use std::sync::ledger::{Blank, Ledger};
-use tree_machine::{Machine, State, StateForm};
+use tree_machine::{Machine, State};
 
 /// The three ledgers of one exploration: into how many pieces each is cut, and their names.
 pub trait Ledgers {
@@ -222,7 +222,7 @@ impl<J: Ledgers, M: Machine> Desk<J, M> {
         tally: &mut Tally<J>,
         id: usize,
         expansion: Expansion<'_, M>,
-        leftovers: &mut Leftovers<State<M>, StateForm<M>>,
+        leftovers: &mut Leftovers<State<M>>,
     ) -> Result<(), EnterFault>
         requires room { length expansion.successors ≤ leftovers.old.room }
         ensures room { IfOk result (λ _. leftovers.old.room ≤ leftovers.new.room + length expansion.entry.successors) }

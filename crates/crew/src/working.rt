@@ -11,7 +11,7 @@ use sched_program::{OutOfMemory, Program};
 use std::alloc::Global;
 use std::marker::Model;
 use std::sync::{Mutex, MutexGuard, Wait};
-use tree_machine::{Machine, State, StateForm};
+use tree_machine::{Machine, State};
 
 /// Why a worker draws no more.
 #[derive(Clone, Copy, Debug, PartialEq, Eq)]
@@ -60,7 +60,7 @@ const LAST_ROUND: usize = 7;
 fn room_for<M: Machine>(
     alloc: Global,
     made: &[(usize, Expansion<'_, M>)],
-) -> Result<Leftovers<State<M>, StateForm<M>>, OutOfMemory>
+) -> Result<Leftovers<State<M>>, OutOfMemory>
     ensures { IfOk result (λ l. sum_by (λ one. length one.1.successors) made.now ≤ l.room) }
 {
     let mut steps = 0usize;
@@ -184,7 +184,7 @@ impl<'a, J: Ledgers, M: Machine, G: Gate, R: Wait> Exploration<'a, J, M, G, R> {
         mut desk: MutexGuard<'_, Desk<J, M>>,
         made: Vec<(usize, Expansion<'_, M>)>,
         tally: &mut Tally<J>,
-        leftovers: &mut Leftovers<State<M>, StateForm<M>>,
+        leftovers: &mut Leftovers<State<M>>,
     ) -> Result<(), Stop>
         requires room { sum_by (λ one. length one.1.successors) made.items ≤ leftovers.old.room }
         ensures kept { IfOk result (λ _. leftovers.new.kept + tally.old.share.met

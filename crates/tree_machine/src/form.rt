@@ -71,15 +71,30 @@ impl<M: Machine> State<M> {
         requires { (program : Program) × IsWithinLimits program × Fits (M.rules machine) program self.now }
         ensures { IfOk result (λ form. form ≡ state_form (M.form_of machine) self.now) }
     {
+        let bytes = self.form_code_in(alloc, machine, room)?;
+        Ok(StateForm {
+            bytes,
+            machine: Snapshot::of(&machine),
+            state: Snapshot::of(self),
+        })
+    }
+
+    /// The bytes of the form alone, written in a room likewise.
+    pub fn form_code_in(
+        &self,
+        alloc: Global,
+        machine: M,
+        room: &mut Room,
+    ) -> Result<Bytes, OutOfMemory>
+        requires { (program : Program) × IsWithinLimits program × Fits (M.rules machine) program self.now }
+        ensures { IfOk result
+            (λ bytes. bytes ≡ content_code M.Form.code (state_form (M.form_of machine) self.now)) }
+    {
         let threads = self.threads.as_slice();
         room.clear();
         room.put_deeds(threads, self.astray)?;
         machine.write_form(alloc, &self.memory, threads, room)?;
-        Ok(StateForm {
-            bytes: Bytes::from_vec(Vec::from_slice(alloc, room.as_slice())?),
-            machine: Snapshot::of(&machine),
-            state: Snapshot::of(self),
-        })
+        Ok(Bytes::from_vec(Vec::from_slice(alloc, room.as_slice())?))
     }
 }
 

@@ -8,7 +8,9 @@ use Rattle.std.proofs.Math.Seq.{take-suc}
 use Rattle.sched_program.specs.Exact.{IsExact}
 use Rattle.sched_program.specs.Program.{Program, IsWithinLimits}
 use Rattle.tree_machine.specs.Rules.{Rules, AreLawful, AreFormsExact}
-use Rattle.tree_machine.specs.Alike.{AreStatesAlike, FormContent, state_form}
+use Rattle.tree_machine.specs.Alike.{AreStatesAlike, state_form}
+use Rattle.tree_machine.specs.FormCode.{IsInjective, content_code}
+use Rattle.tree_machine.specs.Laws.FormCode.{content_readable}
 use Rattle.tree_machine.specs.Step.{start, step, Fits}
 use Rattle.tree_machine.specs.declared.state.State.{State}
 use Rattle.tree_machine.proofs.Forms.{forms_alike, alike_turned}
@@ -16,6 +18,7 @@ use Rattle.tree_machine.proofs.Lists.{get-append_left, get-append_right}
 use Rattle.book.specs.Closed.{AreClosed, IsAlikeToOneOf}
 use Rattle.book.specs.Schedule.{IsMachine}
 use Rattle.book.specs.Findings.{machine_of}
+use Rattle.book.specs.Labels.{named_by}
 use Rattle.book.proofs.Machines.{is_machine}
 use Rattle.book.proofs.EntryLemmas.{get_within}
 use Rattle.book.specs.BookFile.Closing.{IsFirstOpen}
@@ -66,20 +69,21 @@ module _ {F : Type 0} (eq : F → F → Bool) where
 
 -- the steps of the first states lead to states with known forms
 abbrev pub AreKnownBelow : {Machine Memory Place Form : Type 0} (rules : Rules Memory Place) (program : Program)
-    (form_of : Memory → List (Option Place) → Form)
-    (states : List (State Machine Memory Place Form)) (known : FormContent Form → Bool) → ℕ → Type 0
-AreKnownBelow {Machine} {Memory} {Place} {Form} rules program form_of states known n =
+    (code : Form → List ℕ) (form_of : Memory → List (Option Place) → Form)
+    (states : List (State Machine Memory Place Form)) (known : List ℕ → Bool) → ℕ → Type 0
+AreKnownBelow {Machine} {Memory} {Place} {Form} rules program code form_of states known n =
     (i : ℕ) (s : State Machine Memory Place Form) → i < n → slice_get states i ≡ Some s
-    → AreStepsKnown rules program (state_form form_of) known s
+    → AreStepsKnown rules program (named_by code form_of) known s
 
 -- .. and those of the next one too
 pub known_next : {Machine Memory Place Form : Type 0} (rules : Rules Memory Place) (program : Program)
-    (form_of : Memory → List (Option Place) → Form)
-    (states : List (State Machine Memory Place Form)) (known : FormContent Form → Bool) (i : ℕ)
+    (code : Form → List ℕ) (form_of : Memory → List (Option Place) → Form)
+    (states : List (State Machine Memory Place Form)) (known : List ℕ → Bool) (i : ℕ)
     (s : State Machine Memory Place Form) → i < length states → s ≡ get_or states i s
-    → AreStepsKnown rules program (state_form form_of) known s → AreKnownBelow rules program form_of states known i
-    → AreKnownBelow rules program form_of states known (i + 1)
-known_next {Machine} {Memory} {Place} {Form} rules program form_of states known i s less is steps so j r below at =
+    → AreStepsKnown rules program (named_by code form_of) known s
+    → AreKnownBelow rules program code form_of states known i
+    → AreKnownBelow rules program code form_of states known (i + 1)
+known_next {Machine} {Memory} {Place} {Form} rules program code form_of states known i s less is steps so j r below at =
     elim (cases_lt j i) [
       | inl l ↦ so j r l at
       | inr ge ↦ (
@@ -87,44 +91,46 @@ known_next {Machine} {Memory} {Place} {Form} rules program form_of states known 
           let here : slice_get states i ≡ Some s = slice_get_read states (length states) i s refl less is in
           let there : slice_get states i ≡ Some r = ap (slice_get states) same_place ∙ at in
           let same : s ≡ r = same_Some s r (sym here ∙ there) in
-          subst (λ (v : State Machine Memory Place Form). AreStepsKnown rules program (state_form form_of) known v) same
-          steps)
+          subst (λ (v : State Machine Memory Place Form). AreStepsKnown rules program (named_by code form_of) known v)
+          same steps)
     ]
 
 module _ {Machine Memory Place Form : Type 0} (rules : Rules Memory Place) (program : Program)
     (lawful : AreLawful rules) (limits : IsWithinLimits program)
     (form_of : Memory → List (Option Place) → Form) (forms : AreFormsExact rules form_of)
-    (eq : FormContent Form → FormContent Form → Bool) (exact : IsExact eq)
+    (code : Form → List ℕ) (readable : IsInjective code) (eq : List ℕ → List ℕ → Bool) (exact : IsExact eq)
     (states : List (State Machine Memory Place Form))
     (fit : (i : ℕ) (s : State Machine Memory Place Form) → slice_get states i ≡ Some s → Fits rules program s)
-    (known : FormContent Form → Bool) (has : AreFormsOf eq (state_form form_of) states known) where
+    (known : List ℕ → Bool) (has : AreFormsOf eq (named_by code form_of) states known) where
   machine : IsMachine (machine_of {Machine = Machine} {Form = Form} rules program)
   machine = is_machine rules program lawful limits
 
   -- one of the states is alike to a state that fits exactly if the form of this is known
-  known_alike : (s : State Machine Memory Place Form) → Fits rules program s → known (state_form form_of s) ≡ true
+  known_alike : (s : State Machine Memory Place Form) → Fits rules program s → known (named_by code form_of s) ≡ true
       → IsAlikeToOneOf (AreStatesAlike rules) states s
   known_alike s fits is =
-      let w = has.only (state_form form_of s) is in
+      let w = has.only (named_by code form_of s) is in
       let w_fits = fit w.0 w.1 w.2 in (
         w.0,
         w.1,
         w.2,
         alike_turned rules form_of forms program s w.1 fits w_fits
             ((forms_alike rules form_of forms program program s w.1 fits w_fits).0
-            (exact (state_form form_of s) (state_form form_of w.1) w.3)),
+            (content_readable code readable (state_form form_of s) (state_form form_of w.1)
+            (exact (named_by code form_of s) (named_by code form_of w.1) w.3))),
       )
 
   alike_known : (s : State Machine Memory Place Form) → Fits rules program s
-      → IsAlikeToOneOf (AreStatesAlike rules) states s → known (state_form form_of s) ≡ true
+      → IsAlikeToOneOf (AreStatesAlike rules) states s → known (named_by code form_of s) ≡ true
   alike_known s fits among =
       let same : state_form form_of among.1
       ≡ state_form form_of s =
       (forms_alike rules form_of forms program program among.1 s (fit among.0 among.1 among.2) fits).1 among.3 in
-      subst (λ (f : FormContent Form). known f ≡ true) same (has.each among.0 among.1 among.2)
+      subst (λ (f : List ℕ). known f ≡ true) (ap (content_code code) same) (has.each among.0 among.1 among.2)
 
   pub open_next : (i : ℕ) (s : State Machine Memory Place Form) → i < length states → s ≡ get_or states i s
-      → IsStepUnknown rules program (state_form form_of) known s → AreKnownBelow rules program form_of states known i
+      → IsStepUnknown rules program (named_by code form_of) known s
+      → AreKnownBelow rules program code form_of states known i
       → IsFirstOpen rules program states (Open (i + 2))
   open_next i s less is out so =
       let here : slice_get states i ≡ Some s = slice_get_read states (length states) i s refl less is in
@@ -145,7 +151,7 @@ module _ {Machine Memory Place Form : Type 0} (rules : Rules Memory Place) (prog
             (so j r below at out_of_r.0 out_of_r.1 out_of_r.2)));
       }
 
-  pub known_closed : AreKnownBelow rules program form_of states known (length states)
+  pub known_closed : AreKnownBelow rules program code form_of states known (length states)
       → IsAlikeToOneOf (AreStatesAlike rules) states (start rules program)
       → AreClosed (machine_of rules program) (AreStatesAlike rules) states
   known_closed so begins = record {

@@ -1,42 +1,42 @@
 //! Whether a step leads out of a list of states.
 ghost use Rattle.std.specs.Prelude.{◌≡◌, ℕ, ◌+◌, ◌^◌, ◌<◌, ◌≤◌, ◌⊎◌};
-ghost use Rattle.std.specs.Prelude.{length, true, false, IfOk, IfErr, IfSome, IfNone, Some, slice_get};
+ghost use Rattle.std.specs.Prelude.{length, nat_eq, true, false, IfOk, IfErr, IfSome, IfNone, Some, slice_get};
+ghost use Rattle.std.specs.Cmp.Lexicographic.{pointwise};
 ghost use Rattle.std.specs.HashSet.{contains};
-ghost use Rattle.tree_machine.specs.Alike.{AreStatesAlike, state_form};
+ghost use Rattle.tree_machine.specs.Alike.{AreStatesAlike};
 ghost use Rattle.tree_machine.specs.Step.{Fits, start, step};
-ghost use Rattle.tree_machine.specs.StateEq.{state_form_eq};
 ghost use Rattle.tree_machine.specs.declared.state.State.{State};
 ghost use Rattle.book.specs.Closed.{AreClosed, IsAlikeToOneOf};
 ghost use Rattle.book.specs.Findings.{machine_of};
 ghost use Rattle.book.specs.BookFile.Closing.{IsFirstOpen};
 ghost use Rattle.book.specs.BookFile.Forms.{AreFormsOf, AreStepsKnown, IsStepUnknown};
+ghost use Rattle.book.specs.Labels.{named_by};
 
 use crate::file::fault::CheckFault;
 use crate::stock::Stock;
-use sched_program::{OutOfMemory, Program, Sequence, tests_exactly};
+use sched_program::{OutOfMemory, Program, Sequence};
 use std::alloc::Global;
 use std::collections::HashSet;
-use tree_machine::{Machine, Room, State, StateForm, StepFault};
+use tree_machine::{Bytes, Machine, Room, State, StepFault};
 
-/// The forms of the states.
+/// The bytes of the forms of the states.
 fn forms_of<M: Machine>(
     alloc: Global,
     machine: M,
     program: &Program,
     states: &Sequence<State<M>>,
-) -> Result<HashSet<StateForm<M>>, OutOfMemory>
+) -> Result<HashSet<Bytes>, OutOfMemory>
     requires { (i : ℕ) (s : State M M.Mem M.Loc M.Form) → slice_get states.now i ≡ Some s
         → Fits (M.rules machine) program.now s }
-    ensures { IfOk result (λ forms. AreFormsOf (state_form_eq M.Form.PartialEq.eq)
-        (state_form (M.form_of machine)) states.now (contains (state_form_eq M.Form.PartialEq.eq) forms)) }
+    ensures { IfOk result (λ forms. AreFormsOf (pointwise nat_eq) (named_by M.Form.code (M.form_of machine))
+        states.now (contains (pointwise nat_eq) forms)) }
 {
     // Whoever reads a program knows that it meets the limits.
     let _ = program.initial();
-    tests_exactly::<StateForm<M>>();
     let mut forms = HashSet::new(alloc);
     let mut room = Room::new(alloc);
     for state in states.as_slice() {
-        let form = state.form_in(alloc, machine, &mut room)?;
+        let form = state.form_code_in(alloc, machine, &mut room)?;
         forms.insert(form)?;
     }
     Ok(forms)
@@ -47,7 +47,7 @@ fn knows_step<M: Machine>(
     alloc: Global,
     machine: M,
     program: &Program,
-    forms: &HashSet<StateForm<M>>,
+    forms: &HashSet<Bytes>,
     state: &State<M>,
     thread: u8,
     stock: &mut Stock<M>,
@@ -56,16 +56,16 @@ fn knows_step<M: Machine>(
     requires room { state.now.steps + 1 < 2 ^ 64 }
     ensures known { IfOk result (λ yes. yes ≡ true → (next : State M M.Mem M.Loc M.Form)
         → step (M.rules machine) program.now state.now thread ≡ Some next
-        → contains (state_form_eq M.Form.PartialEq.eq) forms.now (state_form (M.form_of machine) next) ≡ true) }
+        → contains (pointwise nat_eq) forms.now (named_by M.Form.code (M.form_of machine) next) ≡ true) }
     ensures new { IfOk result (λ yes. yes ≡ false → (next : State M M.Mem M.Loc M.Form)
         × (step (M.rules machine) program.now state.now thread ≡ Some next)
-        × (contains (state_form_eq M.Form.PartialEq.eq) forms.now (state_form (M.form_of machine) next) ≡ false)) }
+        × (contains (pointwise nat_eq) forms.now (named_by M.Form.code (M.form_of machine) next) ≡ false)) }
 {
     // Whoever reads a program knows that it meets the limits.
     let _ = program.initial();
     match state.step_in(alloc, machine, program, thread, &mut stock.spares) {
         Ok(next) => {
-            let form = next.form_in(alloc, machine, &mut stock.room)?;
+            let form = next.form_code_in(alloc, machine, &mut stock.room)?;
             stock.keep(next);
             Ok(forms.contains(&form))
         }
@@ -79,16 +79,16 @@ fn leads_out<M: Machine>(
     alloc: Global,
     machine: M,
     program: &Program,
-    forms: &HashSet<StateForm<M>>,
+    forms: &HashSet<Bytes>,
     state: &State<M>,
     stock: &mut Stock<M>,
 ) -> Result<bool, OutOfMemory>
     requires fits { Fits (M.rules machine) program.now state.now }
     requires room { state.now.steps + 1 < 2 ^ 64 }
     ensures out { IfOk result (λ yes. yes ≡ true → IsStepUnknown (M.rules machine) program.now
-        (state_form (M.form_of machine)) (contains (state_form_eq M.Form.PartialEq.eq) forms.now) state.now) }
+        (named_by M.Form.code (M.form_of machine)) (contains (pointwise nat_eq) forms.now) state.now) }
     ensures none { IfOk result (λ yes. yes ≡ false → AreStepsKnown (M.rules machine) program.now
-        (state_form (M.form_of machine)) (contains (state_form_eq M.Form.PartialEq.eq) forms.now) state.now) }
+        (named_by M.Form.code (M.form_of machine)) (contains (pointwise nat_eq) forms.now) state.now) }
 {
     for thread in 0..program.threads().len() as u8 {
         if !knows_step(alloc, machine, program, forms, state, thread, stock)? {
@@ -119,7 +119,6 @@ pub fn test_closed<M: Machine>(
 {
     // Whoever reads a program knows that it meets the limits.
     let _ = program.initial();
-    tests_exactly::<StateForm<M>>();
     let forms = forms_of(alloc, machine, program, states)?;
     let mut stock = Stock::new(alloc);
     for (i, state) in states.as_slice().iter().enumerate() {

@@ -12,8 +12,6 @@ use crate::finding::Finding;
 use crate::table::Table;
 use sched_program::OutOfMemory;
 use std::alloc::Global;
-use std::hash::Hash;
-use tree_machine::Coded;
 
 /// Adds the line of an entry after the first, by its row.
 fn push_row(text: &mut Vec<u8>, row: &PackedRow) -> Result<(), OutOfMemory>
@@ -32,10 +30,7 @@ fn push_row(text: &mut Vec<u8>, row: &PackedRow) -> Result<(), OutOfMemory>
 }
 
 /// The text of the entries.
-pub fn write_entries<S: Coded + Drop, F: Eq + Hash + Drop>(
-    alloc: Global,
-    table: &Table<S, F>,
-) -> Result<Vec<u8>, OutOfMemory>
+pub fn write_entries<S>(alloc: Global, table: &Table<S>) -> Result<Vec<u8>, OutOfMemory>
     requires some { 1 ≤ length table.now.entries }
     requires few { length table.now.entries ≤ 2000000 }
     requires writable { AreWritable table.now.entries }

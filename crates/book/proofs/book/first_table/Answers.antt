@@ -13,7 +13,7 @@ returns g c =
       c.in_ok-finding.finding,
       c.in_ok-state.ensures.start,
       c.in_ok-new.ensures.entries ∙ ap (λ s. entry s ∷ []) c.in_ok-known.ensures.state,
-      c.in_ok-new.ensures.forms ∙ ap (λ f. f ∷ []) c.in_ok-known.ensures.form,
+      c.in_ok-new.ensures.labels ∙ ap (λ f. f ∷ []) c.in_ok-known.ensures.label,
       c.in_ok-state.ensures.fits,
       c.in_ok-finding.ensures,
     )

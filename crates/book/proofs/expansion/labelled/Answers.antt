@@ -1,6 +1,5 @@
 use Rattle.std.proofs.Common.{refl, sym, ap, ◌∙◌}
-use Rattle.tree_machine.specs.Alike.{state_form}
-use Rattle.book.specs.Labels.{bares, form_by}
+use Rattle.book.specs.Labels.{bares, label_by}
 use Rattle.book.proofs.EntryLemmas.{all_taken, get-next, taken_next}
 use Rattle.book.proofs.Labels.{labelled_more}
 use Rattle.book.proofs.expansion.labelled.Goals as goal
@@ -22,11 +21,12 @@ relabelled-requires-after_bounds g c =
 pub loop-step-preserved : goal.loop-step-preserved
 loop-step-preserved g c =
     let steps = rw c.in-Some.is at c.next.ensures.steps in
-    let label = form_by c.args.merge (state_form {Machine = g.row.M.Denot} (g.M.Machine.form_of c.args.machine)) in
+    let label = label_by {Machine = g.row.M.Denot} g.M.Machine.whole_code g.M.Form.Coded.code
+    (g.M.Machine.form_of c.args.machine) c.args.merge in
     let more =
     labelled_more label c.loop-step.made.items c.loop-step.yielded c.in_ok-one.one c.in-Some.step
     c.loop-step.invariant.same c.in_ok-one.ensures.same c.loop-step.invariant.known
-    c.in_ok-one.ensures.form in
+    c.in_ok-one.ensures.label in
     record {
       same = rw c.in_ok-push.ensures.items more.0;
       known = rw c.in_ok-push.ensures.items more.1;

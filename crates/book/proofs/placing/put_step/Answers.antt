@@ -9,9 +9,9 @@ use Rattle.book.proofs.placing.put_step.Goals as goal
 pub returns-in_ok-push-in-None-clause-put : goal.returns-in_ok-push-in-None-clause-put
 returns-in_ok-push-in-None-clause-put g c =
     let fields = c.into_fields-thread in
-    let eq : Labelled g.row.S.Denot g.row.F.Denot → Labelled g.row.S.Denot g.row.F.Denot → Bool =
-    same_label g.S.PartialEq.eq g.F.PartialEq.eq in
-    let equivalence = same_label_equiv g.S.PartialEq.eq g.F.PartialEq.eq g.met.S.Eq.laws g.met.F.Eq.laws in
+    let eq : Labelled g.row.S.Denot → Labelled g.row.S.Denot → Bool =
+    same_label in
+    let equivalence = same_label_equiv in
     put_step eq eq equivalence.symm c.args.slots.now.entries c.put_new.new.slots.entries c.args.parent c.args.step
     fields.result.2 c.in_ok-row.row
     c.in_ok-put_new.ensures.put (ap (λ (row : Row). keyed_of (fields.result.2, row)) c.in_ok-row.ensures.row
@@ -21,9 +21,9 @@ returns-in_ok-push-in-None-clause-put g c =
 pub returns-in-Some-clause-put : goal.returns-in-Some-clause-put
 returns-in-Some-clause-put g c =
     let fields = c.into_fields-thread in
-    let eq : Labelled g.row.S.Denot g.row.F.Denot → Labelled g.row.S.Denot g.row.F.Denot → Bool =
-    same_label g.S.PartialEq.eq g.F.PartialEq.eq in
-    let equivalence = same_label_equiv g.S.PartialEq.eq g.F.PartialEq.eq g.met.S.Eq.laws g.met.F.Eq.laws in
+    let eq : Labelled g.row.S.Denot → Labelled g.row.S.Denot → Bool =
+    same_label in
+    let equivalence = same_label_equiv in
     put_step eq eq equivalence.symm c.args.slots.now.entries c.put_new.new.slots.entries c.args.parent c.args.step
     fields.result.2 c.in_ok-row.row
     c.in_ok-put_new.ensures.put (ap (λ (row : Row). keyed_of (fields.result.2, row)) c.in_ok-row.ensures.row

@@ -25,8 +25,8 @@ loop-step-preserved g c =
     let new = c.put_step.new.slots.entries in
     let one = c.in_ok-put_step.ensures in
     let so_far = c.loop-step.invariant in
-    let eq : Labelled g.row.S.Denot g.row.F.Denot → Labelled g.row.S.Denot g.row.F.Denot → Bool =
-    same_label g.S.PartialEq.eq g.F.PartialEq.eq in
+    let eq : Labelled g.row.S.Denot → Labelled g.row.S.Denot → Bool =
+    same_label in
     let a : length (entries_of old) ≡ length old = length-entries old in
     let b : length (entries_of mid) ≡ length mid = length-entries mid in
     let more : length old ≤ length mid = so_far.left.1 in

@@ -9,7 +9,7 @@ abbrev pub invariant-loop-step : goal.invariant-loop-step
 invariant-loop-step g l = record {
   put : map keyed_of l.slots.entries ≡ map keyed_of l.fn.slots.entries
       ++ map (opened l.parent)
-      (unknown (same_label g.S.PartialEq.eq g.F.PartialEq.eq) (states (map keyed_of l.fn.slots.entries)) l.yielded);
+      (unknown (same_label) (states (map keyed_of l.fn.slots.entries)) l.yielded);
   kept : IsGrown l.fn.slots.entries l.slots.entries;
   held : StayHeld (entries_of l.fn.slots.entries) (entries_of l.slots.entries) l.fn.held l.held;
   held_kept : IsGrown l.fn.held l.held;

@@ -1,5 +1,5 @@
 use Rattle.std.proofs.Common.{sym}
-use Rattle.book.proofs.SlotLemmas.{write_mark_at, write_keeps_forms, no_mark_at}
+use Rattle.book.proofs.SlotLemmas.{write_mark_at, write_keeps_labels, no_mark_at}
 use Rattle.book.proofs.table.mark_at.Goals as goal
 
 pub returns-in-Some-clause-entries : goal.returns-in-Some-clause-entries
@@ -7,8 +7,8 @@ returns-in-Some-clause-entries g c =
     write_mark_at c.args.slots.now.entries c.args.index c.in-Some.row.now c.set_mark.new.self c.args.mark
     (sym c.in-Some.ensures.value) c.set_mark.ensures
 
-pub returns-in-Some-clause-forms : goal.returns-in-Some-clause-forms
-returns-in-Some-clause-forms g c = write_keeps_forms c.args.slots.now.entries c.args.index c.set_mark.new.self
+pub returns-in-Some-clause-labels : goal.returns-in-Some-clause-labels
+returns-in-Some-clause-labels g c = write_keeps_labels c.args.slots.now.entries c.args.index c.set_mark.new.self
 
 pub returns-in_default-clause-entries : goal.returns-in_default-clause-entries
 returns-in_default-clause-entries g c =

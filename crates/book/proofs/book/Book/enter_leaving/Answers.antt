@@ -1,9 +1,8 @@
 use Rattle.std.proofs.Common.{◌≡◌, ap, subst}
-use Rattle.tree_machine.specs.Alike.{state_form}
 use Rattle.tree_machine.specs.declared.state.State.{State}
 use Rattle.book.specs.Books.{counted_as_one}
 use Rattle.book.specs.Entries.{Contents}
-use Rattle.book.specs.Labels.{AreStepsKnownBy, bares, form_by}
+use Rattle.book.specs.Labels.{AreStepsKnownBy, bares, label_by}
 use Rattle.book.specs.Law.{IsExpansion}
 use Rattle.book.specs.Findings.{machine_of, IsFindingOf}
 use Rattle.book.proofs.Entering.{enters_by, expansion_of_own, refuses_by}
@@ -34,9 +33,11 @@ put-requires-clause-known g c =
     ap (λ (q : Contents g.row.M.Denot
     (State g.row.M.Denot g.row.M-Mem.Denot g.row.M-Loc.Denot g.row.M-Form.Denot)). q.merge) c.self.view_is in
     λ κs o. subst
-    (λ n. AreStepsKnownBy (form_by c.args.self.now.merge (state_form (g.M.Machine.form_of n)))
+    (λ n. AreStepsKnownBy (label_by g.M.Machine.whole_code g.M.Form.Coded.code
+    (g.M.Machine.form_of n) c.args.self.now.merge)
     c.in-Ok-into_steps.steps.items) own.machine
-    (subst (λ k. AreStepsKnownBy (form_by k (state_form (g.M.Machine.form_of c.args.expansion.machine)))
+    (subst (λ k. AreStepsKnownBy (label_by g.M.Machine.whole_code g.M.Form.Coded.code
+    (g.M.Machine.form_of c.args.expansion.machine) k)
     c.in-Ok-into_steps.steps.items) merge c.in-Ok-into_steps.ensures.known)
 
 pub returns-in-Ok-into_steps-clause-entered : goal.returns-in-Ok-into_steps-clause-entered

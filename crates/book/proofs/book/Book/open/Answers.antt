@@ -1,12 +1,15 @@
 use Rattle.std.proofs.Common.{subst, refl}
 use Rattle.sched_program.specs.Program.{IsWithinLimits}
-use Rattle.book.proofs.Machines.{first_book}
+use Rattle.tree_machine.specs.Laws.Codes.{state_code_tells}
+use Rattle.book.proofs.Machines.{counted_by_label, first_book}
 use Rattle.book.proofs.book.Book.open.Goals as goal
 
 pub invariant_of-result : goal.invariant_of-result
 invariant_of-result g c =
     let rules = g.M.Machine.rules in
     let bound = g.met.M.Machine g.world.𝓛 g.world.𝓜 g.world.𝓡 ((λ s x. x), (λ x. x), (λ x. x), λ x. x) in
+    let coded = g.met.M.Form.Coded g.world.𝓛 g.world.𝓜 g.world.𝓡 ((λ s x. x), (λ x. x), (λ x. x), λ x. x) in
+    let tested = g.met.M.Form.Exact g.world.𝓛 g.world.𝓜 g.world.𝓡 ((λ s x. x), (λ x. x), (λ x. x), λ x. x) in
     let first = c.in_ok-table.ensures in
     let states = c.tests_exactly.ensures in
     let forms = c.tests_exactly-2.ensures in
@@ -17,6 +20,11 @@ invariant_of-result g c =
           (subst IsWithinLimits c.program.view_is c.program.invariant) first.2 first.5 first.6
           c.requires.some c.requires.few,
       refl,
+      counted_by_label g.M.Loc.PartialEq.eq g.M.Mem.PartialEq.eq g.M.Form.PartialEq.eq
+          (g.M.Machine.form_of c.args.machine) (rules c.args.machine) c.args.program (bound.lawful c.args.machine)
+          (bound.forms c.args.machine) states.exact states.laws forms.exact forms.laws g.M.Machine.whole_code
+          g.M.Form.Coded.code (state_code_tells g.M.Machine.whole_code bound.tells)
+          (coded.codes tested.exact) c.args.merge,
     )
 
 pub returns-clause-start : goal.returns-clause-start

@@ -8,8 +8,9 @@ pub overflow_sub-entered : goal.overflow_sub-entered
 overflow_sub-entered g c =
     let xs = c.args.successors.items in
     let put =
-    put_in c.self.invariant.0 c.args.self.now c.self.view_is xs c.requires.known c.self.inside.table.forms
-    c.self.invariant.1 c.args.id c.append_new.new.self.entries c.in-Ok.ensures.put in
+    put_in c.self.invariant.0 c.args.self.now c.self.view_is xs g.M.Machine.whole_code g.M.Form.Coded.code
+    c.requires.known c.self.inside.table.labels
+    c.self.invariant.1 c.self.invariant.2 c.args.id c.append_new.new.self.entries c.in-Ok.ensures.put in
     grown c.self.invariant.0 c.args.self.now c.self.view_is xs c.args.id c.requires.taken c.append_new.new.self.entries
     put c.len-was.result c.len.result c.len-steps.result c.len-was.ensures c.len.ensures
     (c.len-steps.ensures ∙ c.args.successors.ok.0)
@@ -18,8 +19,9 @@ pub overflow_sub-met : goal.overflow_sub-met
 overflow_sub-met g c =
     let xs = c.args.successors.items in
     let put =
-    put_in c.self.invariant.0 c.args.self.now c.self.view_is xs c.requires.known c.self.inside.table.forms
-    c.self.invariant.1 c.args.id c.append_new.new.self.entries c.in-Ok.ensures.put in
+    put_in c.self.invariant.0 c.args.self.now c.self.view_is xs g.M.Machine.whole_code g.M.Form.Coded.code
+    c.requires.known c.self.inside.table.labels
+    c.self.invariant.1 c.self.invariant.2 c.args.id c.append_new.new.self.entries c.in-Ok.ensures.put in
     entered_few c.self.invariant.0 c.args.self.now c.self.view_is xs c.args.id c.requires.taken
     c.append_new.new.self.entries put c.len-was.result c.len.result c.len-steps.result c.len-was.ensures
     c.len.ensures
@@ -29,8 +31,9 @@ pub mark_expanded-requires : goal.mark_expanded-requires
 mark_expanded-requires g c =
     let xs = c.args.successors.items in
     let put =
-    put_in c.self.invariant.0 c.args.self.now c.self.view_is xs c.requires.known c.self.inside.table.forms
-    c.self.invariant.1 c.args.id c.append_new.new.self.entries c.in-Ok.ensures.put in
+    put_in c.self.invariant.0 c.args.self.now c.self.view_is xs g.M.Machine.whole_code g.M.Form.Coded.code
+    c.requires.known c.self.inside.table.labels
+    c.self.invariant.1 c.self.invariant.2 c.args.id c.append_new.new.self.entries c.in-Ok.ensures.put in
     is_taken_still c.self.invariant.0 c.args.self.now c.self.view_is xs c.args.id c.requires.taken
     c.append_new.new.self.entries put (length c.self.inside.table.entries) (length c.append_new.new.self.entries)
     (length xs)
@@ -40,8 +43,9 @@ pub overflow_add-self : goal.overflow_add-self
 overflow_add-self g c =
     let xs = c.args.successors.items in
     let put =
-    put_in c.self.invariant.0 c.args.self.now c.self.view_is xs c.requires.known c.self.inside.table.forms
-    c.self.invariant.1 c.args.id c.append_new.new.self.entries c.in-Ok.ensures.put in
+    put_in c.self.invariant.0 c.args.self.now c.self.view_is xs g.M.Machine.whole_code g.M.Form.Coded.code
+    c.requires.known c.self.inside.table.labels
+    c.self.invariant.1 c.self.invariant.2 c.args.id c.append_new.new.self.entries c.in-Ok.ensures.put in
     let small : c.self.inside.met + (c.len-steps.result - (c.len.result - c.len-was.result)) < 2 ^ 64 =
     met_is_small c.self.invariant.0 c.args.self.now c.self.view_is xs c.args.id c.requires.taken
     c.append_new.new.self.entries put c.len-was.result c.len.result c.len-steps.result c.len-was.ensures
@@ -53,16 +57,19 @@ pub invariant_of-self-in-Ok : goal.invariant_of-self-in-Ok
 invariant_of-self-in-Ok g c =
     let xs = c.args.successors.items in
     let put =
-    put_in c.self.invariant.0 c.args.self.now c.self.view_is xs c.requires.known c.self.inside.table.forms
-    c.self.invariant.1 c.args.id c.append_new.new.self.entries c.in-Ok.ensures.put in (
+    put_in c.self.invariant.0 c.args.self.now c.self.view_is xs g.M.Machine.whole_code g.M.Form.Coded.code
+    c.requires.known c.self.inside.table.labels
+    c.self.invariant.1 c.self.invariant.2 c.args.id c.append_new.new.self.entries c.in-Ok.ensures.put in (
       book_entered c.self.invariant.0 c.args.self.now c.self.view_is xs c.args.id c.requires.taken
           c.append_new.new.self.entries put c.len-was.result c.len.result c.len-steps.result c.len-was.ensures
           c.len.ensures
           (c.len-steps.ensures ∙ c.args.successors.ok.0) c.mark_expanded.new.self c.mark_expanded.ensures
           c.in-Ok.ensures.room,
-      still_known c.self.invariant.0 c.args.self.now c.self.view_is xs c.requires.known c.self.inside.table.forms
-          c.self.invariant.1 c.args.id c.append_new.new.self c.in-Ok.ensures.known
+      still_known c.self.invariant.0 c.args.self.now c.self.view_is xs g.M.Machine.whole_code g.M.Form.Coded.code
+          c.requires.known c.self.inside.table.labels
+          c.self.invariant.1 c.self.invariant.2 c.args.id c.append_new.new.self c.in-Ok.ensures.known
           c.mark_expanded.new.self c.mark_expanded.ensures,
+      c.self.invariant.2,
     )
 
 pub returns-in-Err-Full-clause-full : goal.returns-in-Err-Full-clause-full
@@ -71,16 +78,18 @@ returns-in-Err-Full-clause-full g c =
     rw (← c.self.view_is)
     (inr (
       refl,
-      no_room c.self.invariant.0 c.args.self.now c.self.view_is c.args.successors.items c.requires.known
-          c.self.inside.table.forms c.self.invariant.1 c.self.inside.limit full,
+      no_room c.self.invariant.0 c.args.self.now c.self.view_is c.args.successors.items g.M.Machine.whole_code
+          g.M.Form.Coded.code c.requires.known
+          c.self.inside.table.labels c.self.invariant.1 c.self.invariant.2 c.self.inside.limit full,
     ))
 
 pub returns-in-Ok-clause-entries : goal.returns-in-Ok-clause-entries
 returns-in-Ok-clause-entries g c =
     let xs = c.args.successors.items in
     let put =
-    put_in c.self.invariant.0 c.args.self.now c.self.view_is xs c.requires.known c.self.inside.table.forms
-    c.self.invariant.1 c.args.id c.append_new.new.self.entries c.in-Ok.ensures.put in
+    put_in c.self.invariant.0 c.args.self.now c.self.view_is xs g.M.Machine.whole_code g.M.Form.Coded.code
+    c.requires.known c.self.inside.table.labels
+    c.self.invariant.1 c.self.invariant.2 c.args.id c.append_new.new.self.entries c.in-Ok.ensures.put in
     rw (← c.self.view_is)
     (entries_entered c.self.invariant.0 c.args.self.now c.self.view_is xs c.args.id c.requires.taken
     c.append_new.new.self.entries put c.len-was.result c.len.result c.len-steps.result
@@ -91,8 +100,9 @@ pub returns-in-Ok-clause-counts : goal.returns-in-Ok-clause-counts
 returns-in-Ok-clause-counts g c =
     let xs = c.args.successors.items in
     let put =
-    put_in c.self.invariant.0 c.args.self.now c.self.view_is xs c.requires.known c.self.inside.table.forms
-    c.self.invariant.1 c.args.id c.append_new.new.self.entries c.in-Ok.ensures.put in
+    put_in c.self.invariant.0 c.args.self.now c.self.view_is xs g.M.Machine.whole_code g.M.Form.Coded.code
+    c.requires.known c.self.inside.table.labels
+    c.self.invariant.1 c.self.invariant.2 c.args.id c.append_new.new.self.entries c.in-Ok.ensures.put in
     let steps = c.len-steps.ensures ∙ c.args.successors.ok.0 in
     rw (← c.self.view_is) (
       entered_count c.self.invariant.0 c.args.self.now c.self.view_is xs c.args.id c.requires.taken

@@ -1,9 +1,8 @@
 use Rattle.std.proofs.Common.{ap, position, ◌∙◌}
-use Rattle.tree_machine.specs.Alike.{state_form}
 use Rattle.tree_machine.specs.declared.state.State.{State}
 use Rattle.book.specs.declared.entry.Mark.TheVariants.{Taken}
 use Rattle.book.specs.Entries.{Contents, Entry, is_open}
-use Rattle.book.specs.Labels.{form_by}
+use Rattle.book.specs.Labels.{label_by}
 use Rattle.book.proofs.Holding.{open_is_left}
 use Rattle.book.proofs.InBook.{next_taken, taken_one}
 use Rattle.book.proofs.Labels.{known_mark}
@@ -23,8 +22,9 @@ invariant_of-self g c =
     let s = c.self.inside in
     rw c.mark_taken.ensures (
       next_taken c.self.invariant.0 c.args.self.now c.self.view_is c.in-Some.id c.in-Some.ensures.next,
-      known_mark (form_by s.merge (state_form (g.M.Machine.form_of s.machine))) s.table c.in-Some.id Taken
-          c.self.invariant.1,
+      known_mark (label_by g.M.Machine.whole_code g.M.Form.Coded.code (g.M.Machine.form_of s.machine) s.merge) s.table
+          c.in-Some.id Taken c.self.invariant.1,
+      c.self.invariant.2,
     )
 
 pub returns-clause-taken : goal.returns-clause-taken

@@ -1,10 +1,9 @@
 use Rattle.std.specs.List.{range_with_len}
 use Rattle.std.proofs.Common.{◌-◌, ap, position, ◌∙◌}
-use Rattle.tree_machine.specs.Alike.{state_form}
 use Rattle.tree_machine.specs.declared.state.State.{State}
 use Rattle.book.specs.declared.entry.Mark.TheVariants.{Taken}
 use Rattle.book.specs.Entries.{Contents, Entry, is_open}
-use Rattle.book.specs.Labels.{form_by}
+use Rattle.book.specs.Labels.{label_by}
 use Rattle.book.proofs.Holding.{open_is_left}
 use Rattle.book.proofs.InBook.{layer_given, layer_taken, states_few, states_fit}
 use Rattle.book.proofs.Labels.{known_marks}
@@ -27,8 +26,9 @@ invariant_of-self g c =
     rw c.mark_range_taken.ensures (
       layer_taken c.self.invariant.0 c.args.self.now c.self.view_is c.in-Some.start end.result c.steps_at.result
           next.next next.open next.above c.steps_at.ensures end.ensures.below end.ensures.above end.ensures.within,
-      known_marks (form_by s.merge (state_form (g.M.Machine.form_of s.machine))) s.table
+      known_marks (label_by g.M.Machine.whole_code g.M.Form.Coded.code (g.M.Machine.form_of s.machine) s.merge) s.table
           (range_with_len c.in-Some.start (end.result - c.in-Some.start)) Taken c.self.invariant.1,
+      c.self.invariant.2,
     )
 
 pub returns-clause-taken : goal.returns-clause-taken

@@ -1,9 +1,8 @@
 use Rattle.std.proofs.Common.{◌≡◌, sym, subst, rules}
 use denote.Enum.Bare.{same_true}
-use Rattle.tree_machine.specs.Alike.{state_form}
 use Rattle.tree_machine.proofs.Lists.{map-get}
 use Rattle.book.specs.contracts.book.Merge.{the_type}
-use Rattle.book.specs.Labels.{AreStepsKnownBy, bare, form_by}
+use Rattle.book.specs.Labels.{AreStepsKnownBy, bare, label_by}
 use Rattle.book.proofs.expansion.Expansion.into_steps.Goals as goal
 
 pub labelled-requires-after_bounds : goal.labelled-requires-after_bounds
@@ -16,7 +15,8 @@ returns-then-eq-clause-known g c =
     let same : s.merge ≡ c.args.merge = same_true the_type (search rules) _ _ (sym c.if-eq.ensures) in
     rw (← c.self.view_is)
     (subst (λ merge. AreStepsKnownBy
-    (form_by merge (state_form {Machine = g.row.M.Denot} (g.M.Machine.form_of s.machine))) s.successors.items) same
+    (label_by {Machine = g.row.M.Denot} g.M.Machine.whole_code g.M.Form.Coded.code
+    (g.M.Machine.form_of s.machine) merge) s.successors.items) same
     c.self.invariant.1)
 
 pub returns-else-eq-clause-steps : goal.returns-else-eq-clause-steps

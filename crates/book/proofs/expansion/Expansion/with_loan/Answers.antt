@@ -1,7 +1,6 @@
 use Rattle.std.proofs.Common.{◌≡◌, ◌≤◌, length, ap, ◌∙◌, refl, subst, arith}
-use Rattle.tree_machine.specs.Alike.{state_form}
 use Rattle.book.specs.Findings.{machine_of, IsFindingOf}
-use Rattle.book.specs.Labels.{bare, bares, form_by}
+use Rattle.book.specs.Labels.{bare, bares, label_by}
 use Rattle.book.proofs.Expanding.{IsFront, front_none, front_same, front_turn, expansion_from_front}
 use Rattle.book.proofs.Labels.{bares_more, steps_known_more}
 use Rattle.book.proofs.expansion.Expansion.with_loan.Goals as goal
@@ -41,9 +40,10 @@ loop-thread-preserved g c =
       known = elim c.match-step.branch [
         | in-Some+in_ok-push w ↦
             rw (w.successors-is, w.in_ok-push.ensures.items)
-            (steps_known_more (form_by c.args.merge (state_form (g.M.Machine.form_of c.args.machine))) was
+            (steps_known_more (label_by g.M.Machine.whole_code g.M.Form.Coded.code
+            (g.M.Machine.form_of c.args.machine) c.args.merge) was
             w.in-Some.next c.loop-thread.invariant.known
-            (rw w.in-Some.is at c.in_ok-step.ensures.form))
+            (rw w.in-Some.is at c.in_ok-step.ensures.label))
         | in_default w ↦ rw w.successors-is c.loop-thread.invariant.known
       ];
     }

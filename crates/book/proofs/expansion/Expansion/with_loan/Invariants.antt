@@ -1,7 +1,6 @@
-use Rattle.tree_machine.specs.Alike.{state_form}
 use Rattle.tree_machine.specs.History.{history_of}
 use Rattle.book.specs.Findings.{machine_of, IsFindingOf, IsLoan}
-use Rattle.book.specs.Labels.{AreStepsKnownBy, bares, form_by}
+use Rattle.book.specs.Labels.{AreStepsKnownBy, bares, label_by}
 use Rattle.book.proofs.Expanding.{IsFront}
 use Rattle.book.proofs.expansion.Expansion.with_loan.Given as goal
 
@@ -12,5 +11,6 @@ invariant-loop-thread g l =
       front : IsFront
           (machine_of {Machine = g.row.M.Denot} {Form = g.row.M-Form.Denot} (g.M.Machine.rules l.machine) l.program)
           (IsFindingOf (g.M.Machine.rules l.machine) l.program) l.state l.thread (bares l.successors.items);
-      known : AreStepsKnownBy (form_by l.merge (state_form (g.M.Machine.form_of l.machine))) l.successors.items;
+      known : AreStepsKnownBy (label_by g.M.Machine.whole_code g.M.Form.Coded.code
+          (g.M.Machine.form_of l.machine) l.merge) l.successors.items;
     }

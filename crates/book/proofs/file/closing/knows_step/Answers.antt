@@ -1,9 +1,9 @@
-use Rattle.std.proofs.Common.{◌≡◌, ◌∙◌, Some, None, Err, true, false, sym, ap, subst}
+use Rattle.std.proofs.Common.{◌≡◌, ◌∙◌, Some, None, Err, true, false, sym, ap, subst, nat_eq, List, ℕ}
 use Rattle.std.proofs.lemmas.Option.{same_Some}
 use Rattle.std.specs.HashSet.{contains}
-use Rattle.tree_machine.specs.Alike.{FormContent, state_form}
+use Rattle.book.specs.Labels.{named_by}
 use Rattle.tree_machine.specs.Step.{step}
-use Rattle.tree_machine.specs.StateEq.{state_form_eq}
+use Rattle.std.specs.Cmp.Lexicographic.{pointwise}
 use Rattle.tree_machine.specs.declared.state.State.{State}
 use Rattle.book.proofs.file.closing.knows_step.Goals as goal
 
@@ -16,19 +16,19 @@ returns-in-Err-NotEnabled-clause-known g c =
 pub returns-in_ok-form-in-Ok-clause-known : goal.returns-in_ok-form-in-Ok-clause-known
 returns-in_ok-form-in-Ok-clause-known g c =
     let known =
-    λ (f : FormContent g.row.M-Form.Denot). contains (state_form_eq g.M.Form.PartialEq.eq) c.args.forms.now f in
+    λ (f : List ℕ). contains (pointwise nat_eq) c.args.forms.now f in
     let key =
     λ (yes : c.contains.result ≡ true). subst (λ f. known f ≡ true) c.in_ok-form-in-Ok.ensures
     (sym c.contains.ensures ∙ yes) in
     λ yes next leads. subst
     (λ (s : State g.row.M.Denot g.row.M-Mem.Denot g.row.M-Loc.Denot g.row.M-Form.Denot). known
-    (state_form (g.M.Machine.form_of c.args.machine) s) ≡ true)
+    (named_by g.M.Form.Coded.code (g.M.Machine.form_of c.args.machine) s) ≡ true)
     (same_Some c.in-Ok.next next (sym c.in-Ok.ensures.step ∙ leads)) (key yes)
 
 pub returns-in_ok-form-in-Ok-clause-new : goal.returns-in_ok-form-in-Ok-clause-new
 returns-in_ok-form-in-Ok-clause-new g c =
     let known =
-    λ (f : FormContent g.row.M-Form.Denot). contains (state_form_eq g.M.Form.PartialEq.eq) c.args.forms.now f in
+    λ (f : List ℕ). contains (pointwise nat_eq) c.args.forms.now f in
     λ no. (
       c.in-Ok.next,
       c.in-Ok.ensures.step,

@@ -1,15 +1,15 @@
-use Rattle.std.proofs.Common.{◌≡◌, ◌≤◌, length, ap, arith}
+use Rattle.std.proofs.Common.{◌≡◌, ◌≤◌, length, ap, arith, nat_eq}
 use Rattle.std.specs.HashSet.{contains}
-use Rattle.tree_machine.specs.Alike.{state_form}
-use Rattle.tree_machine.specs.StateEq.{state_form_eq}
+use Rattle.book.specs.Labels.{named_by}
+use Rattle.std.specs.Cmp.Lexicographic.{pointwise}
 use Rattle.book.proofs.BookFile.Known.{no_more_threads, one_more_thread}
 use Rattle.book.proofs.file.closing.leads_out.Goals as goal
 
 pub loop-thread-preserved : goal.loop-thread-preserved
 loop-thread-preserved g c =
     one_more_thread (g.M.Machine.rules c.args.machine) c.args.program.now
-    (state_form (g.M.Machine.form_of c.args.machine))
-    (contains (state_form_eq g.M.Form.PartialEq.eq) c.args.forms.now) c.args.state.now c.loop-thread.thread
+    (named_by g.M.Form.Coded.code (g.M.Machine.form_of c.args.machine))
+    (contains (pointwise nat_eq) c.args.forms.now) c.args.state.now c.loop-thread.thread
     (c.in_ok-knows_step.ensures.known c.if-not-branch.false) c.loop-thread.invariant
 
 pub returns-clause-none : goal.returns-clause-none
@@ -19,8 +19,8 @@ returns-clause-none g c =
     let all : length c.threads.result.now ≡ length c.args.program.now.threads = ap length c.threads.ensures.value in
     let many : length c.args.program.now.threads ≤ c.loop-thread.thread = omega arith in
     λ _. no_more_threads (g.M.Machine.rules c.args.machine) c.args.program.now (bound.lawful c.args.machine)
-    c.threads.ensures.limits (state_form (g.M.Machine.form_of c.args.machine))
-    (contains (state_form_eq g.M.Form.PartialEq.eq) c.args.forms.now) c.args.state.now c.loop-thread.thread many
+    c.threads.ensures.limits (named_by g.M.Form.Coded.code (g.M.Machine.form_of c.args.machine))
+    (contains (pointwise nat_eq) c.args.forms.now) c.args.state.now c.loop-thread.thread many
     c.loop-thread.invariant
 
 pub returns-then-not-branch-clause-out : goal.returns-then-not-branch-clause-out

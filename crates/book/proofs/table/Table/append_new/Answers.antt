@@ -14,8 +14,8 @@ pub first_fault_from-self-inside-requires : goal.first_fault_from-self-inside-re
 first_fault_from-self-inside-requires g c =
     let s = c.self.inside in
     let es : List (Entry g.row.S.Denot) = entries_of s.slots.entries in
-    let us : List (Successor (Labelled g.row.S.Denot g.row.F.Denot)) =
-    unknown (same_label g.S.PartialEq.eq g.F.PartialEq.eq) (states (map keyed_of s.slots.entries))
+    let us : List (Successor (Labelled g.row.S.Denot)) =
+    unknown (same_label) (states (map keyed_of s.slots.entries))
     c.args.successors.items in
     let more : List (Entry g.row.S.Denot) = map (opened c.args.parent) (bares us) in
     let put = appended_entries s.slots.entries c.put_steps.new.slots.entries c.args.parent us c.in-Ok.ensures.put in
@@ -29,8 +29,8 @@ first_fault_from-self-inside-requires g c =
 pub invariant_of-self-in-None : goal.invariant_of-self-in-None
 invariant_of-self-in-None g c =
     let s = c.self.inside in
-    let us : List (Successor (Labelled g.row.S.Denot g.row.F.Denot)) =
-    unknown (same_label g.S.PartialEq.eq g.F.PartialEq.eq) (states (map keyed_of s.slots.entries))
+    let us : List (Successor (Labelled g.row.S.Denot)) =
+    unknown (same_label) (states (map keyed_of s.slots.entries))
     c.args.successors.items in
     let put = appended_entries s.slots.entries c.put_steps.new.slots.entries c.args.parent us c.in-Ok.ensures.put in (
       rw put (cursors_appended (entries_of s.slots.entries) s.next_open s.first_left s.fault c.self.invariant.0
@@ -43,8 +43,8 @@ invariant_of-self-in-None g c =
 pub invariant_of-self-in-Some : goal.invariant_of-self-in-Some
 invariant_of-self-in-Some g c =
     let s = c.self.inside in
-    let us : List (Successor (Labelled g.row.S.Denot g.row.F.Denot)) =
-    unknown (same_label g.S.PartialEq.eq g.F.PartialEq.eq) (states (map keyed_of s.slots.entries))
+    let us : List (Successor (Labelled g.row.S.Denot)) =
+    unknown (same_label) (states (map keyed_of s.slots.entries))
     c.args.successors.items in
     let put = appended_entries s.slots.entries c.put_steps.new.slots.entries c.args.parent us c.in-Ok.ensures.put in
     let some : position (λ (e : Entry g.row.S.Denot). not (is_sound e.finding)) (entries_of s.slots.entries)
@@ -60,15 +60,15 @@ invariant_of-self-in-Some g c =
 pub returns-then-len-limit-clause-full : goal.returns-then-len-limit-clause-full
 returns-then-len-limit-clause-full g c =
     let s = c.self.inside in
-    rw (← c.self.view_is) (λ _ form_of known steps.
+    rw (← c.self.view_is) (λ _ label_of known steps.
     let put : entries_of c.put_steps.new.slots.entries ≡ entries_of s.slots.entries
     ++ map (opened c.args.parent)
-    (unknown (same_as g.S.PartialEq.eq g.F.PartialEq.eq form_of) (states (entries_of s.slots.entries))
+    (unknown (same_as label_of) (states (entries_of s.slots.entries))
     (bares c.args.successors.items)) =
-    put_entries g.S.PartialEq.eq g.F.PartialEq.eq form_of s.slots.entries c.put_steps.new.slots.entries c.args.parent
+    put_entries label_of s.slots.entries c.put_steps.new.slots.entries c.args.parent
     c.args.successors.items c.in-Ok.ensures.put known steps in
     let us : List (Successor g.row.S.Denot) =
-    unknown (same_as g.S.PartialEq.eq g.F.PartialEq.eq form_of) (states (entries_of s.slots.entries))
+    unknown (same_as label_of) (states (entries_of s.slots.entries))
     (bares c.args.successors.items) in
     let more : c.args.limit < c.len.result = c.if-len-limit.true in
     let n : c.len.result ≡ length c.put_steps.new.slots.entries = c.len.ensures.len in
@@ -83,27 +83,27 @@ returns-then-len-limit-clause-full g c =
 pub returns-in-Some-clause-put : goal.returns-in-Some-clause-put
 returns-in-Some-clause-put g c =
     let s = c.self.inside in
-    rw (← c.self.view_is) (λ form_of known steps.
-    put_entries g.S.PartialEq.eq g.F.PartialEq.eq form_of s.slots.entries c.put_steps.new.slots.entries c.args.parent
+    rw (← c.self.view_is) (λ label_of known steps.
+    put_entries label_of s.slots.entries c.put_steps.new.slots.entries c.args.parent
     c.args.successors.items c.in-Ok.ensures.put known steps)
 
 pub returns-in-Some-clause-known : goal.returns-in-Some-clause-known
 returns-in-Some-clause-known g c =
     let s = c.self.inside in
-    rw (← c.self.view_is) (λ form_of known steps.
-    put_known g.S.PartialEq.eq g.F.PartialEq.eq form_of s.slots.entries c.put_steps.new.slots.entries c.args.parent
+    rw (← c.self.view_is) (λ label_of known steps.
+    put_known label_of s.slots.entries c.put_steps.new.slots.entries c.args.parent
     c.args.successors.items c.in-Ok.ensures.put known steps)
 
 pub returns-in-None-clause-put : goal.returns-in-None-clause-put
 returns-in-None-clause-put g c =
     let s = c.self.inside in
-    rw (← c.self.view_is) (λ form_of known steps.
-    put_entries g.S.PartialEq.eq g.F.PartialEq.eq form_of s.slots.entries c.put_steps.new.slots.entries c.args.parent
+    rw (← c.self.view_is) (λ label_of known steps.
+    put_entries label_of s.slots.entries c.put_steps.new.slots.entries c.args.parent
     c.args.successors.items c.in-Ok.ensures.put known steps)
 
 pub returns-in-None-clause-known : goal.returns-in-None-clause-known
 returns-in-None-clause-known g c =
     let s = c.self.inside in
-    rw (← c.self.view_is) (λ form_of known steps.
-    put_known g.S.PartialEq.eq g.F.PartialEq.eq form_of s.slots.entries c.put_steps.new.slots.entries c.args.parent
+    rw (← c.self.view_is) (λ label_of known steps.
+    put_known label_of s.slots.entries c.put_steps.new.slots.entries c.args.parent
     c.args.successors.items c.in-Ok.ensures.put known steps)

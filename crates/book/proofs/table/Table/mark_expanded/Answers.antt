@@ -41,7 +41,7 @@ pub invariant_of-self : goal.invariant_of-self
 invariant_of-self g c =
     let s = c.self.inside in
     let taken : IsTaken (entries_of s.slots.entries) c.args.index =
-    subst (λ (k : Kept g.row.S.Denot g.row.F.Denot). IsTaken k.entries c.args.index) (sym c.self.view_is)
+    subst (λ (k : Kept g.row.S.Denot). IsTaken k.entries c.args.index) (sym c.self.view_is)
     c.requires in
     let is_left : IsFirstLeft (with_mark (entries_of s.slots.entries) c.args.index Expanded)
     c.first_left_from-left.result =

@@ -14,14 +14,14 @@ invariant_of-self g c =
     let s = c.self.inside in
     let first : position (λ (e : Entry g.row.S.Denot). is_open e.mark) (entries_of s.slots.entries)
     ≡ Some c.args.start =
-    ap (λ (k : Kept g.row.S.Denot g.row.F.Denot). position (λ (e : Entry g.row.S.Denot). is_open e.mark) k.entries)
+    ap (λ (k : Kept g.row.S.Denot). position (λ (e : Entry g.row.S.Denot). is_open e.mark) k.entries)
     c.self.view_is ∙ c.requires.first in
     let start : c.args.start ≡ s.next_open =
     cursor_is (entries_of s.slots.entries) s.next_open s.first_left s.fault c.self.invariant.0 c.args.start first in
     let le : c.args.start ≤ c.args.end = c.requires.some in
     let within : c.args.end ≤ length c.args.self.now.entries = c.requires.within in
     let l : length (entries_of s.slots.entries) ≡ length c.args.self.now.entries =
-    ap (λ (k : Kept g.row.S.Denot g.row.F.Denot). length k.entries) c.self.view_is in
+    ap (λ (k : Kept g.row.S.Denot). length k.entries) c.self.view_is in
     let ends : s.next_open + (c.args.end - s.next_open) ≡ c.args.end = omega arith in
     let cursors =
     rw ends at

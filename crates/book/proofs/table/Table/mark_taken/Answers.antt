@@ -12,7 +12,7 @@ invariant_of-self g c =
     let s = c.self.inside in
     let first : position (λ (e : Entry g.row.S.Denot). is_open e.mark) (entries_of s.slots.entries)
     ≡ Some c.args.index =
-    ap (λ (k : Kept g.row.S.Denot g.row.F.Denot). position (λ (e : Entry g.row.S.Denot). is_open e.mark) k.entries)
+    ap (λ (k : Kept g.row.S.Denot). position (λ (e : Entry g.row.S.Denot). is_open e.mark) k.entries)
     c.self.view_is ∙ c.requires.first in
     rw c.mark_at.ensures.entries (
       cursors_taken (entries_of s.slots.entries) s.next_open s.first_left s.fault c.self.invariant.0 c.args.index first,

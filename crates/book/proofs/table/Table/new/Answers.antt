@@ -20,8 +20,8 @@ invariant_of-result g c =
     let empty : c.new-slots.result.entries ≡ [] = c.new-slots.ensures.empty in
     let one : c.put_new.new.slots.entries ≡ (c.args.known, row) ∷ [] =
     c.in_ok-put_new.ensures.put
-    ∙ (ap (λ (es : List (Labelled g.row.S.Denot g.row.F.Denot × Row)). es
-    ++ cond (list_any (same_label g.S.PartialEq.eq g.F.PartialEq.eq c.args.known) (keys_of es)) []
+    ∙ (ap (λ (es : List (Labelled g.row.S.Denot × Row)). es
+    ++ cond (list_any (same_label c.args.known) (keys_of es)) []
     ((c.args.known, c.in_ok-row.row) ∷ [])) empty
     ∙ ap (λ (packed : Row). (c.args.known, packed) ∷ []) c.in_ok-row.ensures.row) in
     let fault : c.if-is_sound.fault ≡ cond (is_sound c.args.finding) None (Some 0) = (elim c.if-is_sound.branch [

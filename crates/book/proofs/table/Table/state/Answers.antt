@@ -8,7 +8,7 @@ pub returns : goal.returns
 returns g c =
     let s = c.self.inside in
     let here : IsLeft (entries_of s.slots.entries) c.args.index =
-    subst (λ (k : Kept g.row.S.Denot g.row.F.Denot). IsLeft k.entries c.args.index) (sym c.self.view_is)
+    subst (λ (k : Kept g.row.S.Denot). IsLeft k.entries c.args.index) (sym c.self.view_is)
     c.requires in
     let le : s.first_left ≤ c.args.index =
     left_from (entries_of s.slots.entries) s.first_left c.args.index c.self.invariant.0.left here in

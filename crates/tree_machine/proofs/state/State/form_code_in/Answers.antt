@@ -1,5 +1,5 @@
 use Rattle.tree_machine.proofs.Forms.{held_in_range}
-use Rattle.tree_machine.proofs.state.State.form_in.Goals as goal
+use Rattle.tree_machine.proofs.state.State.form_code_in.Goals as goal
 
 pub write_form-requires-clause-places_in_range : goal.write_form-requires-clause-places_in_range
 write_form-requires-clause-places_in_range g c =
