@@ -7,7 +7,6 @@ use Rattle.std.specs.declared.cmp.PartialEq as partial
 use Rattle.std.specs.declared.hash.Hash as hash
 use Rattle.sched_program.specs.contracts.program.Program as Program
 use Rattle.tree_machine.specs.contracts.state.State as State
-use Rattle.tree_machine.specs.declared.coded.Coded as coded
 use Rattle.tree_machine.specs.declared.machine.Machine as machine
 use Rattle.book.specs.contracts.book.Book as Book
 use Rattle.book.specs.contracts.entry.PackedRow as PackedRow
@@ -44,8 +43,8 @@ module _ (M Mem Loc Form : RattleType) (m : IsSend M) (mem : IsSend Mem) (loc : 
 module _ (M Mem Loc Form : RattleType) (g : machine.Ghosts M.Denot Mem.Denot Loc.Denot Form.Denot)
     (mp : partial.Ghosts M.Denot) (ap : partial.Ghosts Mem.Denot) (ah : hash.Ghosts Mem.Denot)
     (lp : partial.Ghosts Loc.Denot) (lh : hash.Ghosts Loc.Denot)
-    (fc : coded.Ghosts Form.Denot) (fp : partial.Ghosts Form.Denot) (fh : hash.Ghosts Form.Denot)
+    (fp : partial.Ghosts Form.Denot) (fh : hash.Ghosts Form.Denot)
     (m : IsSend M) (mem : IsSend Mem) (loc : IsSend Loc) (form : IsSend Form)
     (m' : IsSync M) (mem' : IsSync Mem) (loc' : IsSync Loc) (form' : IsSync Form) where
-  pub book_send : IsSend (Book.the_row M Mem Loc Form g mp ap ah lp lh fc fp fh)
+  pub book_send : IsSend (Book.the_row M Mem Loc Form g mp ap ah lp lh fp fh)
   book_send = search (table_send, program_send, state_send, state_sync, sendable, crosses) depth 30

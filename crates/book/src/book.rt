@@ -22,11 +22,11 @@ use crate::expansion::{Expansion, Stepped, label};
 use crate::finding::find;
 use crate::leftovers::Leftovers;
 use crate::table::{Table, TableFault};
-use sched_program::{OutOfMemory, Program, same, tests_exactly};
+use sched_program::{OutOfMemory, Program, same};
 use std::alloc::Global;
 use std::marker::Model;
 use std::sync::Arc;
-use tree_machine::{Machine, Room, State, StateForm};
+use tree_machine::{Machine, Room, State};
 
 mod reading;
 
@@ -114,8 +114,8 @@ impl<M: Machine> Model for Book<M> {
           entries = b.table.entries;
           met = b.met;
         })
-        × AreKnownBy (label_by M.whole_code M.Form.code (M.form_of b.machine) b.merge) b.table
-        × (same_as {S = State M M.Mem M.Loc M.Form} (label_by M.whole_code M.Form.code (M.form_of b.machine) b.merge)
+        × AreKnownBy (label_by M.whole_code M.form_code (M.form_of b.machine) b.merge) b.table
+        × (same_as {S = State M M.Mem M.Loc M.Form} (label_by M.whole_code M.form_code (M.form_of b.machine) b.merge)
         ≡ counted_as_one M.Loc.PartialEq.eq M.Mem.PartialEq.eq M.Form.PartialEq.eq (M.form_of b.machine) b.merge) };
 }
 
@@ -137,7 +137,7 @@ fn first_table<M: Machine>(
     ensures { IfOk result (λ t. (state : State M M.Mem M.Loc M.Form) × (finding : Finding)
         × (state ≡ start (M.rules machine) program.now)
         × (t.entries ≡ record { state = state; finding = finding; origin = None; mark = Mark.Open } ∷ [])
-        × (t.labels ≡ label_by M.whole_code M.Form.code (M.form_of machine) merge state ∷ [])
+        × (t.labels ≡ label_by M.whole_code M.form_code (M.form_of machine) merge state ∷ [])
         × Fits (M.rules machine) program.now state × IsFindingOf (M.rules machine) program.now state finding) }
 {
     let state = State::start(alloc, machine, program)?;
@@ -166,8 +166,6 @@ impl<M: Machine> Book<M> {
         ensures limit { IfOk result (λ b. b.limit ≡ limit) }
         ensures merge { IfOk result (λ b. b.merge ≡ merge) }
     {
-        tests_exactly::<State<M>>();
-        tests_exactly::<StateForm<M>>();
         let table = first_table(alloc, machine, &program, merge)?;
         Ok(Book {
             machine,
@@ -287,7 +285,7 @@ impl<M: Machine> Book<M> {
         requires taken { (e : Entry (State M M.Mem M.Loc M.Form)) × At self.old.entries id e × (e.mark ≡ Mark.Taken)
             × IsExpansion (machine_in M.rules self.old) (right_in M.rules self.old) e.state (bares successors.items) }
         requires known { AreStepsKnownBy
-            (label_by M.whole_code M.Form.code (M.form_of self.old.machine) self.old.merge) successors.items }
+            (label_by M.whole_code M.form_code (M.form_of self.old.machine) self.old.merge) successors.items }
         ensures entries { OnOk result (self.new.entries
             ≡ with_successors (⟦<M as Counting>⟧.counted self.old.machine self.old.merge) self.old.entries id
             (bares successors.items)) }

@@ -69,7 +69,7 @@ pub(crate) fn label<M: Machine>(
     requires { Fits (M.rules machine) program.now state.now }
     ensures state { IfOk result (λ known. known.state ≡ state.now) }
     ensures label { IfOk result
-        (λ known. known.label ≡ label_by M.whole_code M.Form.code (M.form_of machine) merge state.now) }
+        (λ known. known.label ≡ label_by M.whole_code M.form_code (M.form_of machine) merge state.now) }
 {
     // Whoever reads a program knows that it meets the limits.
     let _ = program.initial();
@@ -92,7 +92,7 @@ fn relabelled<M: Machine>(
     requires { Fits (M.rules machine) program.now step.state.state }
     ensures same { IfOk result (λ made. bare made ≡ bare step) }
     ensures label { IfOk result (λ made. made.state.label
-        ≡ label_by M.whole_code M.Form.code (M.form_of machine) merge made.state.state) }
+        ≡ label_by M.whole_code M.form_code (M.form_of machine) merge made.state.state) }
 {
     let (thread, state, _, finding) = step.into_fields();
     let known = label(alloc, machine, program, &*state, merge, room)?;
@@ -116,7 +116,7 @@ fn labelled<M: Machine>(
         → slice_get steps.items k ≡ Some x → Fits (M.rules machine) program.now x.state.state }
     ensures same { IfOk result (λ made. bares made.items ≡ bares steps.items) }
     ensures known { IfOk result
-        (λ made. AreStepsKnownBy (label_by M.whole_code M.Form.code (M.form_of machine) merge) made.items) }
+        (λ made. AreStepsKnownBy (label_by M.whole_code M.form_code (M.form_of machine) merge) made.items) }
 {
     let mut made = Vec::with_capacity(alloc, steps.len())?;
     let mut room = Room::new(alloc);
@@ -149,7 +149,7 @@ fn step_of<M: Machine>(
         (λ o. IfSome o (λ x. IsFindingOf (M.rules machine) program.now x.state.state x.finding)) }
     ensures fits { IfOk result (λ o. IfSome o (λ x. Fits (M.rules machine) program.now x.state.state)) }
     ensures label { IfOk result (λ o. IfSome o
-        (λ x. x.state.label ≡ label_by M.whole_code M.Form.code (M.form_of machine) merge x.state.state)) }
+        (λ x. x.state.label ≡ label_by M.whole_code M.form_code (M.form_of machine) merge x.state.state)) }
     ensures none { IfOk result (λ o. IfNone o (step (M.rules machine) program.now source.now thread ≡ None)) }
 {
     let next = match source.step_in(alloc, machine, program, thread, &mut stock.spares) {
@@ -200,7 +200,7 @@ impl<'a, M: Machine> Model for Expansion<'a, M> {
       source = x.source.now;
       successors = bares x.successors.items;
     })
-        × AreStepsKnownBy (label_by M.whole_code M.Form.code (M.form_of x.machine) x.merge) x.successors.items };
+        × AreStepsKnownBy (label_by M.whole_code M.form_code (M.form_of x.machine) x.merge) x.successors.items };
 }
 
 impl<'a, M: Machine> Expansion<'a, M> {
@@ -306,7 +306,7 @@ impl<'a, M: Machine> Expansion<'a, M> {
         ensures { IsTrue result
             ↔ ((self.now.machine ≡ machine.now) × (self.now.program ≡ program.now) × (self.now.source ≡ state.now)) }
     {
-        same(&self.machine, machine) && self.program.is_same(program) && same(self.source, state)
+        self.machine == *machine && self.program.is_same(program) && same(self.source, state)
     }
 
     /// Its steps, labelled for a book that merges so.
@@ -317,7 +317,7 @@ impl<'a, M: Machine> Expansion<'a, M> {
     ) -> Result<Vec<Stepped<State<M>>>, OutOfMemory>
         ensures steps { IfOk result (λ steps. bares steps.items ≡ self.entry.successors) }
         ensures known { IfOk result
-            (λ steps. AreStepsKnownBy (label_by M.whole_code M.Form.code (M.form_of self.entry.machine) merge)
+            (λ steps. AreStepsKnownBy (label_by M.whole_code M.form_code (M.form_of self.entry.machine) merge)
             steps.items) }
         ensures law { HoldsSteps M.rules self.entry }
     {

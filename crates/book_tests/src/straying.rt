@@ -1,20 +1,17 @@
 //! A machine that goes astray.
 ghost use Rattle.std.specs.Prelude.{◌≡◌, ◌++◌, map, refl, OnOk};
+ghost use Rattle.sched_program.specs.Laws.Exact.{bool_exact, list_exact, nat_exact};
 ghost use Rattle.tree_machine.specs.Alike.{places_of};
 ghost use Rattle.book_tests.specs.Straying.{straying_rules, straying_lawful, straying_form, straying_forms};
 ghost use Rattle.book_tests.specs.Straying.{straying_tells, held_code};
 
-use sched_program::{Exact, Op, OutOfMemory};
+use sched_program::{Op, OutOfMemory};
 use std::alloc::Global;
 use tree_machine::{Bytes, Machine, Outcome, Room, Thread};
 
 /// Each operation goes astray at its second step. A place says whether the first is done.
 #[derive(Clone, Copy, PartialEq, Eq)]
 pub struct Straying;
-
-impl Exact for Straying {
-    ghost exact = { λ a b h. refl };
-}
 
 /// What a thread holds as a byte.
 fn held_byte(place: Option<bool>) -> u8
@@ -47,6 +44,8 @@ impl Machine for Straying {
     ghost rules = { λ _. straying_rules };
 
     ghost form_of = { λ _. straying_form };
+
+    ghost form_code = { λ bytes. bytes };
 
     ghost whole_code = { straying_form };
 
@@ -124,5 +123,15 @@ impl Machine for Straying {
 
     ghost forms = { λ _ memory other held twins _ _ _ _ _. straying_forms memory other held twins };
 
+    ghost form_tells = { λ a b same. same };
+
     ghost tells = { straying_tells };
+
+    ghost exact = { λ a b h. refl };
+
+    ghost memory_exact = { bool_exact };
+
+    ghost place_exact = { bool_exact };
+
+    ghost form_exact = { list_exact nat_exact };
 }

@@ -14,7 +14,6 @@ use Rattle.atomic_table.proofs.send_lease.SendLease.TheSendSync as lease
 use Rattle.std.specs.declared.cmp.PartialEq as partial
 use Rattle.std.specs.declared.hash.Hash as hash
 use Rattle.sched_program.specs.contracts.program.Program as Program
-use Rattle.tree_machine.specs.declared.coded.Coded as coded
 use Rattle.tree_machine.specs.declared.machine.Machine as machine
 use Rattle.book.specs.contracts.finding.Finding as Finding
 use Rattle.book.proofs.Crossing.{book_send, state_send, state_sync}
@@ -66,25 +65,25 @@ module _ (M Mem Loc Form : RattleType) (m : IsSend M) (mem : IsSend Mem) (loc : 
 module _ (a : NamedLft) (M Mem Loc Form : RattleType) (g : machine.Ghosts M.Denot Mem.Denot Loc.Denot Form.Denot)
     (mp : partial.Ghosts M.Denot)
     (ap : partial.Ghosts Mem.Denot) (ah : hash.Ghosts Mem.Denot) (lp : partial.Ghosts Loc.Denot)
-    (lh : hash.Ghosts Loc.Denot) (fc : coded.Ghosts Form.Denot) (fp : partial.Ghosts Form.Denot)
+    (lh : hash.Ghosts Loc.Denot) (fp : partial.Ghosts Form.Denot)
     (fh : hash.Ghosts Form.Denot)
     (m : IsSend M) (mem : IsSend Mem) (loc : IsSend Loc) (form : IsSend Form) (m' : IsSync M) (mem' : IsSync Mem)
     (loc' : IsSync Loc) (form' : IsSync Form) where
-  pub layer_sync : IsSync (Layer.the_row a M Mem Loc Form g mp ap ah lp lh fc fp fh)
+  pub layer_sync : IsSync (Layer.the_row a M Mem Loc Form g mp ap ah lp lh fp fh)
   layer_sync = search (program_sync, claims_sync, lead_send, lead_sync, sendable, crosses) depth 30 fits 10000
 
 module _ (J M Mem Loc Form : RattleType) (g : machine.Ghosts M.Denot Mem.Denot Loc.Denot Form.Denot)
     (mp : partial.Ghosts M.Denot)
     (ap : partial.Ghosts Mem.Denot) (ah : hash.Ghosts Mem.Denot) (lp : partial.Ghosts Loc.Denot)
-    (lh : hash.Ghosts Loc.Denot) (fc : coded.Ghosts Form.Denot) (fp : partial.Ghosts Form.Denot)
+    (lh : hash.Ghosts Loc.Denot) (fp : partial.Ghosts Form.Denot)
     (fh : hash.Ghosts Form.Denot)
     (r : ledgers.Ghosts J.Denot)
     (j : IsSend J) (m : IsSend M) (mem : IsSend Mem) (loc : IsSend Loc) (form : IsSend Form) (m' : IsSync M)
     (mem' : IsSync Mem) (loc' : IsSync Loc) (form' : IsSync Form) where
-  desk_send : IsSend (Desk.the_row J M Mem Loc Form g mp ap ah lp lh fc fp fh r)
+  desk_send : IsSend (Desk.the_row J M Mem Loc Form g mp ap ah lp lh fp fh r)
   desk_send = search (book_send, ledger.the_send, sendable, crosses) depth 30 fits 10000
 
   module _ (a : NamedLft) (G R : RattleType) (gate : IsSync G) (threads : IsSync R) where
     pub exploration_sync : IsSync
-        (Exploration.the_row a J M G R Mem Loc Form g mp ap ah lp lh fc fp fh r)
+        (Exploration.the_row a J M G R Mem Loc Form g mp ap ah lp lh fp fh r)
     exploration_sync = search (program_sync, desk_send, sendable, crosses) depth 30 fits 10000

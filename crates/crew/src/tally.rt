@@ -7,7 +7,7 @@ ghost use Rattle.crew.specs.Working.{IsReady};
 use crate::answer::Share;
 use crate::leads::{Leads, leads_of};
 use book::{Book, EnterFault, Expansion, Leftovers};
-use sched_program::{OutOfMemory, Program, same};
+use sched_program::{OutOfMemory, Program};
 use std::alloc::Global;
 use std::marker::{Brand, PhantomData};
 use std::sync::ledger;
@@ -165,7 +165,7 @@ pub struct Desk<J: Ledgers, M: Machine> {
 pub fn is_of<M: Machine>(book: &Book<M>, machine: M, program: &Program) -> bool
     ensures { IsTrue result ↔ ((book.now.machine ≡ machine) × (book.now.program ≡ program.now)) }
 {
-    same(&book.machine(), &machine) && book.program().is_same(program)
+    book.machine() == machine && book.program().is_same(program)
 }
 
 impl<J: Ledgers, M: Machine> Desk<J, M> {

@@ -1,10 +1,11 @@
 //! A machine with a fault for each kind of operation.
 ghost use Rattle.std.specs.Prelude.{◌≡◌, ◌++◌, map, refl, OnOk};
+ghost use Rattle.sched_program.specs.Laws.Exact.{bool_exact, list_exact, nat_exact};
 ghost use Rattle.tree_machine.specs.Alike.{places_of};
 ghost use Rattle.crew_tests.specs.Faulty.{faulty_rules, faulty_lawful, faulty_form, faulty_forms, faulty_tells};
 ghost use Rattle.crew_tests.specs.Faulty.{held_code};
 
-use sched_program::{Exact, Op, OutOfMemory};
+use sched_program::{Op, OutOfMemory};
 use std::alloc::Global;
 use tree_machine::{Bytes, Machine, Outcome, Room, Thread};
 
@@ -12,10 +13,6 @@ use tree_machine::{Bytes, Machine, Outcome, Room, Thread};
 /// A place says whether the operation's first step is done, the memory whether it is out of order.
 #[derive(Clone, Copy, PartialEq, Eq)]
 pub struct Faulty;
-
-impl Exact for Faulty {
-    ghost exact = { λ a b h. refl };
-}
 
 /// What a thread holds as a byte.
 fn held_byte(place: Option<bool>) -> u8
@@ -48,6 +45,8 @@ impl Machine for Faulty {
     ghost rules = { λ _. faulty_rules };
 
     ghost form_of = { λ _. faulty_form };
+
+    ghost form_code = { λ bytes. bytes };
 
     ghost whole_code = { faulty_form };
 
@@ -134,5 +133,15 @@ impl Machine for Faulty {
 
     ghost forms = { λ _ memory other held twins _ _ _ _ _. faulty_forms memory other held twins };
 
+    ghost form_tells = { λ a b same. same };
+
     ghost tells = { faulty_tells };
+
+    ghost exact = { λ a b h. refl };
+
+    ghost memory_exact = { bool_exact };
+
+    ghost place_exact = { bool_exact };
+
+    ghost form_exact = { list_exact nat_exact };
 }

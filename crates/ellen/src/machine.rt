@@ -3,10 +3,10 @@
 use crate::form::{form, write_all, write_form};
 use crate::helping::{first_place, help_act};
 use crate::initial::build;
-use crate::memory::{DeleteRecord, EllenMem, InsertRecord, Node, Record, UpdateWord};
-use crate::place::{Above, Base, EllenLoc, HelpLoc, Resume, SearchLoc};
+use crate::memory::EllenMem;
+use crate::place::EllenLoc;
 use crate::searching::search_act;
-use sched_program::{Exact, Op, OutOfMemory};
+use sched_program::{Op, OutOfMemory};
 use std::alloc::Global;
 use tree_machine::{Bytes, Machine, Outcome, Room, Thread, keeps_search_order};
 
@@ -24,7 +24,9 @@ impl Machine for Ellen {
     ghost use Rattle.ellen.specs.EllenRules.{ellen_rules};
     ghost use Rattle.ellen.specs.Laws.Rules.{ellen_lawful};
     ghost use Rattle.ellen.specs.Laws.Forms.{ellen_forms};
+    ghost use Rattle.sched_program.specs.Laws.Exact.{nat_exact, list_exact};
     ghost use Rattle.ellen.specs.Laws.Codes.{ellen_tells};
+    ghost use Rattle.ellen.specs.Laws.Exact.{machine_exact, memory_exact, place_exact};
     ghost use Rattle.ellen.specs.Parts.{ellen_code, ellen_form};
 
     type Mem = EllenMem;
@@ -36,6 +38,8 @@ impl Machine for Ellen {
     ghost rules = { ellen_rules };
 
     ghost form_of = { λ _. ellen_form };
+
+    ghost form_code = { λ bytes. bytes };
 
     ghost whole_code = { ellen_code };
 
@@ -109,83 +113,15 @@ impl Machine for Ellen {
 
     ghost forms = { ellen_forms };
 
-    ghost tells = { ellen_tells };
-}
+    ghost form_tells = { λ a b same. same };
 
-impl Exact for Ellen {
-    ghost use Rattle.ellen.specs.Laws.Exact.{machine_exact};
+    ghost tells = { ellen_tells };
 
     ghost exact = { machine_exact };
-}
 
-impl Exact for EllenMem {
-    ghost use Rattle.ellen.specs.Laws.Exact.{memory_exact};
+    ghost memory_exact = { memory_exact };
 
-    ghost exact = { memory_exact };
-}
+    ghost place_exact = { place_exact };
 
-impl Exact for EllenLoc {
-    ghost use Rattle.ellen.specs.Laws.Exact.{place_exact};
-
-    ghost exact = { place_exact };
-}
-
-impl Exact for SearchLoc {
-    ghost use Rattle.ellen.specs.Laws.Exact.{search_exact};
-
-    ghost exact = { search_exact };
-}
-
-impl Exact for HelpLoc {
-    ghost use Rattle.ellen.specs.Laws.Exact.{help_exact};
-
-    ghost exact = { help_exact };
-}
-
-impl Exact for UpdateWord {
-    ghost use Rattle.ellen.specs.Laws.Exact.{word_exact};
-
-    ghost exact = { word_exact };
-}
-
-impl Exact for Node {
-    ghost use Rattle.ellen.specs.Laws.Exact.{node_exact};
-
-    ghost exact = { node_exact };
-}
-
-impl Exact for InsertRecord {
-    ghost use Rattle.ellen.specs.Laws.Exact.{insert_exact};
-
-    ghost exact = { insert_exact };
-}
-
-impl Exact for DeleteRecord {
-    ghost use Rattle.ellen.specs.Laws.Exact.{delete_exact};
-
-    ghost exact = { delete_exact };
-}
-
-impl Exact for Record {
-    ghost use Rattle.ellen.specs.Laws.Exact.{record_exact};
-
-    ghost exact = { record_exact };
-}
-
-impl Exact for Above {
-    ghost use Rattle.ellen.specs.Laws.Exact.{above_exact};
-
-    ghost exact = { above_exact };
-}
-
-impl Exact for Base {
-    ghost use Rattle.ellen.specs.Laws.Exact.{base_exact};
-
-    ghost exact = { base_exact };
-}
-
-impl Exact for Resume {
-    ghost use Rattle.ellen.specs.Laws.Exact.{resume_exact};
-
-    ghost exact = { resume_exact };
+    ghost form_exact = { list_exact nat_exact };
 }

@@ -1,4 +1,5 @@
 //! The machine and its variant.
+ghost use Rattle.sched_program.specs.Laws.Exact.{nat_exact, list_exact};
 ghost use Rattle.natmit.specs.Laws.Codes.{natmit_tells};
 ghost use Rattle.natmit.specs.Laws.Exact.{machine_exact, memory_exact, place_exact};
 ghost use Rattle.natmit.specs.Laws.Forms.{natmit_forms};
@@ -10,7 +11,7 @@ use crate::form::Snapshot;
 use crate::initial::build;
 use crate::memory::NatMitMem;
 use crate::place::{Mode, NatMitLoc};
-use sched_program::{Exact, Op, OutOfMemory};
+use sched_program::{Op, OutOfMemory};
 use std::alloc::Global;
 use tree_machine::{
     Bytes, Machine, Outcome, Room, Thread, form_parts, keeps_search_order, write_parts, write_whole,
@@ -23,18 +24,6 @@ pub struct NatMit {
     pub tag: bool,
 }
 
-impl Exact for NatMit {
-    ghost exact = { machine_exact };
-}
-
-impl Exact for NatMitMem {
-    ghost exact = { memory_exact };
-}
-
-impl Exact for NatMitLoc {
-    ghost exact = { place_exact };
-}
-
 impl Machine for NatMit {
     type Mem = NatMitMem;
 
@@ -45,6 +34,8 @@ impl Machine for NatMit {
     ghost rules = { natmit_rules };
 
     ghost form_of = { λ _. natmit_form };
+
+    ghost form_code = { λ bytes. bytes };
 
     ghost whole_code = { natmit_code };
 
@@ -116,5 +107,15 @@ impl Machine for NatMit {
 
     ghost forms = { natmit_forms };
 
+    ghost form_tells = { λ a b same. same };
+
     ghost tells = { natmit_tells };
+
+    ghost exact = { machine_exact };
+
+    ghost memory_exact = { memory_exact };
+
+    ghost place_exact = { place_exact };
+
+    ghost form_exact = { list_exact nat_exact };
 }

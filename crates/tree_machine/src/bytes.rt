@@ -8,7 +8,6 @@ ghost use Rattle.tree_machine.specs.Laws.CellOrder.{nat_equivalence};
 ghost use Rattle.tree_machine.specs.ByteLists.{bytes_input};
 ghost use Rattle.tree_machine.specs.Laws.ByteLists.{bytes_fed};
 
-use crate::coded::Coded;
 use sched_program::Exact;
 use std::hash::{Hash, Hasher};
 use std::marker::Model;
@@ -60,12 +59,6 @@ impl Eq for Bytes {
 
 impl Exact for Bytes {
     ghost exact = { list_exact nat_exact };
-}
-
-impl Coded for Bytes {
-    ghost code = { λ bytes. bytes };
-
-    ghost codes = { λ _ a b same. same };
 }
 
 impl Hash for Bytes {

@@ -1,21 +1,10 @@
-//! Values in bytes, one after the other.
-ghost use Rattle.std.specs.Prelude.{◌≡◌, ◌≤◌, ◌++◌, List, ℕ, OnOk, length};
-ghost use Rattle.sched_program.specs.Exact.{IsExact};
+//! What threads did, in bytes, one value after the other.
+ghost use Rattle.std.specs.Prelude.{◌≡◌, ◌≤◌, ◌++◌, OnOk, length};
 ghost use Rattle.tree_machine.specs.Alike.{notes_of, replies_of};
-ghost use Rattle.tree_machine.specs.FormCode.{IsInjective, astray_code, list_code, note_code, reply_code};
+ghost use Rattle.tree_machine.specs.FormCode.{astray_code, list_code, note_code, reply_code};
 
 use crate::state::Thread;
-use sched_program::{Exact, Note, OutOfMemory, ShortList};
-
-/// Values that bytes tell.
-pub trait Coded: Exact {
-    /// Its bytes.
-    ghost code: { Self → List ℕ };
-
-    /// Equal bytes are bytes of equal values. That such values test equal only if they are is a premise here because a
-    /// law has to name what it may rest on.
-    ghost codes: { IsExact Self.eq → IsInjective code };
-}
+use sched_program::{Note, OutOfMemory, ShortList};
 
 /// Puts the replies of a thread behind bytes.
 #[inline(always)]

@@ -43,7 +43,7 @@ impl<M: Machine> Model for StateForm<M> {
     ghost view = { λ f. state_form (M.form_of f.machine.value) f.state.value };
 
     ghost invariant = { λ f. f.bytes
-        ≡ content_code M.Form.code (state_form (M.form_of f.machine.value) f.state.value) };
+        ≡ content_code M.form_code (state_form (M.form_of f.machine.value) f.state.value) };
 }
 
 impl<M: Machine> State<M> {
@@ -88,7 +88,7 @@ impl<M: Machine> State<M> {
     ) -> Result<Bytes, OutOfMemory>
         requires { (program : Program) × IsWithinLimits program × Fits (M.rules machine) program self.now }
         ensures { IfOk result
-            (λ bytes. bytes ≡ content_code M.Form.code (state_form (M.form_of machine) self.now)) }
+            (λ bytes. bytes ≡ content_code M.form_code (state_form (M.form_of machine) self.now)) }
     {
         let threads = self.threads.as_slice();
         room.clear();
@@ -101,7 +101,7 @@ impl<M: Machine> State<M> {
 impl<M: Machine> PartialEq for StateForm<M> {
     ghost eq = { state_form_eq M.Form.eq };
 
-    ghost laws = { partial_equiv_from_equiv (state_form_equiv M.Form.eq M.Form.exact M.Form.Eq.laws) };
+    ghost laws = { partial_equiv_from_equiv (state_form_equiv M.Form.eq M.form_exact M.Form.Eq.laws) };
 
     fn eq(&self, other: &StateForm<M>) -> bool {
         self.bytes == other.bytes
@@ -109,20 +109,20 @@ impl<M: Machine> PartialEq for StateForm<M> {
 }
 
 impl<M: Machine> Eq for StateForm<M> {
-    ghost laws = { state_form_equiv M.Form.eq M.Form.exact M.Form.Eq.laws };
+    ghost laws = { state_form_equiv M.Form.eq M.form_exact M.Form.Eq.laws };
 }
 
 impl<M: Machine> Exact for StateForm<M> {
-    ghost exact = { state_form_exact M.Form.eq M.Form.exact };
+    ghost exact = { state_form_exact M.Form.eq M.form_exact };
 }
 
 impl<M: Machine> Hash for StateForm<M> {
     ghost use Rattle.tree_machine.specs.ByteLists.{bytes_input};
 
-    ghost hash_input = { λ f. bytes_input (content_code M.Form.code f) };
+    ghost hash_input = { λ f. bytes_input (content_code M.form_code f) };
 
-    ghost respects_eq = { λ a b same. ap (λ f. bytes_input (content_code M.Form.code f))
-        (state_form_exact M.Form.eq M.Form.exact a b same) };
+    ghost respects_eq = { λ a b same. ap (λ f. bytes_input (content_code M.form_code f))
+        (state_form_exact M.Form.eq M.form_exact a b same) };
 
     fn hash<H: Hasher>(&self, state: &mut H) {
         self.bytes.hash(state);

@@ -5,7 +5,6 @@ ghost use Rattle.tree_machine.specs.Step.{Fits};
 ghost use Rattle.tree_machine.specs.FormCode.{state_code};
 
 use crate::bytes::Bytes;
-use crate::coded::Coded;
 use crate::machine::Machine;
 use crate::room::Room;
 use crate::state::State;
@@ -26,12 +25,4 @@ impl<M: Machine> State<M> {
         machine.write_whole(alloc, &self.memory, threads, room)?;
         Ok(Bytes::from_vec(Vec::from_slice(alloc, room.as_slice())?))
     }
-}
-
-impl<M: Machine> Coded for State<M> {
-    ghost use Rattle.tree_machine.specs.Laws.Codes.{state_code_tells};
-
-    ghost code = { state_code M.whole_code };
-
-    ghost codes = { λ _. state_code_tells M.whole_code M.tells };
 }

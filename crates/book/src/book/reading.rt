@@ -18,9 +18,9 @@ use crate::book::{Book, Merge, Totals, steps_at};
 use crate::counting::Counting;
 use crate::file::write_entries;
 use crate::finding::Finding;
-use sched_program::{OutOfMemory, Program, tests_exactly};
+use sched_program::{OutOfMemory, Program};
 use std::alloc::Global;
-use tree_machine::{Machine, StateForm};
+use tree_machine::Machine;
 
 impl<M: Machine> Book<M> {
     /// The lowest-numbered entry that is not sound.
@@ -127,7 +127,6 @@ impl<M: Machine> Book<M> {
             return Ok(None);
         }
         self.law();
-        tests_exactly::<StateForm<M>>();
         Ok(Some(write_entries(alloc, &self.table)?))
     }
 

@@ -28,7 +28,7 @@ fn forms_of<M: Machine>(
 ) -> Result<HashSet<Bytes>, OutOfMemory>
     requires { (i : ℕ) (s : State M M.Mem M.Loc M.Form) → slice_get states.now i ≡ Some s
         → Fits (M.rules machine) program.now s }
-    ensures { IfOk result (λ forms. AreFormsOf (pointwise nat_eq) (named_by M.Form.code (M.form_of machine))
+    ensures { IfOk result (λ forms. AreFormsOf (pointwise nat_eq) (named_by M.form_code (M.form_of machine))
         states.now (contains (pointwise nat_eq) forms)) }
 {
     // Whoever reads a program knows that it meets the limits.
@@ -56,10 +56,10 @@ fn knows_step<M: Machine>(
     requires room { state.now.steps + 1 < 2 ^ 64 }
     ensures known { IfOk result (λ yes. yes ≡ true → (next : State M M.Mem M.Loc M.Form)
         → step (M.rules machine) program.now state.now thread ≡ Some next
-        → contains (pointwise nat_eq) forms.now (named_by M.Form.code (M.form_of machine) next) ≡ true) }
+        → contains (pointwise nat_eq) forms.now (named_by M.form_code (M.form_of machine) next) ≡ true) }
     ensures new { IfOk result (λ yes. yes ≡ false → (next : State M M.Mem M.Loc M.Form)
         × (step (M.rules machine) program.now state.now thread ≡ Some next)
-        × (contains (pointwise nat_eq) forms.now (named_by M.Form.code (M.form_of machine) next) ≡ false)) }
+        × (contains (pointwise nat_eq) forms.now (named_by M.form_code (M.form_of machine) next) ≡ false)) }
 {
     // Whoever reads a program knows that it meets the limits.
     let _ = program.initial();
@@ -86,9 +86,9 @@ fn leads_out<M: Machine>(
     requires fits { Fits (M.rules machine) program.now state.now }
     requires room { state.now.steps + 1 < 2 ^ 64 }
     ensures out { IfOk result (λ yes. yes ≡ true → IsStepUnknown (M.rules machine) program.now
-        (named_by M.Form.code (M.form_of machine)) (contains (pointwise nat_eq) forms.now) state.now) }
+        (named_by M.form_code (M.form_of machine)) (contains (pointwise nat_eq) forms.now) state.now) }
     ensures none { IfOk result (λ yes. yes ≡ false → AreStepsKnown (M.rules machine) program.now
-        (named_by M.Form.code (M.form_of machine)) (contains (pointwise nat_eq) forms.now) state.now) }
+        (named_by M.form_code (M.form_of machine)) (contains (pointwise nat_eq) forms.now) state.now) }
 {
     for thread in 0..program.threads().len() as u8 {
         if !knows_step(alloc, machine, program, forms, state, thread, stock)? {

@@ -21,7 +21,7 @@ relabelled-requires-after_bounds g c =
 pub loop-step-preserved : goal.loop-step-preserved
 loop-step-preserved g c =
     let steps = rw c.in-Some.is at c.next.ensures.steps in
-    let label = label_by {Machine = g.row.M.Denot} g.M.Machine.whole_code g.M.Form.Coded.code
+    let label = label_by {Machine = g.row.M.Denot} g.M.Machine.whole_code g.M.Machine.form_code
     (g.M.Machine.form_of c.args.machine) c.args.merge in
     let more =
     labelled_more label c.loop-step.made.items c.loop-step.yielded c.in_ok-one.one c.in-Some.step

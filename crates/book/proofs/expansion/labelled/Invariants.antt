@@ -6,7 +6,7 @@ abbrev pub invariant-loop-step : goal.invariant-loop-step
 invariant-loop-step g l =
     record {
       same : bares l.made.items ≡ bares l.yielded;
-      known : AreStepsKnownBy (label_by g.M.Machine.whole_code g.M.Form.Coded.code
+      known : AreStepsKnownBy (label_by g.M.Machine.whole_code g.M.Machine.form_code
           (g.M.Machine.form_of l.machine) l.merge) l.made.items;
       rest : l.yielded ++ l.step-iterator.rest.items ≡ l.fn.steps.items;
     }

@@ -33,10 +33,10 @@ put-requires-clause-known g c =
     ap (λ (q : Contents g.row.M.Denot
     (State g.row.M.Denot g.row.M-Mem.Denot g.row.M-Loc.Denot g.row.M-Form.Denot)). q.merge) c.self.view_is in
     λ κs o. subst
-    (λ n. AreStepsKnownBy (label_by g.M.Machine.whole_code g.M.Form.Coded.code
+    (λ n. AreStepsKnownBy (label_by g.M.Machine.whole_code g.M.Machine.form_code
     (g.M.Machine.form_of n) c.args.self.now.merge)
     c.in-Ok-into_steps.steps.items) own.machine
-    (subst (λ k. AreStepsKnownBy (label_by g.M.Machine.whole_code g.M.Form.Coded.code
+    (subst (λ k. AreStepsKnownBy (label_by g.M.Machine.whole_code g.M.Machine.form_code
     (g.M.Machine.form_of c.args.expansion.machine) k)
     c.in-Ok-into_steps.steps.items) merge c.in-Ok-into_steps.ensures.known)
 

@@ -8,7 +8,7 @@ pub overflow_sub-entered : goal.overflow_sub-entered
 overflow_sub-entered g c =
     let xs = c.args.successors.items in
     let put =
-    put_in c.self.invariant.0 c.args.self.now c.self.view_is xs g.M.Machine.whole_code g.M.Form.Coded.code
+    put_in c.self.invariant.0 c.args.self.now c.self.view_is xs g.M.Machine.whole_code g.M.Machine.form_code
     c.requires.known c.self.inside.table.labels
     c.self.invariant.1 c.self.invariant.2 c.args.id c.append_new.new.self.entries c.in-Ok.ensures.put in
     grown c.self.invariant.0 c.args.self.now c.self.view_is xs c.args.id c.requires.taken c.append_new.new.self.entries
@@ -19,7 +19,7 @@ pub overflow_sub-met : goal.overflow_sub-met
 overflow_sub-met g c =
     let xs = c.args.successors.items in
     let put =
-    put_in c.self.invariant.0 c.args.self.now c.self.view_is xs g.M.Machine.whole_code g.M.Form.Coded.code
+    put_in c.self.invariant.0 c.args.self.now c.self.view_is xs g.M.Machine.whole_code g.M.Machine.form_code
     c.requires.known c.self.inside.table.labels
     c.self.invariant.1 c.self.invariant.2 c.args.id c.append_new.new.self.entries c.in-Ok.ensures.put in
     entered_few c.self.invariant.0 c.args.self.now c.self.view_is xs c.args.id c.requires.taken
@@ -31,7 +31,7 @@ pub mark_expanded-requires : goal.mark_expanded-requires
 mark_expanded-requires g c =
     let xs = c.args.successors.items in
     let put =
-    put_in c.self.invariant.0 c.args.self.now c.self.view_is xs g.M.Machine.whole_code g.M.Form.Coded.code
+    put_in c.self.invariant.0 c.args.self.now c.self.view_is xs g.M.Machine.whole_code g.M.Machine.form_code
     c.requires.known c.self.inside.table.labels
     c.self.invariant.1 c.self.invariant.2 c.args.id c.append_new.new.self.entries c.in-Ok.ensures.put in
     is_taken_still c.self.invariant.0 c.args.self.now c.self.view_is xs c.args.id c.requires.taken
@@ -43,7 +43,7 @@ pub overflow_add-self : goal.overflow_add-self
 overflow_add-self g c =
     let xs = c.args.successors.items in
     let put =
-    put_in c.self.invariant.0 c.args.self.now c.self.view_is xs g.M.Machine.whole_code g.M.Form.Coded.code
+    put_in c.self.invariant.0 c.args.self.now c.self.view_is xs g.M.Machine.whole_code g.M.Machine.form_code
     c.requires.known c.self.inside.table.labels
     c.self.invariant.1 c.self.invariant.2 c.args.id c.append_new.new.self.entries c.in-Ok.ensures.put in
     let small : c.self.inside.met + (c.len-steps.result - (c.len.result - c.len-was.result)) < 2 ^ 64 =
@@ -57,7 +57,7 @@ pub invariant_of-self-in-Ok : goal.invariant_of-self-in-Ok
 invariant_of-self-in-Ok g c =
     let xs = c.args.successors.items in
     let put =
-    put_in c.self.invariant.0 c.args.self.now c.self.view_is xs g.M.Machine.whole_code g.M.Form.Coded.code
+    put_in c.self.invariant.0 c.args.self.now c.self.view_is xs g.M.Machine.whole_code g.M.Machine.form_code
     c.requires.known c.self.inside.table.labels
     c.self.invariant.1 c.self.invariant.2 c.args.id c.append_new.new.self.entries c.in-Ok.ensures.put in (
       book_entered c.self.invariant.0 c.args.self.now c.self.view_is xs c.args.id c.requires.taken
@@ -65,7 +65,7 @@ invariant_of-self-in-Ok g c =
           c.len.ensures
           (c.len-steps.ensures ∙ c.args.successors.ok.0) c.mark_expanded.new.self c.mark_expanded.ensures
           c.in-Ok.ensures.room,
-      still_known c.self.invariant.0 c.args.self.now c.self.view_is xs g.M.Machine.whole_code g.M.Form.Coded.code
+      still_known c.self.invariant.0 c.args.self.now c.self.view_is xs g.M.Machine.whole_code g.M.Machine.form_code
           c.requires.known c.self.inside.table.labels
           c.self.invariant.1 c.self.invariant.2 c.args.id c.append_new.new.self c.in-Ok.ensures.known
           c.mark_expanded.new.self c.mark_expanded.ensures,
@@ -79,7 +79,7 @@ returns-in-Err-Full-clause-full g c =
     (inr (
       refl,
       no_room c.self.invariant.0 c.args.self.now c.self.view_is c.args.successors.items g.M.Machine.whole_code
-          g.M.Form.Coded.code c.requires.known
+          g.M.Machine.form_code c.requires.known
           c.self.inside.table.labels c.self.invariant.1 c.self.invariant.2 c.self.inside.limit full,
     ))
 
@@ -87,7 +87,7 @@ pub returns-in-Ok-clause-entries : goal.returns-in-Ok-clause-entries
 returns-in-Ok-clause-entries g c =
     let xs = c.args.successors.items in
     let put =
-    put_in c.self.invariant.0 c.args.self.now c.self.view_is xs g.M.Machine.whole_code g.M.Form.Coded.code
+    put_in c.self.invariant.0 c.args.self.now c.self.view_is xs g.M.Machine.whole_code g.M.Machine.form_code
     c.requires.known c.self.inside.table.labels
     c.self.invariant.1 c.self.invariant.2 c.args.id c.append_new.new.self.entries c.in-Ok.ensures.put in
     rw (← c.self.view_is)
@@ -100,7 +100,7 @@ pub returns-in-Ok-clause-counts : goal.returns-in-Ok-clause-counts
 returns-in-Ok-clause-counts g c =
     let xs = c.args.successors.items in
     let put =
-    put_in c.self.invariant.0 c.args.self.now c.self.view_is xs g.M.Machine.whole_code g.M.Form.Coded.code
+    put_in c.self.invariant.0 c.args.self.now c.self.view_is xs g.M.Machine.whole_code g.M.Machine.form_code
     c.requires.known c.self.inside.table.labels
     c.self.invariant.1 c.self.invariant.2 c.args.id c.append_new.new.self.entries c.in-Ok.ensures.put in
     let steps = c.len-steps.ensures ∙ c.args.successors.ok.0 in

@@ -1,4 +1,5 @@
 use Rattle.std.proofs.Common.{◌<◌, ◌≤◌, ◌∙◌, arith, length, sym, ap, subst, List}
+use Rattle.tree_machine.specs.Laws.StateExact.{state_form_exact}
 use Rattle.tree_machine.specs.declared.state.State.{State}
 use Rattle.book.specs.Books.{counted_as_one}
 use Rattle.book.specs.BookFile.Written.{AreWritable, IsFileOf}
@@ -55,7 +56,7 @@ returns-clause-passes g c =
     es c.in_ok-write_entries.field-0.items) entries text in
     let pass =
     written_pass g.M.Loc.PartialEq.eq g.M.Mem.PartialEq.eq g.M.Form.PartialEq.eq g.M.Machine.form_of
-    g.M.Machine.rules b (bound.forms b.machine) c.tests_exactly.ensures.exact
+    g.M.Machine.rules b (bound.forms b.machine) (state_form_exact g.M.Form.PartialEq.eq bound.form_exact)
     law.law law.machine law.merges law.alike ready.0 ready.1 is.lines is.of_entries in
     let some : 1
     ≤ length b.entries =

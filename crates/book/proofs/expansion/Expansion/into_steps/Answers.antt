@@ -15,7 +15,7 @@ returns-then-eq-clause-known g c =
     let same : s.merge ≡ c.args.merge = same_true the_type (search rules) _ _ (sym c.if-eq.ensures) in
     rw (← c.self.view_is)
     (subst (λ merge. AreStepsKnownBy
-    (label_by {Machine = g.row.M.Denot} g.M.Machine.whole_code g.M.Form.Coded.code
+    (label_by {Machine = g.row.M.Denot} g.M.Machine.whole_code g.M.Machine.form_code
     (g.M.Machine.form_of s.machine) merge) s.successors.items) same
     c.self.invariant.1)
 

@@ -40,7 +40,7 @@ loop-thread-preserved g c =
       known = elim c.match-step.branch [
         | in-Some+in_ok-push w ↦
             rw (w.successors-is, w.in_ok-push.ensures.items)
-            (steps_known_more (label_by g.M.Machine.whole_code g.M.Form.Coded.code
+            (steps_known_more (label_by g.M.Machine.whole_code g.M.Machine.form_code
             (g.M.Machine.form_of c.args.machine) c.args.merge) was
             w.in-Some.next c.loop-thread.invariant.known
             (rw w.in-Some.is at c.in_ok-step.ensures.label))

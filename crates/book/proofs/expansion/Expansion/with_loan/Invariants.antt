@@ -11,6 +11,6 @@ invariant-loop-thread g l =
       front : IsFront
           (machine_of {Machine = g.row.M.Denot} {Form = g.row.M-Form.Denot} (g.M.Machine.rules l.machine) l.program)
           (IsFindingOf (g.M.Machine.rules l.machine) l.program) l.state l.thread (bares l.successors.items);
-      known : AreStepsKnownBy (label_by g.M.Machine.whole_code g.M.Form.Coded.code
+      known : AreStepsKnownBy (label_by g.M.Machine.whole_code g.M.Machine.form_code
           (g.M.Machine.form_of l.machine) l.merge) l.successors.items;
     }

@@ -27,7 +27,7 @@ loop-state-preserved g c =
     let is : c.state-item.result ≡ get_or c.args.states.now c.loop-state.state-index c.state-item.result =
     (rw c.as_slice-state-items.ensures at c.state-item.is) in
     more_forms (pointwise nat_eq) (lists_equiv nat_eq_equiv)
-    (named_by g.M.Form.Coded.code (g.M.Machine.form_of c.args.machine)) c.args.states.now
+    (named_by g.M.Machine.form_code (g.M.Machine.form_of c.args.machine)) c.args.states.now
     (contains (pointwise nat_eq) c.loop-state.forms)
     (contains (pointwise nat_eq) c.insert.new.self) c.loop-state.state-index c.state-item.result
     less is

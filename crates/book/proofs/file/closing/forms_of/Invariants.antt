@@ -7,6 +7,6 @@ use Rattle.book.proofs.file.closing.forms_of.Given as goal
 
 abbrev pub invariant-loop-state : goal.invariant-loop-state
 invariant-loop-state g l =
-    AreFormsOf (pointwise nat_eq) (named_by g.M.Form.Coded.code (g.M.Machine.form_of l.machine))
+    AreFormsOf (pointwise nat_eq) (named_by g.M.Machine.form_code (g.M.Machine.form_of l.machine))
     (take l.state-index l.states)
     (contains (pointwise nat_eq) l.forms)

@@ -22,7 +22,7 @@ returns-in_ok-form-in-Ok-clause-known g c =
     (sym c.contains.ensures ∙ yes) in
     λ yes next leads. subst
     (λ (s : State g.row.M.Denot g.row.M-Mem.Denot g.row.M-Loc.Denot g.row.M-Form.Denot). known
-    (named_by g.M.Form.Coded.code (g.M.Machine.form_of c.args.machine) s) ≡ true)
+    (named_by g.M.Machine.form_code (g.M.Machine.form_of c.args.machine) s) ≡ true)
     (same_Some c.in-Ok.next next (sym c.in-Ok.ensures.step ∙ leads)) (key yes)
 
 pub returns-in_ok-form-in-Ok-clause-new : goal.returns-in_ok-form-in-Ok-clause-new

@@ -8,7 +8,7 @@ use Rattle.book.proofs.file.closing.leads_out.Goals as goal
 pub loop-thread-preserved : goal.loop-thread-preserved
 loop-thread-preserved g c =
     one_more_thread (g.M.Machine.rules c.args.machine) c.args.program.now
-    (named_by g.M.Form.Coded.code (g.M.Machine.form_of c.args.machine))
+    (named_by g.M.Machine.form_code (g.M.Machine.form_of c.args.machine))
     (contains (pointwise nat_eq) c.args.forms.now) c.args.state.now c.loop-thread.thread
     (c.in_ok-knows_step.ensures.known c.if-not-branch.false) c.loop-thread.invariant
 
@@ -19,7 +19,7 @@ returns-clause-none g c =
     let all : length c.threads.result.now ≡ length c.args.program.now.threads = ap length c.threads.ensures.value in
     let many : length c.args.program.now.threads ≤ c.loop-thread.thread = omega arith in
     λ _. no_more_threads (g.M.Machine.rules c.args.machine) c.args.program.now (bound.lawful c.args.machine)
-    c.threads.ensures.limits (named_by g.M.Form.Coded.code (g.M.Machine.form_of c.args.machine))
+    c.threads.ensures.limits (named_by g.M.Machine.form_code (g.M.Machine.form_of c.args.machine))
     (contains (pointwise nat_eq) c.args.forms.now) c.args.state.now c.loop-thread.thread many
     c.loop-thread.invariant
 

@@ -9,4 +9,4 @@ use Rattle.book.proofs.file.closing.leads_out.Given as goal
 abbrev pub invariant-loop-thread : goal.invariant-loop-thread
 invariant-loop-thread g l = (t : ℕ) (next : State g.row.M.Denot g.row.M-Mem.Denot g.row.M-Loc.Denot g.row.M-Form.Denot)
     → t < l.thread → step (g.M.Machine.rules l.machine) l.program l.state t ≡ Some next
-    → contains (pointwise nat_eq) l.forms (named_by g.M.Form.Coded.code (g.M.Machine.form_of l.machine) next) ≡ true
+    → contains (pointwise nat_eq) l.forms (named_by g.M.Machine.form_code (g.M.Machine.form_of l.machine) next) ≡ true

@@ -32,8 +32,6 @@ leads_out-requires-clause-room g c κs within =
 pub returns-then-branch-clause-leads_out : goal.returns-then-branch-clause-leads_out
 returns-then-branch-clause-leads_out g c =
     let bound = g.met.M.Machine g.world.𝓛 g.world.𝓜 g.world.𝓡 ((λ s x. x), (λ x. x), (λ x. x), λ x. x) in
-    let coded = g.met.M.Form.Coded g.world.𝓛 g.world.𝓜 g.world.𝓡 ((λ s x. x), (λ x. x), (λ x. x), λ x. x) in
-    let tested = g.met.M.Form.Exact g.world.𝓛 g.world.𝓜 g.world.𝓡 ((λ s x. x), (λ x. x), (λ x. x), λ x. x) in
     let less : c.loop-i.i < length c.args.states.now =
     (let l : c.loop-i.i < length c.as_slice-state-items.result.now = c.loop-i-test.true in
     rw c.as_slice-state-items.ensures at l) in
@@ -41,7 +39,7 @@ returns-then-branch-clause-leads_out g c =
     (rw c.as_slice-state-items.ensures at c.state-item.is) in
     inr (open_next (g.M.Machine.rules c.args.machine) c.args.program.now (bound.lawful c.args.machine)
     c.initial.ensures.limits (g.M.Machine.form_of c.args.machine) (bound.forms c.args.machine)
-    g.M.Form.Coded.code (coded.codes tested.exact) (pointwise nat_eq) (list_exact nat_exact) c.args.states.now
+    g.M.Machine.form_code bound.form_tells (pointwise nat_eq) (list_exact nat_exact) c.args.states.now
     c.requires.fit
     (contains (pointwise nat_eq) c.in_ok-forms.forms) c.in_ok-forms.ensures
     c.loop-i.i c.state-item.result less is (c.in_ok-leads_out.ensures.out c.if-branch.true) c.loop-i.invariant)
@@ -53,7 +51,7 @@ loop-i-preserved g c =
     rw c.as_slice-state-items.ensures at l) in
     let is : c.state-item.result ≡ get_or c.args.states.now c.loop-i.i c.state-item.result =
     (rw c.as_slice-state-items.ensures at c.state-item.is) in
-    known_next (g.M.Machine.rules c.args.machine) c.args.program.now g.M.Form.Coded.code
+    known_next (g.M.Machine.rules c.args.machine) c.args.program.now g.M.Machine.form_code
     (g.M.Machine.form_of c.args.machine)
     c.args.states.now (contains (pointwise nat_eq) c.in_ok-forms.forms)
     c.loop-i.i c.state-item.result less is (c.in_ok-leads_out.ensures.none c.if-branch.false) c.loop-i.invariant
@@ -61,14 +59,12 @@ loop-i-preserved g c =
 pub returns-clause-closed : goal.returns-clause-closed
 returns-clause-closed g c =
     let bound = g.met.M.Machine g.world.𝓛 g.world.𝓜 g.world.𝓡 ((λ s x. x), (λ x. x), (λ x. x), λ x. x) in
-    let coded = g.met.M.Form.Coded g.world.𝓛 g.world.𝓜 g.world.𝓡 ((λ s x. x), (λ x. x), (λ x. x), λ x. x) in
-    let tested = g.met.M.Form.Exact g.world.𝓛 g.world.𝓜 g.world.𝓡 ((λ s x. x), (λ x. x), (λ x. x), λ x. x) in
     let least : length c.as_slice-state-items.result.now ≤ c.loop-i.i = c.loop-i-test.false in
     let all : length c.as_slice-state-items.result.now ≡ length c.args.states.now =
     ap length c.as_slice-state-items.ensures in
     known_closed (g.M.Machine.rules c.args.machine) c.args.program.now (bound.lawful c.args.machine)
     c.initial.ensures.limits (g.M.Machine.form_of c.args.machine) (bound.forms c.args.machine)
-    g.M.Form.Coded.code (coded.codes tested.exact) (pointwise nat_eq) (list_exact nat_exact) c.args.states.now
+    g.M.Machine.form_code bound.form_tells (pointwise nat_eq) (list_exact nat_exact) c.args.states.now
     c.requires.fit
     (contains (pointwise nat_eq) c.in_ok-forms.forms) c.in_ok-forms.ensures
     (λ i s less at. c.loop-i.invariant i s (omega arith) at) c.requires.begins

@@ -6,5 +6,5 @@ use Rattle.book.proofs.file.closing.test_closed.Given as goal
 
 abbrev pub invariant-loop-i : goal.invariant-loop-i
 invariant-loop-i g l =
-    AreKnownBelow (g.M.Machine.rules l.machine) l.program g.M.Form.Coded.code (g.M.Machine.form_of l.machine) l.states
+    AreKnownBelow (g.M.Machine.rules l.machine) l.program g.M.Machine.form_code (g.M.Machine.form_of l.machine) l.states
     (contains (pointwise nat_eq) l.forms) l.i
