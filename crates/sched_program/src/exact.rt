@@ -1,7 +1,6 @@
 //! Values that are one and the same where they compare as equal.
 ghost use Rattle.std.specs.Prelude.{◌≡◌, ◌↔◌, IsTrue};
 ghost use Rattle.sched_program.specs.Laws.Operations.{op_exact, tree_exact, turn_exact};
-ghost use Rattle.std.specs.Cmp.{IsEquivalence};
 ghost use Rattle.sched_program.specs.Exact.{IsExact};
 ghost use Rattle.sched_program.specs.Laws.Exact.{nat_exact, bool_exact, option_exact, list_exact};
 
@@ -61,9 +60,3 @@ pub fn same<T: Exact>(a: &T, b: &T) -> bool
 {
     *a == *b
 }
-
-/// Values of such a type test equal exactly if they are equal. It is there for proofs alone, and does nothing.
-pub fn tests_exactly<T: Exact>()
-    ensures exact { IsExact T.PartialEq.eq }
-    ensures laws { IsEquivalence T.PartialEq.eq }
-{}

@@ -16,7 +16,7 @@ mod turns;
 mod version;
 
 pub use crate::counted::{Counted, ReadFault};
-pub use crate::exact::{Exact, same, tests_exactly};
+pub use crate::exact::{Exact, same};
 pub use crate::fault::ProgramFault;
 pub use crate::history::{History, Note};
 pub use crate::loading::LoadFault;

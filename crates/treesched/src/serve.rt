@@ -16,13 +16,13 @@ use book::{Counting, Finding, Merge, ReplayFault, check_book, replay};
 use crew::{Answer, Open, Options, Report, explore};
 use ellen::Ellen;
 use natmit::NatMit;
-use sched_program::{Counted, OutOfMemory, Program, ReadFault, Tree, tests_exactly};
+use sched_program::{Counted, OutOfMemory, Program, ReadFault, Tree};
 use std::alloc::Global;
 use std::io::Read;
 use std::mem::forget;
 use std::sync::Wait;
 use std::thread::Threads;
-use tree_machine::{Atomic, Machine, State, StateForm};
+use tree_machine::{Atomic, Machine};
 
 /// What the program writes, and the status that it ends with.
 #[derive(Debug, Drop)]
@@ -79,8 +79,6 @@ fn counts_as_one<M: Machine>(machine: M, program: &Program, merge: Merge)
     let _ = machine;
     let _ = program;
     let _ = merge;
-    tests_exactly::<State<M>>();
-    tests_exactly::<StateForm<M>>();
 }
 
 /// The text of the book, where it is asked for and the answer is for every schedule.
