@@ -143,8 +143,15 @@ fn first_table<M: Machine>(
     let state = State::start(alloc, machine, program)?;
     let finding = find(alloc, machine, program, &state)?;
     let mut room = Room::new(alloc);
-    let known = label(alloc, machine, program, &state, merge, &mut room)?;
-    let state = Arc::new(alloc, state)?;
+    let known = label(
+        alloc,
+        machine,
+        program,
+        &state,
+        merge,
+        &mut room,
+        Vec::new(alloc),
+    )?;
     Ok(Table::new(alloc, state, known, finding)?)
 }
 

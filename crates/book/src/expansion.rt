@@ -18,14 +18,13 @@ use crate::stock::Stock;
 use sched_program::{OutOfMemory, Program, same};
 use std::alloc::Global;
 use std::marker::Model;
-use std::sync::Arc;
 use tree_machine::{Machine, Room, State, StepFault};
 
 /// The step of a thread: the state that it leads to, with its label, and what was found of it.
 #[derive(Drop)]
 pub struct Stepped<S> {
     thread: u8,
-    state: Arc<S>,
+    state: S,
     known: Hashed<Known<S>>,
     finding: Finding,
 }
@@ -39,12 +38,12 @@ impl<S> Model for Stepped<S> {
 
     ghost view = { λ x. record { thread = x.thread; state = x.known; finding = x.finding } };
 
-    ghost invariant = { λ x. x.known.state ≡ x.state.value };
+    ghost invariant = { λ x. x.known.state ≡ x.state };
 }
 
 impl<S> Stepped<S> {
-    pub(crate) fn into_fields(self) -> (u8, Arc<S>, Hashed<Known<S>>, Finding)
-        ensures { (result.0 ≡ self.thread) × (result.1.value ≡ self.state.state) × (result.2 ≡ self.state)
+    pub(crate) fn into_fields(self) -> (u8, S, Hashed<Known<S>>, Finding)
+        ensures { (result.0 ≡ self.thread) × (result.1 ≡ self.state.state) × (result.2 ≡ self.state)
             × (result.3 ≡ self.finding) }
     {
         let Stepped {
@@ -57,7 +56,8 @@ impl<S> Stepped<S> {
     }
 }
 
-/// A state of a program with its label, for a book that merges so. The label is written in the room.
+/// A state of a program with its label, for a book that merges so. The label is written in the room and copied into
+/// the spare list.
 pub(crate) fn label<M: Machine>(
     alloc: Global,
     machine: M,
@@ -65,6 +65,7 @@ pub(crate) fn label<M: Machine>(
     state: &State<M>,
     merge: Merge,
     room: &mut Room,
+    spare: Vec<u8>,
 ) -> Result<Hashed<Known<State<M>>>, OutOfMemory>
     requires { Fits (M.rules machine) program.now state.now }
     ensures state { IfOk result (λ known. known.state ≡ state.now) }
@@ -74,8 +75,8 @@ pub(crate) fn label<M: Machine>(
     // Whoever reads a program knows that it meets the limits.
     let _ = program.initial();
     let label = match merge {
-        Merge::Exact => state.code_in(alloc, machine, room)?,
-        Merge::Names => state.form_code_in(alloc, machine, room)?,
+        Merge::Exact => state.code_in(alloc, machine, room, spare)?,
+        Merge::Names => state.form_code_in(alloc, machine, room, spare)?,
     };
     Ok(Hashed::new(Known::by(label, state)))
 }
@@ -94,8 +95,9 @@ fn relabelled<M: Machine>(
     ensures label { IfOk result (λ made. made.state.label
         ≡ label_by M.whole_code M.form_code (M.form_of machine) merge made.state.state) }
 {
-    let (thread, state, _, finding) = step.into_fields();
-    let known = label(alloc, machine, program, &*state, merge, room)?;
+    let (thread, state, known, finding) = step.into_fields();
+    let spare = known.into_value().into_label().into_vec();
+    let known = label(alloc, machine, program, &state, merge, room, spare)?;
     Ok(Stepped {
         thread,
         state,
@@ -158,11 +160,19 @@ fn step_of<M: Machine>(
         Err(StepFault::OutOfMemory) => return Err(OutOfMemory),
     };
     let finding = find_after(alloc, machine, program, source, &next, thread, loan)?;
-    let known = label(alloc, machine, program, &next, merge, &mut stock.room)?;
-    let state = Arc::new(alloc, next)?;
+    let spare = stock.spare_label(alloc);
+    let known = label(
+        alloc,
+        machine,
+        program,
+        &next,
+        merge,
+        &mut stock.room,
+        spare,
+    )?;
     Ok(Some(Stepped {
         thread,
-        state,
+        state: next,
         known,
         finding,
     }))

@@ -36,6 +36,13 @@ impl<S> Known<S> {
             shown: Snapshot::of(state),
         }
     }
+
+    /// Its label.
+    pub fn into_label(self) -> Bytes
+        ensures { result ≡ self.label }
+    {
+        self.label
+    }
 }
 
 impl<S> PartialEq for Known<S> {

@@ -5,17 +5,15 @@ ghost use Rattle.book.specs.Leftovers.{Keeps};
 use crate::entry::PackedRow;
 use crate::hashed::Hashed;
 use crate::known::Known;
-use crate::stock::keep_in;
 use sched_program::OutOfMemory;
 use std::alloc::Global;
 use std::marker::Model;
-use std::sync::Arc;
 
 /// States that a book knew already, with what else the expansions that were entered held of them. Whoever enters under
 /// a lock can drop these after it.
 #[derive(Drop)]
 pub struct Leftovers<S> {
-    known: Vec<(Hashed<Known<S>>, PackedRow, Arc<S>)>,
+    known: Vec<(Hashed<Known<S>>, PackedRow, S)>,
 }
 
 impl<S> Model for Leftovers<S> {
@@ -53,15 +51,16 @@ impl<S> Leftovers<S> {
 }
 
 impl<S: Drop> Leftovers<S> {
-    /// Puts the states that nobody else holds into spare ones. What else was held of them is dropped.
-    pub(crate) fn return_to(self, spares: &mut Vec<S>) {
-        for (_known, _row, state) in self.known {
-            keep_in(spares, state);
+    /// Puts the states into spare ones, and the lists of their labels into spare lists. A refused growth lets one go.
+    pub(crate) fn return_to(self, spares: &mut Vec<S>, labels: &mut Vec<Vec<u8>>) {
+        for (known, _row, state) in self.known {
+            let _ = spares.push(state);
+            let _ = labels.push(known.into_value().into_label().into_vec());
         }
     }
 
     /// Keeps a state, if there is one, where there is room, and else drops it.
-    pub(crate) fn keep(&mut self, state: Option<(Hashed<Known<S>>, PackedRow, Arc<S>)>)
+    pub(crate) fn keep(&mut self, state: Option<(Hashed<Known<S>>, PackedRow, S)>)
         ensures { Keeps self.old self.new (if is_some state then 1 else 0) }
     {
         if let Some(state) = state {

@@ -2,14 +2,15 @@
 use crate::leftovers::Leftovers;
 use std::alloc::Global;
 use std::sync::Arc;
-use tree_machine::{Machine, Room, State};
+use tree_machine::{Bytes, Machine, Room, State};
 
-/// What expansions are made in, used again from one to the next: room for forms, and states that nobody needs any more,
-/// whose memory serves for steps.
+/// What expansions are made in, used again from one to the next: room for labels, and states and labels that nobody
+/// needs any more, whose memory serves for steps and for their labels.
 #[derive(Drop)]
 pub struct Stock<M: Machine> {
     pub(crate) room: Room,
     pub(crate) spares: Vec<State<M>>,
+    labels: Vec<Vec<u8>>,
 }
 
 impl<M: Machine> Stock<M> {
@@ -18,6 +19,7 @@ impl<M: Machine> Stock<M> {
         Stock {
             room: Room::new(alloc),
             spares: Vec::new(alloc),
+            labels: Vec::new(alloc),
         }
     }
 
@@ -26,20 +28,28 @@ impl<M: Machine> Stock<M> {
         let _ = self.spares.push(state);
     }
 
+    /// A list for a label, of no use otherwise.
+    pub(crate) fn spare_label(&mut self, alloc: Global) -> Vec<u8> {
+        match self.labels.pop() {
+            Some(label) => label,
+            None => Vec::new(alloc),
+        }
+    }
+
+    /// Takes the list of a label in. A refused growth lets it go.
+    pub(crate) fn keep_label(&mut self, label: Bytes) {
+        let _ = self.labels.push(label.into_vec());
+    }
+
     /// Takes a state in, unless somebody else holds it. A refused growth lets it go.
     pub fn take_in(&mut self, state: Arc<State<M>>) {
-        keep_in(&mut self.spares, state);
+        if let Some(state) = Arc::into_inner(state) {
+            self.keep(state);
+        }
     }
 
-    /// Takes in the states that a book knew already.
+    /// Takes in the states that a book knew already, with their labels.
     pub fn take_leftovers(&mut self, leftovers: Leftovers<State<M>>) {
-        leftovers.return_to(&mut self.spares);
-    }
-}
-
-/// Puts a state into spare ones, unless somebody else holds it. A refused growth lets it go.
-pub(crate) fn keep_in<S: Drop>(spares: &mut Vec<S>, state: Arc<S>) {
-    if let Some(state) = Arc::into_inner(state) {
-        let _ = spares.push(state);
+        leftovers.return_to(&mut self.spares, &mut self.labels);
     }
 }

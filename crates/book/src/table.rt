@@ -274,11 +274,11 @@ impl<S: Drop> Table<S> {
     /// A table with one open entry, which has no parent.
     pub fn new(
         alloc: Global,
-        state: Arc<S>,
+        state: S,
         known: Hashed<Known<S>>,
         finding: Finding,
     ) -> Result<Table<S>, AllocError>
-        requires { known.state ≡ state.value }
+        requires { known.state ≡ state }
         ensures entries { IfOk result (λ t. t.entries
             ≡ record { state = known.state; finding = finding; origin = None; mark = Mark.Open } ∷ []) }
         ensures labels { IfOk result (λ t. t.labels ≡ known.label ∷ []) }

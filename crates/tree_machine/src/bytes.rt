@@ -1,5 +1,5 @@
 //! Bytes that are hashed by one write.
-ghost use Rattle.std.specs.Prelude.{◌≡◌, ◌++◌, ◌∷◌, [], length, nat_eq};
+ghost use Rattle.std.specs.Prelude.{◌≡◌, ◌++◌, ◌∷◌, [], length, nat_eq, IfOk};
 ghost use Rattle.std.specs.Hash as fed;
 ghost use Rattle.std.specs.Cmp.{partial_equiv_from_equiv};
 ghost use Rattle.std.specs.Cmp.Lexicographic.{pointwise, lists_equiv};
@@ -8,7 +8,7 @@ ghost use Rattle.tree_machine.specs.Laws.CellOrder.{nat_equivalence};
 ghost use Rattle.tree_machine.specs.ByteLists.{bytes_input};
 ghost use Rattle.tree_machine.specs.Laws.ByteLists.{bytes_fed};
 
-use sched_program::Exact;
+use sched_program::{Exact, OutOfMemory};
 use std::hash::{Hash, Hasher};
 use std::marker::Model;
 
@@ -33,6 +33,25 @@ impl Bytes {
         ensures { result ≡ items.items }
     {
         Bytes { items }
+    }
+
+    /// Equal bytes, in the memory of a list that is of no further use, as far as that is enough: only where it is not, and
+    /// then no more than they have, is memory asked for.
+    pub(crate) fn copied_in(bytes: &[u8], mut spare: Vec<u8>) -> Result<Self, OutOfMemory>
+        ensures { IfOk result (λ copy. copy ≡ bytes.now) }
+    {
+        spare.clear();
+        spare.reserve_exact(bytes.len())?;
+        spare.extend_from_slice(bytes)?;
+        Ok(Bytes { items: spare })
+    }
+
+    /// The list, for whoever needs its memory. It takes none.
+    pub fn into_vec(self) -> Vec<u8>
+        ensures { result.items ≡ self }
+    {
+        let Bytes { items } = self;
+        items
     }
 
     /// The bytes.

@@ -56,22 +56,8 @@ impl<M: Machine> State<M> {
             → Fits (M.rules machine) program other
             → (form ≡ state_form (M.form_of machine) other) ↔ AreStatesAlike (M.rules machine) self.now other) }
     {
-        let form = self.form_in(alloc, machine, &mut Room::new(alloc))?;
-        Ok(form)
-    }
-
-    /// The same, written in a room that is kept from one form to the next: of memory it asks for no more than the form
-    /// itself has.
-    pub fn form_in(
-        &self,
-        alloc: Global,
-        machine: M,
-        room: &mut Room,
-    ) -> Result<StateForm<M>, OutOfMemory>
-        requires { (program : Program) × IsWithinLimits program × Fits (M.rules machine) program self.now }
-        ensures { IfOk result (λ form. form ≡ state_form (M.form_of machine) self.now) }
-    {
-        let bytes = self.form_code_in(alloc, machine, room)?;
+        let mut room = Room::new(alloc);
+        let bytes = self.form_code_in(alloc, machine, &mut room, Vec::new(alloc))?;
         Ok(StateForm {
             bytes,
             machine: Snapshot::of(&machine),
@@ -79,12 +65,14 @@ impl<M: Machine> State<M> {
         })
     }
 
-    /// The bytes of the form alone, written in a room likewise.
+    /// The bytes of the form alone. They are written in a room that is kept from one form to the next, and copied into a
+    /// list that is of no further use, as far as that is long enough: of memory it asks for no more than they have.
     pub fn form_code_in(
         &self,
         alloc: Global,
         machine: M,
         room: &mut Room,
+        spare: Vec<u8>,
     ) -> Result<Bytes, OutOfMemory>
         requires { (program : Program) × IsWithinLimits program × Fits (M.rules machine) program self.now }
         ensures { IfOk result
@@ -94,7 +82,7 @@ impl<M: Machine> State<M> {
         room.clear();
         room.put_deeds(threads, self.astray)?;
         machine.write_form(alloc, &self.memory, threads, room)?;
-        Ok(Bytes::from_vec(Vec::from_slice(alloc, room.as_slice())?))
+        Ok(Bytes::copied_in(room.as_slice(), spare)?)
     }
 }
 

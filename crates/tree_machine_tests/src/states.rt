@@ -86,7 +86,7 @@ fn code_of(alloc: Global, program: &Program, state: &State<Atomic>) -> Result<By
 {
     // Whoever reads a program knows that it meets the limits.
     let _ = program.initial();
-    Ok(state.code_in(alloc, Atomic, &mut Room::new(alloc))?)
+    Ok(state.code_in(alloc, Atomic, &mut Room::new(alloc), Vec::new(alloc))?)
 }
 
 /// The history that leads to a state.

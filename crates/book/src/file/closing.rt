@@ -36,7 +36,7 @@ fn forms_of<M: Machine>(
     let mut forms = HashSet::new(alloc);
     let mut room = Room::new(alloc);
     for state in states.as_slice() {
-        let form = state.form_code_in(alloc, machine, &mut room)?;
+        let form = state.form_code_in(alloc, machine, &mut room, Vec::new(alloc))?;
         forms.insert(form)?;
     }
     Ok(forms)
@@ -65,9 +65,12 @@ fn knows_step<M: Machine>(
     let _ = program.initial();
     match state.step_in(alloc, machine, program, thread, &mut stock.spares) {
         Ok(next) => {
-            let form = next.form_code_in(alloc, machine, &mut stock.room)?;
+            let spare = stock.spare_label(alloc);
+            let form = next.form_code_in(alloc, machine, &mut stock.room, spare)?;
+            let is_known = forms.contains(&form);
             stock.keep(next);
-            Ok(forms.contains(&form))
+            stock.keep_label(form);
+            Ok(is_known)
         }
         Err(StepFault::NotEnabled) => Ok(true),
         Err(StepFault::OutOfMemory) => Err(OutOfMemory),

@@ -18,8 +18,8 @@ returns-in_ok-form-in-Ok-clause-known g c =
     let known =
     λ (f : List ℕ). contains (pointwise nat_eq) c.args.forms.now f in
     let key =
-    λ (yes : c.contains.result ≡ true). subst (λ f. known f ≡ true) c.in_ok-form-in-Ok.ensures
-    (sym c.contains.ensures ∙ yes) in
+    λ (yes : c.contains-is_known.result ≡ true). subst (λ f. known f ≡ true) c.in_ok-form-in-Ok.ensures
+    (sym c.contains-is_known.ensures ∙ yes) in
     λ yes next leads. subst
     (λ (s : State g.row.M.Denot g.row.M-Mem.Denot g.row.M-Loc.Denot g.row.M-Form.Denot). known
     (named_by g.M.Machine.form_code (g.M.Machine.form_of c.args.machine) s) ≡ true)
@@ -32,5 +32,5 @@ returns-in_ok-form-in-Ok-clause-new g c =
     λ no. (
       c.in-Ok.next,
       c.in-Ok.ensures.step,
-      subst (λ f. known f ≡ false) c.in_ok-form-in-Ok.ensures (sym c.contains.ensures ∙ no),
+      subst (λ f. known f ≡ false) c.in_ok-form-in-Ok.ensures (sym c.contains-is_known.ensures ∙ no),
     )

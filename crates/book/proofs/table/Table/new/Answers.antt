@@ -32,5 +32,5 @@ invariant_of-result g c =
     ]) in
     rw (ap entries_of one) (
       cursors_one e refl c.if-is_sound.fault (fault ∙ sym (fault_of_one e)),
-      (rw (c.in_ok-push.ensures.ok, c.none-held.ensures) (held_one e c.args.state.value c.requires)),
+      (rw (c.in_ok-push.ensures.ok, c.none-held.ensures) (held_one e c.args.state c.requires)),
     )
