@@ -9,6 +9,7 @@ mod files;
 mod fixtures;
 #[cfg(test)]
 mod forms;
+pub mod held_byte;
 #[cfg(test)]
 mod layers;
 #[cfg(test)]

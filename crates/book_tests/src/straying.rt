@@ -5,6 +5,7 @@ ghost use Rattle.tree_machine.specs.Alike.{places_of};
 ghost use Rattle.book_tests.specs.Straying.{straying_rules, straying_lawful, straying_form, straying_forms};
 ghost use Rattle.book_tests.specs.Straying.{straying_tells, held_code};
 
+use crate::held_byte::held_byte;
 use sched_program::{Op, OutOfMemory};
 use std::alloc::Global;
 use tree_machine::{Bytes, Machine, Outcome, Room, Thread};
@@ -12,17 +13,6 @@ use tree_machine::{Bytes, Machine, Outcome, Room, Thread};
 /// Each operation goes astray at its second step. A place says whether the first is done.
 #[derive(Clone, Copy, PartialEq, Eq)]
 pub struct Straying;
-
-/// What a thread holds as a byte.
-fn held_byte(place: Option<bool>) -> u8
-    ensures { result ≡ held_code place }
-{
-    match place {
-        None => 0,
-        Some(false) => 1,
-        Some(true) => 2,
-    }
-}
 
 /// What each thread holds, behind other bytes.
 fn put_held(bytes: &mut Vec<u8>, threads: &[Thread<bool>]) -> Result<(), OutOfMemory>

@@ -5,6 +5,7 @@ ghost use Rattle.tree_machine.specs.Alike.{places_of};
 ghost use Rattle.crew_tests.specs.Faulty.{faulty_rules, faulty_lawful, faulty_form, faulty_forms, faulty_tells};
 ghost use Rattle.crew_tests.specs.Faulty.{held_code};
 
+use crate::held_byte::held_byte;
 use sched_program::{Op, OutOfMemory};
 use std::alloc::Global;
 use tree_machine::{Bytes, Machine, Outcome, Room, Thread};
@@ -13,17 +14,6 @@ use tree_machine::{Bytes, Machine, Outcome, Room, Thread};
 /// A place says whether the operation's first step is done, the memory whether it is out of order.
 #[derive(Clone, Copy, PartialEq, Eq)]
 pub struct Faulty;
-
-/// What a thread holds as a byte.
-fn held_byte(place: Option<bool>) -> u8
-    ensures { result ≡ held_code place }
-{
-    match place {
-        None => 0,
-        Some(false) => 1,
-        Some(true) => 2,
-    }
-}
 
 /// What each thread holds, behind other bytes.
 fn put_held(bytes: &mut Vec<u8>, threads: &[Thread<bool>]) -> Result<(), OutOfMemory>

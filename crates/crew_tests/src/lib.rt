@@ -22,6 +22,7 @@ mod enumerator;
 mod faulty;
 #[cfg(test)]
 mod gates;
+pub mod held_byte;
 #[cfg(test)]
 mod options;
 #[cfg(test)]
