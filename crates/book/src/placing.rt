@@ -24,7 +24,7 @@ fn put_step<S: Drop>(
     leftovers: &mut Leftovers<S>,
 ) -> Result<(), AllocError>
     ensures put { OnOk result (map keyed_of slots.new.entries ≡ map keyed_of slots.old.entries
-        ++ map (opened parent) (unknown (same_label) (states (map keyed_of slots.old.entries)) (step ∷ []))) }
+        ++ map (opened parent) (unknown same_label (states (map keyed_of slots.old.entries)) (step ∷ []))) }
     ensures kept { IsGrown slots.old.entries slots.new.entries }
     ensures held { OnOk result (StayHeld (entries_of slots.old.entries) (entries_of slots.new.entries)
         held.old held.new) }
@@ -59,7 +59,7 @@ pub(crate) fn put_steps<S: Drop>(
 ) -> Result<(), AllocError>
     ensures put { OnOk result (map keyed_of slots.new.entries ≡ map keyed_of slots.old.entries
         ++ map (opened parent)
-        (unknown (same_label) (states (map keyed_of slots.old.entries)) successors.items)) }
+        (unknown same_label (states (map keyed_of slots.old.entries)) successors.items)) }
     ensures kept { IsGrown slots.old.entries slots.new.entries }
     ensures held { OnOk result (StayHeld (entries_of slots.old.entries) (entries_of slots.new.entries)
         held.old held.new) }
