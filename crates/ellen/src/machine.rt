@@ -12,7 +12,7 @@ use tree_machine::{Bytes, Machine, Outcome, Room, Thread, keeps_search_order};
 
 /// The machine of Ellen, Fatourou, Ruppert and van Breugel (Non-blocking binary search trees, PODC 2010), whole where
 /// both are true. Where one is false, that step is left out.
-#[derive(Clone, Copy, Debug, PartialEq, Eq, Hash)]
+#[derive(Clone, Copy, Debug, PartialEq, Eq)]
 pub struct Ellen {
     /// A delete marks the parent before it splices it out.
     pub mark: bool,

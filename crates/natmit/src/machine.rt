@@ -18,7 +18,7 @@ use tree_machine::{
 };
 
 /// The machine of Natarajan and Mittal (PPoPP 2014), whole where `tag` is true.
-#[derive(Clone, Copy, Debug, PartialEq, Eq, Hash)]
+#[derive(Clone, Copy, Debug, PartialEq, Eq)]
 pub struct NatMit {
     /// A delete tags the sibling of its leaf before it cuts off their parent.
     pub tag: bool,

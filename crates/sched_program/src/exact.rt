@@ -2,11 +2,10 @@
 ghost use Rattle.std.specs.Prelude.{◌≡◌, ◌↔◌, IsTrue};
 ghost use Rattle.sched_program.specs.Laws.Operations.{op_exact, tree_exact, turn_exact};
 ghost use Rattle.sched_program.specs.Exact.{IsExact};
-ghost use Rattle.sched_program.specs.Laws.Exact.{nat_exact, bool_exact, option_exact, list_exact};
+ghost use Rattle.sched_program.specs.Laws.Exact.{nat_exact, option_exact, list_exact};
 
 use crate::operation::{Op, Tree, Turn};
 use crate::sequence::Sequence;
-use crate::short_list::{Blank, ShortList};
 
 /// A type whose `==` holds of equal values alone.
 pub trait Exact: Eq {
@@ -18,27 +17,11 @@ impl Exact for u8 {
     ghost exact = { nat_exact };
 }
 
-impl Exact for u64 {
-    ghost exact = { nat_exact };
-}
-
-impl Exact for usize {
-    ghost exact = { nat_exact };
-}
-
-impl Exact for bool {
-    ghost exact = { bool_exact };
-}
-
 impl<T: Exact> Exact for Option<T> {
     ghost exact = { option_exact T.exact };
 }
 
 impl<T: Exact> Exact for Sequence<T> {
-    ghost exact = { list_exact T.exact };
-}
-
-impl<T: Blank + Exact, const CAP: usize> Exact for ShortList<T, CAP> {
     ghost exact = { list_exact T.exact };
 }
 

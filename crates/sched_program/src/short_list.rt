@@ -1,11 +1,8 @@
 //! Lists of a fixed capacity that contracts see as the list itself.
 ghost use Rattle.std.specs.Prelude.{◌≡◌, ◌+◌, ◌<◌, ◌≤◌, ◌^◌, ⊤, [], ◌∷◌, ◌++◌, length, slice_get};
-ghost use Rattle.std.specs.Hash as fed;
-ghost use Rattle.std.specs.Hash.{items_Alike};
 ghost use Rattle.std.specs.Cmp.Lexicographic.{pointwise, lists_equiv, lists_per};
 
 use std::alloc::AllocError;
-use std::hash::{Hash, Hasher};
 use std::marker::Model;
 
 /// A type with a value for the cells of a list that are not in use.
@@ -123,16 +120,6 @@ impl<T: Blank + PartialEq, const CAP: usize> PartialEq for ShortList<T, CAP> {
 
 impl<T: Blank + Eq, const CAP: usize> Eq for ShortList<T, CAP> {
     ghost laws = { lists_equiv T.Eq.laws };
-}
-
-impl<T: Blank + Hash, const CAP: usize> Hash for ShortList<T, CAP> {
-    ghost hash_input = { fed.slice T.hash_input };
-
-    ghost respects_eq = { (items_Alike (record { fed = T.respects_eq })).fed };
-
-    fn hash<H: Hasher>(&self, state: &mut H) {
-        self.as_slice().hash(state);
-    }
 }
 
 impl<T: Blank, const CAP: usize> Blank for ShortList<T, CAP> {

@@ -207,15 +207,18 @@ fn ignores_waiting_in_version_1(rt: HostRuntime) {
     }
 }
 
+/// Whether the programs of two texts are the same.
+fn are_same(rt: &(impl AllocGlobal + Abort), one: &str, other: &str) -> bool {
+    let one = expect_program(rt, "one", one);
+    let other = expect_program(rt, "other", other);
+    one.is_same(&other)
+}
+
 #[test]
 fn programs_that_wait_for_other_turns_differ(rt: HostRuntime) {
-    let waiting = expect_program(&rt, "waiting", WAITING);
-    let again = expect_program(&rt, "waiting", WAITING);
-    let sooner = expect_program(&rt, "sooner", SOONER);
-    let at_once = expect_program(&rt, "at once", AT_ONCE);
-    assert!(&rt; waiting.is_same(&again));
-    assert!(&rt; !waiting.is_same(&sooner));
-    assert!(&rt; !waiting.is_same(&at_once));
+    assert!(&rt; are_same(&rt, WAITING, WAITING));
+    assert!(&rt; !are_same(&rt, WAITING, SOONER));
+    assert!(&rt; !are_same(&rt, WAITING, AT_ONCE));
 }
 
 #[test]

@@ -3,12 +3,11 @@ ghost use Rattle.std.specs.Prelude.{◌≡◌, ◌++◌, ◌∷◌, [], length, 
 ghost use Rattle.std.specs.Hash as fed;
 ghost use Rattle.std.specs.Cmp.{partial_equiv_from_equiv};
 ghost use Rattle.std.specs.Cmp.Lexicographic.{pointwise, lists_equiv};
-ghost use Rattle.sched_program.specs.Laws.Exact.{nat_exact, list_exact};
 ghost use Rattle.tree_machine.specs.Laws.CellOrder.{nat_equivalence};
 ghost use Rattle.tree_machine.specs.ByteLists.{bytes_input};
 ghost use Rattle.tree_machine.specs.Laws.ByteLists.{bytes_fed};
 
-use sched_program::{Exact, OutOfMemory};
+use sched_program::OutOfMemory;
 use std::hash::{Hash, Hasher};
 use std::marker::Model;
 
@@ -74,10 +73,6 @@ impl PartialEq for Bytes {
 
 impl Eq for Bytes {
     ghost laws = { lists_equiv nat_equivalence };
-}
-
-impl Exact for Bytes {
-    ghost exact = { list_exact nat_exact };
 }
 
 impl Hash for Bytes {

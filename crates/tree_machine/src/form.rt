@@ -14,7 +14,7 @@ use crate::bytes::Bytes;
 use crate::machine::Machine;
 use crate::room::Room;
 use crate::state::State;
-use sched_program::{Exact, OutOfMemory};
+use sched_program::OutOfMemory;
 use std::alloc::Global;
 use std::hash::{Hash, Hasher};
 use std::marker::Model;
@@ -98,10 +98,6 @@ impl<M: Machine> PartialEq for StateForm<M> {
 
 impl<M: Machine> Eq for StateForm<M> {
     ghost laws = { state_form_equiv M.Form.eq M.form_exact M.Form.Eq.laws };
-}
-
-impl<M: Machine> Exact for StateForm<M> {
-    ghost exact = { state_form_exact M.Form.eq M.form_exact };
 }
 
 impl<M: Machine> Hash for StateForm<M> {

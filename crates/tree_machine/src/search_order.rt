@@ -2,8 +2,6 @@
 ghost use Rattle.std.specs.Prelude.{◌≡◌, ◌↔◌, ℕ, Option, IsTrue, nat_lt, if◌then◌else◌};
 ghost use Rattle.tree_machine.specs.SearchOrder.{side_of, IsOrdered, KeepsSearchOrder, end_of};
 
-use sched_program::Exact;
-
 /// A side of an internal node.
 #[derive(Clone, Copy, Debug, PartialEq, Eq, Hash)]
 pub enum Side {
@@ -12,7 +10,7 @@ pub enum Side {
 }
 
 /// What a search sees of a node.
-#[derive(Clone, Copy, Debug, PartialEq, Eq, Hash)]
+#[derive(Clone, Copy, Debug, PartialEq, Eq)]
 pub enum Shape {
     /// A leaf with its key.
     Leaf { key: u8 },
@@ -21,7 +19,7 @@ pub enum Shape {
 }
 
 /// Where a search ends: at a leaf, below its parent.
-#[derive(Clone, Copy, Debug, PartialEq, Eq, Hash)]
+#[derive(Clone, Copy, Debug, PartialEq, Eq)]
 pub struct End {
     pub parent: usize,
     pub leaf: usize,
@@ -37,12 +35,6 @@ pub trait Shapes {
     /// What a search sees of a node; none where there is no such node.
     fn shape(&self, x: usize) -> Option<Shape>
         ensures { result ≡ shapes self.now x };
-}
-
-impl Exact for Side {
-    ghost use Rattle.tree_machine.specs.Laws.SideExact.{side_exact};
-
-    ghost exact = { side_exact };
 }
 
 /// The side of a node of one key on which another key is looked for.
