@@ -1,0 +1,210 @@
+-- What the program answers to a request.
+use Rattle.std.specs.Prelude.{◌≡◌, ◌≢◌, ◌+◌, ◌++◌, ◌↔◌, ◌⊎◌, ℕ, Bool, true, false, List, [], Option, Some, None, IfSome}
+use Rattle.std.specs.Prelude.{IsSome, IsSomeAnd, codes, is_some, length, slice_get, if◌then◌else◌}
+use Rattle.std.specs.Global.{Vec}
+use Rattle.std.specs.String.{string_bytes}
+use Rattle.sched_program.specs.Faults.{IsFirstFaultOf}
+use Rattle.sched_program.specs.Program.{Program}
+use Rattle.sched_program.specs.Text.{IsJsonTextOf}
+use Rattle.sched_program.specs.declared.fault.ProgramFault.{ProgramFault}
+use Rattle.sched_program.specs.declared.fault.ProgramFault.TheVariants as program_fault
+use Rattle.sched_program.specs.declared.loading.LoadFault.{LoadFault}
+use Rattle.sched_program.specs.declared.loading.LoadFault.TheVariants as load
+use Rattle.sched_program.specs.declared.operation.Tree.{Tree}
+use Rattle.sched_program.specs.declared.operation.Tree.TheVariants as tree
+use Rattle.ellen.specs.EllenRules.{ellen_rules}
+use Rattle.ellen.specs.declared.machine.Ellen.{Ellen}
+use Rattle.natmit.specs.NatMitRules.{natmit_rules}
+use Rattle.natmit.specs.declared.machine.NatMit.{NatMit}
+use Rattle.tree_machine.specs.Atomic.{atomic_rules}
+use Rattle.tree_machine.specs.History.{history_of}
+use Rattle.tree_machine.specs.Rules.{Rules}
+use Rattle.tree_machine.specs.Alike.{AreStatesAlike}
+use Rattle.tree_machine.specs.Step.{Fits}
+use Rattle.tree_machine.specs.declared.atomic.Atomic.{Atomic}
+use Rattle.tree_machine.specs.declared.atomic.AtomicForm.{AtomicForm}
+use Rattle.tree_machine.specs.declared.state.State.{State}
+use Rattle.book.specs.Findings.{IsFindingOf, is_sound, machine_of}
+use Rattle.book.specs.Replay.{StopsAt}
+use Rattle.book.specs.Schedule.{after}
+use Rattle.book.specs.declared.book.Merge.{Merge}
+use Rattle.book.specs.declared.book.Merge.TheVariants.{Exact, Names}
+use Rattle.book.specs.declared.book.Totals.{Totals}
+use Rattle.book.specs.BookFile.Checks.{IsRefusedFor, PassAs}
+use Rattle.book.specs.Correct.{HoldsAlways}
+use Rattle.book.specs.declared.file.fault.CheckFault.{CheckFault}
+use Rattle.book.specs.declared.file.fault.CheckFault.TheVariants as check_fault
+use Rattle.book.specs.declared.finding.Finding.{Finding}
+use Rattle.book.specs.declared.replayed.ReplayFault.TheVariants as replay_fault
+use Rattle.crew.specs.Due.{IsDue}
+use Rattle.crew.specs.Headline.{IsTrueOf}
+use Rattle.crew.specs.Ledger.{ledger}
+use Rattle.crew.specs.Settings.{Settings}
+use Rattle.crew.specs.declared.answer.Answer.{Answer}
+use Rattle.crew.specs.declared.answer.Answer.TheVariants as answer
+use Rattle.crew.specs.declared.answer.Share.{Share}
+use Rattle.treesched_lib.specs.Lines.{IsPage, IsRefusal, IsUnreadable, IsUnwritable, TellsFault, check_fault_text}
+use Rattle.treesched_lib.specs.Lines.{fault_text, no_step_text, operations_text, passed_text, report_text, status_of}
+use Rattle.treesched_lib.specs.Lines.{verdict_text}
+use Rattle.clap.specs.Walk.{Text}
+use Rattle.treesched_lib.specs.Reading.{AreRefused, AskFor, file_of, out_of}
+use Rattle.sched_program.specs.declared.counted.Counted.{Counted}
+use Rattle.treesched_lib.specs.declared.request.Request.{Request}
+use Rattle.treesched_lib.specs.declared.request.Request.TheVariants as request
+use Rattle.treesched_lib.specs.declared.request.WordsFault.{WordsFault}
+use Rattle.treesched_lib.specs.declared.serving.BookRead.{BookRead}
+use Rattle.treesched_lib.specs.declared.serving.BookRead.TheVariants as book_read
+use Rattle.treesched_lib.specs.declared.serving.Output.{Output}
+
+-- the test holds of equal values, and of these alone
+abbrev pub IsEquality : {S : Type 0} → (S → S → Bool) → Type 0
+IsEquality {S} same = (r s : S) → same r s ≡ true ↔ (r ≡ s)
+
+module _ (Machine Form : Type 0) {Memory Place : Type 0} (rules : Rules Memory Place) (program : Program) where
+  -- The test counts states as one: equal ones with exact merging; by names, of states that fit the program, those that
+  -- differ in nothing but the numbers of nodes, of records and of steps.
+  abbrev pub CountsAsOne : Merge → (State Machine Memory Place Form → State Machine Memory Place Form → Bool) → Type 0
+  CountsAsOne Exact same = IsEquality same
+  CountsAsOne Names same = (state twin : State Machine Memory Place Form) → Fits rules program state
+      → Fits rules program twin
+      → same state twin ≡ true ↔ AreStatesAlike rules state twin
+
+  -- a book file is due where one is asked for and the answer is for every schedule: it passes, with an entry for each
+  -- state
+  abbrev pub IsBookDue : Bool → Answer → ℕ → Option (Vec ℕ) → Type 0
+  IsBookDue true answer.Every states book = IsSomeAnd book (λ text. PassAs Machine Form rules program text.items states)
+  IsBookDue asked answer states book = book ≡ None
+
+  -- The output tells an answer of all schedules of the program: the due one, where states count as one by the merge
+  -- that is asked for, and a true one, with the number of states; if it is asked for, also the share of each worker,
+  -- and the total, which is their sum; and it has the book file that is due.
+  pub record IsExplored (settings : Settings) (with_ledger asks_book : Bool) (output : Output) : Type 0 where
+    pub same : State Machine Memory Place Form → State Machine Memory Place Form → Bool
+    pub counts : CountsAsOne settings.merge same
+    pub answer : Answer
+    pub totals : Totals
+    pub shares : List Share
+    pub due : IsDue (machine_of rules program) same (IsFindingOf rules program) settings.merge settings.steps
+        settings.limit totals.entries answer
+    pub headline : IsTrueOf Machine Form rules program answer
+    pub workers : length shares ≡ settings.workers
+    pub sums : ledger shares ≡ record { expanded = totals.expanded; entered = totals.entered; met = totals.met }
+    pub status : output.status ≡ status_of answer
+    pub out : string_bytes output.out ≡ report_text with_ledger answer totals shares
+    pub err : string_bytes output.err ≡ []
+    pub book : IsBookDue asks_book answer totals.entries output.book
+
+  -- the output tells the history and the finding of the state that the schedule leads to
+  pub record IsReplayed (schedule : List ℕ) (output : Output) : Type 0 where
+    pub state : State Machine Memory Place Form
+    pub finding : Finding
+    pub leads : after (machine_of rules program) schedule ≡ Some state
+    pub found : IsFindingOf rules program state finding
+    pub told : IsPage (if is_sound finding then 0 else 1)
+        (operations_text program (history_of state) ++ verdict_text finding) output
+
+  -- the output tells the first step of the schedule whose thread is not enabled, counted from 1
+  pub record IsStuck (schedule : List ℕ) (output : Output) : Type 0 where
+    pub before : ℕ
+    pub thread : ℕ
+    pub stops : StopsAt (machine_of {Machine = Machine} {Form = Form} rules program) schedule
+        (replay_fault.NotEnabled (before + 1))
+    pub is_next : slice_get schedule before ≡ Some thread
+    pub told : IsRefusal 4 (no_step_text (before + 1) thread) output
+
+  -- the output tells that the bytes pass as a book file, and then every schedule holds, or the first cause for which
+  -- they are refused
+  abbrev pub IsChecked : List ℕ → Output → Type 0
+  IsChecked bytes output =
+      ((entries : ℕ) × PassAs Machine Form rules program bytes entries × HoldsAlways Machine Form rules program
+      × IsPage 0 (passed_text entries) output)
+      ⊎ ((fault : CheckFault) × IsRefusedFor Machine Form rules program bytes fault × (fault ≢ check_fault.OutOfMemory)
+      × IsRefusal 3 (codes "book refused: " ++ check_fault_text fault) output)
+
+  -- the request is answered, where this came of the book file to check
+  abbrev pub IsAnswered : BookRead → Request → Output → Type 0
+  IsAnswered book (request.Explore file options with_ledger out) output =
+      IsExplored options with_ledger (is_some out) output
+  IsAnswered book (request.Replay file schedule) output =
+      IsReplayed schedule.items output ⊎ IsStuck schedule.items output
+  IsAnswered (book_read.Read bytes) (request.Check file name) output = IsChecked bytes.items output
+  IsAnswered book (request.Check file name) output = IsUnreadable name.now output
+
+-- the request is answered on the machine that the program names
+abbrev pub IsAnsweredBy : Tree → Program → BookRead → Request → Output → Type 0
+IsAnsweredBy tree.Atomic program book asked output = IsAnswered Atomic AtomicForm atomic_rules program book asked output
+IsAnsweredBy tree.Ellen program book asked output =
+    IsAnswered Ellen (List ℕ) (ellen_rules (record { mark = true; iflag = true })) program book asked output
+IsAnsweredBy tree.EllenNoMark program book asked output =
+    IsAnswered Ellen (List ℕ) (ellen_rules (record { mark = false; iflag = true })) program book asked output
+IsAnsweredBy tree.EllenNoIflag program book asked output =
+    IsAnswered Ellen (List ℕ) (ellen_rules (record { mark = true; iflag = false })) program book asked output
+IsAnsweredBy tree.Nm program book asked output =
+    IsAnswered NatMit (List ℕ) (natmit_rules (record { tag = true })) program book asked output
+IsAnsweredBy tree.NmNoTag program book asked output =
+    IsAnswered NatMit (List ℕ) (natmit_rules (record { tag = false })) program book asked output
+
+-- a book file is read exactly where the request is to check one
+abbrev pub IsAsked : Request → BookRead → Type 0
+IsAsked (request.Check file name) book = book ≢ book_read.NotAsked
+IsAsked asked book = book ≡ book_read.NotAsked
+
+-- the output tells why FILE gives no program; want of memory has no output
+abbrev pub TellsUnloaded : Request → LoadFault → Output → Type 0
+TellsUnloaded asked load.Device output = IsUnreadable (file_of asked) output
+TellsUnloaded asked (load.Program fault) output = (fault ≢ program_fault.OutOfMemory)
+    × IsRefusal 3 (fault_text fault) output
+
+-- What is answered to a request, where this came of FILE, its bytes or none where it can't be read, and this of the
+-- book file: the answer for the program of the text; or the text's first fault, or that FILE can't be read, and no book
+-- file is read then.
+abbrev pub IsServed : Option (List ℕ) → BookRead → Request → Output → Type 0
+IsServed None book asked output = (book ≡ book_read.NotAsked) × IsUnreadable (file_of asked) output
+IsServed (Some text) book asked output =
+    ((program : Program) × IsJsonTextOf text program × IsAsked asked book
+    × IsAnsweredBy program.tree program book asked output)
+    ⊎ ((fault : ProgramFault) × IsFirstFaultOf text fault × (fault ≢ program_fault.OutOfMemory)
+    × (book ≡ book_read.NotAsked)
+    × IsRefusal 3 (fault_text fault) output)
+
+-- What came of reading all of a reader: its bytes, which are those that it had where it says which, and its count of
+-- failed reads is as before; or none, where a read failed and is counted.
+abbrev pub IsRead : {F : Type 0} → (F → Option (List ℕ)) → Counted F → Counted F → Option (List ℕ) → Type 0
+IsRead remaining before after None = after.failures ≡ before.failures + 1
+IsRead remaining before after (Some text) = (after.failures ≡ before.failures)
+    × IfSome (remaining before.reader) (λ all. text ≡ all)
+
+-- what came of a book file by its reader, which stays as it was where it is not read
+abbrev pub IsBookRead : {B : Type 0} → (B → Option (List ℕ)) → Counted B → Counted B → BookRead → Type 0
+IsBookRead remaining before after book_read.NotAsked = after ≡ before
+IsBookRead remaining before after book_read.Unreadable = IsRead remaining before after None
+IsBookRead remaining before after (book_read.Read bytes) = IsRead remaining before after (Some bytes.items)
+
+-- what may come of a book file that has no reader
+abbrev pub IsUnopened : BookRead → Type 0
+IsUnopened (book_read.Read bytes) = ⊥
+IsUnopened _ = Unit {0}
+
+-- the request is answered for something that came of FILE and of the book file: what files give, no contract can say
+abbrev pub IsServedBySome : Request → Output → Type 0
+IsServedBySome asked output = (file : Option (List ℕ)) × (book : BookRead) × IsServed file book asked output
+
+-- the request is answered for what came of the reader of FILE and of the book file
+abbrev pub IsServedFrom : {F : Type 0} → (F → Option (List ℕ)) → Counted F → Counted F → (BookRead → Type 0) → Request
+    → Output → Type 0
+IsServedFrom remaining before after Came asked output =
+    (file : Option (List ℕ)) × (book : BookRead) × IsRead remaining before after file × Came book
+    × IsServed file book asked output
+
+-- the output is the one that was served; or it tells that its book file can't be written to the file that is asked for
+abbrev pub IsKept : Request → Output → Output → Type 0
+IsKept asked served output =
+    (output ≡ served)
+    ⊎ ((name : Text) × (out_of asked ≡ Some name) × IsSome served.book × IsUnwritable name output)
+
+-- the output answers the request of the words, or tells why they make none
+abbrev pub IsAnswerTo : List Text → Output → Type 0
+IsAnswerTo words output =
+    ((asked : Request) × AskFor words asked
+    × ((served : Output) × IsServedBySome asked served × IsKept asked served output))
+    ⊎ ((fault : WordsFault) × AreRefused words fault × TellsFault fault output)

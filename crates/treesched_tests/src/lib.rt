@@ -1,0 +1,25 @@
+//! Tests of the program, by the public calls of `treesched_lib`: its words, its answers, and devices that fail. Each is
+//! a table of cases; a case is tried once more where memory was refused, and fails where it is refused again.
+#![tactic(auto)]
+
+#[cfg(test)]
+mod answers;
+#[cfg(test)]
+mod books;
+#[cfg(test)]
+mod cases;
+#[cfg(test)]
+mod devices;
+#[cfg(test)]
+mod exploring;
+pub mod failing;
+#[cfg(test)]
+mod faults;
+#[cfg(test)]
+mod programs;
+#[cfg(test)]
+mod replaying;
+#[cfg(test)]
+mod sources;
+#[cfg(test)]
+mod words;
