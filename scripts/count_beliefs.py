@@ -254,6 +254,8 @@ def tables(with_names):
             part.append(f"| `{path}` | {lines} | {comments} | {file.all - lines or ''} |")
             if with_names:
                 part.append(f"|   {' '.join(dict.fromkeys(name for it in blocks for name in it.names))} ||||")
+        if not files:
+            continue
         rows.append((crate, len(files), mine))
         total = [total[0] + mine[0], total[1] + mine[1]]
         out += [f"### `{crate}`: {mine[0]} lines", "", "| File | Lines | of these comments | not cited |", "|---|---|---|---|", *part, ""]
