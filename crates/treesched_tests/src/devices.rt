@@ -1,4 +1,4 @@
-//! Readers and writers that fail.
+//! What is told where a reader or a writer fails.
 ghost use Rattle.std.specs.Prelude.{◌≡◌};
 
 use crate::answers::{answer, shows};
