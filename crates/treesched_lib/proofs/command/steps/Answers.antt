@@ -1,0 +1,6 @@
+-- The rule that clap is told of, argument by argument.
+use Rattle.std.proofs.Common.{rules}
+use Rattle.treesched_lib.proofs.command.steps.Goals as goal
+
+pub returns-clause-rule : goal.returns-clause-rule
+returns-clause-rule c = search rules

@@ -1,0 +1,6 @@
+-- A failed read tells the file.
+use Rattle.std.proofs.Common.{rules}
+use Rattle.treesched_lib.proofs.refusals.not_loaded.Goals as goal
+
+pub returns-in-Device : goal.returns-in-Device
+returns-in-Device c = search rules

@@ -1,0 +1,6 @@
+-- Help is told by the kind of the error.
+use Rattle.std.proofs.Common.{rules}
+use Rattle.treesched_lib.proofs.request.fault_of.Goals as goal
+
+pub returns-in-Ok-clause-tells : goal.returns-in-Ok-clause-tells
+returns-in-Ok-clause-tells c = search rules
