@@ -1,7 +1,7 @@
 -- Cells met and written: the places of what a cell names, and a part in the pieces in which it is written.
 use Rattle.std.proofs.Common.{◌≡◌, ℕ, zero, suc, ◌+◌, ◌<◌, ◌≤◌, ◌⊎◌, Bool, true, false, cond, ◌||◌, List, [], ◌∷◌}
 use Rattle.std.proofs.Common.{◌++◌, map, length, drop, refl, sym, ◌∙◌, ap, subst, inl, inr, arith, append_assoc}
-use Rattle.std.proofs.Common.{length-append}
+use Rattle.std.proofs.Common.{length-append, get_or, add-one, drop-cons}
 use Rattle.std.specs.Prelude.{Option, Some, None, nat_eq}
 use Rattle.std.specs.List.{All, AllByRecursion, list_any, flat_map}
 use Rattle.std.specs.Option.{option_map, option_and_then}
@@ -148,6 +148,29 @@ cells_done order now bytes more n i cells l h g =
     ++ met_codes order (shifted n (map Some cells))) none g
     ∙ ap (λ l. bytes ++ l) (met_codes_are order (shifted n (map Some cells))
     ∙ ap (λ o. places_code o (shifted n (map Some cells))) (sym done)))
+
+-- one more cell is met and put
+pub cells_next : (order now next bytes more after : List ℕ) (n i : ℕ) (cells : List ℕ) → i < length cells
+    → met_all now (shifted n (map Some (drop i cells))) ≡ met_all order (shifted n (map Some cells))
+    → more ++ met_codes now (shifted n (map Some (drop i cells))) ≡ bytes
+    ++ met_codes order (shifted n (map Some cells))
+    → next ≡ met_all now (Some (n + get_or cells i 0) ∷ [])
+    → after ≡ more ++ place_code next (Some (n + get_or cells i 0))
+    → (met_all next (shifted n (map Some (drop (i + 1) cells))) ≡ met_all order (shifted n (map Some cells)))
+    × (after ++ met_codes next (shifted n (map Some (drop (i + 1) cells))) ≡ bytes
+    ++ met_codes order (shifted n (map Some cells)))
+cells_next order now next bytes more after n i cells l h g m w =
+    let x = n + get_or cells i 0 in
+    let rest = shifted n (map Some (drop (i + 1) cells)) in
+    let left : drop i cells ≡ get_or cells i 0 ∷ drop (i + 1) cells = rw (add-one, drop-cons cells i 0) in (
+      ap (λ o. met_all o rest) m
+          ∙ subst (λ d. met_all now (shifted n (map Some d)) ≡ met_all order (shifted n (map Some cells))) left h,
+      ap (λ b. b ++ met_codes next rest) w
+          ∙ (append_assoc more (place_code next (Some x)) (met_codes next rest)
+          ∙ (ap (λ o. more ++ (place_code o (Some x) ++ met_codes o rest)) m
+          ∙ subst (λ d. more ++ met_codes now (shifted n (map Some d)) ≡ bytes
+          ++ met_codes order (shifted n (map Some cells))) left g)),
+    )
 
 -- the number of a place fits a word, as the length of the order does
 pub place_below : (order : List ℕ) (x k : ℕ) → place_in order x ≡ Some k → k < length order

@@ -1,5 +1,5 @@
 -- What was put behind other values piece by piece.
-use Rattle.std.proofs.Common.{◌≡◌, ℕ, List, [], ◌++◌, length, Option, ap, ◌∙◌, append_assoc}
+use Rattle.std.proofs.Common.{◌≡◌, ℕ, ◌<◌, ◌/◌, ◌%◌, List, [], ◌∷◌, ◌++◌, length, Option, ap, ◌∙◌, append_assoc, arith}
 use Rattle.tree_machine.specs.Alike.{places_of, replies_of, notes_of}
 use Rattle.tree_machine.specs.Flat.{number_code, flat, parts_code}
 use Rattle.tree_machine.specs.FormCode.{deeds_code, state_code}
@@ -45,3 +45,10 @@ parts_coded s nodes records old inside first second all n r i f e a =
     all i f e a
     ∙ (ap (λ x. old ++ (number_code x ++ (number_code records ++ flat (parts_graph s ++ parts_held s)))) n
     ∙ ap (λ x. old ++ (number_code (length s.nodes) ++ (number_code x ++ flat (parts_graph s ++ parts_held s)))) r)
+
+-- a number below 255 is one byte
+pub small_code : (n : ℕ) → n < 255 → number_code n ≡ n ∷ []
+small_code n few =
+    let none : n / 255 ≡ 0 = omega arith in
+    let rest : n % 255 ≡ n = omega arith in
+    rw (none, rest)

@@ -1,13 +1,18 @@
--- What each clause of a step asks, where the thread has no step and where it has one.
-use Rattle.std.proofs.Common.{◌≡◌, ℕ, Option, Some, None, true, false, is_some, sym, ap, ◌∙◌, refl}
-use Rattle.std.specs.Option.{option_map}
-use Rattle.std.specs.Prelude.{IsErrOf, ◌↔◌, Ok, Err}
-use Rattle.sched_program.specs.Program.{Program}
+-- What each clause of a step asks, where the thread has no step and where it has one; and what an access makes.
+use Rattle.std.proofs.Common.{◌≡◌, ℕ, ◌+◌, Bool, List, [], ◌∷◌, ◌++◌, Option, Some, None, true, false, is_some, sym}
+use Rattle.std.proofs.Common.{ap, ◌∙◌, refl, slice_set, slice_get, length, if◌then◌else◌}
+use Rattle.std.specs.Option.{option_map, option_map_or, option_and_then}
+use Rattle.std.specs.Prelude.{IsErrOf, ◌↔◌, Ok, nat_le}
+use Rattle.sched_program.specs.Program.{Program, op_at, after_at}
 use Rattle.sched_program.specs.declared.operation.Op.{Op}
 use Rattle.tree_machine.specs.Rules.{Rules}
-use Rattle.tree_machine.specs.Step.{ready, step, stepped, IsEnabled}
+use Rattle.tree_machine.specs.Step.{ready, step, stepped, after_access, IsEnabled, is_met, is_due, next_op}
+use Rattle.tree_machine.specs.Step.{finished_counts}
+use Rattle.tree_machine.specs.declared.machine.Outcome.{Outcome}
+use Rattle.tree_machine.specs.declared.machine.Outcome.TheVariants.{Goes, Replies, Astray}
 use Rattle.tree_machine.specs.declared.state.Thread.{Thread}
 use Rattle.tree_machine.specs.declared.state.State.{State}
+use Rattle.tree_machine.proofs.Lists.{map-get}
 
 module _ {Machine Memory Place Form : Type 0} (rules : Rules Memory Place) (program : Program)
     (state : State Machine Memory Place Form) (t : ℕ) where
@@ -36,3 +41,97 @@ module _ {Machine Memory Place Form : Type 0} (rules : Rules Memory Place) (prog
         → IsErrOf (Ok next) fault ↔ (step rules program state t ≡ None)
     one_not_none next fault =
         ((λ h. absurd cc), (λ none. let e = one_stepped (stepped rules state t op thread) refl in absurd cc))
+
+-- the state that an access makes, by what comes of it
+module _ {Machine Memory Place Form : Type 0} (state : State Machine Memory Place Form) (t : ℕ) (replies : List Bool)
+    (notes : List (List ℕ)) (place : Place) (memory : Memory) (acted : Memory × Outcome Place) (outcome : Outcome Place)
+    (after : Thread Place) (astray : Option ℕ) (is : acted ≡ (memory, outcome)) where
+  abbrev pub Made : Type 0
+  Made =
+      ◌≡◌ {A = State Machine Memory Place Form}
+      (record {
+        memory = memory;
+        threads = slice_set state.threads t after;
+        steps = state.steps + 1;
+        astray = astray;
+      }) (after_access state t (record { replies = replies; place = Some place; notes = notes }) acted)
+
+  made_by : (known : Outcome Place) → outcome ≡ known → ◌≡◌ {A = State Machine Memory Place Form}
+      (record {
+        memory = memory;
+        threads = slice_set state.threads t after;
+        steps = state.steps + 1;
+        astray = astray;
+      })
+      (after_access state t (record { replies = replies; place = Some place; notes = notes }) (memory, known)) → Made
+  made_by known o made =
+      made ∙ ap (after_access state t (record { replies = replies; place = Some place; notes = notes }))
+      (sym (is ∙ ap (λ x. (memory, x)) o))
+
+  pub goes_made : (goal : Place) → outcome ≡ Goes goal
+      → after ≡ record { replies = replies; place = Some goal; notes = notes } → astray ≡ None → Made
+  goes_made goal o a s =
+      made_by (Goes goal) o
+      (λ i. record {
+        memory = memory;
+        threads = slice_set state.threads t (a i);
+        steps = state.steps + 1;
+        astray = s i;
+      })
+
+  pub replies_made : (reply : Bool) → outcome ≡ Replies reply
+      → after ≡ record { replies = replies ++ reply ∷ []; place = None; notes = notes } → astray ≡ None → Made
+  replies_made reply o a s =
+      made_by (Replies reply) o
+      (λ i. record {
+        memory = memory;
+        threads = slice_set state.threads t (a i);
+        steps = state.steps + 1;
+        astray = s i;
+      })
+
+  pub astray_made : outcome ≡ Astray → (acted.1 ≡ Astray → acted.0 ≡ state.memory)
+      → after ≡ record { replies = replies; place = Some place; notes = notes } → astray ≡ Some t → Made
+  astray_made o unchanged a s =
+      let same = sym (ap (λ x. x.0) is) ∙ unchanged (ap (λ x. x.1) is ∙ o) in
+      made_by Astray o
+      (λ i. record {
+        memory = same i;
+        threads = slice_set state.threads t (a i);
+        steps = state.steps + 1;
+        astray = s i;
+      })
+
+-- an operation that waits for another is due where enough of that one's thread are finished
+pub due_by : {Place : Type 0} (program : Program) (threads : List (Thread Place)) (t : ℕ) (thread found : Thread Place)
+    (index other from count asked finished : ℕ) → false ≡ is_some thread.place → index ≡ length thread.replies
+    → Some (other, count) ≡ after_at program t index → from ≡ other → slice_get threads from ≡ Some found
+    → asked ≡ count → finished ≡ length found.replies
+    → nat_le asked finished ≡ is_due program (finished_counts threads) t thread
+due_by {Place} program threads t thread found index other from count asked finished idle index_is after from_is found_at
+    asked_is finished_is =
+    let counts = finished_counts threads in
+    let at =
+    map-get (λ (x : Thread Place). length x.replies) threads other found
+    (ap (slice_get threads) (sym from_is) ∙ found_at) in
+    sym (ap (λ b. if b then true else is_met counts (after_at program t (length thread.replies))) (sym idle)
+    ∙ (ap (λ i. is_met counts (after_at program t i)) (sym index_is)
+    ∙ (ap (is_met counts) (sym after)
+    ∙ (ap (λ o. option_map_or (λ n. nat_le count n) o false) at
+    ∙ (ap (λ n. nat_le n (length found.replies)) (sym asked_is) ∙ ap (nat_le asked) (sym finished_is))))))
+
+-- the next operation of a thread, from the operations of its own
+module _ {Place : Type 0} (program : Program) (counts : List ℕ) (t : ℕ) (thread : Thread Place) where
+  pub next_due : (threads : List (List Op)) (from n : ℕ) (ops : List Op) (held : Option Op) (op : Op)
+      → threads ≡ program.threads → from ≡ t → n ≡ length thread.replies → slice_get threads from ≡ Some ops
+      → Some op ≡ held → held ≡ slice_get ops n → true ≡ is_due program counts t thread
+      → next_op program counts t thread ≡ Some op
+  next_due threads from n ops held op all from_is n_is at op_is held_is due =
+      let there : slice_get program.threads t ≡ Some ops =
+      ap (slice_get program.threads) (sym from_is) ∙ (ap (λ ts. slice_get ts from) (sym all) ∙ at) in
+      ap (λ b. if b then op_at program t (length thread.replies) else None) (sym due)
+      ∙ (ap (option_and_then (λ os. slice_get os (length thread.replies))) there
+      ∙ (ap (slice_get ops) (sym n_is) ∙ (sym held_is ∙ sym op_is)))
+
+  pub next_not_due : false ≡ is_due program counts t thread → next_op program counts t thread ≡ None
+  next_not_due due = ap (λ b. if b then op_at program t (length thread.replies) else None) (sym due)

@@ -5,7 +5,8 @@ use Rattle.tree_machine.proofs.state.State.form.Goals as goal
 pub returns-clause-exact : goal.returns-clause-exact
 returns-clause-exact g c program other fits =
     let bound = g.met.M.Machine g.world.𝓛 g.world.𝓜 g.world.𝓡 ((λ s x. x), (λ x. x), (λ x. x), λ x. x) in
-    rw (c.of.ensures, c.of-2.ensures) (forms_alike (g.M.Machine.rules c.args.machine) (g.M.Machine.form_of c.args.machine)
+    rw (c.of.ensures, c.of-2.ensures) (forms_alike (g.M.Machine.rules c.args.machine)
+    (g.M.Machine.form_of c.args.machine)
     (bound.forms c.args.machine) c.requires.0 program c.args.self.now other c.requires.2 fits)
 
 pub returns-clause-form : goal.returns-clause-form
