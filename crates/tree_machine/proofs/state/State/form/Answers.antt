@@ -11,3 +11,6 @@ returns-clause-exact g c program other fits =
 
 pub returns-clause-form : goal.returns-clause-form
 returns-clause-form g c = rw (c.of.ensures, c.of-2.ensures) refl
+
+pub invariant_of-result : goal.invariant_of-result
+invariant_of-result g c = rw (c.of.ensures, c.of-2.ensures) c.in_ok-bytes.ensures
