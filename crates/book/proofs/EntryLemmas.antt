@@ -30,6 +30,11 @@ module _ {X : Type 0} where
   get_within (y ∷ xs) zero x h = omega arith
   get_within (y ∷ xs) (suc i) x h = let l : i < length xs = get_within xs i x h in omega arith
 
+  pub none_past : (xs : List X) (i : ℕ) → slice_get xs i ≡ None → length xs ≤ i
+  none_past [] i e = omega arith
+  none_past (x ∷ xs) zero e = cc
+  none_past (x ∷ xs) (suc i) e = omega (arith, none_past xs i e)
+
   pub get_none : (xs : List X) (i : ℕ) → length xs ≤ i → slice_get xs i ≡ None
   get_none [] i h = refl
   get_none (y ∷ xs) zero h = absurd (omega arith)

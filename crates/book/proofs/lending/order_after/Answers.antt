@@ -1,3 +1,4 @@
+use Rattle.std.proofs.Common.{refl}
 use Rattle.lin.specs.Reply.{HasReplied}
 use Rattle.tree_machine.specs.History.{history_of}
 use Rattle.book.proofs.Loans.{step_silent}
@@ -21,3 +22,9 @@ returns-clause-found g c =
     step.1 ended.0 ended.1 ended.2 ended.3 c.in-Some.name c.in-Some.reply ended.4 ended.5 ended.6 last in
     c.in-Some-order_with_reply.ensures.1 (history_of c.args.source.now) (history_of c.args.next.now) replied
     c.requires.order
+
+pub returns-2-clause-found : goal.returns-2-clause-found
+returns-2-clause-found g c = search refl
+
+pub returns-2-clause-none : goal.returns-2-clause-none
+returns-2-clause-none g c = search refl

@@ -1,8 +1,9 @@
-use Rattle.std.proofs.Common.{Bool, ap, ◌∙◌}
+use Rattle.std.proofs.Common.{Bool, length, ap, ◌∙◌}
 use Rattle.book.specs.declared.entry.Row.{Row}
 use Rattle.book.specs.Labels.{Labelled, same_label}
 use Rattle.book.specs.Laws.Labels.{same_label_equiv}
 use Rattle.book.specs.Slots.{keyed_of}
+use Rattle.book.proofs.Leaving.{keeps_known}
 use Rattle.book.proofs.SlotLemmas.{put_step, step_row}
 use Rattle.book.proofs.placing.put_step.Goals as goal
 
@@ -29,3 +30,9 @@ returns-in-Some-clause-put g c =
     c.in_ok-put_new.ensures.put (ap (λ (row : Row). keyed_of (fields.result.2, row)) c.in_ok-row.ensures.row
     ∙ step_row c.args.parent c.args.step fields.result.2 fields.result.0 fields.result.3 fields.ensures.0
     fields.ensures.2 fields.ensures.3)
+
+pub returns-in-Some-clause-left : goal.returns-in-Some-clause-left
+returns-in-Some-clause-left g c =
+    let len = rw c.in-Some.is at c.in_ok-put_new.ensures.len in
+    keeps_known c.args.leftovers.now c.keep-in-Some.new.self (length c.args.slots.now.entries)
+    (length c.put_new.new.slots.entries) len c.keep-in-Some.ensures

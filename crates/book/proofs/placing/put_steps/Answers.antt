@@ -1,5 +1,7 @@
-use Rattle.std.proofs.Common.{◌≡◌, ◌≤◌, Bool, map, length, refl, sym, append-nil, arith}
-use Rattle.std.proofs.lemmas.List.{length_push}
+use Rattle.std.proofs.Common.{◌≡◌, ◌≤◌, Bool, map, length, refl, sym, append-nil, arith, ◌∙◌}
+use Rattle.std.proofs.lemmas.Iterator.Adapters.{YieldsList-from_vec}
+use Rattle.std.proofs.lemmas.Iterator.Consumers.{YieldsList-end}
+use Rattle.std.proofs.lemmas.List.{length_push, map-id}
 use Rattle.book.specs.Labels.{Labelled, same_label}
 use Rattle.book.specs.Slots.{entries_of, keyed_of}
 use Rattle.book.proofs.Holding.{grown_itself, grown_on, stay_on, stay_same}
@@ -42,3 +44,21 @@ loop-step-preserved g c =
           (keeps_more c.args.leftovers.now c.loop-step.leftovers c.put_step.new.leftovers (length old) (length mid)
           (length new) (length c.loop-step.yielded) 1 so_far.left one.left);
     }
+
+pub returns-clause-put : goal.returns-clause-put
+returns-clause-put g c =
+    let gives = c.into_iter-step-iterator.ensures.into_iter_gives in
+    let all =
+    YieldsList-end (YieldsList-from_vec c.args.successors.items gives.0 (gives.1 ∙ c.args.successors.ok.0))
+    c.loop-step.yielded c.loop-step.step-iterator c.loop-step.yielded_by c.next.result c.next.new.self c.in-None.is
+    c.next.ensures.steps in
+    rw (sym (map-id c.loop-step.yielded) ∙ all.0) at c.loop-step.invariant.put
+
+pub returns-clause-left : goal.returns-clause-left
+returns-clause-left g c =
+    let gives = c.into_iter-step-iterator.ensures.into_iter_gives in
+    let all =
+    YieldsList-end (YieldsList-from_vec c.args.successors.items gives.0 (gives.1 ∙ c.args.successors.ok.0))
+    c.loop-step.yielded c.loop-step.step-iterator c.loop-step.yielded_by c.next.result c.next.new.self c.in-None.is
+    c.next.ensures.steps in
+    rw (sym (map-id c.loop-step.yielded) ∙ all.0) at c.loop-step.invariant.left

@@ -1,4 +1,5 @@
-use Rattle.std.proofs.Common.{◌≡◌, ◌+◌, ◌∙◌, ap, refl, take, get_or, None, Err}
+use Rattle.std.proofs.Common.{◌≡◌, ◌+◌, ◌∙◌, ap, refl, take, get_or, None, Err, length, arith}
+use Rattle.std.proofs.Math.Seq.{take-length}
 use Rattle.std.proofs.lemmas.List.{take_more}
 use Rattle.tree_machine.specs.Step.{step}
 use Rattle.book.specs.Findings.{machine_of}
@@ -32,3 +33,8 @@ loop-i-preserved g c =
       step_counts rules c.args.program.now c.loop-i.state c.in-Ok.next t c.in-Ok.ensures.step
           ∙ ap (λ n. n + 1) c.loop-i.invariant.2,
     )
+
+pub returns-clause-state : goal.returns-clause-state
+returns-clause-state g c =
+    let done : c.loop-i.i ≡ length c.args.schedule.now = omega arith in
+    rw (done, take-length c.args.schedule.now) at c.loop-i.invariant.0

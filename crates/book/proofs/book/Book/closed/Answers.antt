@@ -36,3 +36,6 @@ returns-in-None-clause-every g c =
     let out = worked_out s.table.entries (sym c.first_left.ensures ∙ c.in-None.is) in
     λ _ sound. closed_holds m same right law.machine law.merges law.alike b.entries law.law.law
     (rw (← c.self.view_is) out) sound
+
+pub returns-in-Some-clause-every : goal.returns-in-Some-clause-every
+returns-in-Some-clause-every g c = λ h. absurd (true≢false (sym h))

@@ -34,3 +34,10 @@ returns-else-steps_at-clause-none g c =
     (open_is_later c.self.invariant.0 c.in_ok-first.first c.in_ok-open.open c.steps_at-2.result c.steps_at.result
     (sym c.first_left.ensures ∙ c.in_ok-first.was)
     (sym c.first_open.ensures.first ∙ c.in_ok-open.was) c.steps_at-2.ensures c.steps_at.ensures c.if-steps_at.false)
+
+pub returns-then-steps_at-clause-open : goal.returns-then-steps_at-clause-open
+returns-then-steps_at-clause-open g c =
+    rw (← c.self.view_is) (sym c.first_open.ensures.first ∙ c.in_ok-open.was)
+
+pub returns-then-steps_at-clause-above : goal.returns-then-steps_at-clause-above
+returns-then-steps_at-clause-above g c = rw (← c.self.view_is) c.in_ok-open.ensures.above

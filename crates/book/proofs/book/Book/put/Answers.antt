@@ -125,3 +125,6 @@ returns-in-Ok-clause-left g c =
     keeps_met c.args.leftovers.now c.append_new.new.leftovers (length c.self.inside.table.entries)
     (length c.append_new.new.self.entries) (length c.args.successors.items)
     (c.len-steps.result - (c.len.result - c.len-was.result)) left (omega arith)
+
+pub returns-in-Err-Full-clause-err : goal.returns-in-Err-Full-clause-err
+returns-in-Err-Full-clause-err g c = rw c.in-Err-Full.ensures.err c.self.view_is

@@ -1,4 +1,4 @@
-use Rattle.std.proofs.Common.{◌≡◌, ◌≢◌, ◌+◌, ◌⊎◌, ℕ, inl, inr, refl, sym, subst, List, length}
+use Rattle.std.proofs.Common.{◌≡◌, ◌≢◌, ◌+◌, ◌⊎◌, ℕ, inl, inr, refl, sym, ap, ◌∙◌, subst, List, length}
 use Rattle.book.specs.declared.file.line.Line.{Line}
 use Rattle.book.specs.Text.Files.{IsFirstMisformed}
 use Rattle.book.specs.declared.file.fault.CheckFault.{CheckFault}
@@ -28,6 +28,13 @@ returns-in-Err-Form-clause-passes g c =
     → ⊥) (sym c.in-Err-Form.number-is)
     (refused_bytes g.row.M.Denot g.row.M-Form.Denot rules c.args.program.now c.args.bytes.now
     (Form c.in-Err-Form.number) (inr (inl (c.in-Err-Form.number, refl, form))))
+
+pub returns-in-Ok-check_lines-clause-pass : goal.returns-in-Ok-check_lines-clause-pass
+returns-in-Ok-check_lines-clause-pass g c =
+    let pass =
+    subst (λ (lines : List Line). Pass g.row.M.Denot g.row.M-Form.Denot (g.M.Machine.rules c.args.machine)
+    c.args.program.now lines) c.as_slice.ensures.value c.in-Ok-check_lines.ensures.pass in
+    (c.in-Ok.lines.items, c.in-Ok.ensures.book, pass, ap (λ n. n + 1) (c.len.ensures ∙ c.in-Ok.lines.ok.0))
 
 pub returns-in-Ok-check_lines-clause-none : goal.returns-in-Ok-check_lines-clause-none
 returns-in-Ok-check_lines-clause-none g c fault =

@@ -1,8 +1,8 @@
 use Rattle.std.proofs.Common.{rules, ◌≡◌, ◌+◌, ◌<◌, ◌≤◌, ◌⊎◌, inl, inr, length, Some, None, slice_get, arith, sym, ap}
 use Rattle.std.proofs.Common.{subst}
 use Rattle.tree_machine.specs.Step.{step}
-use Rattle.book.proofs.EntryLemmas.{get_within}
-use Rattle.book.specs.declared.file.fault.CheckFault.TheVariants.{OutOfMemory, Step}
+use Rattle.book.proofs.EntryLemmas.{get_within, none_past}
+use Rattle.book.specs.declared.file.fault.CheckFault.TheVariants.{OutOfMemory, Parent, Step}
 use Rattle.book.specs.BookFile.Replays.{IsUnshown, Reaches}
 use Rattle.book.proofs.file.replaying.told.Goals as goal
 
@@ -59,3 +59,8 @@ returns-in-Ok-test_state-clause-told g c =
       record { parent = c.in-Some.parent.now; at = at; step = leads },
       (rw c.as_slice.ensures at c.in-Ok-test_state.ensures.shown),
     )
+
+pub returns-in_default-clause-amiss : goal.returns-in_default-clause-amiss
+returns-in_default-clause-amiss g c =
+    let within = none_past c.args.before.now c.args.line.now.parent (sym c.in_default.ensures) in
+    inr (inl (ap (λ n. Parent (n + 2)) c.len-number.ensures, within))

@@ -107,3 +107,17 @@ returns-in-None-clause-known g c =
     rw (← c.self.view_is) (λ label_of known steps.
     put_known label_of s.slots.entries c.put_steps.new.slots.entries c.args.parent
     c.args.successors.items c.in-Ok.ensures.put known steps)
+
+pub returns-in-Some-clause-room : goal.returns-in-Some-clause-room
+returns-in-Some-clause-room g c =
+    let n : c.len.result ≡ length c.put_steps.new.slots.entries = c.len.ensures.len in
+    let l : length (entries_of c.put_steps.new.slots.entries) ≡ length c.put_steps.new.slots.entries =
+    length-entries c.put_steps.new.slots.entries in
+    omega arith
+
+pub returns-in-None-clause-room : goal.returns-in-None-clause-room
+returns-in-None-clause-room g c =
+    let n : c.len.result ≡ length c.put_steps.new.slots.entries = c.len.ensures.len in
+    let l : length (entries_of c.put_steps.new.slots.entries) ≡ length c.put_steps.new.slots.entries =
+    length-entries c.put_steps.new.slots.entries in
+    omega arith

@@ -1,0 +1,8 @@
+-- The row of an entry has its finding.
+use Rattle.std.proofs.Common.{Some, ap, sym, ◌∙◌}
+use Rattle.book.proofs.book.Book.finding_of.Goals as goal
+
+pub returns-in-Some : goal.returns-in-Some
+returns-in-Some g c =
+    let at = c.in-Some.ensures.some in
+    rw (← c.self.view_is, at.1) (ap Some (c.finding.ensures ∙ sym at.2))
