@@ -1,4 +1,5 @@
 use Rattle.std.proofs.Common.{◌∙◌, ap, [], ◌∷◌, ◌++◌}
+use Rattle.std.proofs.lemmas.List.{take_all}
 use Rattle.book.proofs.BookFile.Replayed.{replayed_start, replayed_item, amiss_of_next, amiss_at_start}
 use Rattle.book.proofs.file.replaying.replay_lines.Goals as goal
 
@@ -24,3 +25,21 @@ pub returns-in-Err-clause-amiss : goal.returns-in-Err-clause-amiss
 returns-in-Err-clause-amiss g c =
     amiss_at_start (g.M.Machine.rules c.args.machine) c.args.program.now c.args.lines.now c.in_ok-start.start
     c.in-Err.fault c.in_ok-start.ensures.start c.in-Err.ensures.unshown
+
+pub returns-clause-replayed : goal.returns-clause-replayed
+returns-clause-replayed g c =
+    let so =
+    rw (take_all c.loop-line.line-index c.args.lines.now c.loop-line-test.false) at c.loop-line.invariant in
+    so.replayed
+
+pub returns-clause-fit : goal.returns-clause-fit
+returns-clause-fit g c = c.loop-line.invariant.fit
+
+pub returns-clause-few : goal.returns-clause-few
+returns-clause-few g c = c.loop-line.invariant.few
+
+pub returns-clause-many : goal.returns-clause-many
+returns-clause-many g c =
+    let so =
+    rw (take_all c.loop-line.line-index c.args.lines.now c.loop-line-test.false) at c.loop-line.invariant in
+    so.many
