@@ -1,4 +1,4 @@
-use Rattle.std.proofs.Common.{refl}
+use Rattle.std.proofs.Common.{rules}
 use Rattle.lin.specs.Reply.{HasReplied}
 use Rattle.tree_machine.specs.History.{history_of}
 use Rattle.book.proofs.Loans.{step_silent}
@@ -24,7 +24,7 @@ returns-clause-found g c =
     c.requires.order
 
 pub returns-2-clause-found : goal.returns-2-clause-found
-returns-2-clause-found g c = search refl
+returns-2-clause-found g c = search rules
 
 pub returns-2-clause-none : goal.returns-2-clause-none
-returns-2-clause-none g c = search refl
+returns-2-clause-none g c = search rules
