@@ -85,3 +85,9 @@ one_each claims (seat ∷ seats) h =
       (All-head (IsSeatOf claims) seat seats h).single,
       one_each claims seats (All-tail (IsSeatOf claims) seat seats h),
     )
+
+-- what a seat knows that was told that none is left
+pub told_seat : (seat : Draws) (size : Size) → seat.seats ≡ 1 → seat.spent ≡ 1 → seat.size ≡ size
+    → seat ≡ draws 1 seat.places 1 size
+told_seat seat size single told knows =
+    let all : draws seat.seats seat.places seat.spent seat.size ≡ draws 1 seat.places 1 size = cc in all

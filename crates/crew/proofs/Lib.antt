@@ -13,6 +13,7 @@ pub mod Layer
 mod Given
 pub mod Reports
 pub mod Room
+pub mod Shares
 pub mod WorkedOff
 pub mod Reaching
 pub mod Verdicts

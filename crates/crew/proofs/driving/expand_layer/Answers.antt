@@ -1,4 +1,4 @@
-use Rattle.std.proofs.Common.{◌≤◌, refl, arith}
+use Rattle.std.proofs.Common.{◌+◌, ◌<◌, ◌≤◌, refl, arith}
 use Rattle.crew.proofs.Soundness.{none_unsound}
 use Rattle.crew.proofs.driving.expand_layer.Goals as goal
 
@@ -18,4 +18,17 @@ layer-init g c =
         fresh = (λ i e at deep. let few : e.state.steps ≤ c.args.depth = stands.shallow i e at in absurd (omega arith));
         shallow = (λ i e at. let few : e.state.steps ≤ c.args.depth = stands.shallow i e at in omega arith);
       };
+    }
+
+pub returns-clause-next : goal.returns-clause-next
+returns-clause-next g c =
+    let here = c.layer.invariant.in_layer in
+    record {
+      none_taken = here.none_taken;
+      done = (λ i e at less. c.is_left_to.ensures.none c.layer-test.false i e at
+          (let few : e.state.steps < c.args.depth + 1 = less in omega arith));
+      fresh = here.fresh;
+      shallow = here.shallow;
+      sound = (λ i e at less. here.through.sound i e at
+          (let few : e.state.steps < c.args.depth + 1 = less in omega arith));
     }

@@ -147,3 +147,9 @@ unreachable-requires-in-Err-Stranger g c =
     c.in_ok-expansion.expansion (c.in_ok-expansion.ensures.machine ∙ c.machine.ensures)
     (c.in_ok-expansion.ensures.program ∙ c.requires.program)
     (c.in_ok-expansion.ensures.source ∙ c.deref-source.ensures) c.law-3.ensures)
+
+pub returns-in-Err-Full-clause-next : goal.returns-in-Err-Full-clause-next
+returns-in-Err-Full-clause-next g c = tt
+
+pub returns-in-Err-Full-clause-more : goal.returns-in-Err-Full-clause-more
+returns-in-Err-Full-clause-more g c = tt

@@ -1,7 +1,7 @@
 use Rattle.std.proofs.Common.{◌≡◌, ◌∙◌, ◌+◌, ◌≤◌, sym, length, count_by, leb, arith}
-use Rattle.std.proofs.lemmas.Bool.{eqb-true, eq-eqb, leb-true, le-leb}
+use Rattle.std.proofs.lemmas.Bool.{eqb-true, eq-eqb, false≢true, leb-true, le-leb}
 use Rattle.tree_machine.specs.declared.state.State.{State}
-use Rattle.book.specs.declared.book.Merge.TheVariants.{Names}
+use Rattle.book.specs.declared.book.Merge.TheVariants.{Exact, Names}
 use Rattle.book.specs.Entries.{Entry}
 use Rattle.crew.proofs.Counting.{count_every, every_counted}
 use Rattle.crew.proofs.reading.is_at_rest.Goals as goal
@@ -27,4 +27,11 @@ returns-in-Names g c =
       (λ rest. eq-eqb c.count_to.result c.len.result (counts ∙ count_every test es (λ i e at. le-leb e.state.steps n
           (let few : e.state.steps ≤ rest.1 = rest.3 i e at in let same : c.args.steps ≡ rest.1 + 1 = rest.2 in
           omega arith)) ∙ sym all)),
+    )
+
+pub returns-in-Exact : goal.returns-in-Exact
+returns-in-Exact g c =
+    let exact : c.args.book.now.merge ≡ Exact = sym c.merge.ensures ∙ c.in-Exact.is in (
+      (λ h. absurd (false≢true h)),
+      (λ rest. let names : c.args.book.now.merge ≡ Names = rest.0 in cc),
     )

@@ -1,5 +1,5 @@
 -- Each turn cuts off a seat that drew nothing.
-use Rattle.std.proofs.Common.{rules, arith, ap, sym, ◌∙◌, ◌-◌, ℕ, vec_len}
+use Rattle.std.proofs.Common.{rules, arith, ap, refl, sym, ◌∙◌, ◌-◌, ℕ, vec_len}
 use Rattle.crew.specs.declared.claims.view.Size.{Size}
 use Rattle.crew.specs.ClaimRule.{fresh}
 use Rattle.crew.proofs.ClaimSteps.{cut_kept}
@@ -47,3 +47,6 @@ returns-clause-fresh c =
     new_is_fresh (record { counter = table; size = size }) c.push_reserved-2.new.self.items
     (all_new table size c.push_reserved-2.new.self.items c.loop.made.items c.seated-2.result
     c.push_reserved-2.ensures.items c.loop.invariant.made last)
+
+pub returns-clause-size : goal.returns-clause-size
+returns-clause-size c = refl

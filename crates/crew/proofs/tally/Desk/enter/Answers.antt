@@ -1,7 +1,8 @@
-use Rattle.std.proofs.Common.{◌≡◌, ◌+◌, ◌^◌, ◌<◌, arith, length, count_by}
+use Rattle.std.proofs.Common.{◌≡◌, ◌+◌, ◌^◌, ◌<◌, ◌≤◌, ap, arith, length, count_by}
 use Rattle.tree_machine.specs.declared.state.State.{State}
 use Rattle.book.specs.Entries.{Entry, Enters, is_expanded}
 use Rattle.book.specs.Books.{counted_as_one, machine_in, right_in}
+use Rattle.crew.specs.declared.answer.Share.{Share}
 use Rattle.crew.proofs.Counted.{more_expanded, more_entries, small_met}
 use Rattle.crew.proofs.Expansions.{expansion_in}
 use Rattle.crew.proofs.tally.Desk.enter.Goals as goal
@@ -61,3 +62,18 @@ add-requires-4-clause-met g c =
     let was : c.args.self.now.met.total ≡ old.met = c.args.self.now.met_is in
     let mine : c.args.tally.now.pieces.met.amount ≡ c.args.tally.now.share.met = c.args.tally.now.met_is in
     omega (arith, c.audit-3.ensures.bound)
+
+pub returns-clause-kept : goal.returns-clause-kept
+returns-clause-kept g c =
+    let met : c.add-4.new.self.met ≡ c.args.tally.now.share.met + c.in_ok-counts.counts.met =
+    ap (λ (s : Share). s.met) c.add-4.ensures in
+    let each : c.in_ok-counts.counts.entered + c.in_ok-counts.counts.met ≡ length c.args.expansion.successors =
+    c.in_ok-counts.ensures.entered.each in
+    let room : length c.args.expansion.successors ≤ c.args.leftovers.now.room = c.requires.room in
+    omega (arith, c.in_ok-counts.ensures.left)
+
+pub returns-clause-room : goal.returns-clause-room
+returns-clause-room g c =
+    let each : c.in_ok-counts.counts.entered + c.in_ok-counts.counts.met ≡ length c.args.expansion.successors =
+    c.in_ok-counts.ensures.entered.each in
+    omega (arith, c.in_ok-counts.ensures.left)
