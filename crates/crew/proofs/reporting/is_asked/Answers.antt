@@ -22,5 +22,5 @@ returns-then-limit g c = elim c.if-is_of.branch [
         }),
     (λ is. search rules),
   )
-  | else-is_of w ↦ absurd (false≢true (sym w.value-is ∙ c.if-limit.true))
+  | else-is_of w ↦ absurd (false≢true (sym w.if-is_of.false ∙ sym w.value-is ∙ c.if-limit.true))
 ]
