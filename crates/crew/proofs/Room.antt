@@ -1,5 +1,5 @@
 -- Room for the steps of expansions that are entered one after the other.
-use Rattle.std.proofs.Common.{◌≡◌, ℕ, ◌+◌, ◌<◌, ◌≤◌, List, ◌∷◌, length, get_or, take, sum_by, sym, ap, arith, subst}
+use Rattle.std.proofs.Common.{◌≡◌, ℕ, ◌+◌, ◌<◌, ◌≤◌, List, ◌∷◌, length, get_or, take, sum_by, ap, arith, subst}
 use Rattle.std.proofs.lemmas.List.Sums.{sum_by-cons, sum_by_more}
 
 -- there is room for the next
