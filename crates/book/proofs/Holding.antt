@@ -1,10 +1,10 @@
 -- The states that a book holds: those of its entries from the first on that is not expanded.
-use Rattle.std.proofs.Common.{◌≡◌, ℕ, zero, suc, ◌+◌, ◌-◌, ◌<◌, ◌≤◌, inl, inr, Bool, true, false, cond, Option}
+use Rattle.std.proofs.Common.{◌≡◌, ℕ, zero, suc, ◌+◌, ◌-◌, ◌<◌, ◌≤◌, inl, inr, Option}
 use Rattle.std.proofs.Common.{Some, None, List, [], ◌∷◌, ◌++◌, drop, not, position, length, refl, sym, ap}
 use Rattle.std.proofs.Common.{◌∙◌, arith, slice_get}
 use Rattle.std.proofs.Math.Seq.{take-length}
 use Rattle.std.proofs.lemmas.Bool.{cases_lt}
-use Rattle.std.proofs.lemmas.List.{map-append, take-append-drop}
+use Rattle.std.proofs.lemmas.List.{take-append-drop}
 use Rattle.tree_machine.proofs.Lists.{get_at}
 use Rattle.book.specs.declared.entry.Mark.{Mark}
 use Rattle.book.specs.declared.entry.Mark.TheVariants.{Open, Taken, Expanded}
@@ -23,11 +23,6 @@ module _ {X : Type 0} where
   get-drop [] (suc n) k = refl
   get-drop (x ∷ xs) (suc n) k =
       get-drop xs n k ∙ ap (slice_get (x ∷ xs)) (let e : suc (n + k) ≡ suc n + k = omega arith in e)
-
-  drop-push : (xs : List X) (n : ℕ) (x : X) → n ≤ length xs → drop n (xs ++ x ∷ []) ≡ drop n xs ++ x ∷ []
-  drop-push xs zero x le = refl
-  drop-push [] (suc n) x le = absurd (omega arith)
-  drop-push (y ∷ xs) (suc n) x le = drop-push xs n x (omega arith)
 
   drop-nil : (n : ℕ) (xs : List X) → length xs ≡ 0 → drop n xs ≡ xs
   drop-nil zero xs none = refl
@@ -56,33 +51,6 @@ module _ {X : Type 0} where
   grown_on a b c first then =
       take_kept a b c (drop (length b) c) first
       (sym (take-append-drop (length b) c) ∙ ap (λ xs. xs ++ drop (length b) c) then)
-
-  -- what is put in under a key that is new, and what under one that is not
-  pub put_none : (b : Bool) (old new : List X) (x : X) → new ≡ old ++ cond b [] (x ∷ []) → length new ≡ length old + 1
-      → new ≡ old ++ x ∷ []
-  put_none true old new x put len =
-      absurd (let e : length new ≡ length (old ++ []) = ap length put in
-      let n : length (old ++ []) ≡ length old = ap length (nil old) in omega arith)
-    where
-      nil : (xs : List X) → xs ++ [] ≡ xs
-      nil [] = refl
-      nil (y ∷ xs) = ap (λ ys. y ∷ ys) (nil xs)
-  put_none false old new x put len = put
-
-  pub put_some : (b : Bool) (old new : List X) (x : X) → new ≡ old ++ cond b [] (x ∷ []) → length new ≡ length old + 0
-      → new ≡ old
-  put_some true old new x put len = put ∙ nil old
-    where
-      nil : (xs : List X) → xs ++ [] ≡ xs
-      nil [] = refl
-      nil (y ∷ xs) = ap (λ ys. y ∷ ys) (nil xs)
-  put_some false old new x put len =
-      absurd (let e : length new ≡ length (old ++ x ∷ []) = ap length put in
-      let n : length (old ++ x ∷ []) ≡ length old + 1 = more old in omega arith)
-    where
-      more : (xs : List X) → length (xs ++ x ∷ []) ≡ length xs + 1
-      more [] = refl
-      more (y ∷ xs) = let m : length (xs ++ x ∷ []) ≡ length xs + 1 = more xs in omega arith
 
 -- ---- entries
 module _ {S : Type 0} where
@@ -155,19 +123,6 @@ module _ {S : Type 0} where
 
   pub stay_same : (es new : List (Entry S)) (held : List S) → new ≡ es → StayHeld es new held held
   stay_same es new held is = λ first le are. are ∙ ap (λ xs. drop first (states xs)) (sym is)
-
-  pub stay_pushed : (es new : List (Entry S)) (held : List S) (e : Entry S) (s : S) → new ≡ es ++ e ∷ [] → e.state ≡ s
-      → StayHeld es new held (held ++ s ∷ [])
-  stay_pushed es new held e s is state = λ first le are.
-      let n : length (states es) ≡ length es = count es in
-      ap (λ ss. ss ++ s ∷ []) are ∙ ap (λ x. drop first (states es) ++ x ∷ []) (sym state)
-      ∙ sym (drop-push (states es) first e.state (omega arith))
-      ∙ ap (drop first) (sym (map-append (λ (x : Entry S). x.state) es (e ∷ [])))
-      ∙ ap (λ xs. drop first (states xs)) (sym is)
-    where
-      count : (xs : List (Entry S)) → length (states xs) ≡ length xs
-      count [] = refl
-      count (x ∷ xs) = ap suc (count xs)
 
   pub stay_on : (a b c : List (Entry S)) (held mid still : List S) → length a ≤ length b → StayHeld a b held mid
       → StayHeld b c mid still → StayHeld a c held still

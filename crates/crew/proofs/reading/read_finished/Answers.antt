@@ -47,6 +47,3 @@ returns-else-closed-clause-headline g c =
     holds_true g.M.Machine.rules c.args.book.now law.machine law.merges law.alike law.law c.args.steps
     c.from-last.result c.from-last.ensures (sym c.first_fault.ensures ∙ c.in-None.is)
     (c.is_last_layer.ensures.0 c.if-not-is_last_layer.false)
-
-pub returns-else-closed-clause-closed : goal.returns-else-closed-clause-closed
-returns-else-closed-clause-closed g c = λ is. true≢false (sym (c.closed.ensures.closed.1 is) ∙ c.if-closed.false)

@@ -1,7 +1,0 @@
--- The field that is told is the one that contracts see.
-use Rattle.std.proofs.Common.{ap}
-use Rattle.crew.specs.Settings.{Settings}
-use Rattle.crew.proofs.options.Options.limit.Goals as goal
-
-pub returns : goal.returns
-returns c = ap (λ (s : Settings). s.limit) c.self.view_is
