@@ -8,7 +8,7 @@ use natmit::{NatMit, NatMitLoc};
 use sched_program::Program;
 use std::alloc::Global;
 use std::test::Fail;
-use tree_machine::{State, StepFault};
+use tree_machine::{State, StateForm, StepFault};
 
 /// Over 10 and 20, T0 inserts 5 and T1 inserts 25.
 const TWO_INSERTS: &str =
@@ -34,18 +34,33 @@ fn after(
     Ok(state)
 }
 
+/// Where a run of a program ends.
+#[derive(Drop)]
+struct End {
+    state: State<NatMit>,
+    form: StateForm<NatMit>,
+}
+
+/// Where the program of a text ends by a schedule. Whoever holds it has one value to let go, and not its lists.
+fn end_of(alloc: Global, (text, schedule): (&str, &[u8])) -> Result<Box<End>, Broken> {
+    let program = program_of(alloc, text)?;
+    let state = after(alloc, WHOLE, &program, schedule)?;
+    let form = state.form(alloc, WHOLE)?;
+    match Box::new(alloc, End { state, form }) {
+        Ok(end) => Ok(end),
+        Err(_) => Err(Broken::OutOfMemory),
+    }
+}
+
 /// Whether the states after two schedules of two programs differ, and whether their forms do.
 fn differ_once(
     alloc: Global,
-    (text, schedule): (&str, &[u8]),
-    (other_text, other_schedule): (&str, &[u8]),
+    run: (&str, &[u8]),
+    other: (&str, &[u8]),
 ) -> Result<(bool, bool), Broken> {
-    let program = program_of(alloc, text)?;
-    let other_program = program_of(alloc, other_text)?;
-    let state = after(alloc, WHOLE, &program, schedule)?;
-    let other = after(alloc, WHOLE, &other_program, other_schedule)?;
-    let forms_differ = state.form(alloc, WHOLE)? != other.form(alloc, WHOLE)?;
-    Ok((state != other, forms_differ))
+    let end = end_of(alloc, run)?;
+    let other = end_of(alloc, other)?;
+    Ok((end.state != other.state, end.form != other.form))
 }
 
 /// The same, at the second try where memory was refused at the first: that happens once at most.
