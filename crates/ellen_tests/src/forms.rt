@@ -8,7 +8,7 @@ use sched_program::{Program, ProgramFault};
 use std::alloc::Global;
 use std::process::Abort;
 use std::test::Fail;
-use tree_machine::{State, StepFault};
+use tree_machine::{State, StateForm, StepFault};
 
 const WHOLE: Ellen = Ellen {
     mark: true,
@@ -88,6 +88,24 @@ fn after(
     Ok(state)
 }
 
+/// Where a run of a program ends.
+#[derive(Drop)]
+struct End {
+    state: State<Ellen>,
+    form: StateForm<Ellen>,
+}
+
+/// Where the program of a text ends by a schedule. Whoever holds it has one value to let go, and not its lists.
+fn end_of(alloc: Global, text: &str, stretches: &[(u8, u64)]) -> Result<Box<End>, StepFault> {
+    let program = program_of(alloc, text)?;
+    let state = after(alloc, WHOLE, &program, stretches)?;
+    let form = state.form(alloc, WHOLE)?;
+    match Box::new(alloc, End { state, form }) {
+        Ok(end) => Ok(end),
+        Err(_) => Err(StepFault::OutOfMemory),
+    }
+}
+
 /// Whether two schedules lead to equal states, and to states of equal forms.
 fn are_equal(
     alloc: Global,
@@ -95,11 +113,9 @@ fn are_equal(
     stretches: &[(u8, u64)],
     others: &[(u8, u64)],
 ) -> Result<(bool, bool), StepFault> {
-    let program = program_of(alloc, text)?;
-    let left = after(alloc, WHOLE, &program, stretches)?;
-    let right = after(alloc, WHOLE, &program, others)?;
-    let forms = left.form(alloc, WHOLE)? == right.form(alloc, WHOLE)?;
-    Ok((left == right, forms))
+    let left = end_of(alloc, text, stretches)?;
+    let right = end_of(alloc, text, others)?;
+    Ok((left.state == right.state, left.form == right.form))
 }
 
 /// The parent at which thread 1 looks for its key after a schedule.
