@@ -11,7 +11,7 @@ use std::alloc::Global;
 use tree_machine::{Shape, Shapes, Side, copied_in, extended, number_of, side_of};
 
 /// An update word: its state, with the number of the record that was written there last.
-#[derive(Clone, Copy, Debug, PartialEq, Eq, Hash)]
+#[derive(Clone, Copy, PartialEq, Eq, Hash)]
 pub enum UpdateWord {
     /// CLEAN, and no record was written yet.
     Untouched,
@@ -26,7 +26,7 @@ pub enum UpdateWord {
 }
 
 /// A node of the tree; the children are node numbers.
-#[derive(Clone, Copy, Debug, PartialEq, Eq, Hash)]
+#[derive(Clone, Copy, PartialEq, Eq, Hash)]
 pub enum Node {
     /// A leaf with its key.
     Leaf {
@@ -42,7 +42,7 @@ pub enum Node {
 }
 
 /// What an insert is about to do: to put the node `new` in the place of the leaf.
-#[derive(Clone, Copy, Debug, PartialEq, Eq, Hash)]
+#[derive(Clone, Copy, PartialEq, Eq, Hash)]
 pub struct InsertRecord {
     pub parent: u32,
     pub leaf: u32,
@@ -50,7 +50,7 @@ pub struct InsertRecord {
 }
 
 /// What a delete is about to do: to put the leaf's sibling in the place of the parent.
-#[derive(Clone, Copy, Debug, PartialEq, Eq, Hash)]
+#[derive(Clone, Copy, PartialEq, Eq, Hash)]
 pub struct DeleteRecord {
     pub grandparent: u32,
     pub parent: u32,
@@ -59,7 +59,7 @@ pub struct DeleteRecord {
 }
 
 /// What an operation is about to do, so that others can help it.
-#[derive(Clone, Copy, Debug, PartialEq, Eq, Hash)]
+#[derive(Clone, Copy, PartialEq, Eq, Hash)]
 pub enum Record {
     Ins(InsertRecord),
     Del(DeleteRecord),

@@ -7,14 +7,14 @@ use std::alloc::Global;
 use tree_machine::Side;
 
 /// A grandparent, with the update word that was read of it.
-#[derive(Clone, Copy, Debug, PartialEq, Eq, Hash)]
+#[derive(Clone, Copy, PartialEq, Eq, Hash)]
 pub struct Above {
     pub node: u32,
     pub update: UpdateWord,
 }
 
 /// A place of an operation that searches, or has decided what it will write first.
-#[derive(Clone, Copy, Debug, PartialEq, Eq, Hash)]
+#[derive(Clone, Copy, PartialEq, Eq, Hash)]
 pub enum SearchLoc {
     /// Reads the update word of the node that becomes the parent.
     Update {
@@ -48,7 +48,7 @@ pub enum SearchLoc {
 }
 
 /// A place of an operation that carries out what a record says, its own or another's.
-#[derive(Clone, Copy, Debug, PartialEq, Eq, Hash)]
+#[derive(Clone, Copy, PartialEq, Eq, Hash)]
 pub enum HelpLoc {
     /// Puts the new node of an insert below its parent.
     InsChild(u32),
@@ -69,7 +69,7 @@ pub enum HelpLoc {
 }
 
 /// What an operation does once its helping has ended.
-#[derive(Clone, Copy, Debug, PartialEq, Eq, Hash)]
+#[derive(Clone, Copy, PartialEq, Eq, Hash)]
 pub enum Base {
     /// It begins its search again.
     Again,

@@ -8,7 +8,7 @@ use std::alloc::Global;
 use tree_machine::{Shape, Shapes, Side, copied_in, extended, number_of, side_of};
 
 /// A child word.
-#[derive(Clone, Copy, Debug, PartialEq, Eq, Hash)]
+#[derive(Clone, Copy, PartialEq, Eq, Hash)]
 pub struct Word {
     /// The child is a leaf that a delete is about to cut off, with the node that holds the word.
     pub flag: bool,
@@ -19,7 +19,7 @@ pub struct Word {
 }
 
 /// A node of the tree.
-#[derive(Clone, Copy, Debug, PartialEq, Eq, Hash)]
+#[derive(Clone, Copy, PartialEq, Eq, Hash)]
 pub enum Node {
     /// A leaf with its key.
     Leaf { key: u8 },

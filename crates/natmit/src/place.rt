@@ -2,7 +2,7 @@
 use tree_machine::Side;
 
 /// What a delete has done so far.
-#[derive(Clone, Copy, Debug, PartialEq, Eq, Hash)]
+#[derive(Clone, Copy, PartialEq, Eq, Hash)]
 pub enum Mode {
     /// It has flagged no leaf.
     Plain,
@@ -12,7 +12,7 @@ pub enum Mode {
 
 /// A place of the machine. The numbers are those of nodes: of the ancestor and its successor, the ends of the last
 /// word above the parent that was read untagged; of the parent; and of its child, a leaf where the search has ended.
-#[derive(Clone, Copy, Debug, PartialEq, Eq, Hash)]
+#[derive(Clone, Copy, PartialEq, Eq, Hash)]
 pub enum NatMitLoc {
     /// The search reads the word from which it begins.
     Begin {
