@@ -12,7 +12,7 @@ use tree_machine::{Machine, Side, State, StepFault};
 pub const WHOLE: NatMit = NatMit { tag: true };
 
 /// What is seen of a state.
-#[derive(Clone, Copy, Debug)]
+#[derive(Clone, Copy)]
 pub enum Seen {
     /// The child word of a node on a side: its flag, its tag and the number of the child.
     Word(u32, Side, (bool, bool, u32)),
