@@ -1,7 +1,9 @@
 -- A list of fixed capacity: the values in use, and then blank cells.
 use Rattle.std.proofs.Common.{◌≡◌, ℕ, suc, ◌+◌, ◌-◌, ◌<◌, List, ◌∷◌, [], ◌++◌, length, take, ap, sym, ◌∙◌, arith, subst}
-use Rattle.std.specs.Prelude.{replicate}
-use Rattle.std.specs.Prelude.{slice_set}
+use Rattle.std.proofs.Common.{Option, Some, None, option_copied, refl, Bor}
+use Rattle.std.proofs.lemmas.Option.{slice_get_past, slice_get_read}
+use Rattle.std.specs.Slice.{IsItemAt}
+use Rattle.std.specs.Prelude.{replicate, slice_get, slice_set}
 use Rattle.std.proofs.lemmas.List.{length-append, append_assoc}
 use Rattle.std.proofs.Math.Seq.{set-append_seam, take-append_seam}
 
@@ -43,3 +45,9 @@ module _ {A : Type 0} (filler value : A) (items : List A) (count cap : ℕ) (lon
     written
         ∙ ap (λ xs. xs ++ replicate (cap - (count + 1)) filler) (sym pushed),
   )
+
+-- what is found at an index is the value there
+pub looked_up : {A : Type 0} → (xs : List A) (i : ℕ) (found : Option (Bor A)) → IsItemAt xs i found
+    → option_copied found ≡ slice_get xs i
+looked_up xs i None is = sym (slice_get_past xs i is.3)
+looked_up xs i (Some x) is = sym (slice_get_read xs (length xs) i x.now refl is.3.0 is.1)

@@ -55,6 +55,17 @@ none_listed version known value threads (Ok None) is at none =
 none_listed version known value threads (Ok (Some x)) is at none = tt
 none_listed version known value threads (Err e) is at none = tt
 
+-- where the member with the threads is a list of turns, these are the value's
+pub listed : {Refusal : Type 0} (version known : Version) (value threads : Data)
+    (answer : Result (Option (List (List (Option Turn)))) Refusal) → version ≡ known
+    → Some threads ≡ get (codes "threads") value
+    → IfOk answer (λ found. IfSome found (IsListOf (IsListOf (HasTurn known)) threads))
+    → IfOk answer (λ found. IfSome found (HasTurns version value))
+listed version known value threads (Ok None) is at found = tt
+listed version known value threads (Ok (Some x)) is at found =
+    subst (λ v. HasTurns v value x) (sym is) (threads, sym at, found)
+listed version known value threads (Err e) is at found = tt
+
 -- a thread's row is as that thread may wait
 row_within : (threads : List (List Op)) (turns : List (List (Option Turn))) (t : ℕ) (row : List (Option Turn))
     → AreTurnsWithin threads turns → slice_get turns t ≡ Some row

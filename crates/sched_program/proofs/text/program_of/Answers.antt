@@ -12,8 +12,11 @@ returns-then-not-is_distinct-clause-err c =
       first = (
         search rules,
         (
-          (c.in-Some.version, search rules),
-          ((c.in-Some-tree_of.tree, search rules), (few_keys value c.in_ok-initial.initial initial.0 initial.1, tt)),
+          (c.in-Some.version, c.in-Some.ensures.found),
+          (
+            (c.in-Some-tree_of.tree, c.in-Some-tree_of.ensures.found),
+            (few_keys value c.in_ok-initial.initial initial.0 initial.1, tt),
+          ),
         ),
       );
     }
@@ -31,9 +34,9 @@ returns-in_default-2-clause-err c =
       first = (
         search rules,
         (
-          (c.in-Some.version, search rules),
+          (c.in-Some.version, c.in-Some.ensures.found),
           (
-            (c.in-Some-tree_of.tree, search rules),
+            (c.in-Some-tree_of.tree, c.in-Some-tree_of.ensures.found),
             (
               few_keys value keys initial.0 initial.1,
               (
@@ -54,3 +57,22 @@ new-requires c =
     limits_met (view c.args.value.now) c.in-Some.version c.in-Some-tree_of.tree c.in_ok-initial.initial
     c.in_ok-threads.threads c.in-Some-2.turns initial.0 initial.1 (search rules) threads.0 threads.1 threads.2
     threads.3 turns.0 (rw c.as_slice-2.ensures at turns.1)
+
+pub threads_of-requires : goal.threads_of-requires
+threads_of-requires c =
+    let value = view c.args.value.now in
+    let keys = c.in_ok-initial.initial in
+    let initial = c.in_ok-initial.ensures.ok in
+    let distinct : AllPairs (λ a b. a ≢ b) keys = search rules in (
+      search rules,
+      (
+        (c.in-Some.version, c.in-Some.ensures.found),
+        (
+          (c.in-Some-tree_of.tree, c.in-Some-tree_of.ensures.found),
+          (
+            few_keys value keys initial.0 initial.1,
+            ((initial.0.0, initial.0.1, (keys, initial.0.2, distinct)), tt),
+          ),
+        ),
+      ),
+    )

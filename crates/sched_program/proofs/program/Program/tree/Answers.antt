@@ -1,0 +1,5 @@
+-- The field is returned.
+use Rattle.sched_program.proofs.program.Program.tree.Goals as goal
+
+pub returns : goal.returns
+returns c = cc
