@@ -1,13 +1,14 @@
 -- Whether an operation may stand next, from sets of operations.
 use Rattle.std.proofs.Common.{◌≡◌, ◌&&◌, ◌||◌, Bool, true, false, true≢false, List, [], ◌∷◌, IsSome, MatchBool, ◌↔◌}
-use Rattle.std.proofs.Common.{inl, inr, refl, sym, ◌∙◌, ap, subst}
+use Rattle.std.proofs.Common.{Option, Some, IfSome, IsSomeAnd, inl, inr, refl, sym, ◌∙◌, ap, subst}
 use Rattle.std.proofs.lemmas.Bool.{or_cases, or_parts, or_left, or_right, and_parts}
 use Rattle.sched_program.specs.declared.operation.OpId.{OpId}
-use Rattle.sched_program.specs.Program.{Program}
-use Rattle.sched_program.specs.History.{History, IsHistory, reply, EndedBefore}
+use Rattle.sched_program.specs.declared.operation.Op.{Op}
+use Rattle.sched_program.specs.Program.{Program, op_at}
+use Rattle.sched_program.specs.History.{History, IsHistory, IsBegun, reply, EndedBefore}
 use Rattle.sched_program.specs.Name.{same_name}
-use Rattle.lin.specs.Keys.{Keys}
-use Rattle.lin.specs.Completion.{Listed, listed_in, with_name, EveryFinishedIsListed, Completes}
+use Rattle.lin.specs.Keys.{Keys, reply_on, keys_after}
+use Rattle.lin.specs.Completion.{Listed, listed_in, with_name, StandsNext, EveryFinishedIsListed, Completes}
 use Rattle.lin.specs.Timeline.{HasPlace, finished_in}
 use Rattle.lin.specs.Progress.{AreBarred}
 use Rattle.lin.proofs.Names.{same_name_self, same_name-is}
@@ -103,3 +104,21 @@ pub every_listed : (history : History) (finished listed : Listed) → finished �
     → ((a : OpId) → finished a ≡ true → listed a ≡ true) ↔ EveryFinishedIsListed history listed
 every_listed history finished listed are =
     (λ within a some. within a (ap (λ f. f a) are ∙ some), λ every a among. every a (sym (ap (λ f. f a) are) ∙ among))
+
+-- an operation that is new, in time, and replies as it did or is pending, may stand next
+pub stands : (program : Program) (history : History) (listed : Listed) (keys next : Keys) (name : OpId) (o : Op)
+    (given : Option Bool) (told : Bool) → IsBegun history name
+    → (listed name ≡ false) × ((b : OpId) → with_name listed name b ≡ true → EndedBefore history name b → ⊥)
+    → Some o ≡ op_at program name.thread name.index → given ≡ reply history name → told ≡ reply_on o keys
+    → IfSome given (λ r. r ≡ told) → next ≡ keys_after o keys → StandsNext program history listed keys name next
+stands program history listed keys next name o given told begun due is given_is told_is replies after = record {
+  begun = begun;
+  new = due.0;
+  in_time = due.1;
+  gives = subst (λ found. IsSomeAnd found (λ p. IfSome (reply history name) (λ r. r ≡ reply_on p keys)
+      × (next ≡ keys_after p keys))) is (
+        subst (λ g. IfSome g (λ x. x ≡ reply_on o keys)) given_is
+            (subst (λ r. IfSome given (λ x. x ≡ r)) told_is replies),
+        after,
+      );
+}

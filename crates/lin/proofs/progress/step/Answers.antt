@@ -1,7 +1,11 @@
-use Rattle.std.proofs.Common.{sym, subst₂}
+use Rattle.std.proofs.Common.{◌≡◌, false, true, IfSome, rules, sym, subst₂}
+use Rattle.sched_program.specs.declared.operation.OpId.{OpId}
+use Rattle.sched_program.specs.History.{EndedBefore}
+use Rattle.lin.specs.Completion.{with_name}
+use Rattle.lin.specs.KeySet.{keys_in}
 use Rattle.lin.specs.OpSet.{operations_in}
 use Rattle.lin.specs.Progress.{AreBarred}
-use Rattle.lin.proofs.Steps.{barred_more}
+use Rattle.lin.proofs.Steps.{barred_more, stands}
 use Rattle.lin.proofs.progress.step.Goals as goal
 
 pub returns-in_default-clause-barred : goal.returns-in_default-clause-barred
@@ -11,3 +15,20 @@ returns-in_default-clause-barred c =
     subst₂ (AreBarred history) (sym c.with.ensures) (sym c.union.ensures)
     (barred_more history (operations_in from.at.listed) (operations_in from.barred)
     (operations_in c.before-before.result) c.args.name c.requires.barred c.before-before.ensures)
+
+pub returns-in_default-clause-stands : goal.returns-in_default-clause-stands
+returns-in_default-clause-stands c =
+    let history = c.args.timeline.now in
+    let listed = operations_in c.args.from.at.listed in
+    let name = c.args.name in
+    let due : (listed name ≡ false)
+    × ((b : OpId) → with_name listed name b ≡ true → EndedBefore history name b → ⊥) = search rules in
+    let replies : IfSome c.reply.result (λ r. r ≡ c.reply_to-told.result) = search rules in
+    stands c.args.program.now history listed (keys_in c.args.from.at.keys) (keys_in c.after.result) name
+    c.in_ok-operation.operation c.reply.result c.reply_to-told.result c.requires.begun due c.in_ok-operation.ensures
+    c.reply.ensures c.reply_to-told.ensures replies c.after.ensures
+
+pub returns-then-not-is_due-clause-stands : goal.returns-then-not-is_due-clause-stands
+returns-then-not-is_due-clause-stands c =
+    let late : c.is_due.result ≡ false = search rules in
+    (rw late at c.is_due.ensures) c.args.program.now (keys_in c.args.from.at.keys)

@@ -24,3 +24,6 @@ returns-else-branch-clause-none c =
     λ some. none_linearization c.args.program.now c.new-timeline.result _ _ c.in_ok-order.ensures.items
     (c.of.ensures ∙ ap keys_of c.initial.ensures.value) none.1 some.0
     (subst (λ history. IsLinearization c.args.program.now history some.0) (sym c.new-timeline.ensures) some.1)
+
+pub returns-then-branch-clause-none : goal.returns-then-branch-clause-none
+returns-then-branch-clause-none c = tt
