@@ -1,18 +1,63 @@
 //! The calls of the machine `Atomic`.
 
-use crate::once_more::holds;
+use crate::broken::{Broken, ensure};
 use sched_program::{Op, OutOfMemory, Sequence, ShortList};
 use std::alloc::Global;
+use std::test::Fail;
 use tree_machine::{Atomic, AtomicForm, AtomicLoc, Machine, Outcome, Thread};
 
 /// An operation, the keys before and after it, and its reply.
-const ACCESSES: &[(Op, &[u8], &[u8], bool)] = &[
-    (Op::Insert(15), &[10, 20], &[10, 15, 20], true),
-    (Op::Insert(20), &[10, 20], &[10, 20], false),
-    (Op::Delete(10), &[10, 20], &[20], true),
-    (Op::Delete(15), &[10, 20], &[10, 20], false),
-    (Op::Find(20), &[10, 20], &[10, 20], true),
-    (Op::Find(15), &[10, 20], &[10, 20], false),
+struct Access {
+    name: &'static str,
+    op: Op,
+    before: &'static [u8],
+    after: &'static [u8],
+    reply: bool,
+}
+
+const ACCESSES: &[Access] = &[
+    Access {
+        name: "insert of a new key",
+        op: Op::Insert(15),
+        before: &[10, 20],
+        after: &[10, 15, 20],
+        reply: true,
+    },
+    Access {
+        name: "insert of a key that is there",
+        op: Op::Insert(20),
+        before: &[10, 20],
+        after: &[10, 20],
+        reply: false,
+    },
+    Access {
+        name: "delete of a key that is there",
+        op: Op::Delete(10),
+        before: &[10, 20],
+        after: &[20],
+        reply: true,
+    },
+    Access {
+        name: "delete of no key",
+        op: Op::Delete(15),
+        before: &[10, 20],
+        after: &[10, 20],
+        reply: false,
+    },
+    Access {
+        name: "find of a key that is there",
+        op: Op::Find(20),
+        before: &[10, 20],
+        after: &[10, 20],
+        reply: true,
+    },
+    Access {
+        name: "find of no key",
+        op: Op::Find(15),
+        before: &[10, 20],
+        after: &[10, 20],
+        reply: false,
+    },
 ];
 
 /// A memory of these keys.
@@ -20,45 +65,93 @@ fn keys_of(alloc: Global, keys: &[u8]) -> Result<Sequence<u8>, OutOfMemory> {
     Ok(Sequence::from_vec(Vec::from_slice(alloc, keys)?))
 }
 
-/// Whether an operation on these keys leaves those, and replies so.
-fn is_access(
+/// Whether an operation on these keys replies so.
+fn replies(
     alloc: Global,
+    keys: &mut Sequence<u8>,
     op: Op,
-    before: &[u8],
-    after: &[u8],
     reply: bool,
 ) -> Result<bool, OutOfMemory> {
-    let mut keys = keys_of(alloc, before)?;
-    let outcome = Atomic.act(alloc, op, &AtomicLoc::Do, &mut keys)?;
-    Ok(outcome == Outcome::Replies(reply) && keys.as_slice() == after)
-}
-
-#[test]
-fn accesses(rt: HostRuntime) {
-    for (op, before, after, reply) in ACCESSES {
-        let is_right = holds!(is_access(rt.alloc(), *op, before, after, *reply));
-        assert!(&rt; is_right, "{op:?}");
+    match Atomic.act(alloc, op, &AtomicLoc::Do, keys)? {
+        Outcome::Replies(told) => Ok(told == reply),
+        _ => Ok(false),
     }
 }
 
-/// Whether the keys that a program begins with are put in order.
-fn are_built(alloc: Global) -> Result<bool, OutOfMemory> {
-    let keys = Atomic.build(alloc, &[20, 10, 15])?;
-    Ok(keys.as_slice() == [10, 15, 20].as_slice())
+/// An operation leaves the keys after it, and replies so.
+fn is_access(alloc: Global, access: &Access) -> Result<(), Broken> {
+    let mut keys = keys_of(alloc, access.before)?;
+    let is_reply = replies(alloc, &mut keys, access.op, access.reply)?;
+    ensure(is_reply && keys.as_slice() == access.after, access.name)
 }
 
-/// Whether copies are equal to what they are of.
-fn are_copied(alloc: Global) -> Result<bool, OutOfMemory> {
+#[test]
+fn accesses(rt: HostRuntime) -> Result<(), Fail> {
+    for access in ACCESSES {
+        if is_access(rt.alloc(), access).is_err() {
+            is_access(rt.alloc(), access)?;
+        }
+    }
+    Ok(())
+}
+
+/// The keys that a program begins with are put in order.
+fn are_built(alloc: Global) -> Result<(), Broken> {
+    let keys = Atomic.build(alloc, &[20, 10, 15])?;
+    ensure(keys.as_slice() == [10, 15, 20].as_slice(), "keys in order")
+}
+
+/// A copy of keys is equal to what it is of.
+fn are_copied(alloc: Global) -> Result<(), Broken> {
     let keys = keys_of(alloc, &[10, 20])?;
     let copy = Atomic.copy_mem(alloc, &keys)?;
+    ensure(copy.as_slice() == [10, 20].as_slice(), "copy of keys")
+}
+
+/// A copy of a place is equal to what it is of.
+fn is_place_copied(alloc: Global) -> Result<(), Broken> {
     let place = Atomic.copy_loc(alloc, &AtomicLoc::Do)?;
-    Ok(copy.as_slice() == [10, 20].as_slice() && place == AtomicLoc::Do)
+    ensure(place == AtomicLoc::Do, "copy of a place")
+}
+
+fn built_and_copied(alloc: Global) -> Result<(), Broken> {
+    are_built(alloc)?;
+    are_copied(alloc)?;
+    is_place_copied(alloc)
+}
+
+#[test]
+fn builds_and_copies(rt: HostRuntime) -> Result<(), Fail> {
+    if built_and_copied(rt.alloc()).is_err() {
+        built_and_copied(rt.alloc())?;
+    }
+    Ok(())
 }
 
 /// Keys and the places that threads hold.
-type Held = (&'static [u8], &'static [Option<AtomicLoc>]);
+struct Held {
+    name: &'static str,
+    keys: &'static [u8],
+    places: &'static [Option<AtomicLoc>],
+}
 
-const HELD: Held = (&[10, 20], &[Some(AtomicLoc::Do), None]);
+const HELD: &Held = &Held {
+    name: "the same keys and places",
+    keys: &[10, 20],
+    places: &[Some(AtomicLoc::Do), None],
+};
+
+const OTHER_KEYS: &Held = &Held {
+    name: "other keys",
+    keys: &[10, 21],
+    places: &[Some(AtomicLoc::Do), None],
+};
+
+const OTHER_PLACES: &Held = &Held {
+    name: "other places",
+    keys: &[10, 20],
+    places: &[None, Some(AtomicLoc::Do)],
+};
 
 /// Threads that hold these places.
 fn threads_of(
@@ -76,35 +169,39 @@ fn threads_of(
     Ok(threads)
 }
 
+/// The form of keys and threads, in a box: whoever holds two has two values to let go, and not their lists.
+fn boxed_form(
+    alloc: Global,
+    keys: &Sequence<u8>,
+    threads: &[Thread<AtomicLoc>],
+) -> Result<Box<AtomicForm>, OutOfMemory> {
+    Ok(Box::new(alloc, Atomic.form(alloc, keys, threads)?)?)
+}
+
 /// The form of keys and places.
-fn form_of(alloc: Global, (keys, places): Held) -> Result<AtomicForm, OutOfMemory> {
-    let threads = threads_of(alloc, places)?;
-    Atomic.form(alloc, &keys_of(alloc, keys)?, threads.as_slice())
+fn form_of(alloc: Global, held: &Held) -> Result<Box<AtomicForm>, OutOfMemory> {
+    let keys = keys_of(alloc, held.keys)?;
+    let threads = threads_of(alloc, held.places)?;
+    boxed_form(alloc, &keys, threads.as_slice())
 }
 
-/// Whether keys and places have the form of `HELD`, or not, as is expected.
-fn compare_forms(alloc: Global, held: Held, expected: bool) -> Result<bool, OutOfMemory> {
-    let are_equal = form_of(alloc, held)? == form_of(alloc, HELD)?;
-    Ok(are_equal == expected)
+/// Keys and places have the form of `HELD`, or not, as is expected.
+fn compare_forms(alloc: Global, held: &Held, expected: bool) -> Result<(), Broken> {
+    let form = form_of(alloc, held)?;
+    let other = form_of(alloc, HELD)?;
+    ensure((*form == *other) == expected, held.name)
 }
 
-/// Keys and places, and whether they have the form of `HELD`.
-const FORMS: &[(Held, bool)] = &[
-    ((&[10, 20], &[Some(AtomicLoc::Do), None]), true),
-    ((&[10, 21], &[Some(AtomicLoc::Do), None]), false),
-    ((&[10, 20], &[None, Some(AtomicLoc::Do)]), false),
-];
-
-#[test]
-fn builds_and_copies(rt: HostRuntime) {
-    assert!(rt; holds!(are_built(rt.alloc())));
-    assert!(rt; holds!(are_copied(rt.alloc())));
+fn compared_forms(alloc: Global) -> Result<(), Broken> {
+    compare_forms(alloc, HELD, true)?;
+    compare_forms(alloc, OTHER_KEYS, false)?;
+    compare_forms(alloc, OTHER_PLACES, false)
 }
 
 #[test]
-fn forms_tell_keys_and_places(rt: HostRuntime) {
-    for (held, expected) in FORMS {
-        let is_right = holds!(compare_forms(rt.alloc(), *held, *expected));
-        assert!(&rt; is_right, "{held:?}");
+fn forms_tell_keys_and_places(rt: HostRuntime) -> Result<(), Fail> {
+    if compared_forms(rt.alloc()).is_err() {
+        compared_forms(rt.alloc())?;
     }
+    Ok(())
 }

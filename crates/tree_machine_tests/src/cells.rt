@@ -2,10 +2,11 @@
 ghost use Rattle.std.specs.Prelude.{◌≡◌, ◌<◌, length, IsTrue, IfSome};
 ghost use Rattle.std.specs.List.{All};
 
-use crate::once_more::holds;
+use crate::broken::{Broken, ensure};
 use crate::ranges::are_below;
 use sched_program::OutOfMemory;
 use std::alloc::Global;
+use std::test::Fail;
 use tree_machine::{Cell, canon};
 
 /// A cell of one fact: the fact, and the references.
@@ -26,12 +27,17 @@ const OTHER_FACT: &[Row] = &[(7, &[Some(1), None]), (6, &[Some(0)])];
 /// A ring with a reference less.
 const NONE_ON_ONE_SIDE: &[Row] = &[(7, &[Some(1), None]), (8, &[None])];
 
+/// The cell of a row.
+fn cell_of(alloc: Global, (fact, refs): &Row) -> Result<Cell, OutOfMemory> {
+    let facts = vec![in alloc; *fact]?;
+    Ok(Cell::new(facts, Vec::from_slice(alloc, refs)?))
+}
+
 /// The cells of these rows.
 fn cells_of(alloc: Global, rows: &[Row]) -> Result<Vec<Cell>, OutOfMemory> {
     let mut cells = Vec::new(alloc);
-    for (fact, refs) in rows {
-        let facts = vec![in alloc; *fact]?;
-        cells.push(Cell::new(facts, Vec::from_slice(alloc, refs)?))?;
+    for row in rows {
+        cells.push(cell_of(alloc, row)?)?;
     }
     Ok(cells)
 }
@@ -59,38 +65,58 @@ fn form_of(alloc: Global, rows: &[Row], root: usize) -> Result<Vec<Cell>, OutOfM
     canon_from(alloc, &cells, root)
 }
 
-/// Whether two lists of cells are equal.
+/// Whether two cells are equal.
+fn is_equal(cell: &Cell, other: &Cell) -> bool {
+    cell.facts == other.facts && cell.refs == other.refs
+}
+
+/// Whether two lists of two cells are equal.
 fn are_equal(cells: &[Cell], others: &[Cell]) -> bool {
-    cells.len() == others.len()
-        && cells.iter().zip(others.iter()).all(|(cell, other)| cell.facts == other.facts
-            && cell.refs == other.refs)
+    match (cells, others) {
+        ([first, second], [other, last]) => is_equal(first, other) && is_equal(second, last),
+        _ => false,
+    }
 }
 
-/// Whether the cells of these rows have this form.
-fn is_form(alloc: Global, rows: &[Row], root: usize, form: &[Row]) -> Result<bool, OutOfMemory> {
-    let found = form_of(alloc, rows, root)?;
-    let expected = cells_of(alloc, form)?;
-    Ok(are_equal(&found, &expected))
+/// The cells of these rows have the form of the ring.
+fn is_ring(alloc: Global, name: &'static str, rows: &[Row], root: usize) -> Result<(), Broken> {
+    let form = form_of(alloc, rows, root)?;
+    let expected = cells_of(alloc, RING_FORM)?;
+    ensure(are_equal(&form, &expected), name)
 }
 
-/// Whether the ring and the cells of these rows have forms of two cells, and not the same.
-fn is_told_apart(alloc: Global, rows: &[Row]) -> Result<bool, OutOfMemory> {
+/// The ring and the cells of these rows have forms of two cells, and not the same.
+fn is_told_apart(alloc: Global, name: &'static str, rows: &[Row]) -> Result<(), Broken> {
     let ring = form_of(alloc, RING, 0)?;
     let other = form_of(alloc, rows, 0)?;
-    Ok(ring.len() == 2 && other.len() == 2 && !are_equal(&ring, &other))
+    ensure(
+        ring.len() == 2 && other.len() == 2 && !are_equal(&ring, &other),
+        name,
+    )
+}
+
+fn rings(alloc: Global) -> Result<(), Broken> {
+    is_ring(alloc, "the ring", RING, 0)?;
+    is_ring(alloc, "the ring under other numbers", TURNED, 1)
 }
 
 #[test]
-fn a_ring_under_other_numbers_is_equal(rt: HostRuntime) {
-    for (rows, root) in [(RING, 0), (TURNED, 1)] {
-        let is_right = holds!(is_form(rt.alloc(), rows, root, RING_FORM));
-        assert!(&rt; is_right, "{rows:?}");
+fn a_ring_under_other_numbers_is_equal(rt: HostRuntime) -> Result<(), Fail> {
+    if rings(rt.alloc()).is_err() {
+        rings(rt.alloc())?;
     }
+    Ok(())
+}
+
+fn others(alloc: Global) -> Result<(), Broken> {
+    is_told_apart(alloc, "another fact", OTHER_FACT)?;
+    is_told_apart(alloc, "none on one side", NONE_ON_ONE_SIDE)
 }
 
 #[test]
-fn other_facts_and_other_references_differ(rt: HostRuntime) {
-    for rows in [OTHER_FACT, NONE_ON_ONE_SIDE] {
-        assert!(&rt; holds!(is_told_apart(rt.alloc(), rows)), "{rows:?}");
+fn other_facts_and_other_references_differ(rt: HostRuntime) -> Result<(), Fail> {
+    if others(rt.alloc()).is_err() {
+        others(rt.alloc())?;
     }
+    Ok(())
 }

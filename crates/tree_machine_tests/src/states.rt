@@ -1,42 +1,43 @@
 //! States of the machine `Atomic` that runs a program.
+//!
+//! A state and a program come in a box each: whoever lets one go makes one call, and not one for each of its lists.
 ghost use Rattle.std.specs.Prelude.{◌≡◌, IfOk};
 ghost use Rattle.tree_machine.specs.Atomic.{atomic_rules};
 ghost use Rattle.tree_machine.specs.Step.{Fits};
 
-use crate::once_more::holds;
-use sched_program::{History, OpId, OutOfMemory, Program, ProgramFault};
+use crate::broken::{Broken, ensure};
+use sched_program::{Note, OpId, Program};
 use std::alloc::Global;
-use tree_machine::{Atomic, AtomicLoc, Bytes, Room, State, StateForm, StepFault, Thread};
+use std::test::Fail;
+use tree_machine::{Atomic, AtomicLoc, State, Thread};
 
 /// Two threads that each insert 1.
 const TWO_INSERTS: &str =
     r#"{"version":1,"tree":"atomic","initial":[],"threads":[[{"op":"insert","key":1}],[{"op":"insert","key":1}]]}"#;
 
-/// The program of the two inserts. In a box, as the states below: whoever lets it go makes one call, and not one for
-/// each of its lists.
-fn two_inserts(alloc: Global) -> Result<Box<Program>, StepFault> {
-    match Program::from_json(alloc, TWO_INSERTS.as_bytes()) {
-        Ok(program) => match Box::new(alloc, program) {
-            Ok(program) => Ok(program),
-            Err(refused) => Err(OutOfMemory::from(refused).into()),
-        },
-        Err(ProgramFault::OutOfMemory) => Err(StepFault::OutOfMemory),
-        Err(_) => Err(StepFault::NotEnabled),
+/// The program of the two inserts.
+pub fn two_inserts(alloc: Global) -> Result<Box<Program>, Broken> {
+    match Box::new(alloc, Program::from_json(alloc, TWO_INSERTS.as_bytes())?) {
+        Ok(program) => Ok(program),
+        Err(_) => Err(Broken::OutOfMemory),
     }
 }
 
 /// A state in a box.
-fn boxed(alloc: Global, state: State<Atomic>) -> Result<Box<State<Atomic>>, OutOfMemory>
+fn boxed(alloc: Global, state: State<Atomic>) -> Result<Box<State<Atomic>>, Broken>
     ensures { IfOk result (λ boxed. boxed.value ≡ state) }
 {
-    Ok(Box::new(alloc, state)?)
+    match Box::new(alloc, state) {
+        Ok(boxed) => Ok(boxed),
+        Err(_) => Err(Broken::OutOfMemory),
+    }
 }
 
 /// The state before the first step.
-fn start(alloc: Global, program: &Program) -> Result<Box<State<Atomic>>, StepFault>
+fn start(alloc: Global, program: &Program) -> Result<Box<State<Atomic>>, Broken>
     ensures { IfOk result (λ state. Fits atomic_rules program.now state.value) }
 {
-    Ok(boxed(alloc, State::start(alloc, Atomic, program)?)?)
+    boxed(alloc, State::start(alloc, Atomic, program)?)
 }
 
 /// The state after one more step, of this thread.
@@ -45,59 +46,34 @@ fn next(
     program: &Program,
     state: &State<Atomic>,
     thread: u8,
-) -> Result<Box<State<Atomic>>, StepFault>
+) -> Result<Box<State<Atomic>>, Broken>
     requires { Fits atomic_rules program.now state.now }
     ensures { IfOk result (λ next. Fits atomic_rules program.now next.value) }
 {
     if state.steps() >= 100 {
-        return Err(StepFault::NotEnabled);
+        return Err(Broken::NotEnabled);
     }
-    Ok(boxed(alloc, state.step(alloc, Atomic, program, thread)?)?)
+    boxed(alloc, state.step(alloc, Atomic, program, thread)?)
 }
 
 /// A copy of a state.
-fn copy_of(
+pub fn copy_of(
     alloc: Global,
     program: &Program,
     state: &State<Atomic>,
-) -> Result<Box<State<Atomic>>, StepFault>
+) -> Result<Box<State<Atomic>>, Broken>
     requires { Fits atomic_rules program.now state.now }
     ensures { IfOk result (λ copy. Fits atomic_rules program.now copy.value) }
 {
     Ok(boxed(alloc, state.copy(alloc, Atomic)?)?)
 }
 
-/// The form of a state.
-fn form_of(
+/// The state after the steps of a schedule.
+pub fn after(
     alloc: Global,
     program: &Program,
-    state: &State<Atomic>,
-) -> Result<StateForm<Atomic>, StepFault>
-    requires { Fits atomic_rules program.now state.now }
-{
-    // Whoever reads a program knows that it meets the limits.
-    let _ = program.initial();
-    Ok(state.form(alloc, Atomic)?)
-}
-
-/// All of a state in bytes.
-fn code_of(alloc: Global, program: &Program, state: &State<Atomic>) -> Result<Bytes, StepFault>
-    requires { Fits atomic_rules program.now state.now }
-{
-    // Whoever reads a program knows that it meets the limits.
-    let _ = program.initial();
-    Ok(state.code_in(alloc, Atomic, &mut Room::new(alloc), Vec::new(alloc))?)
-}
-
-/// The history that leads to a state.
-fn history_of(alloc: Global, program: &Program, state: &State<Atomic>) -> Result<History, StepFault>
-    requires { Fits atomic_rules program.now state.now }
-{
-    Ok(state.history(alloc, program)?)
-}
-
-/// The state after the steps of a schedule.
-fn after(alloc: Global, program: &Program, schedule: &[u8]) -> Result<Box<State<Atomic>>, StepFault>
+    schedule: &[u8],
+) -> Result<Box<State<Atomic>>, Broken>
     ensures { IfOk result (λ state. Fits atomic_rules program.now state.value) }
 {
     let mut state = start(alloc, program)?;
@@ -107,144 +83,154 @@ fn after(alloc: Global, program: &Program, schedule: &[u8]) -> Result<Box<State<
     Ok(state)
 }
 
-/// What is seen of a thread between operations: its replies, and for each operation how many each thread had finished
-/// when it began.
-#[derive(Clone, Copy)]
+/// What is seen of a thread of one operation: its reply, and once it began how many each thread had finished then.
 struct Seen {
     replies: &'static [bool],
-    notes: &'static [[u8; 2]],
+    note: Option<&'static [u8]>,
 }
 
 /// A schedule, and what is seen of the state after it: the keys, the threads, and which of three threads have a step.
-#[derive(Clone, Copy)]
 struct Row {
+    name: &'static str,
     schedule: &'static [u8],
     keys: &'static [u8],
-    threads: &'static [Seen],
+    threads: [&'static Seen; 2],
     enabled: [bool; 3],
 }
 
-const NOTHING: Seen = Seen {
+const NOTHING: &Seen = &Seen {
     replies: &[],
-    notes: &[],
+    note: None,
 };
 
-const WON: Seen = Seen {
+const WON: &Seen = &Seen {
     replies: &[true],
-    notes: &[[0, 0]],
+    note: Some(&[0, 0]),
+};
+
+const LOST: &Seen = &Seen {
+    replies: &[false],
+    note: Some(&[0, 1]),
 };
 
 const ROWS: &[Row] = &[
     Row {
+        name: "no step",
         schedule: &[],
         keys: &[],
-        threads: &[NOTHING, NOTHING],
+        threads: [NOTHING, NOTHING],
         enabled: [true, true, false],
     },
     Row {
+        name: "a step of the first",
         schedule: &[0],
         keys: &[1],
-        threads: &[WON, NOTHING],
+        threads: [WON, NOTHING],
         enabled: [false, true, false],
     },
     Row {
+        name: "a step of the second",
         schedule: &[1],
         keys: &[1],
-        threads: &[NOTHING, WON],
+        threads: [NOTHING, WON],
         enabled: [true, false, false],
     },
     Row {
+        name: "a step of each",
         schedule: &[1, 0],
         keys: &[1],
-        threads: &[
-            Seen {
-                replies: &[false],
-                notes: &[[0, 1]],
-            },
-            WON,
-        ],
+        threads: [LOST, WON],
         enabled: [false, false, false],
     },
 ];
 
+/// Whether this is the note of a thread of one operation.
+fn is_note(notes: &[Note], expected: Option<&[u8]>) -> bool {
+    match (notes, expected) {
+        ([note], Some(counts)) => note.as_slice() == counts,
+        ([], None) => true,
+        _ => false,
+    }
+}
+
 /// Whether this is seen of a thread.
-fn is_thread(thread: &Thread<AtomicLoc>, seen: Seen) -> bool {
-    let notes = thread.notes.as_slice();
+fn is_thread(thread: &Thread<AtomicLoc>, seen: &Seen) -> bool {
     thread.place.is_none()
         && thread.replies.as_slice() == seen.replies
-        && notes.len() == seen.notes.len()
-        && notes
-            .iter()
-            .zip(seen.notes.iter())
-            .all(|(note, counts)| note.as_slice() == counts.as_slice())
+        && is_note(thread.notes.as_slice(), seen.note)
 }
 
 /// Whether these are the threads of a state.
-fn are_threads(threads: &[Thread<AtomicLoc>], seen: &[Seen]) -> bool {
-    threads.len() == seen.len()
-        && threads
-            .iter()
-            .zip(seen.iter())
-            .all(|(thread, seen)| is_thread(thread, *seen))
+fn are_threads(threads: &[Thread<AtomicLoc>], seen: &[&Seen; 2]) -> bool {
+    match threads {
+        [first, second] => is_thread(first, seen[0]) && is_thread(second, seen[1]),
+        _ => false,
+    }
 }
 
-fn is_enabled(program: &Program, state: &State<Atomic>, thread: u8) -> bool {
-    state.enabled(program, thread)
-}
-
-/// Which of three threads have a step.
-fn enabled(program: &Program, state: &State<Atomic>) -> [bool; 3] {
-    [0, 1, 2].map(|thread| is_enabled(program, state, thread))
+/// Whether those of three threads have a step that are expected to.
+fn are_enabled(program: &Program, state: &State<Atomic>, expected: &[bool; 3]) -> bool {
+    state.enabled(program, 0) == expected[0]
+        && state.enabled(program, 1) == expected[1]
+        && state.enabled(program, 2) == expected[2]
 }
 
 /// Whether a row tells of a state.
-fn is_state(program: &Program, state: &State<Atomic>, row: Row) -> bool {
+fn is_state(program: &Program, state: &State<Atomic>, row: &Row) -> bool {
     state.memory().as_slice() == row.keys
-        && are_threads(state.threads.as_slice(), row.threads)
+        && are_threads(state.threads.as_slice(), &row.threads)
         && state.steps() == row.schedule.len() as u64
         && state.astray().is_none()
-        && enabled(program, state) == row.enabled
+        && are_enabled(program, state, &row.enabled)
 }
 
-/// Whether the schedule of a row leads to its state, by `start` and `step`.
-fn is_reached(alloc: Global, row: Row) -> Result<bool, StepFault> {
-    let program = two_inserts(alloc)?;
-    let state = after(alloc, &program, row.schedule)?;
-    Ok(is_state(&program, &state, row))
+/// The schedule of a row leads to its state, by `start` and `step`.
+fn is_reached(alloc: Global, program: &Program, row: &Row) -> Result<(), Broken> {
+    let state = after(alloc, program, row.schedule)?;
+    ensure(is_state(program, &state, row), row.name)
 }
 
-/// Whether a copy of the state of a row is equal to it, and so told by the row too.
-fn is_copied(alloc: Global, row: Row) -> Result<bool, StepFault> {
+fn states(alloc: Global) -> Result<(), Broken> {
     let program = two_inserts(alloc)?;
-    let state = after(alloc, &program, row.schedule)?;
-    let copy = copy_of(alloc, &program, &state)?;
-    Ok(*copy == *state && is_state(&program, &copy, row))
+    for row in ROWS {
+        is_reached(alloc, &program, row)?;
+    }
+    Ok(())
 }
 
 #[test]
-fn start_and_steps_are_as_defined(rt: HostRuntime) {
-    for row in ROWS {
-        assert!(&rt;
-            holds!(is_reached(rt.alloc(), *row)),
-            "after {:?}",
-            row.schedule
-        );
+fn start_and_steps_are_as_defined(rt: HostRuntime) -> Result<(), Fail> {
+    if states(rt.alloc()).is_err() {
+        states(rt.alloc())?;
     }
+    Ok(())
+}
+
+/// A copy of the state of a row is equal to it, and so told by the row too.
+fn is_copied(alloc: Global, program: &Program, row: &Row) -> Result<(), Broken> {
+    let state = after(alloc, program, row.schedule)?;
+    let copy = copy_of(alloc, program, &state)?;
+    ensure(*copy == *state && is_state(program, &copy, row), row.name)
+}
+
+fn copies(alloc: Global) -> Result<(), Broken> {
+    let program = two_inserts(alloc)?;
+    for row in ROWS {
+        is_copied(alloc, &program, row)?;
+    }
+    Ok(())
 }
 
 #[test]
-fn copies_are_equal(rt: HostRuntime) {
-    for row in ROWS {
-        assert!(&rt;
-            holds!(is_copied(rt.alloc(), *row)),
-            "after {:?}",
-            row.schedule
-        );
+fn copies_are_equal(rt: HostRuntime) -> Result<(), Fail> {
+    if copies(rt.alloc()).is_err() {
+        copies(rt.alloc())?;
     }
+    Ok(())
 }
 
 /// The replies of two steps, one of each thread, the second thread's first.
-const FIRST_INSERT_WINS: [(OpId, bool); 2] = [
+const FIRST_INSERT_WINS: &[(OpId, bool)] = &[
     (
         OpId {
             thread: 0,
@@ -261,77 +247,27 @@ const FIRST_INSERT_WINS: [(OpId, bool); 2] = [
     ),
 ];
 
-/// Whether the history of those steps has these replies.
-fn first_insert_wins(alloc: Global) -> Result<bool, StepFault> {
+/// The history of a state of those steps has these replies.
+fn has_replies(alloc: Global, program: &Program, state: &State<Atomic>) -> Result<(), Broken>
+    requires { Fits atomic_rules program.now state.now }
+{
+    let history = state.history(alloc, program)?;
+    ensure(
+        history.finished() == FIRST_INSERT_WINS,
+        "the first insert wins",
+    )
+}
+
+fn first_insert_wins(alloc: Global) -> Result<(), Broken> {
     let program = two_inserts(alloc)?;
     let state = after(alloc, &program, &[1, 0])?;
-    let history = history_of(alloc, &program, &state)?;
-    Ok(history.finished() == FIRST_INSERT_WINS.as_slice())
+    has_replies(alloc, &program, &state)
 }
 
 #[test]
-fn the_first_insert_wins(rt: HostRuntime) {
-    assert!(rt; holds!(first_insert_wins(rt.alloc())));
-}
-
-/// Whether the forms of the states after two schedules are equal, or not, as is expected.
-fn compare_forms(
-    alloc: Global,
-    schedule: &[u8],
-    other: &[u8],
-    expected: bool,
-) -> Result<bool, StepFault> {
-    let program = two_inserts(alloc)?;
-    let state = after(alloc, &program, schedule)?;
-    let other = after(alloc, &program, other)?;
-    let are_equal = form_of(alloc, &program, &state)? == form_of(alloc, &program, &other)?;
-    Ok(are_equal == expected)
-}
-
-/// Whether the form of a state is that of its copy.
-fn is_form_of_copy(alloc: Global, schedule: &[u8]) -> Result<bool, StepFault> {
-    let program = two_inserts(alloc)?;
-    let state = after(alloc, &program, schedule)?;
-    let copy = copy_of(alloc, &program, &state)?;
-    Ok(form_of(alloc, &program, &state)? == form_of(alloc, &program, &copy)?)
-}
-
-/// Two schedules, and whether the states after them have equal forms.
-const FORMS: &[(&[u8], &[u8], bool)] = &[
-    (&[0, 1], &[1, 0], false),
-    (&[0, 1], &[0, 1], true),
-    (&[], &[0], false),
-];
-
-#[test]
-fn forms_tell_replies_apart_and_copies_not(rt: HostRuntime) {
-    let alloc = rt.alloc();
-    for (schedule, other, expected) in FORMS {
-        let is_right = holds!(compare_forms(alloc, schedule, other, *expected));
-        assert!(&rt; is_right, "{schedule:?} and {other:?}");
+fn the_first_insert_wins(rt: HostRuntime) -> Result<(), Fail> {
+    if first_insert_wins(rt.alloc()).is_err() {
+        first_insert_wins(rt.alloc())?;
     }
-    assert!(rt; holds!(is_form_of_copy(alloc, &[0, 1])));
-}
-
-/// Schedules, and the state after each in bytes: the number of steps, the replies and the notes of each thread, who
-/// went astray, what each thread holds, and behind a 0 the keys.
-const CODES: &[(&[u8], &[u8])] = &[
-    (&[], &[0, 2, 0, 0, 2, 0, 0, 0, 1, 1, 0]),
-    (&[0], &[1, 2, 1, 1, 0, 2, 1, 2, 0, 0, 0, 0, 1, 1, 0, 1]),
-];
-
-/// Whether the state after a schedule has these bytes.
-fn has_code(alloc: Global, schedule: &[u8], code: &[u8]) -> Result<bool, StepFault> {
-    let program = two_inserts(alloc)?;
-    let state = after(alloc, &program, schedule)?;
-    Ok(code_of(alloc, &program, &state)?.as_slice() == code)
-}
-
-#[test]
-fn bytes_are_of_the_whole_state(rt: HostRuntime) {
-    let alloc = rt.alloc();
-    for (schedule, code) in CODES {
-        let is_right = holds!(has_code(alloc, schedule, code));
-        assert!(&rt; is_right, "after {schedule:?}");
-    }
+    Ok(())
 }
