@@ -1,7 +1,7 @@
 //! The judge beside the two plainer searchers, on the histories of many interleavings.
 
 use crate::broken::{Broken, ensure};
-use crate::fixtures::{is_order, note, program_of};
+use crate::fixtures::{history_of, is_order, note, program_of};
 use crate::searchers::agree;
 use lin::{Order, check_order, judge_order, order_with_reply};
 use sched_program::{History, Note, OpId, OutOfMemory, Program};
@@ -14,7 +14,7 @@ const PROGRAM: &str = r#"{"version":1,"tree":"atomic","initial":[],"threads":[
 [{"op":"delete","key":1},{"op":"insert","key":2}]]}"#;
 
 /// The operations of the program, in the order of their names.
-const NAMES: [OpId; 6] = [
+const NAMES: &[OpId] = &[
     OpId {
         thread: 0,
         index: 0,
@@ -103,7 +103,7 @@ fn begun_of(alloc: Global, events: &[Event]) -> Result<Vec<(OpId, Note)>, OutOfM
                 finished_by(events, place, 1),
                 finished_by(events, place, 2),
             ];
-            begun.push((name, note(&counts)))?;
+            begun.push((*name, note(&counts)))?;
         }
     }
     Ok(begun)
@@ -114,22 +114,26 @@ fn finished_of(alloc: Global, events: &[Event]) -> Result<Vec<(OpId, bool)>, Out
     let mut finished = Vec::new(alloc);
     for name in NAMES {
         if let Some((_, event)) = event_of(events, name.thread, 2 * name.index + 1) {
-            finished.push((name, event.reply))?;
+            finished.push((*name, event.reply))?;
         }
     }
     Ok(finished)
 }
 
 /// The history that six events leave.
-fn history_of(alloc: Global, program: &Program, events: &[Event]) -> Result<History, Broken> {
+fn history_after(
+    alloc: Global,
+    program: &Program,
+    events: &[Event],
+) -> Result<Box<History>, Broken> {
     let begun = begun_of(alloc, events)?;
     let finished = finished_of(alloc, events)?;
-    History::new(program, begun, finished).ok_or(Broken::NoHistory)
+    history_of(alloc, program, begun, finished)
 }
 
 /// The searchers agree on the history of these events; whether they found an order.
 fn agree_after(alloc: Global, program: &Program, events: &[Event]) -> Result<bool, Broken> {
-    let history = history_of(alloc, program, events)?;
+    let history = history_after(alloc, program, events)?;
     agree(alloc, program, &history)
 }
 
@@ -174,23 +178,40 @@ fn gives_reply(
     let longer = with_name(order, name);
     let told = order_with_reply(program, order, name, reply);
     if check_order(program, after, longer.as_slice()) {
-        ensure(is_order(&told, Some(longer.as_slice())), Broken::Replied)
+        ensure(
+            is_order(&told, Some(longer.as_slice())),
+            Broken::Wrong("reply that the order gives"),
+        )
     } else {
-        ensure(told.is_none(), Broken::Replied)
+        ensure(
+            told.is_none(),
+            Broken::Wrong("reply that the order does not give"),
+        )
     }
+}
+
+/// The same of the history that six events leave.
+fn gives_last_reply(
+    alloc: Global,
+    program: &Program,
+    order: &Order,
+    events: &[Event; 6],
+    (name, reply): (OpId, bool),
+) -> Result<(), Broken> {
+    let after = history_after(alloc, program, events)?;
+    gives_reply(program, order, &after, name, reply)
 }
 
 /// The same, where the last event finishes an operation and the history before it has an order.
 fn last_reply_agrees(alloc: Global, program: &Program, events: &[Event; 6]) -> Result<(), Broken> {
-    let Some((name, reply)) = finished_last(events) else {
+    let Some(last) = finished_last(events) else {
         return Ok(());
     };
-    let before = history_of(alloc, program, &events[..5])?;
-    let Some(order) = judge_order(alloc, program, &before)? else {
-        return Ok(());
-    };
-    let after = history_of(alloc, program, events)?;
-    gives_reply(program, &order, &after, name, reply)
+    let before = history_after(alloc, program, &events[..5])?;
+    match judge_order(alloc, program, &before)? {
+        Some(order) => gives_last_reply(alloc, program, &order, events, last),
+        None => Ok(()),
+    }
 }
 
 /// With how many of eight choices of replies the searchers find an order.

@@ -1,16 +1,37 @@
-//! What several tests use: programs, notes and answers.
+//! What several tests use: programs, histories and answers.
+//!
+//! A program and a history come in a box each: whoever lets one go makes one call, and not one for each of its lists.
 
 use crate::broken::Broken;
 use lin::Order;
-use sched_program::{Note, OpId, Program, ProgramFault};
+use sched_program::{History, Note, OpId, Program};
 use std::alloc::Global;
 
 /// The program of a text that is one.
-pub fn program_of(alloc: Global, text: &str) -> Result<Program, Broken> {
-    match Program::from_json(alloc, text.as_bytes()) {
+pub fn program_of(alloc: Global, text: &str) -> Result<Box<Program>, Broken> {
+    match Box::new(alloc, Program::from_json(alloc, text.as_bytes())?) {
         Ok(program) => Ok(program),
-        Err(ProgramFault::OutOfMemory) => Err(Broken::OutOfMemory),
-        Err(fault) => Err(Broken::NoProgram(fault)),
+        Err(_) => Err(Broken::OutOfMemory),
+    }
+}
+
+fn boxed(alloc: Global, history: History) -> Result<Box<History>, Broken> {
+    match Box::new(alloc, history) {
+        Ok(history) => Ok(history),
+        Err(_) => Err(Broken::OutOfMemory),
+    }
+}
+
+/// The history of the operations that began, each with its note, and those that finished, each with its reply.
+pub fn history_of(
+    alloc: Global,
+    program: &Program,
+    begun: Vec<(OpId, Note)>,
+    finished: Vec<(OpId, bool)>,
+) -> Result<Box<History>, Broken> {
+    match History::new(program, begun, finished) {
+        Some(history) => boxed(alloc, history),
+        None => Err(Broken::NoHistory),
     }
 }
 

@@ -1,7 +1,7 @@
 //! Worked histories.
 
 use crate::broken::{Broken, ensure};
-use crate::fixtures::{is_answer, note, program_of};
+use crate::fixtures::{history_of, is_answer, note, program_of};
 use lin::{check_order, judge};
 use sched_program::{History, Note, OpId, OutOfMemory, Program};
 use std::alloc::Global;
@@ -32,40 +32,49 @@ pub const D: OpId = OpId {
 };
 
 /// The operations that begin, each with its note, those that finish, each with its reply, and the answer.
-#[derive(Clone, Copy)]
 pub struct Row {
+    pub name: &'static str,
     pub begun: &'static [(OpId, [u8; 2])],
     pub finished: &'static [(OpId, bool)],
     pub order: Option<&'static [OpId]>,
 }
 
-pub const ROWS: [Row; 6] = [
-    Row {
+/// A find that is finished saw a key whose insert is pending.
+pub const SEEN_PENDING: &Row = &Row {
+    name: "a find that saw the key of a pending insert",
+    begun: &[(A, [0, 0]), (C, [0, 0])],
+    finished: &[(C, true)],
+    order: Some(&[A, C]),
+};
+
+const ROWS: &[&Row] = &[
+    &Row {
+        name: "nothing began",
         begun: &[],
         finished: &[],
         order: Some(&[]),
     },
-    Row {
+    &Row {
+        name: "an insert is pending",
         begun: &[(A, [0, 0])],
         finished: &[],
         order: Some(&[]),
     },
-    Row {
-        begun: &[(A, [0, 0]), (C, [0, 0])],
-        finished: &[(C, true)],
-        order: Some(&[A, C]),
-    },
-    Row {
+    SEEN_PENDING,
+    &Row {
+        name: "a find after the insert saw no key",
         begun: &[(A, [0, 0]), (C, [1, 0])],
         finished: &[(A, true), (C, false)],
         order: None,
     },
-    Row {
+    &Row {
+        name: "a find before the delete",
         begun: &[(A, [0, 0]), (B, [1, 0]), (C, [0, 0]), (D, [1, 1])],
         finished: &[(A, true), (C, true), (D, false)],
         order: Some(&[A, C, B, D]),
     },
-    Row {
+    &Row {
+        name: "a find beside the delete",
         begun: &[(A, [0, 0]), (B, [1, 0]), (C, [0, 0]), (D, [1, 1])],
         finished: &[(A, true), (C, true), (D, true)],
         order: Some(&[A, C, D]),
@@ -80,45 +89,58 @@ fn begun_of(alloc: Global, begun: &[(OpId, [u8; 2])]) -> Result<Vec<(OpId, Note)
     Ok(notes)
 }
 
-fn finished_of(alloc: Global, finished: &[(OpId, bool)]) -> Result<Vec<(OpId, bool)>, OutOfMemory> {
-    let mut replies = Vec::new(alloc);
-    for entry in finished {
-        replies.push(*entry)?;
-    }
-    Ok(replies)
-}
-
 /// The history of a row.
-pub fn history_of(alloc: Global, program: &Program, row: &Row) -> Result<History, Broken> {
+pub fn history_of_row(alloc: Global, program: &Program, row: &Row) -> Result<Box<History>, Broken> {
     let begun = begun_of(alloc, row.begun)?;
-    let finished = finished_of(alloc, row.finished)?;
-    History::new(program, begun, finished).ok_or(Broken::NoHistory)
+    let finished = Vec::from_slice(alloc, row.finished)?;
+    history_of(alloc, program, begun, finished)
 }
 
 /// The judge answers what the row says.
-fn judges(alloc: Global, program: &Program, number: usize, row: &Row) -> Result<(), Broken> {
-    let history = history_of(alloc, program, row)?;
+fn judges(alloc: Global, program: &Program, row: &Row) -> Result<(), Broken> {
+    let history = history_of_row(alloc, program, row)?;
     let answer = judge(alloc, program, &history)?;
-    ensure(is_answer(&answer, row.order), Broken::Answer(number))
+    ensure(is_answer(&answer, row.order), Broken::Wrong(row.name))
 }
 
 fn small_histories(alloc: Global) -> Result<(), Broken> {
     let program = program_of(alloc, SMALL)?;
-    for (number, row) in ROWS.iter().enumerate() {
-        judges(alloc, &program, number, row)?;
+    for row in ROWS {
+        judges(alloc, &program, row)?;
     }
     Ok(())
 }
 
-/// Lists of operations, and whether each is a linearization of the history in which a find that is finished saw a key
-/// whose insert is pending.
-const ORDERS: [(&[OpId], bool); 3] = [(&[C], false), (&[A, C], true), (&[A, A, C], false)];
+/// A list of operations, and whether it is a linearization of `SEEN_PENDING`.
+struct List {
+    name: &'static str,
+    order: &'static [OpId],
+    is_one: bool,
+}
+
+const LISTS: &[List] = &[
+    List {
+        name: "the find alone",
+        order: &[C],
+        is_one: false,
+    },
+    List {
+        name: "the insert and the find",
+        order: &[A, C],
+        is_one: true,
+    },
+    List {
+        name: "the insert twice",
+        order: &[A, A, C],
+        is_one: false,
+    },
+];
 
 fn are_checked(program: &Program, history: &History) -> Result<(), Broken> {
-    for (number, (order, is_one)) in ORDERS.iter().enumerate() {
+    for list in LISTS {
         ensure(
-            check_order(program, history, order) == *is_one,
-            Broken::Order(number),
+            check_order(program, history, list.order) == list.is_one,
+            Broken::Wrong(list.name),
         )?;
     }
     Ok(())
@@ -126,7 +148,7 @@ fn are_checked(program: &Program, history: &History) -> Result<(), Broken> {
 
 fn orders_of_a_history(alloc: Global) -> Result<(), Broken> {
     let program = program_of(alloc, SMALL)?;
-    let history = history_of(alloc, &program, &ROWS[2])?;
+    let history = history_of_row(alloc, &program, SEEN_PENDING)?;
     are_checked(&program, &history)
 }
 

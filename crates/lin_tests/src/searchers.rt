@@ -15,7 +15,10 @@ fn is_answer_of_pruned(
     answer: &Option<Vec<OpId>>,
 ) -> Result<(), Broken> {
     let pruned = judge_pruned(alloc, program, history)?;
-    ensure(pruned == *answer, Broken::Pruned)
+    ensure(
+        pruned == *answer,
+        Broken::Wrong("the searcher that places operations"),
+    )
 }
 
 fn is_answer_of_plain(
@@ -25,7 +28,10 @@ fn is_answer_of_plain(
     answer: &Option<Vec<OpId>>,
 ) -> Result<(), Broken> {
     let plain = judge_plain(alloc, program, history)?;
-    ensure(plain == *answer, Broken::Plain)
+    ensure(
+        plain == *answer,
+        Broken::Wrong("the searcher that tries every list"),
+    )
 }
 
 fn is_answer_in_the_value(
@@ -36,8 +42,14 @@ fn is_answer_in_the_value(
 ) -> Result<(), Broken> {
     let short = judge_order(alloc, program, history)?;
     match answer {
-        Some(order) => ensure(is_order(&short, Some(order)), Broken::Short),
-        None => ensure(short.is_none(), Broken::Short),
+        Some(order) => ensure(
+            is_order(&short, Some(order)),
+            Broken::Wrong("the judge's order in a value"),
+        ),
+        None => ensure(
+            short.is_none(),
+            Broken::Wrong("the judge's order in a value"),
+        ),
     }
 }
 
@@ -48,7 +60,10 @@ fn is_taken(
     answer: &Option<Vec<OpId>>,
 ) -> Result<(), Broken> {
     match answer {
-        Some(order) => ensure(check_order(program, history, order), Broken::Order(0)),
+        Some(order) => ensure(
+            check_order(program, history, order),
+            Broken::Wrong("the order that the judge found"),
+        ),
         None => Ok(()),
     }
 }

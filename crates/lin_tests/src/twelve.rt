@@ -1,7 +1,7 @@
 //! Twelve operations of four threads at once.
 
 use crate::broken::{Broken, ensure};
-use crate::fixtures::{is_answer, note, program_of};
+use crate::fixtures::{history_of, is_answer, note, program_of};
 use crate::searchers::agree;
 use lin::{judge, judge_counted};
 use sched_program::{History, Note, OpId, OutOfMemory, Program};
@@ -16,7 +16,7 @@ pub const PROGRAM: &str = r#"{"version":1,"tree":"atomic","initial":[],"threads"
 [{"op":"find","key":9},{"op":"find","key":9},{"op":"find","key":9}]]}"#;
 
 /// The operations in the order of their names.
-pub const NAMES: [OpId; 12] = [
+pub const NAMES: &[OpId] = &[
     OpId {
         thread: 0,
         index: 0,
@@ -61,21 +61,26 @@ pub const NAMES: [OpId; 12] = [
         thread: 3,
         index: 1,
     },
-    OpId {
-        thread: 3,
-        index: 2,
-    },
+    LAST,
 ];
+
+pub const LAST: OpId = OpId {
+    thread: 3,
+    index: 2,
+};
 
 /// Each operation with its note, which counts those before it in its own thread and none of another.
 fn begun(alloc: Global) -> Result<Vec<(OpId, Note)>, OutOfMemory> {
     let mut begun = Vec::new(alloc);
     for name in NAMES {
-        let mut counts = [0; 4];
-        if let Some(own) = counts.get_mut(usize::from(name.thread)) {
-            *own = name.index;
-        }
-        begun.push((name, note(&counts)))?;
+        let own = name.index;
+        let counts = match name.thread {
+            0 => [own, 0, 0, 0],
+            1 => [0, own, 0, 0],
+            2 => [0, 0, own, 0],
+            _ => [0, 0, 0, own],
+        };
+        begun.push((*name, note(&counts)))?;
     }
     Ok(begun)
 }
@@ -84,16 +89,16 @@ fn begun(alloc: Global) -> Result<Vec<(OpId, Note)>, OutOfMemory> {
 fn finished(alloc: Global, last: bool) -> Result<Vec<(OpId, bool)>, OutOfMemory> {
     let mut finished = Vec::new(alloc);
     for name in NAMES {
-        finished.push((name, name.thread < 3 || (last && name.index == 2)))?;
+        finished.push((*name, name.thread < 3 || (last && name.index == 2)))?;
     }
     Ok(finished)
 }
 
 /// The history in which the last find replied this.
-fn history_of(alloc: Global, program: &Program, last: bool) -> Result<History, Broken> {
+fn history_with(alloc: Global, program: &Program, last: bool) -> Result<Box<History>, Broken> {
     let begun = begun(alloc)?;
     let finished = finished(alloc, last)?;
-    History::new(program, begun, finished).ok_or(Broken::NoHistory)
+    history_of(alloc, program, begun, finished)
 }
 
 /// The judge answers this order, or that there is none.
@@ -104,7 +109,7 @@ fn judges(
     order: Option<&[OpId]>,
 ) -> Result<(), Broken> {
     let answer = judge(alloc, program, history)?;
-    ensure(is_answer(&answer, order), Broken::Answer(12))
+    ensure(is_answer(&answer, order), Broken::Wrong("twelve judged"))
 }
 
 /// So do its counting twin, and it tells this count.
@@ -116,22 +121,22 @@ fn counts(
     expected: u64,
 ) -> Result<(), Broken> {
     let (answer, sought) = judge_counted(alloc, program, history)?;
-    ensure(is_answer(&answer, order), Broken::Answer(12))?;
+    ensure(is_answer(&answer, order), Broken::Wrong("twelve counted"))?;
     ensure(sought == expected, Broken::Count(sought))
 }
 
 /// The last find can't have seen its key.
 fn none_if_true(alloc: Global, program: &Program) -> Result<(), Broken> {
-    let history = history_of(alloc, program, true)?;
+    let history = history_with(alloc, program, true)?;
     judges(alloc, program, &history, None)?;
     counts(alloc, program, &history, None, 192)
 }
 
 /// The first order is found with no way back.
 fn order_if_false(alloc: Global, program: &Program) -> Result<(), Broken> {
-    let history = history_of(alloc, program, false)?;
-    judges(alloc, program, &history, Some(&NAMES))?;
-    counts(alloc, program, &history, Some(&NAMES), 12)?;
+    let history = history_with(alloc, program, false)?;
+    judges(alloc, program, &history, Some(NAMES))?;
+    counts(alloc, program, &history, Some(NAMES), 12)?;
     agree(alloc, program, &history)?;
     Ok(())
 }

@@ -7,10 +7,10 @@ use crate::fixtures::program_of;
 use crate::searchers::agree;
 use ellen::Ellen;
 use natmit::NatMit;
-use sched_program::{OutOfMemory, Program, ShortList, Tree};
+use sched_program::{History, OutOfMemory, Program, ShortList, Tree};
 use std::alloc::Global;
 use std::test::Fail;
-use tree_machine::{Machine, State, StepFault};
+use tree_machine::{Bytes, Machine, Room, State, StepFault};
 
 const ELLEN: Ellen = Ellen {
     mark: true,
@@ -41,7 +41,7 @@ struct Row {
     fault: Option<usize>,
 }
 
-const ROWS: [Row; 4] = [
+const ROWS: &[Row] = &[
     Row {
         text: r#"{"version":1,"tree":"ellen","initial":[],"threads":[[{"op":"find","key":5}],[{"op":"find","key":5}]]}"#,
         steps: 4,
@@ -68,82 +68,165 @@ const ROWS: [Row; 4] = [
     },
 ];
 
-/// A program on a machine.
+/// Where a schedule ends: all of the state in bytes, and its history.
 #[derive(Drop)]
-struct Run<'a, M: Machine> {
-    alloc: Global,
-    machine: M,
-    program: &'a Program,
+struct End {
+    schedule: Schedule,
+    code: Bytes,
+    history: History,
 }
 
-/// The states that were reached, in the order in which they were; for each a schedule that leads to it; and the least
-/// number of steps of a state whose history has no order.
+/// The ends that were reached, one for each state, in the order in which they were; and the least number of steps of a
+/// state whose history has no order.
 #[derive(Drop)]
-struct Reached<M: Machine> {
-    states: Vec<State<M>>,
-    schedules: Vec<Schedule>,
+struct Reached {
+    ends: Vec<Box<End>>,
     fault: Option<usize>,
 }
 
 /// The state after a schedule.
-fn state_after<M: Machine>(run: &Run<M>, schedule: &[u8]) -> Result<State<M>, StepFault>
-    ensures { IfOk result (Fits (M.rules run.now.machine) run.now.program.now) }
+fn state_after<M: Machine>(
+    alloc: Global,
+    machine: M,
+    program: &Program,
+    schedule: &[u8],
+) -> Result<State<M>, StepFault>
+    ensures { IfOk result (Fits (M.rules machine) program.now) }
 {
-    let mut state = State::start(run.alloc, run.machine, run.program)?;
+    let mut state = State::start(alloc, machine, program)?;
     for thread in schedule {
         if state.steps() >= 1000 {
             return Err(StepFault::NotEnabled);
         }
-        state = state.step(run.alloc, run.machine, run.program, *thread)?;
+        state = state.step(alloc, machine, program, *thread)?;
     }
     Ok(state)
 }
 
-/// The searchers agree on the history of a state; whether they found an order.
-fn has_order<M: Machine>(run: &Run<M>, state: &State<M>) -> Result<bool, Broken>
-    requires { Fits (M.rules run.now.machine) run.now.program.now state.now }
+/// All of a state in bytes.
+fn code_of<M: Machine>(
+    alloc: Global,
+    machine: M,
+    program: &Program,
+    state: &State<M>,
+) -> Result<Bytes, OutOfMemory>
+    requires { Fits (M.rules machine) program.now state.now }
 {
-    let history = state.history(run.alloc, run.program)?;
-    agree(run.alloc, run.program, &history)
+    // Whoever reads a program knows that it meets the limits.
+    let _ = program.initial();
+    state.code_in(alloc, machine, &mut Room::new(alloc), Vec::new(alloc))
 }
 
-/// Puts a state with its schedule behind those that were reached.
-fn add<M: Machine>(
-    reached: &mut Reached<M>,
+/// An end in a box: whoever lets it go makes one call, and not one for each of its lists.
+fn boxed(
+    alloc: Global,
     schedule: Schedule,
-    state: State<M>,
-) -> Result<(), OutOfMemory> {
-    reached.schedules.push(schedule)?;
-    reached.states.push(state)?;
+    code: Bytes,
+    history: History,
+) -> Result<Box<End>, OutOfMemory> {
+    Ok(Box::new(
+        alloc,
+        End {
+            schedule,
+            code,
+            history,
+        },
+    )?)
+}
+
+/// Where a schedule ends, which led to this state.
+fn end_at<M: Machine>(
+    alloc: Global,
+    machine: M,
+    program: &Program,
+    schedule: Schedule,
+    state: &State<M>,
+) -> Result<Box<End>, OutOfMemory>
+    requires { Fits (M.rules machine) program.now state.now }
+{
+    let history = state.history(alloc, program)?;
+    let code = code_of(alloc, machine, program, state)?;
+    boxed(alloc, schedule, code, history)
+}
+
+/// Where a schedule ends on a machine.
+fn end_on<M: Machine>(
+    alloc: Global,
+    machine: M,
+    program: &Program,
+    schedule: Schedule,
+) -> Result<Box<End>, StepFault> {
+    let state = state_after(alloc, machine, program, schedule.as_slice())?;
+    Ok(end_at(alloc, machine, program, schedule, &state)?)
+}
+
+/// Where a schedule ends on a machine of Ellen's tree.
+fn end_on_ellen(
+    alloc: Global,
+    machine: Ellen,
+    program: &Program,
+    schedule: Schedule,
+) -> Result<Box<End>, StepFault> {
+    end_on(alloc, machine, program, schedule)
+}
+
+/// Where a schedule ends on the machine that the program names.
+fn end_of(alloc: Global, program: &Program, schedule: Schedule) -> Result<Box<End>, StepFault> {
+    match program.tree() {
+        Tree::Ellen => end_on_ellen(alloc, ELLEN, program, schedule),
+        Tree::EllenNoMark => end_on_ellen(alloc, NO_MARK, program, schedule),
+        Tree::EllenNoIflag => end_on_ellen(alloc, NO_IFLAG, program, schedule),
+        Tree::NmNoTag => end_on(alloc, NO_TAG, program, schedule),
+        Tree::Atomic | Tree::Nm => Err(StepFault::NotEnabled),
+    }
+}
+
+/// Whether a state was reached.
+fn is_known(ends: &[Box<End>], code: &Bytes) -> bool {
+    for end in ends {
+        if end.code == *code {
+            return true;
+        }
+    }
+    false
+}
+
+fn add(reached: &mut Reached, end: Box<End>) -> Result<(), OutOfMemory> {
+    reached.ends.push(end)?;
+    Ok(())
+}
+
+/// Looks at the history of a state, on which the searchers are to agree.
+fn look(alloc: Global, program: &Program, reached: &mut Reached, end: &End) -> Result<(), Broken> {
+    if !agree(alloc, program, &end.history)? && reached.fault.is_none() {
+        reached.fault = Some(end.schedule.len());
+    }
     Ok(())
 }
 
 /// Reaches a state, which is looked at if it is new.
-fn reach<M: Machine>(
-    run: &Run<M>,
-    reached: &mut Reached<M>,
-    schedule: Schedule,
-    state: State<M>,
-) -> Result<(), Broken>
-    requires { Fits (M.rules run.now.machine) run.now.program.now state }
-{
-    if reached.states.as_slice().contains(&state) {
+fn reach(
+    alloc: Global,
+    program: &Program,
+    reached: &mut Reached,
+    end: Box<End>,
+) -> Result<(), Broken> {
+    if is_known(reached.ends.as_slice(), &end.code) {
         return Ok(());
     }
-    if !has_order(run, &state)? && reached.fault.is_none() {
-        reached.fault = Some(schedule.len());
-    }
-    Ok(add(reached, schedule, state)?)
+    look(alloc, program, reached, &end)?;
+    Ok(add(reached, end)?)
 }
 
 /// Follows a schedule, if each of its steps is one.
-fn follow<M: Machine>(
-    run: &Run<M>,
-    reached: &mut Reached<M>,
+fn follow(
+    alloc: Global,
+    program: &Program,
+    reached: &mut Reached,
     schedule: Schedule,
 ) -> Result<(), Broken> {
-    match state_after(run, schedule.as_slice()) {
-        Ok(state) => reach(run, reached, schedule, state),
+    match end_of(alloc, program, schedule) {
+        Ok(end) => reach(alloc, program, reached, end),
         Err(StepFault::NotEnabled) => Ok(()),
         Err(StepFault::OutOfMemory) => Err(Broken::OutOfMemory),
     }
@@ -157,77 +240,56 @@ fn one_more(mut schedule: Schedule, thread: u8) -> Schedule {
     schedule
 }
 
+/// The schedule to the state of this number, if there is one and it has fewer steps than this.
+fn schedule_to(reached: &Reached, number: usize, steps: usize) -> Option<Schedule> {
+    match reached.ends.as_slice().get(number) {
+        Some(end) if end.schedule.len() < steps => Some(end.schedule),
+        _ => None,
+    }
+}
+
 /// Takes a step of each of the two threads from the state of this number, if there is one and it has fewer steps than
 /// this.
-fn step_from<M: Machine>(
-    run: &Run<M>,
-    reached: &mut Reached<M>,
+fn step_from(
+    alloc: Global,
+    program: &Program,
+    reached: &mut Reached,
     number: usize,
     steps: usize,
 ) -> Result<(), Broken> {
-    if let Some(schedule) = reached.schedules.as_slice().get(number).copied()
-        && schedule.len() < steps
-    {
-        follow(run, reached, one_more(schedule, 0))?;
-        follow(run, reached, one_more(schedule, 1))?;
+    if let Some(schedule) = schedule_to(reached, number, steps) {
+        follow(alloc, program, reached, one_more(schedule, 0))?;
+        follow(alloc, program, reached, one_more(schedule, 1))?;
     }
     Ok(())
 }
 
 /// Reaches all states of at most so many steps, which are fewer than a thousand: those of fewer steps first.
-fn reach_all<M: Machine>(
-    run: &Run<M>,
-    reached: &mut Reached<M>,
+fn reach_all(
+    alloc: Global,
+    program: &Program,
+    reached: &mut Reached,
     steps: usize,
 ) -> Result<(), Broken> {
-    follow(run, reached, Schedule::new())?;
+    follow(alloc, program, reached, Schedule::new())?;
     for number in 0..1000 {
-        step_from(run, reached, number, steps)?;
+        step_from(alloc, program, reached, number, steps)?;
     }
     Ok(())
 }
 
 /// How many states at most so many steps reach, and after how many the first history without an order comes.
-fn count_states<M: Machine>(run: &Run<M>, steps: usize) -> Result<(usize, Option<usize>), Broken> {
-    let mut reached = Reached {
-        states: Vec::new(run.alloc),
-        schedules: Vec::new(run.alloc),
-        fault: None,
-    };
-    reach_all(run, &mut reached, steps)?;
-    Ok((reached.states.len(), reached.fault))
-}
-
-/// The same on a machine.
-fn count_on<M: Machine>(
-    alloc: Global,
-    machine: M,
-    program: &Program,
-    steps: usize,
-) -> Result<(usize, Option<usize>), Broken> {
-    count_states(
-        &Run {
-            alloc,
-            machine,
-            program,
-        },
-        steps,
-    )
-}
-
-/// The same on the machine that the program names.
 fn count_of(
     alloc: Global,
     program: &Program,
     steps: usize,
 ) -> Result<(usize, Option<usize>), Broken> {
-    match program.tree() {
-        Tree::Ellen => count_on(alloc, ELLEN, program, steps),
-        Tree::EllenNoMark => count_on(alloc, NO_MARK, program, steps),
-        Tree::EllenNoIflag => count_on(alloc, NO_IFLAG, program, steps),
-        Tree::NmNoTag => count_on(alloc, NO_TAG, program, steps),
-        Tree::Atomic | Tree::Nm => Ok((0, None)),
-    }
+    let mut reached = Reached {
+        ends: Vec::new(alloc),
+        fault: None,
+    };
+    reach_all(alloc, program, &mut reached, steps)?;
+    Ok((reached.ends.len(), reached.fault))
 }
 
 /// The states of a row are as many as it says, and so are the steps to the first history without an order.
@@ -241,7 +303,7 @@ fn is_walked(alloc: Global, row: &Row) -> Result<(), Broken> {
 }
 
 fn explorations(alloc: Global) -> Result<(), Broken> {
-    for row in &ROWS {
+    for row in ROWS {
         is_walked(alloc, row)?;
     }
     Ok(())
