@@ -3,12 +3,12 @@ ghost use Rattle.std.specs.Prelude.{IfOk};
 ghost use Rattle.tree_machine.specs.Step.{Fits};
 ghost use Rattle.ellen.specs.EllenRules.{ellen_rules};
 
+use crate::states::{next, program_of, start};
 use ellen::{Ellen, EllenLoc, SearchLoc};
-use sched_program::{Program, ProgramFault};
+use sched_program::{OutOfMemory, Program};
 use std::alloc::Global;
-use std::process::Abort;
 use std::test::Fail;
-use tree_machine::{State, StateForm, StepFault};
+use tree_machine::{State, StateForm, StepFault, Thread};
 
 const WHOLE: Ellen = Ellen {
     mark: true,
@@ -41,33 +41,21 @@ const BEHIND_FIRST: [(u8, u64); 2] = [(1, 2), (0, 25)];
 /// Like `AT_SECOND`, and the second delete has spliced out that node.
 const BEHIND_SECOND: [(u8, u64); 4] = [(1, 1), (0, 15), (1, 1), (0, 10)];
 
-/// The program of a text.
-fn program_of(alloc: Global, text: &str) -> Result<Program, StepFault> {
-    match Program::from_json(alloc, text.as_bytes()) {
-        Ok(program) => Ok(program),
-        Err(ProgramFault::OutOfMemory) => Err(StepFault::OutOfMemory),
-        Err(_) => Err(StepFault::NotEnabled),
-    }
-}
-
 /// The state after so many more steps of a thread.
 fn more_steps(
     alloc: Global,
     machine: Ellen,
     program: &Program,
-    state: State<Ellen>,
+    state: Box<State<Ellen>>,
     thread: u8,
     count: u64,
-) -> Result<State<Ellen>, StepFault>
-    requires { Fits (ellen_rules machine) program.now state }
-    ensures { IfOk result (Fits (ellen_rules machine) program.now) }
+) -> Result<Box<State<Ellen>>, StepFault>
+    requires { Fits (ellen_rules machine) program.now state.value }
+    ensures { IfOk result (λ state. Fits (ellen_rules machine) program.now state.value) }
 {
     let mut state = state;
     for _step in 0..count {
-        if state.steps() > 1000 {
-            return Err(StepFault::NotEnabled);
-        }
-        state = state.step(alloc, machine, program, thread)?;
+        state = next(alloc, machine, program, &state, thread)?;
     }
     Ok(state)
 }
@@ -78,44 +66,81 @@ fn after(
     machine: Ellen,
     program: &Program,
     stretches: &[(u8, u64)],
-) -> Result<State<Ellen>, StepFault>
-    ensures { IfOk result (Fits (ellen_rules machine) program.now) }
+) -> Result<Box<State<Ellen>>, StepFault>
+    ensures { IfOk result (λ state. Fits (ellen_rules machine) program.now state.value) }
 {
-    let mut state = State::start(alloc, machine, program)?;
+    let mut state = start(alloc, machine, program)?;
     for (thread, count) in stretches {
         state = more_steps(alloc, machine, program, state, *thread, *count)?;
     }
     Ok(state)
 }
 
-/// Where a run of a program ends.
-#[derive(Drop)]
-struct End {
-    state: State<Ellen>,
-    form: StateForm<Ellen>,
+/// The state to which the program of a text comes by a schedule.
+fn state_of(
+    alloc: Global,
+    text: &str,
+    stretches: &[(u8, u64)],
+) -> Result<Box<State<Ellen>>, StepFault> {
+    let program = program_of(alloc, text)?;
+    after(alloc, WHOLE, &program, stretches)
 }
 
-/// Where the program of a text ends by a schedule. Whoever holds it has one value to let go, and not its lists.
-fn end_of(alloc: Global, text: &str, stretches: &[(u8, u64)]) -> Result<Box<End>, StepFault> {
+/// The form of a state.
+fn form_of(
+    alloc: Global,
+    machine: Ellen,
+    program: &Program,
+    state: &State<Ellen>,
+) -> Result<Box<StateForm<Ellen>>, OutOfMemory>
+    requires { Fits (ellen_rules machine) program.now state.now }
+{
+    // Whoever reads a program knows that it meets the limits.
+    let _ = program.initial();
+    Ok(Box::new(alloc, state.form(alloc, machine)?)?)
+}
+
+/// The form of the state to which the program of a text comes by a schedule.
+fn form_after(
+    alloc: Global,
+    text: &str,
+    stretches: &[(u8, u64)],
+) -> Result<Box<StateForm<Ellen>>, StepFault> {
     let program = program_of(alloc, text)?;
     let state = after(alloc, WHOLE, &program, stretches)?;
-    let form = state.form(alloc, WHOLE)?;
-    match Box::new(alloc, End { state, form }) {
-        Ok(end) => Ok(end),
-        Err(_) => Err(StepFault::OutOfMemory),
-    }
+    Ok(form_of(alloc, WHOLE, &program, &state)?)
 }
 
-/// Whether two schedules lead to equal states, and to states of equal forms.
+/// Whether two schedules lead to equal states.
 fn are_equal(
     alloc: Global,
     text: &str,
     stretches: &[(u8, u64)],
     others: &[(u8, u64)],
-) -> Result<(bool, bool), StepFault> {
-    let left = end_of(alloc, text, stretches)?;
-    let right = end_of(alloc, text, others)?;
-    Ok((left.state == right.state, left.form == right.form))
+) -> Result<bool, StepFault> {
+    let left = state_of(alloc, text, stretches)?;
+    let right = state_of(alloc, text, others)?;
+    Ok(*left == *right)
+}
+
+/// Whether they lead to states of equal forms.
+fn have_equal_forms(
+    alloc: Global,
+    text: &str,
+    stretches: &[(u8, u64)],
+    others: &[(u8, u64)],
+) -> Result<bool, StepFault> {
+    let left = form_after(alloc, text, stretches)?;
+    let right = form_after(alloc, text, others)?;
+    Ok(*left == *right)
+}
+
+/// The parent at which a thread looks for its key, if it does.
+fn parent_at(thread: &Thread<EllenLoc>) -> Option<u32> {
+    match &thread.place {
+        Some(EllenLoc::Search(SearchLoc::Update { parent, .. })) => Some(*parent),
+        _ => None,
+    }
 }
 
 /// The parent at which thread 1 looks for its key after a schedule.
@@ -124,53 +149,74 @@ fn parent_of_find(
     text: &str,
     stretches: &[(u8, u64)],
 ) -> Result<Option<u32>, StepFault> {
-    let program = program_of(alloc, text)?;
-    let state = after(alloc, WHOLE, &program, stretches)?;
-    let thread = state.threads.get(1);
-    Ok(match thread.and_then(|thread| thread.place.as_ref()) {
-        Some(EllenLoc::Search(SearchLoc::Update { parent, .. })) => Some(*parent),
-        _ => None,
-    })
+    let state = state_of(alloc, text, stretches)?;
+    match state.threads.get(1) {
+        Some(thread) => Ok(parent_at(thread)),
+        None => Ok(None),
+    }
 }
 
-/// Two orders of new nodes and records.
-fn numbers_play_no_part(rt: &impl Abort, alloc: Global) -> Result<(), StepFault> {
-    let equal = are_equal(alloc, INSERTS, &FLAG_IN_ORDER, &FLAG_IN_TURN)?;
-    assert!(rt; equal == (false, true));
-    Ok(())
+/// Two schedules of a program, each with the parent at which thread 1 looks for its key then, and whether the states
+/// that they lead to are equal, and their forms.
+struct Pair {
+    name: &'static str,
+    text: &'static str,
+    first: (&'static [(u8, u64)], Option<u32>),
+    second: (&'static [(u8, u64)], Option<u32>),
+    states: bool,
+    forms: bool,
 }
 
-/// A node that is spliced out and still held, and a node of the tree.
-fn held_nodes_are_told_apart(rt: &impl Abort, alloc: Global) -> Result<(), StepFault> {
-    assert!(rt; parent_of_find(alloc, DELETES, &AT_FIRST)? == Some(5));
-    assert!(rt; parent_of_find(alloc, DELETES, &AT_SECOND)? == Some(8));
-    let equal = are_equal(alloc, DELETES, &AT_FIRST, &AT_SECOND)?;
-    assert!(rt; equal == (false, false));
-    Ok(())
-}
+static PAIRS: [Pair; 3] = [
+    Pair {
+        name: "two orders of new nodes and records",
+        text: INSERTS,
+        first: (&FLAG_IN_ORDER, None),
+        second: (&FLAG_IN_TURN, None),
+        states: false,
+        forms: true,
+    },
+    Pair {
+        name: "a node that is spliced out and still held, and a node of the tree",
+        text: DELETES,
+        first: (&AT_FIRST, Some(5)),
+        second: (&AT_SECOND, Some(8)),
+        states: false,
+        forms: false,
+    },
+    // Their records differ: the root's update word has the record of one.
+    Pair {
+        name: "two nodes that are spliced out, marked by different records",
+        text: DELETES,
+        first: (&BEHIND_FIRST, Some(5)),
+        second: (&BEHIND_SECOND, Some(8)),
+        states: false,
+        forms: false,
+    },
+];
 
-/// Two nodes that are spliced out, marked by different records: the root's update word has the record of one.
-fn spliced_nodes_are_told_apart(rt: &impl Abort, alloc: Global) -> Result<(), StepFault> {
-    assert!(rt; parent_of_find(alloc, DELETES, &BEHIND_FIRST)? == Some(5));
-    assert!(rt; parent_of_find(alloc, DELETES, &BEHIND_SECOND)? == Some(8));
-    let equal = are_equal(alloc, DELETES, &BEHIND_FIRST, &BEHIND_SECOND)?;
-    assert!(rt; equal == (false, false));
-    Ok(())
-}
-
-/// All of them.
-fn all(rt: &impl Abort, alloc: Global) -> Result<(), StepFault> {
-    numbers_play_no_part(rt, alloc)?;
-    held_nodes_are_told_apart(rt, alloc)?;
-    spliced_nodes_are_told_apart(rt, alloc)
+/// Whether the states and forms of a pair are as it says.
+fn is_right(alloc: Global, pair: &Pair) -> Result<bool, StepFault> {
+    let (first, first_parent) = pair.first;
+    let (second, second_parent) = pair.second;
+    let is_there = parent_of_find(alloc, pair.text, first)? == first_parent;
+    let is_there_too = parent_of_find(alloc, pair.text, second)? == second_parent;
+    let states = are_equal(alloc, pair.text, first, second)?;
+    let forms = have_equal_forms(alloc, pair.text, first, second)?;
+    Ok(is_there && is_there_too && states == pair.states && forms == pair.forms)
 }
 
 #[test]
 fn forms(rt: HostRuntime) -> Result<(), Fail> {
-    // One request for memory may be refused.
-    if all(&rt, rt.alloc()).is_err() {
-        let again = all(&rt, rt.alloc());
-        assert!(rt; again.is_ok());
+    let alloc = rt.alloc();
+    for pair in PAIRS.as_slice() {
+        let name = pair.name;
+        // One request for memory may be refused.
+        let mut answer = is_right(alloc, pair);
+        if answer.is_err() {
+            answer = is_right(alloc, pair);
+        }
+        assert!(rt; answer?, "{name}");
     }
     Ok(())
 }

@@ -9,4 +9,6 @@ mod memories;
 mod schedules;
 pub mod small_tree;
 #[cfg(test)]
+mod states;
+#[cfg(test)]
 mod transcript;

@@ -48,37 +48,54 @@ fn follows(rt: &impl Abort, alloc: Global, machine: Ellen, program: &str, lines:
     }
 }
 
+/// Fails unless the steps of a machine are those of the lines, in each program.
+fn follows_all(rt: &impl Abort, alloc: Global, machine: Ellen, cases: &[(&str, &str)]) {
+    for (program, lines) in cases {
+        follows(rt, alloc, machine, program, lines);
+    }
+}
+
+static OF_WHOLE: [(&str, &str); 15] = [
+    REPLIES,
+    BACKTRACK,
+    NESTED_DELETES,
+    DELETE_HELPS_DELETE,
+    HELPER_BACKTRACKS,
+    INSERTS_HELP_INSERT,
+    LATE_INSERT,
+    LATE_DELETE,
+    LATE_INSERT_HELPER,
+    LATE_DELETE_HELPER,
+    LATE_SPLICE,
+    LATE_CHILD,
+    INSERT_HELPS_MARK,
+    DELETE_HELPS_INSERT,
+    INSERT_HELPS_DELETE,
+];
+
 #[test]
 fn whole_machine(rt: HostRuntime) -> Result<(), Fail> {
-    for (program, lines) in [
-        REPLIES,
-        BACKTRACK,
-        NESTED_DELETES,
-        DELETE_HELPS_DELETE,
-        HELPER_BACKTRACKS,
-        INSERTS_HELP_INSERT,
-        LATE_INSERT,
-        LATE_DELETE,
-        LATE_INSERT_HELPER,
-        LATE_DELETE_HELPER,
-        LATE_SPLICE,
-        LATE_CHILD,
-        INSERT_HELPS_MARK,
-        DELETE_HELPS_INSERT,
-        INSERT_HELPS_DELETE,
-    ] {
-        follows(&rt, rt.alloc(), WHOLE, program, lines);
-    }
+    follows_all(&rt, rt.alloc(), WHOLE, OF_WHOLE.as_slice());
     Ok(())
 }
 
+static OF_WITHOUT_MARK: [(&str, &str); 2] = [WITHOUT_MARK, HELP_WITHOUT_MARK];
+
+static OF_WITHOUT_FLAG: [(&str, &str); 2] = [WITHOUT_FLAG, LATE_WITHOUT_FLAG];
+
 #[test]
 fn variants(rt: HostRuntime) -> Result<(), Fail> {
-    for (program, lines) in [WITHOUT_MARK, HELP_WITHOUT_MARK] {
-        follows(&rt, rt.alloc(), WITHOUT_MARK_STEP, program, lines);
-    }
-    for (program, lines) in [WITHOUT_FLAG, LATE_WITHOUT_FLAG] {
-        follows(&rt, rt.alloc(), WITHOUT_FLAG_STEP, program, lines);
-    }
+    follows_all(
+        &rt,
+        rt.alloc(),
+        WITHOUT_MARK_STEP,
+        OF_WITHOUT_MARK.as_slice(),
+    );
+    follows_all(
+        &rt,
+        rt.alloc(),
+        WITHOUT_FLAG_STEP,
+        OF_WITHOUT_FLAG.as_slice(),
+    );
     Ok(())
 }

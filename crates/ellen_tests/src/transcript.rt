@@ -6,21 +6,32 @@
 //! place its stack and its base behind them. A node is its number with its key, and its update word and children if it
 //! has them.
 
+use crate::states::{next, program_of, start};
 use ellen::{
     Above, Base, Ellen, EllenLoc, EllenMem, HelpLoc, Node, Record, Resume, SearchLoc, UpdateWord,
 };
-use sched_program::{OutOfMemory, Program, ProgramFault};
+use sched_program::{OutOfMemory, Program};
 use std::alloc::Global;
 use tree_machine::{Side, State, StepFault, Thread};
 
+/// A part of a line. It stands behind a blank.
+#[derive(Drop)]
+enum Part {
+    Name(&'static str),
+    Number(u32),
+    Word(UpdateWord),
+    Above(Option<Above>),
+}
+
 fn add_word(text: &mut String, word: UpdateWord) -> Result<(), OutOfMemory> {
-    match word {
-        UpdateWord::Untouched => write!(text, "U"),
-        UpdateWord::Clean(record) => write!(text, "CLEAN{record}"),
-        UpdateWord::InsertFlag(record) => write!(text, "IFLAG{record}"),
-        UpdateWord::DeleteFlag(record) => write!(text, "DFLAG{record}"),
-        UpdateWord::Mark(record) => write!(text, "MARK{record}"),
-    }
+    let (name, record) = match word {
+        UpdateWord::Untouched => return text.push_str("U"),
+        UpdateWord::Clean(record) => ("CLEAN", record),
+        UpdateWord::InsertFlag(record) => ("IFLAG", record),
+        UpdateWord::DeleteFlag(record) => ("DFLAG", record),
+        UpdateWord::Mark(record) => ("MARK", record),
+    };
+    write!(text, "{name}{record}")
 }
 
 fn add_above(text: &mut String, above: Option<Above>) -> Result<(), OutOfMemory> {
@@ -30,85 +41,125 @@ fn add_above(text: &mut String, above: Option<Above>) -> Result<(), OutOfMemory>
             write!(text, "{node}:")?;
             add_word(text, above.update)
         }
-        None => write!(text, "-"),
+        None => text.push_str("-"),
     }
+}
+
+fn add_part(text: &mut String, part: &Part) -> Result<(), OutOfMemory> {
+    text.push_str(" ")?;
+    match part {
+        Part::Name(name) => text.push_str(*name),
+        Part::Number(number) => write!(text, "{number}"),
+        Part::Word(word) => add_word(text, *word),
+        Part::Above(above) => add_above(text, *above),
+    }
+}
+
+fn add_parts(text: &mut String, parts: &[Part]) -> Result<(), OutOfMemory> {
+    for part in parts {
+        add_part(text, part)?;
+    }
+    Ok(())
 }
 
 fn add_search(text: &mut String, at: SearchLoc) -> Result<(), OutOfMemory> {
     match at {
-        SearchLoc::Update { above, parent } => {
-            write!(text, "Update ")?;
-            add_above(text, above)?;
-            write!(text, " {parent}")
-        }
+        SearchLoc::Update { above, parent } => add_parts(
+            text,
+            &[
+                Part::Name("Update"),
+                Part::Above(above),
+                Part::Number(parent),
+            ],
+        ),
         SearchLoc::Child {
             above,
             parent,
             update,
-        } => {
-            write!(text, "Child ")?;
-            add_above(text, above)?;
-            write!(text, " {parent} ")?;
-            add_word(text, update)
-        }
+        } => add_parts(
+            text,
+            &[
+                Part::Name("Child"),
+                Part::Above(above),
+                Part::Number(parent),
+                Part::Word(update),
+            ],
+        ),
         SearchLoc::IFlag {
             parent,
             update,
             leaf,
-        } => {
-            write!(text, "IFlag {parent} ")?;
-            add_word(text, update)?;
-            write!(text, " {leaf}")
-        }
-        SearchLoc::InsOnly { parent, leaf } => write!(text, "InsOnly {parent} {leaf}"),
+        } => add_parts(
+            text,
+            &[
+                Part::Name("IFlag"),
+                Part::Number(parent),
+                Part::Word(update),
+                Part::Number(leaf),
+            ],
+        ),
+        SearchLoc::InsOnly { parent, leaf } => add_parts(
+            text,
+            &[
+                Part::Name("InsOnly"),
+                Part::Number(parent),
+                Part::Number(leaf),
+            ],
+        ),
         SearchLoc::DFlag {
             above,
             parent,
             update,
             leaf,
-        } => {
-            write!(text, "DFlag ")?;
-            add_above(text, Some(above))?;
-            write!(text, " {parent} ")?;
-            add_word(text, update)?;
-            write!(text, " {leaf}")
-        }
+        } => add_parts(
+            text,
+            &[
+                Part::Name("DFlag"),
+                Part::Above(Some(above)),
+                Part::Number(parent),
+                Part::Word(update),
+                Part::Number(leaf),
+            ],
+        ),
     }
 }
 
 fn add_help(text: &mut String, at: HelpLoc) -> Result<(), OutOfMemory> {
+    let (name, record) = match at {
+        HelpLoc::InsChild(record) => ("InsChild", record),
+        HelpLoc::InsClean(record) => ("InsClean", record),
+        HelpLoc::Mark(record) => ("Mark", record),
+        HelpLoc::Right(record) => ("Right", record),
+        HelpLoc::Other { record, .. } => ("Other", record),
+        HelpLoc::Splice { record, .. } => ("Splice", record),
+        HelpLoc::DelClean(record) => ("DelClean", record),
+        HelpLoc::Back(record) => ("Back", record),
+    };
+    add_parts(text, &[Part::Name(name), Part::Number(record)])?;
     match at {
-        HelpLoc::InsChild(number) => write!(text, "InsChild {number}"),
-        HelpLoc::InsClean(number) => write!(text, "InsClean {number}"),
-        HelpLoc::Mark(number) => write!(text, "Mark {number}"),
-        HelpLoc::Right(number) => write!(text, "Right {number}"),
         HelpLoc::Other {
-            record: number,
             side: Side::Left,
-        } => write!(text, "Other {number} left"),
+            ..
+        } => add_part(text, &Part::Name("left")),
         HelpLoc::Other {
-            record: number,
             side: Side::Right,
-        } => write!(text, "Other {number} right"),
-        HelpLoc::Splice {
-            record: number,
-            other,
-        } => write!(text, "Splice {number} {other}"),
-        HelpLoc::DelClean(number) => write!(text, "DelClean {number}"),
-        HelpLoc::Back(number) => write!(text, "Back {number}"),
+            ..
+        } => add_part(text, &Part::Name("right")),
+        HelpLoc::Splice { other, .. } => add_part(text, &Part::Number(other)),
+        _ => Ok(()),
     }
 }
 
 fn add_resume(text: &mut String, resume: &Resume) -> Result<(), OutOfMemory> {
-    write!(text, " [")?;
+    text.push_str(" [")?;
     for number in resume.stack.as_slice() {
         write!(text, "{number}")?;
     }
-    match resume.base {
-        Base::Again => write!(text, "] again"),
-        Base::Insert => write!(text, "] insert"),
-        Base::Delete => write!(text, "] delete"),
-    }
+    text.push_str(match resume.base {
+        Base::Again => "] again",
+        Base::Insert => "] insert",
+        Base::Delete => "] delete",
+    })
 }
 
 fn add_place(text: &mut String, place: &EllenLoc) -> Result<(), OutOfMemory> {
@@ -122,36 +173,44 @@ fn add_place(text: &mut String, place: &EllenLoc) -> Result<(), OutOfMemory> {
 }
 
 fn add_node(text: &mut String, x: usize, node: Node) -> Result<(), OutOfMemory> {
+    let (Node::Leaf { key } | Node::Internal { key, .. }) = node;
+    write!(text, " | {x}: {key}")?;
     match node {
-        Node::Leaf { key } => write!(text, " | {x}: {key}"),
+        Node::Leaf { .. } => Ok(()),
         Node::Internal {
-            key,
             update,
             left,
             right,
-        } => {
-            write!(text, " | {x}: {key} ")?;
-            add_word(text, update)?;
-            write!(text, " {left} {right}")
-        }
+            ..
+        } => add_parts(
+            text,
+            &[Part::Word(update), Part::Number(left), Part::Number(right)],
+        ),
     }
 }
 
 fn add_record(text: &mut String, record: Record) -> Result<(), OutOfMemory> {
+    text.push_str(" |")?;
     match record {
-        Record::Ins(info) => {
-            let parent = info.parent;
-            let leaf = info.leaf;
-            let new = info.new;
-            write!(text, " | Ins {parent} {leaf} {new}")
-        }
-        Record::Del(info) => {
-            let grandparent = info.grandparent;
-            let parent = info.parent;
-            let leaf = info.leaf;
-            write!(text, " | Del {grandparent} {parent} {leaf} ")?;
-            add_word(text, info.parent_update)
-        }
+        Record::Ins(info) => add_parts(
+            text,
+            &[
+                Part::Name("Ins"),
+                Part::Number(info.parent),
+                Part::Number(info.leaf),
+                Part::Number(info.new),
+            ],
+        ),
+        Record::Del(info) => add_parts(
+            text,
+            &[
+                Part::Name("Del"),
+                Part::Number(info.grandparent),
+                Part::Number(info.parent),
+                Part::Number(info.leaf),
+                Part::Word(info.parent_update),
+            ],
+        ),
     }
 }
 
@@ -180,8 +239,8 @@ fn add_thread(text: &mut String, thread: &Thread<EllenLoc>) -> Result<(), OutOfM
     match &thread.place {
         Some(place) => add_place(text, place),
         None => match thread.replies.as_slice().last() {
-            Some(reply) => write!(text, "{reply}"),
-            None => write!(text, "idle"),
+            Some(reply) => write!(text, " {reply}"),
+            None => text.push_str(" idle"),
         },
     }
 }
@@ -193,10 +252,10 @@ fn line_of(
     old: &State<Ellen>,
     new: &State<Ellen>,
 ) -> Result<String, OutOfMemory> {
-    let mut text = format!(in alloc; "{t} ")?;
+    let mut text = format!(in alloc; "{t}")?;
     match (new.astray(), new.threads.get(usize::from(t))) {
         (None, Some(thread)) => add_thread(&mut text, thread)?,
-        _ => write!(text, "astray")?,
+        _ => text.push_str(" astray")?,
     }
     add_nodes(&mut text, old.memory(), new.memory())?;
     add_records(&mut text, old.memory(), new.memory())?;
@@ -210,21 +269,18 @@ fn differs(
     program: &Program,
     lines: &str,
 ) -> Result<Option<String>, StepFault> {
-    let mut state = State::start(alloc, machine, program)?;
+    let mut state = start(alloc, machine, program)?;
     for line in lines.lines() {
         let Some(digit) = line.as_bytes().first() else {
             return Err(StepFault::NotEnabled);
         };
-        if state.steps() > 1000 {
-            return Err(StepFault::NotEnabled);
-        }
         let thread = digit.wrapping_sub(b'0');
-        let next = state.step(alloc, machine, program, thread)?;
-        let told = line_of(alloc, thread, &state, &next)?;
+        let after = next(alloc, machine, program, &state, thread)?;
+        let told = line_of(alloc, thread, &state, &after)?;
         if told.as_str() != line {
             return Ok(Some(told));
         }
-        state = next;
+        state = after;
     }
     Ok(None)
 }
@@ -236,9 +292,6 @@ pub fn first_difference(
     text: &str,
     lines: &str,
 ) -> Result<Option<String>, StepFault> {
-    match Program::from_json(alloc, text.as_bytes()) {
-        Ok(program) => differs(alloc, machine, &program, lines),
-        Err(ProgramFault::OutOfMemory) => Err(StepFault::OutOfMemory),
-        Err(_) => Err(StepFault::NotEnabled),
-    }
+    let program = program_of(alloc, text)?;
+    differs(alloc, machine, &program, lines)
 }
