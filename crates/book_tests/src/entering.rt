@@ -1,27 +1,26 @@
 //! What a book enters, and what it refuses.
 ghost use Rattle.std.specs.Prelude.{◌+◌, ◌^◌, ◌<◌};
+ghost use Rattle.tree_machine.specs.Atomic.{atomic_rules};
 ghost use Rattle.tree_machine.specs.Step.{Fits};
 
 use crate::fixtures::{
     Broken, TWO_INSERTS, enter_under, expand_next, expanded, has_none_left, is_broken, open,
-    settled, take_next,
+    settled, take_next, take_number,
 };
 use book::{Book, Merge};
 use std::alloc::Global;
 use std::test::Fail;
-use tree_machine::{Atomic, Machine, State};
-
-const EXACT: (Merge, Merge) = (Merge::Exact, Merge::Exact);
+use tree_machine::{Atomic, State};
 
 /// Whether the steps of a state are refused for this under the number of an entry, and the book is left as it is.
-fn refuses<M: Machine>(
+fn refuses(
     alloc: Global,
-    book: &mut Book<M>,
+    book: &mut Book<Atomic>,
     id: usize,
-    state: &State<M>,
+    state: &State<Atomic>,
     fault: Broken,
 ) -> Result<bool, Broken>
-    requires fits { Fits (M.rules book.old.machine) book.old.program state.now }
+    requires fits { Fits atomic_rules book.old.program state.now }
     requires room { state.now.steps + 1 < 2 ^ 64 }
 {
     let before = book.totals();
@@ -30,57 +29,75 @@ fn refuses<M: Machine>(
 }
 
 /// Enters the steps of the start, and then the same ones under the same number.
-fn enters_once<M: Machine>(alloc: Global, book: &mut Book<M>) -> Result<bool, Broken> {
+fn enters_once(alloc: Global, book: &mut Book<Atomic>) -> Result<bool, Broken> {
     let (id, state) = take_next(book)?;
     let first = enter_under(alloc, book, id, &state, Merge::Exact)?;
     let is_again = refuses(alloc, book, id, &state, Broken::NotTaken)?;
     Ok(first.entered == 2 && first.met == 0 && is_again)
 }
 
+fn is_entered_once(alloc: Global) -> Result<bool, Broken> {
+    let mut book = expanded(alloc, Merge::Exact, Merge::Exact, 0)?;
+    enters_once(alloc, &mut *book)
+}
+
 #[test]
 fn an_entry_is_expanded_once(rt: HostRuntime) -> Result<(), Fail> {
     let alloc = rt.alloc();
-    let is_once = settled(|| {
-        let mut book = expanded(alloc, Atomic, TWO_INSERTS, EXACT, 0)?;
-        enters_once(alloc, &mut *book)
-    })?;
+    let is_once = settled!(is_entered_once(alloc))?;
     assert!(rt; is_once);
     Ok(())
 }
 
+/// Takes entry 2, and enters the steps of another state under it.
+fn refuses_under_the_second(
+    alloc: Global,
+    book: &mut Book<Atomic>,
+    stranger: &State<Atomic>,
+) -> Result<bool, Broken>
+    requires fits { Fits atomic_rules book.old.program stranger.now }
+    requires room { stranger.now.steps + 1 < 2 ^ 64 }
+{
+    let two = take_number(book)?;
+    Ok(two == 2 && refuses(alloc, book, two, stranger, Broken::Stranger)?)
+}
+
 /// Takes entries 1 and 2, the last ones, and enters the steps of entry 1 under entry 2.
-fn refuses_a_stranger<M: Machine>(alloc: Global, book: &mut Book<M>) -> Result<bool, Broken> {
+fn refuses_a_stranger(alloc: Global, book: &mut Book<Atomic>) -> Result<bool, Broken> {
     let (one, state) = take_next(book)?;
-    let (two, _own) = take_next(book)?;
-    let is_refused = refuses(alloc, book, two, &state, Broken::Stranger)?;
-    Ok(one == 1 && two == 2 && is_refused && has_none_left(book)?)
+    let is_refused = refuses_under_the_second(alloc, book, &state)?;
+    Ok(one == 1 && is_refused)
+}
+
+fn is_stranger_refused(alloc: Global) -> Result<bool, Broken> {
+    let mut book = expanded(alloc, Merge::Exact, Merge::Exact, 1)?;
+    Ok(refuses_a_stranger(alloc, &mut *book)? && has_none_left(&mut *book)?)
 }
 
 #[test]
 fn a_stranger_is_refused(rt: HostRuntime) -> Result<(), Fail> {
     let alloc = rt.alloc();
-    let is_stranger = settled(|| {
-        let mut book = expanded(alloc, Atomic, TWO_INSERTS, EXACT, 1)?;
-        refuses_a_stranger(alloc, &mut *book)
-    })?;
-    assert!(rt; is_stranger);
+    let is_refused = settled!(is_stranger_refused(alloc))?;
+    assert!(rt; is_refused);
     Ok(())
 }
 
 /// Enters the two steps of the start into a book that has room for one.
-fn refuses_too_many<M: Machine>(alloc: Global, book: &mut Book<M>) -> Result<bool, Broken> {
+fn refuses_too_many(alloc: Global, book: &mut Book<Atomic>) -> Result<bool, Broken> {
     let answer = expand_next(alloc, book, Merge::Exact);
     let totals = book.totals();
     Ok(is_broken(answer, Broken::Full)? && totals.entries == 1 && totals.taken == 1)
 }
 
+fn is_full_book_left(alloc: Global) -> Result<bool, Broken> {
+    let mut book = open(alloc, Atomic, TWO_INSERTS, 2, Merge::Exact)?;
+    refuses_too_many(alloc, &mut *book)
+}
+
 #[test]
 fn a_full_book_is_left_as_it_is(rt: HostRuntime) -> Result<(), Fail> {
     let alloc = rt.alloc();
-    let is_full = settled(|| {
-        let mut book = open(alloc, Atomic, TWO_INSERTS, 2, Merge::Exact)?;
-        refuses_too_many(alloc, &mut *book)
-    })?;
-    assert!(rt; is_full);
+    let is_left = settled!(is_full_book_left(alloc))?;
+    assert!(rt; is_left);
     Ok(())
 }

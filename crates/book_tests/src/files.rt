@@ -1,10 +1,9 @@
 //! Book files, as bytes.
 
-use crate::fixtures::{Broken, TWO_INSERTS, settled};
+use crate::fixtures::{Broken, TWO_INSERTS, program_of, settled};
 use crate::straying::Straying;
 use book::{CheckFault, check_book};
 use natmit::NatMit;
-use sched_program::Program;
 use std::alloc::Global;
 use std::process::Abort;
 use std::test::Fail;
@@ -203,7 +202,7 @@ pub fn is_answer<M: Machine>(
     text: &str,
     answer: Result<usize, CheckFault>,
 ) -> Result<bool, Broken> {
-    let program = Program::from_json(alloc, program.as_bytes())?;
+    let program = program_of(alloc, program)?;
     match check_book(alloc, machine, &program, text.as_bytes()) {
         Err(CheckFault::OutOfMemory) => Err(Broken::OutOfMemory),
         told => Ok(told == answer),
@@ -219,7 +218,7 @@ fn judges_all<M: Machine>(
 ) -> Result<(), Fail> {
     let alloc = rt.alloc();
     for (text, answer) in cases {
-        let is_so = settled(|| is_answer(alloc, machine, program, text, *answer))?;
+        let is_so = settled!(is_answer(alloc, machine, program, text, *answer))?;
         assert!(rt; is_so, "{text}");
     }
     Ok(())
@@ -269,7 +268,7 @@ fn is_shown(alloc: Global, fault: CheckFault, text: &str) -> Result<bool, Broken
 fn faults_are_shown(rt: HostRuntime) -> Result<(), Fail> {
     let alloc = rt.alloc();
     for (fault, text) in SHOWN.as_slice() {
-        let is_so = settled(|| is_shown(alloc, *fault, text))?;
+        let is_so = settled!(is_shown(alloc, *fault, text))?;
         assert!(rt; is_so, "{text}");
     }
     Ok(())

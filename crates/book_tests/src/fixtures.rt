@@ -3,13 +3,14 @@
 //! A book is held in a box: whoever lets it go makes one call, and not one for each of its lists, which keeps the
 //! proofs short.
 ghost use Rattle.std.specs.Prelude.{◌≡◌, ◌+◌, ◌^◌, ◌<◌, ◌≤◌, IfOk};
+ghost use Rattle.book.specs.Findings.{IsFindingOf};
 ghost use Rattle.tree_machine.specs.Step.{Fits};
 
 use book::{Book, EnterFault, Entered, Expansion, Merge, Replay, ReplayFault, replay};
 use sched_program::{OutOfMemory, Program, ProgramFault};
 use std::alloc::Global;
 use std::sync::Arc;
-use tree_machine::{Machine, State};
+use tree_machine::{Atomic, Machine, State};
 
 /// Two threads that each insert 1.
 pub const TWO_INSERTS: &str =
@@ -46,17 +47,6 @@ impl From<OutOfMemory> for Broken {
     }
 }
 
-impl From<ProgramFault> for Broken {
-    ghost from_gives = { λ _ _. Unit {0} };
-
-    fn from(fault: ProgramFault) -> Broken {
-        match fault {
-            ProgramFault::OutOfMemory => Broken::OutOfMemory,
-            _ => Broken::NoProgram,
-        }
-    }
-}
-
 impl From<EnterFault> for Broken {
     ghost from_gives = { λ _ _. Unit {0} };
 
@@ -82,17 +72,24 @@ impl From<ReplayFault> for Broken {
 }
 
 /// Runs a case, and once more where memory was refused: that happens once at most.
-pub fn settled<F: Fn() -> Result<bool, Broken>>(case: F) -> Result<bool, Broken>
-    requires { F.IsAlwaysCallable case }
-{
-    match case() {
-        Err(Broken::OutOfMemory) => case(),
-        told => told,
-    }
+macro_rules! settled {
+    ($case:expr) => {
+        match $case {
+            Err(Broken::OutOfMemory) => $case,
+            told => told,
+        }
+    };
 }
 
-pub fn boxed<T: Drop>(alloc: Global, value: T) -> Result<Box<T>, OutOfMemory> {
-    Ok(Box::new(alloc, value)?)
+pub(crate) use settled;
+
+/// The program of a text.
+pub fn program_of(alloc: Global, text: &str) -> Result<Program, Broken> {
+    match Program::from_json(alloc, text.as_bytes()) {
+        Ok(program) => Ok(program),
+        Err(ProgramFault::OutOfMemory) => Err(Broken::OutOfMemory),
+        Err(_) => Err(Broken::NoProgram),
+    }
 }
 
 /// The book of the program of a text with the start alone.
@@ -105,9 +102,12 @@ pub fn open<M: Machine>(
 ) -> Result<Box<Book<M>>, Broken>
     requires { (1 ≤ limit) × (limit ≤ 2000000) }
 {
-    let program = Program::from_json(alloc, text.as_bytes())?;
+    let program = program_of(alloc, text)?;
     let book = Book::open(alloc, machine, program, limit, merge)?;
-    Ok(boxed(alloc, book)?)
+    match Box::new(alloc, book) {
+        Ok(book) => Ok(book),
+        Err(_) => Err(Broken::OutOfMemory),
+    }
 }
 
 /// Takes the next entry.
@@ -124,12 +124,40 @@ pub fn take_next<M: Machine>(book: &mut Book<M>) -> Result<(usize, Arc<State<M>>
     book.take()?.ok_or(Broken::NoEntry)
 }
 
+/// Takes the next entry, and tells its number alone.
+pub fn take_number(book: &mut Book<Atomic>) -> Result<usize, Broken>
+    ensures machine { book.new.machine ≡ book.old.machine }
+    ensures program { book.new.program ≡ book.old.program }
+{
+    let (id, _state) = take_next(book)?;
+    Ok(id)
+}
+
 /// Whether no entry is left to take.
-pub fn has_none_left<M: Machine>(book: &mut Book<M>) -> Result<bool, Broken> {
+pub fn has_none_left(book: &mut Book<Atomic>) -> Result<bool, Broken> {
     Ok(book.take()?.is_none())
 }
 
-/// Enters the steps of a state under the number of an entry. They are labelled for a book that merges so.
+/// Enters the steps of a state of this program under the number of an entry. They are labelled for a book that merges
+/// so.
+fn enter_of<M: Machine>(
+    alloc: Global,
+    book: &mut Book<M>,
+    id: usize,
+    program: &Program,
+    state: &State<M>,
+    labels: Merge,
+) -> Result<Entered, Broken>
+    requires fits { Fits (M.rules book.old.machine) program.now state.now }
+    requires room { state.now.steps + 1 < 2 ^ 64 }
+    ensures machine { book.new.machine ≡ book.old.machine }
+    ensures program { book.new.program ≡ book.old.program }
+{
+    let expansion = Expansion::for_merge(alloc, book.machine(), program, state, labels)?;
+    Ok(book.enter(id, expansion)?)
+}
+
+/// Enters the steps of a state of the book's program.
 pub fn enter_under<M: Machine>(
     alloc: Global,
     book: &mut Book<M>,
@@ -143,12 +171,11 @@ pub fn enter_under<M: Machine>(
     ensures program { book.new.program ≡ book.old.program }
 {
     let program = book.program().copy(alloc)?;
-    let expansion = Expansion::for_merge(alloc, book.machine(), &program, state, labels)?;
-    Ok(book.enter(id, expansion)?)
+    enter_of(alloc, book, id, &program, state, labels)
 }
 
-/// Whether a case broke for this.
-pub fn is_broken<T: Drop>(answer: Result<T, Broken>, reason: Broken) -> Result<bool, Broken> {
+/// Whether the steps of a state were refused for this.
+pub fn is_broken(answer: Result<Entered, Broken>, reason: Broken) -> Result<bool, Broken> {
     match answer {
         Err(Broken::OutOfMemory) => Err(Broken::OutOfMemory),
         Err(told) => Ok(told == reason),
@@ -167,9 +194,9 @@ pub fn expand_next<M: Machine>(
 }
 
 /// Takes so many entries, one after the other, and enters the steps of each.
-fn expand<M: Machine>(
+fn expand(
     alloc: Global,
-    book: &mut Book<M>,
+    book: &mut Book<Atomic>,
     labels: Merge,
     entries: usize,
 ) -> Result<(), Broken> {
@@ -179,15 +206,14 @@ fn expand<M: Machine>(
     Ok(())
 }
 
-/// The book of a text, with the steps of so many entries, which are labelled for a merge.
-pub fn expanded<M: Machine>(
+/// The book of the two inserts, with the steps of so many entries, which are labelled for a merge.
+pub fn expanded(
     alloc: Global,
-    machine: M,
-    text: &str,
-    (merge, labels): (Merge, Merge),
+    merge: Merge,
+    labels: Merge,
     entries: usize,
-) -> Result<Box<Book<M>>, Broken> {
-    let mut book = open(alloc, machine, text, 100, merge)?;
+) -> Result<Box<Book<Atomic>>, Broken> {
+    let mut book = open(alloc, Atomic, TWO_INSERTS, 100, merge)?;
     expand(alloc, &mut *book, labels, entries)?;
     Ok(book)
 }
@@ -210,14 +236,19 @@ pub fn is_way<M: Machine>(
     Ok(way_of(alloc, book, entry)?.as_slice() == way)
 }
 
-/// What a schedule of the program of a text leads to.
+/// What a schedule of a program leads to.
 pub fn replayed<M: Machine>(
     alloc: Global,
     machine: M,
-    text: &str,
+    program: &Program,
     schedule: &[u8],
-) -> Result<Box<Replay<M>>, Broken> {
-    let program = Program::from_json(alloc, text.as_bytes())?;
-    let end = replay(alloc, machine, &program, schedule)?;
-    Ok(boxed(alloc, end)?)
+) -> Result<Box<Replay<M>>, Broken>
+    ensures fits { IfOk result (λ end. Fits (M.rules machine) program.now end.value.state) }
+    ensures finding { IfOk result (λ end. IsFindingOf (M.rules machine) program.now end.value.state end.value.finding) }
+{
+    let end = replay(alloc, machine, program, schedule)?;
+    match Box::new(alloc, end) {
+        Ok(end) => Ok(end),
+        Err(_) => Err(Broken::OutOfMemory),
+    }
 }

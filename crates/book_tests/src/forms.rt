@@ -68,7 +68,7 @@ fn refuses_all(
 ) -> Result<(), Fail> {
     let alloc = rt.alloc();
     for line in lines {
-        let is_so = settled(|| is_refused(alloc, line, fault))?;
+        let is_so = settled!(is_refused(alloc, line, fault))?;
         assert!(rt; is_so, "{line}");
     }
     Ok(())

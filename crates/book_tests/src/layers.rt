@@ -1,10 +1,10 @@
 //! Books of two steps.
 
-use crate::fixtures::{Broken, TWO_INSERTS, expanded, is_way, settled};
+use crate::fixtures::{Broken, expanded, is_way, settled};
 use book::{Book, Finding, Merge, Totals};
 use std::alloc::Global;
 use std::test::Fail;
-use tree_machine::{Atomic, Machine};
+use tree_machine::Atomic;
 
 /// How a book merges, and for which merge the steps that are entered are labelled.
 const MERGES_AND_LABELS: [(Merge, Merge); 4] = [
@@ -33,14 +33,14 @@ fn is_order_of(finding: Option<&Finding>, length: usize) -> bool {
 }
 
 /// Whether the findings are those of five entries.
-fn finds_no_fault<M: Machine>(book: &Book<M>) -> bool {
+fn finds_no_fault(book: &Book<Atomic>) -> bool {
     is_order_of(book.finding_of(4), 2)
         && book.finding_of(5).is_none()
         && book.first_fault().is_none()
 }
 
 /// Whether the numbers are those of two steps, the later ones open.
-fn counts_two_layers<M: Machine>(book: &Book<M>) -> bool {
+fn counts_two_layers(book: &Book<Atomic>) -> bool {
     book.totals() == WHOLE
         && book.count_to(1) == 3
         && book.is_left_to(2)
@@ -49,9 +49,10 @@ fn counts_two_layers<M: Machine>(book: &Book<M>) -> bool {
 }
 
 /// Whether the book of two steps tells what it should.
-fn is_two_layers<M: Machine>(alloc: Global, book: &Book<M>, merge: Merge) -> Result<bool, Broken> {
-    let is_told = finds_no_fault(book) && counts_two_layers(book) && book.merge() == merge;
-    Ok(is_way(alloc, book, 4, &[1, 0])? && is_told)
+fn is_two_layers(alloc: Global, merge: Merge, labels: Merge) -> Result<bool, Broken> {
+    let book = expanded(alloc, merge, labels, 3)?;
+    let is_told = finds_no_fault(&book) && counts_two_layers(&book) && book.merge() == merge;
+    Ok(is_way(alloc, &book, 4, &[1, 0])? && is_told)
 }
 
 // Steps that are labelled for another merge are labelled anew.
@@ -59,10 +60,7 @@ fn is_two_layers<M: Machine>(alloc: Global, book: &Book<M>, merge: Merge) -> Res
 fn a_book_of_two_layers(rt: HostRuntime) -> Result<(), Fail> {
     let alloc = rt.alloc();
     for (merge, labels) in MERGES_AND_LABELS {
-        let is_whole = settled(|| {
-            let book = expanded(alloc, Atomic, TWO_INSERTS, (merge, labels), 3)?;
-            is_two_layers(alloc, &*book, merge)
-        })?;
+        let is_whole = settled!(is_two_layers(alloc, merge, labels))?;
         assert!(rt; is_whole, "{merge:?} of {labels:?}");
     }
     Ok(())
@@ -75,15 +73,17 @@ const CLOSED: [(Merge, usize, bool); 3] = [
     (Merge::Exact, 5, false),
 ];
 
+/// Whether the book with the steps of so many entries is closed.
+fn is_closed(alloc: Global, merge: Merge, entries: usize) -> Result<bool, Broken> {
+    Ok(expanded(alloc, merge, merge, entries)?.closed())
+}
+
 #[test]
 fn a_book_by_names_closes_with_its_last_entry(rt: HostRuntime) -> Result<(), Fail> {
     let alloc = rt.alloc();
-    for (merge, entries, is_closed) in CLOSED {
-        let is_told = settled(|| {
-            let book = expanded(alloc, Atomic, TWO_INSERTS, (merge, merge), entries)?;
-            Ok(book.closed() == is_closed)
-        })?;
-        assert!(rt; is_told, "{merge:?} with {entries} expanded");
+    for (merge, entries, closed) in CLOSED {
+        let told = settled!(is_closed(alloc, merge, entries))?;
+        assert!(rt; told == closed, "{merge:?} with {entries} expanded");
     }
     Ok(())
 }

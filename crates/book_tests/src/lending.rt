@@ -1,19 +1,27 @@
 //! Steps to which a state lends its linearization.
+ghost use Rattle.book.specs.Findings.{IsFindingOf};
+ghost use Rattle.tree_machine.specs.Atomic.{atomic_rules};
+ghost use Rattle.tree_machine.specs.Step.{Fits};
 
-use crate::fixtures::{Broken, TWO_INSERTS, open, settled, take_next};
+use crate::fixtures::{Broken, TWO_INSERTS, open, replayed, settled, take_number};
 use crate::replays::{ONE, ZERO, is_order};
-use book::{Book, Entered, Expansion, Merge, Stock, replay};
-use sched_program::OpId;
+use book::{Book, Entered, Expansion, Merge, Replay, Stock};
+use sched_program::{OpId, Program};
 use std::alloc::Global;
 use std::test::Fail;
 use tree_machine::Atomic;
 
-/// Takes the next entry, which is the state after this schedule, and enters its steps. What is found of the state is
-/// lent to them.
-fn enter_lent(alloc: Global, book: &mut Book<Atomic>, schedule: &[u8]) -> Result<Entered, Broken> {
-    let (id, _) = take_next(book)?;
-    let program = book.program().copy(alloc)?;
-    let end = replay(alloc, Atomic, &program, schedule)?;
+/// Enters the steps of a replay's state under the number of an entry. What is found of the state is lent to them.
+fn enter_found(
+    alloc: Global,
+    book: &mut Book<Atomic>,
+    id: usize,
+    program: &Program,
+    end: &Replay<Atomic>,
+) -> Result<Entered, Broken>
+    requires fits { Fits atomic_rules program.now end.now.state }
+    requires finding { IsFindingOf atomic_rules program.now end.now.state end.now.finding }
+{
     if end.state.steps() > 100 {
         return Err(Broken::NoEntry);
     }
@@ -21,13 +29,21 @@ fn enter_lent(alloc: Global, book: &mut Book<Atomic>, schedule: &[u8]) -> Result
     let expansion = Expansion::of_found(
         alloc,
         Atomic,
-        &program,
+        program,
         &end.state,
         &end.finding,
         Merge::Exact,
         &mut stock,
     )?;
     Ok(book.enter(id, expansion)?)
+}
+
+/// Takes the next entry, which is the state after this schedule, and enters its steps.
+fn enter_lent(alloc: Global, book: &mut Book<Atomic>, schedule: &[u8]) -> Result<Entered, Broken> {
+    let id = take_number(book)?;
+    let program = book.program().copy(alloc)?;
+    let end = replayed(alloc, Atomic, &program, schedule)?;
+    enter_found(alloc, book, id, &program, &end)
 }
 
 /// The entries whose steps are entered, each by its schedule.
@@ -63,7 +79,7 @@ fn orders_of_two_inserts(alloc: Global) -> Result<bool, Broken> {
 #[test]
 fn a_source_lends_its_order(rt: HostRuntime) -> Result<(), Fail> {
     let alloc = rt.alloc();
-    let is_so = settled(|| orders_of_two_inserts(alloc))?;
+    let is_so = settled!(orders_of_two_inserts(alloc))?;
     assert!(rt; is_so);
     Ok(())
 }

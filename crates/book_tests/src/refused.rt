@@ -1,15 +1,15 @@
 //! A call that is refused memory leaves the book as it was, and the next such call answers as if nothing had happened.
 //! With ample memory each case makes its call once; `scripts/refuse_allocations.sh` refuses each request in turn.
 
-use crate::fixtures::{Broken, TWO_INSERTS, enter_under, expanded, settled, take_next, way_of};
+use crate::fixtures::{Broken, enter_under, expanded, settled, take_next, take_number, way_of};
 use book::{Book, Merge, Totals};
 use sched_program::OutOfMemory;
 use std::alloc::Global;
 use std::test::Fail;
-use tree_machine::{Atomic, Machine, State};
+use tree_machine::{Atomic, State};
 
 /// A call that changes the book of the two inserts, which has the start alone.
-#[derive(Clone, Copy, Debug, PartialEq, Eq)]
+#[derive(Clone, Copy, Debug)]
 enum Call {
     /// Takes the start.
     Take,
@@ -46,7 +46,7 @@ const START_EXPANDED: Totals = Totals {
 
 impl Call {
     /// Makes the call. Whether its answer is the right one.
-    fn is_answered<M: Machine>(self, alloc: Global, book: &mut Book<M>) -> Result<bool, Broken> {
+    fn is_answered(self, alloc: Global, book: &mut Book<Atomic>) -> Result<bool, Broken> {
         match self {
             Call::Take => takes_the_start(book),
             Call::TakeLayer => takes_the_first_layer(book),
@@ -55,27 +55,20 @@ impl Call {
     }
 }
 
-fn takes_the_start<M: Machine>(book: &mut Book<M>) -> Result<bool, Broken> {
+fn takes_the_start(book: &mut Book<Atomic>) -> Result<bool, Broken> {
     let (id, state) = take_next(book)?;
     Ok(id == 0 && state.steps() == 0)
 }
 
-fn takes_the_first_layer<M: Machine>(book: &mut Book<M>) -> Result<bool, Broken> {
+fn takes_the_first_layer(book: &mut Book<Atomic>) -> Result<bool, Broken> {
     let layer = book.take_layer()?;
     Ok(layer.len() == 1 && layer[0].0 == 0 && layer[0].1.steps() == 0)
 }
 
-fn enters_both_steps<M: Machine>(alloc: Global, book: &mut Book<M>) -> Result<bool, Broken> {
-    let start = State::start(alloc, book.machine(), book.program())?;
+fn enters_both_steps(alloc: Global, book: &mut Book<Atomic>) -> Result<bool, Broken> {
+    let start = State::start(alloc, Atomic, book.program())?;
     let told = enter_under(alloc, book, 0, &start, Merge::Exact)?;
     Ok(told.entered == 2 && told.met == 0)
-}
-
-/// What is seen of a book: its totals, and the recorded schedule of each entry, each ended by `u8::MAX`.
-#[derive(PartialEq, Eq, Drop)]
-struct Seen {
-    totals: Totals,
-    ways: Vec<u8>,
 }
 
 fn add_way(ways: &mut Vec<u8>, way: &[u8]) -> Result<(), OutOfMemory> {
@@ -84,27 +77,36 @@ fn add_way(ways: &mut Vec<u8>, way: &[u8]) -> Result<(), OutOfMemory> {
     Ok(())
 }
 
-fn seen_of<M: Machine>(alloc: Global, book: &Book<M>) -> Result<Seen, Broken> {
+/// The recorded schedule of each entry, each ended by `u8::MAX`.
+fn ways_of(alloc: Global, book: &Book<Atomic>) -> Result<Vec<u8>, Broken> {
     let mut ways = Vec::new(alloc);
     for entry in 0..book.len() {
         add_way(&mut ways, way_of(alloc, book, entry)?.as_slice())?;
     }
-    Ok(Seen {
-        totals: book.totals(),
-        ways,
-    })
+    Ok(ways)
+}
+
+/// Whether a book has these totals and these recorded schedules.
+fn is_unchanged(
+    alloc: Global,
+    book: &Book<Atomic>,
+    totals: Totals,
+    ways: &[u8],
+) -> Result<bool, Broken> {
+    Ok(book.totals() == totals && ways_of(alloc, book)?.as_slice() == ways)
 }
 
 /// Makes the call; where memory is refused, looks whether the book is as it was, and makes the call once more.
-fn is_answered_in_the_end<M: Machine>(
+fn is_answered_in_the_end(
     alloc: Global,
-    book: &mut Book<M>,
+    book: &mut Book<Atomic>,
     call: Call,
 ) -> Result<bool, Broken> {
-    let before = seen_of(alloc, book)?;
+    let totals = book.totals();
+    let ways = ways_of(alloc, book)?;
     match call.is_answered(alloc, book) {
         Err(Broken::OutOfMemory) => {
-            let is_unchanged = seen_of(alloc, book)? == before;
+            let is_unchanged = is_unchanged(alloc, book, totals, ways.as_slice())?;
             Ok(is_unchanged && call.is_answered(alloc, book)?)
         }
         answer => answer,
@@ -112,26 +114,29 @@ fn is_answered_in_the_end<M: Machine>(
 }
 
 /// Whether the call is answered as it should be, and the book has these totals then.
-fn is_made<M: Machine>(
+fn is_made(
     alloc: Global,
-    book: &mut Book<M>,
-    (call, totals): (Call, Totals),
+    book: &mut Book<Atomic>,
+    call: Call,
+    totals: Totals,
 ) -> Result<bool, Broken> {
-    if call == Call::Enter {
-        take_next(book)?;
+    if matches!(call, Call::Enter) {
+        take_number(book)?;
     }
     Ok(is_answered_in_the_end(alloc, book, call)? && book.totals() == totals)
+}
+
+fn is_made_on_the_start(alloc: Global, call: Call, totals: Totals) -> Result<bool, Broken> {
+    let mut book = expanded(alloc, Merge::Exact, Merge::Exact, 0)?;
+    is_made(alloc, &mut *book, call, totals)
 }
 
 #[test]
 fn a_refused_call_is_made_again(rt: HostRuntime) -> Result<(), Fail> {
     let alloc = rt.alloc();
-    for case in CALLS {
-        let is_answered = settled(|| {
-            let mut book = expanded(alloc, Atomic, TWO_INSERTS, (Merge::Exact, Merge::Exact), 0)?;
-            is_made(alloc, &mut *book, case)
-        })?;
-        assert!(rt; is_answered, "{case:?}");
+    for (call, totals) in CALLS {
+        let is_answered = settled!(is_made_on_the_start(alloc, call, totals))?;
+        assert!(rt; is_answered, "{call:?}");
     }
     Ok(())
 }

@@ -1,7 +1,7 @@
 //! Replays of schedules.
 
-use crate::fixtures::{Broken, TWO_INSERTS, is_broken, replayed, settled};
-use book::Finding;
+use crate::fixtures::{Broken, TWO_INSERTS, program_of, replayed, settled};
+use book::{Finding, Replay};
 use sched_program::OpId;
 use std::alloc::Global;
 use std::test::Fail;
@@ -35,17 +35,21 @@ pub fn is_order(finding: &Finding, order: &[OpId]) -> bool {
     }
 }
 
-/// Whether a schedule of the two inserts has this linearization, and its state as many steps.
-fn has_order(alloc: Global, schedule: &[u8], order: &[OpId]) -> Result<bool, Broken> {
-    let end = replayed(alloc, Atomic, TWO_INSERTS, schedule)?;
-    Ok(is_order(&end.finding, order) && end.state.steps() == schedule.len() as u64)
+/// Whether a replay of so many steps comes to this.
+fn has_end(replay: &Replay<Atomic>, steps: u64, end: End) -> bool {
+    match end {
+        Ok(order) => is_order(&replay.finding, order) && replay.state.steps() == steps,
+        Err(_) => false,
+    }
 }
 
-/// Whether a schedule comes to this.
+/// Whether a schedule of the two inserts comes to this.
 fn ends(alloc: Global, schedule: &[u8], end: End) -> Result<bool, Broken> {
-    match end {
-        Ok(order) => has_order(alloc, schedule, order),
-        Err(step) => is_broken(has_order(alloc, schedule, &[]), Broken::NotEnabled(step)),
+    let program = program_of(alloc, TWO_INSERTS)?;
+    match replayed(alloc, Atomic, &program, schedule) {
+        Ok(replay) => Ok(has_end(&replay, schedule.len() as u64, end)),
+        Err(Broken::NotEnabled(told)) => Ok(matches!(end, Err(step) if step == told)),
+        Err(broken) => Err(broken),
     }
 }
 
@@ -53,7 +57,7 @@ fn ends(alloc: Global, schedule: &[u8], end: End) -> Result<bool, Broken> {
 fn schedules_are_replayed(rt: HostRuntime) -> Result<(), Fail> {
     let alloc = rt.alloc();
     for (schedule, end) in ENDS {
-        let is_so = settled(|| ends(alloc, schedule, end))?;
+        let is_so = settled!(ends(alloc, schedule, end))?;
         assert!(rt; is_so, "{schedule:?}");
     }
     Ok(())

@@ -1,10 +1,9 @@
 //! The text of a book's file.
 
-use crate::fixtures::{Broken, TWO_INSERTS, expanded, settled};
+use crate::fixtures::{Broken, expanded, settled};
 use book::Merge;
 use std::alloc::Global;
 use std::test::Fail;
-use tree_machine::Atomic;
 
 const TEXT: &str =
     "treesched book 1 entries 5\n- - -\n0 0 0.0\n0 1 1.0\n1 1 0.0,1.0\n2 0 1.0,0.0\n";
@@ -23,7 +22,7 @@ fn is_text(
     entries: usize,
     text: Option<&str>,
 ) -> Result<bool, Broken> {
-    let book = expanded(alloc, Atomic, TWO_INSERTS, (merge, merge), entries)?;
+    let book = expanded(alloc, merge, merge, entries)?;
     match (book.to_text(alloc)?, text) {
         (Some(bytes), Some(text)) => Ok(bytes.as_slice() == text.as_bytes()),
         (None, None) => Ok(true),
@@ -35,7 +34,7 @@ fn is_text(
 fn closed_books_are_written(rt: HostRuntime) -> Result<(), Fail> {
     let alloc = rt.alloc();
     for (merge, entries, text) in BOOKS.as_slice() {
-        let is_so = settled(|| is_text(alloc, *merge, *entries, *text))?;
+        let is_so = settled!(is_text(alloc, *merge, *entries, *text))?;
         assert!(rt; is_so, "{merge:?}, {entries}");
     }
     Ok(())
