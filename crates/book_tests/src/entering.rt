@@ -28,17 +28,30 @@ fn refuses(
     Ok(is_broken(answer, fault)? && book.totals() == before)
 }
 
-/// Enters the steps of the start, and then the same ones under the same number.
-fn enters_once(alloc: Global, book: &mut Book<Atomic>) -> Result<bool, Broken> {
-    let (id, state) = take_next(book)?;
-    let first = enter_under(alloc, book, id, &state, Merge::Exact)?;
-    let is_again = refuses(alloc, book, id, &state, Broken::NotTaken)?;
+/// Enters the steps of a state, and then the same ones under the same number.
+fn enters_once(
+    alloc: Global,
+    book: &mut Book<Atomic>,
+    id: usize,
+    state: &State<Atomic>,
+) -> Result<bool, Broken>
+    requires fits { Fits atomic_rules book.old.program state.now }
+    requires room { state.now.steps + 1 < 2 ^ 64 }
+{
+    let first = enter_under(alloc, book, id, state, Merge::Exact)?;
+    let is_again = refuses(alloc, book, id, state, Broken::NotTaken)?;
     Ok(first.entered == 2 && first.met == 0 && is_again)
+}
+
+/// Takes the start, and enters its steps once.
+fn enters_the_start_once(alloc: Global, book: &mut Book<Atomic>) -> Result<bool, Broken> {
+    let (id, state) = take_next(book)?;
+    enters_once(alloc, book, id, &state)
 }
 
 fn is_entered_once(alloc: Global) -> Result<bool, Broken> {
     let mut book = expanded(alloc, Merge::Exact, Merge::Exact, 0)?;
-    enters_once(alloc, &mut *book)
+    enters_the_start_once(alloc, &mut *book)
 }
 
 #[test]

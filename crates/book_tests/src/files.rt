@@ -4,10 +4,11 @@ use crate::fixtures::{Broken, TWO_INSERTS, program_of, settled};
 use crate::straying::Straying;
 use book::{CheckFault, check_book};
 use natmit::NatMit;
+use sched_program::Program;
 use std::alloc::Global;
 use std::process::Abort;
 use std::test::Fail;
-use tree_machine::{Atomic, Machine};
+use tree_machine::Atomic;
 
 /// A text, and how many entries it has if it passes, or what it is refused for.
 type Case = (&'static str, Result<usize, CheckFault>);
@@ -194,31 +195,58 @@ static ASTRAY: [Case; 1] = [(
     Err(CheckFault::Fault(4)),
 )];
 
-/// Whether the check of a text for a program answers so.
-pub fn is_answer<M: Machine>(
+/// A machine with the program of which files are judged.
+#[derive(Clone, Copy)]
+pub enum Subject {
+    /// The two inserts.
+    Inserts,
+    /// One insert on a tree.
+    Tree,
+    /// The two inserts on a machine that goes astray.
+    Straying,
+}
+
+impl Subject {
+    fn program(self) -> &'static str {
+        match self {
+            Subject::Inserts | Subject::Straying => TWO_INSERTS,
+            Subject::Tree => ONE_INSERT,
+        }
+    }
+
+    /// What the check of a text for the program answers.
+    fn check(self, alloc: Global, program: &Program, text: &[u8]) -> Result<usize, CheckFault> {
+        match self {
+            Subject::Inserts => check_book(alloc, Atomic, program, text),
+            Subject::Tree => check_book(alloc, NatMit { tag: true }, program, text),
+            Subject::Straying => check_book(alloc, Straying, program, text),
+        }
+    }
+}
+
+/// Whether the check of a text answers so.
+pub fn is_answer(
     alloc: Global,
-    machine: M,
-    program: &str,
+    subject: Subject,
     text: &str,
     answer: Result<usize, CheckFault>,
 ) -> Result<bool, Broken> {
-    let program = program_of(alloc, program)?;
-    match check_book(alloc, machine, &program, text.as_bytes()) {
+    let program = program_of(alloc, subject.program())?;
+    match subject.check(alloc, &program, text.as_bytes()) {
         Err(CheckFault::OutOfMemory) => Err(Broken::OutOfMemory),
         told => Ok(told == answer),
     }
 }
 
 /// Fails unless each text is judged as it should be.
-fn judges_all<M: Machine>(
+fn judges_all(
     rt: &(impl AllocGlobal + Abort),
-    machine: M,
-    program: &str,
+    subject: Subject,
     cases: &[Case],
 ) -> Result<(), Fail> {
     let alloc = rt.alloc();
     for (text, answer) in cases {
-        let is_so = settled!(is_answer(alloc, machine, program, text, *answer))?;
+        let is_so = settled!(is_answer(alloc, subject, text, *answer))?;
         assert!(rt; is_so, "{text}");
     }
     Ok(())
@@ -226,27 +254,27 @@ fn judges_all<M: Machine>(
 
 #[test]
 fn files_pass(rt: HostRuntime) -> Result<(), Fail> {
-    judges_all(&rt, Atomic, TWO_INSERTS, PASSING.as_slice())
+    judges_all(&rt, Subject::Inserts, PASSING.as_slice())
 }
 
 #[test]
 fn the_first_that_is_amiss_is_told(rt: HostRuntime) -> Result<(), Fail> {
-    judges_all(&rt, Atomic, TWO_INSERTS, AMISS.as_slice())
+    judges_all(&rt, Subject::Inserts, AMISS.as_slice())
 }
 
 #[test]
 fn the_first_misformed_line_is_told(rt: HostRuntime) -> Result<(), Fail> {
-    judges_all(&rt, Atomic, TWO_INSERTS, MISFORMED.as_slice())
+    judges_all(&rt, Subject::Inserts, MISFORMED.as_slice())
 }
 
 #[test]
 fn files_of_a_tree_are_judged(rt: HostRuntime) -> Result<(), Fail> {
-    judges_all(&rt, NatMit { tag: true }, ONE_INSERT, OF_A_TREE.as_slice())
+    judges_all(&rt, Subject::Tree, OF_A_TREE.as_slice())
 }
 
 #[test]
 fn a_state_astray_is_told(rt: HostRuntime) -> Result<(), Fail> {
-    judges_all(&rt, Straying, TWO_INSERTS, ASTRAY.as_slice())
+    judges_all(&rt, Subject::Straying, ASTRAY.as_slice())
 }
 
 /// Each fault with its text.

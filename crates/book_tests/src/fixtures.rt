@@ -92,6 +92,12 @@ pub fn program_of(alloc: Global, text: &str) -> Result<Program, Broken> {
     }
 }
 
+pub fn boxed<T: Drop>(alloc: Global, value: T) -> Result<Box<T>, OutOfMemory>
+    ensures { IfOk result (λ boxed. boxed.value ≡ value) }
+{
+    Ok(Box::new(alloc, value)?)
+}
+
 /// The book of the program of a text with the start alone.
 pub fn open<M: Machine>(
     alloc: Global,
@@ -104,10 +110,7 @@ pub fn open<M: Machine>(
 {
     let program = program_of(alloc, text)?;
     let book = Book::open(alloc, machine, program, limit, merge)?;
-    match Box::new(alloc, book) {
-        Ok(book) => Ok(book),
-        Err(_) => Err(Broken::OutOfMemory),
-    }
+    Ok(boxed(alloc, book)?)
 }
 
 /// Takes the next entry.
@@ -247,8 +250,5 @@ pub fn replayed<M: Machine>(
     ensures finding { IfOk result (λ end. IsFindingOf (M.rules machine) program.now end.value.state end.value.finding) }
 {
     let end = replay(alloc, machine, program, schedule)?;
-    match Box::new(alloc, end) {
-        Ok(end) => Ok(end),
-        Err(_) => Err(Broken::OutOfMemory),
-    }
+    Ok(boxed(alloc, end)?)
 }

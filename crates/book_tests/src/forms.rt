@@ -1,12 +1,11 @@
 //! Texts that are book files, and others.
 
-use crate::files::is_answer;
-use crate::fixtures::{Broken, TWO_INSERTS, settled};
+use crate::files::{Subject, is_answer};
+use crate::fixtures::{Broken, settled};
 use book::CheckFault;
 use std::alloc::Global;
 use std::process::Abort;
 use std::test::Fail;
-use tree_machine::Atomic;
 
 /// Lines that an entry may have; here the parent is none.
 static FORMED: [&str; 6] = [
@@ -57,7 +56,7 @@ static MISFORMED: [&str; 32] = [
 /// Whether a file of two entries, the second of which has this line, is refused for this.
 fn is_refused(alloc: Global, line: &str, fault: CheckFault) -> Result<bool, Broken> {
     let text = format!(in alloc; "treesched book 1 entries 2\n- - -\n{line}\n")?;
-    is_answer(alloc, Atomic, TWO_INSERTS, text.as_str(), Err(fault))
+    is_answer(alloc, Subject::Inserts, text.as_str(), Err(fault))
 }
 
 /// Fails unless a file with each of these lines is refused for this.

@@ -18,6 +18,7 @@ fn enter_found(
     id: usize,
     program: &Program,
     end: &Replay<Atomic>,
+    stock: &mut Stock<Atomic>,
 ) -> Result<Entered, Broken>
     requires fits { Fits atomic_rules program.now end.now.state }
     requires finding { IsFindingOf atomic_rules program.now end.now.state end.now.finding }
@@ -25,25 +26,37 @@ fn enter_found(
     if end.state.steps() > 100 {
         return Err(Broken::NoEntry);
     }
-    let mut stock = Stock::new(alloc);
+    let (state, finding) = (&end.state, &end.finding);
     let expansion = Expansion::of_found(
         alloc,
         Atomic,
         program,
-        &end.state,
-        &end.finding,
+        state,
+        finding,
         Merge::Exact,
-        &mut stock,
+        stock,
     )?;
     Ok(book.enter(id, expansion)?)
+}
+
+/// Enters the steps of the state after a schedule.
+fn enter_after(
+    alloc: Global,
+    book: &mut Book<Atomic>,
+    id: usize,
+    program: &Program,
+    schedule: &[u8],
+) -> Result<Entered, Broken> {
+    let end = replayed(alloc, Atomic, program, schedule)?;
+    let mut stock = Stock::new(alloc);
+    enter_found(alloc, book, id, program, &end, &mut stock)
 }
 
 /// Takes the next entry, which is the state after this schedule, and enters its steps.
 fn enter_lent(alloc: Global, book: &mut Book<Atomic>, schedule: &[u8]) -> Result<Entered, Broken> {
     let id = take_number(book)?;
     let program = book.program().copy(alloc)?;
-    let end = replayed(alloc, Atomic, &program, schedule)?;
-    enter_found(alloc, book, id, &program, &end)
+    enter_after(alloc, book, id, &program, schedule)
 }
 
 /// The entries whose steps are entered, each by its schedule.

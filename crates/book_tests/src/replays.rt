@@ -43,10 +43,15 @@ fn has_end(replay: &Replay<Atomic>, steps: u64, end: End) -> bool {
     }
 }
 
-/// Whether a schedule of the two inserts comes to this.
-fn ends(alloc: Global, schedule: &[u8], end: End) -> Result<bool, Broken> {
+/// What a schedule of the two inserts leads to.
+fn end_of(alloc: Global, schedule: &[u8]) -> Result<Box<Replay<Atomic>>, Broken> {
     let program = program_of(alloc, TWO_INSERTS)?;
-    match replayed(alloc, Atomic, &program, schedule) {
+    replayed(alloc, Atomic, &program, schedule)
+}
+
+/// Whether a schedule comes to this.
+fn ends(alloc: Global, schedule: &[u8], end: End) -> Result<bool, Broken> {
+    match end_of(alloc, schedule) {
         Ok(replay) => Ok(has_end(&replay, schedule.len() as u64, end)),
         Err(Broken::NotEnabled(told)) => Ok(matches!(end, Err(step) if step == told)),
         Err(broken) => Err(broken),

@@ -1,9 +1,10 @@
 //! The text of a book's file.
 
 use crate::fixtures::{Broken, expanded, settled};
-use book::Merge;
+use book::{Book, Merge};
 use std::alloc::Global;
 use std::test::Fail;
+use tree_machine::Atomic;
 
 const TEXT: &str =
     "treesched book 1 entries 5\n- - -\n0 0 0.0\n0 1 1.0\n1 1 0.0,1.0\n2 0 1.0,0.0\n";
@@ -16,25 +17,31 @@ static BOOKS: [(Merge, usize, Option<&str>); 3] = [
 ];
 
 /// Whether the text of a book is this.
-fn is_text(
+fn is_text(alloc: Global, book: &Book<Atomic>, text: Option<&str>) -> Result<bool, Broken> {
+    match book.to_text(alloc)? {
+        Some(bytes) => match text {
+            Some(text) => Ok(bytes.as_slice() == text.as_bytes()),
+            None => Ok(false),
+        },
+        None => Ok(text.is_none()),
+    }
+}
+
+fn is_text_of(
     alloc: Global,
     merge: Merge,
     entries: usize,
     text: Option<&str>,
 ) -> Result<bool, Broken> {
     let book = expanded(alloc, merge, merge, entries)?;
-    match (book.to_text(alloc)?, text) {
-        (Some(bytes), Some(text)) => Ok(bytes.as_slice() == text.as_bytes()),
-        (None, None) => Ok(true),
-        _ => Ok(false),
-    }
+    is_text(alloc, &book, text)
 }
 
 #[test]
 fn closed_books_are_written(rt: HostRuntime) -> Result<(), Fail> {
     let alloc = rt.alloc();
     for (merge, entries, text) in BOOKS.as_slice() {
-        let is_so = settled!(is_text(alloc, *merge, *entries, *text))?;
+        let is_so = settled!(is_text_of(alloc, *merge, *entries, *text))?;
         assert!(rt; is_so, "{merge:?}, {entries}");
     }
     Ok(())

@@ -4,11 +4,11 @@ ghost use Rattle.ellen.specs.EllenRules.{ellen_rules};
 ghost use Rattle.tree_machine.specs.Step.{Fits};
 
 use crate::fixtures::{
-    Broken, TWO_FINDS, expand_next, is_way, open, program_of, replayed, settled, take_next,
+    Broken, TWO_FINDS, boxed, expand_next, is_way, open, program_of, replayed, settled, take_next,
 };
-use book::{Book, Entered, Expansion, Leftovers, Merge, Totals};
+use book::{Book, Entered, Expansion, Leftovers, Merge, Replay, Totals};
 use ellen::Ellen;
-use sched_program::Program;
+use sched_program::{OutOfMemory, Program};
 use std::alloc::Global;
 use std::test::Fail;
 use tree_machine::State;
@@ -32,11 +32,16 @@ fn expanded(alloc: Global, merge: Merge, entries: usize) -> Result<Box<Book<Elle
     Ok(book)
 }
 
-/// Whether two schedules of the two finds lead to one state.
-fn meet(alloc: Global, first: &[u8], second: &[u8]) -> Result<bool, Broken> {
+/// What a schedule of the two finds leads to.
+fn end_of(alloc: Global, schedule: &[u8]) -> Result<Box<Replay<Ellen>>, Broken> {
     let program = program_of(alloc, TWO_FINDS)?;
-    let one = replayed(alloc, WHOLE, &program, first)?;
-    let other = replayed(alloc, WHOLE, &program, second)?;
+    replayed(alloc, WHOLE, &program, schedule)
+}
+
+/// Whether two schedules lead to one state.
+fn meet(alloc: Global, first: &[u8], second: &[u8]) -> Result<bool, Broken> {
+    let one = end_of(alloc, first)?;
+    let other = end_of(alloc, second)?;
     Ok(one.state == other.state)
 }
 
@@ -83,15 +88,12 @@ const THREE_EXPANDED: Totals = Totals {
 };
 
 /// Room for as many known states as four threads' steps lead to.
-fn room_for_four(alloc: Global) -> Result<Box<Leftovers<State<Ellen>>>, Broken> {
-    match Box::new(alloc, Leftovers::with_room(alloc, 4)?) {
-        Ok(leftovers) => Ok(leftovers),
-        Err(_) => Err(Broken::OutOfMemory),
-    }
+fn room_for_four(alloc: Global) -> Result<Box<Leftovers<State<Ellen>>>, OutOfMemory> {
+    boxed(alloc, Leftovers::with_room(alloc, 4)?)
 }
 
 /// Enters the steps of a state of this program under the number of an entry. Known states are left.
-fn enter_leaving(
+fn enter_of(
     alloc: Global,
     book: &mut Book<Ellen>,
     id: usize,
@@ -106,8 +108,22 @@ fn enter_leaving(
     Ok(book.enter_leaving(id, expansion, leftovers)?)
 }
 
-/// Enters the steps of a state of the book's program. Whether they come to these counts, and all states that the book
-/// knew are left.
+/// Enters the steps of a state of the book's program. Known states are left.
+fn enter_leaving(
+    alloc: Global,
+    book: &mut Book<Ellen>,
+    id: usize,
+    state: &State<Ellen>,
+    leftovers: &mut Leftovers<State<Ellen>>,
+) -> Result<Entered, Broken>
+    requires fits { Fits (ellen_rules book.old.machine) book.old.program state.now }
+    requires room { state.now.steps + 1 < 2 ^ 64 }
+{
+    let program = book.program().copy(alloc)?;
+    enter_of(alloc, book, id, &program, state, leftovers)
+}
+
+/// Enters the steps of a state. Whether they come to these counts, and all states that the book knew are left.
 fn leaves_known(
     alloc: Global,
     book: &mut Book<Ellen>,
@@ -118,9 +134,8 @@ fn leaves_known(
     requires fits { Fits (ellen_rules book.old.machine) book.old.program state.now }
     requires room { state.now.steps + 1 < 2 ^ 64 }
 {
-    let program = book.program().copy(alloc)?;
     let mut leftovers = room_for_four(alloc)?;
-    let told = enter_leaving(alloc, book, id, &program, state, &mut *leftovers)?;
+    let told = enter_leaving(alloc, book, id, state, &mut *leftovers)?;
     Ok(told == counts && leftovers.len() == counts.met)
 }
 
