@@ -1,14 +1,13 @@
 //! The calls of the machine `Atomic`.
 
-use crate::broken::{Broken, ensure};
+use crate::broken::{Broken, Case, ensure};
 use sched_program::{Op, OutOfMemory, Sequence, ShortList};
 use std::alloc::Global;
-use std::test::Fail;
 use tree_machine::{Atomic, AtomicForm, AtomicLoc, Machine, Outcome, Thread};
 
 /// An operation, the keys before and after it, and its reply.
 struct Access {
-    name: &'static str,
+    case: Case,
     op: Op,
     before: &'static [u8],
     after: &'static [u8],
@@ -17,42 +16,42 @@ struct Access {
 
 const ACCESSES: &[Access] = &[
     Access {
-        name: "insert of a new key",
+        case: Case::InsertOfANewKey,
         op: Op::Insert(15),
         before: &[10, 20],
         after: &[10, 15, 20],
         reply: true,
     },
     Access {
-        name: "insert of a key that is there",
+        case: Case::InsertOfAKeyThatIsThere,
         op: Op::Insert(20),
         before: &[10, 20],
         after: &[10, 20],
         reply: false,
     },
     Access {
-        name: "delete of a key that is there",
+        case: Case::DeleteOfAKeyThatIsThere,
         op: Op::Delete(10),
         before: &[10, 20],
         after: &[20],
         reply: true,
     },
     Access {
-        name: "delete of no key",
+        case: Case::DeleteOfNoKey,
         op: Op::Delete(15),
         before: &[10, 20],
         after: &[10, 20],
         reply: false,
     },
     Access {
-        name: "find of a key that is there",
+        case: Case::FindOfAKeyThatIsThere,
         op: Op::Find(20),
         before: &[10, 20],
         after: &[10, 20],
         reply: true,
     },
     Access {
-        name: "find of no key",
+        case: Case::FindOfNoKey,
         op: Op::Find(15),
         before: &[10, 20],
         after: &[10, 20],
@@ -82,36 +81,48 @@ fn replies(
 fn is_access(alloc: Global, access: &Access) -> Result<(), Broken> {
     let mut keys = keys_of(alloc, access.before)?;
     let is_reply = replies(alloc, &mut keys, access.op, access.reply)?;
-    ensure(is_reply && keys.as_slice() == access.after, access.name)
+    ensure(is_reply && keys.as_slice() == access.after, access.case)
+}
+
+fn every_access(alloc: Global) -> Result<(), Broken> {
+    for access in ACCESSES {
+        is_access(alloc, access)?;
+    }
+    Ok(())
 }
 
 #[test]
-fn accesses(rt: HostRuntime) -> Result<(), Fail> {
-    for access in ACCESSES {
-        if is_access(rt.alloc(), access).is_err() {
-            is_access(rt.alloc(), access)?;
-        }
+fn accesses(rt: HostRuntime) -> Result<(), Broken> {
+    match every_access(rt.alloc()) {
+        Ok(()) => Ok(()),
+        Err(_) => every_access(rt.alloc()),
     }
-    Ok(())
 }
 
 /// The keys that a program begins with are put in order.
 fn are_built(alloc: Global) -> Result<(), Broken> {
     let keys = Atomic.build(alloc, &[20, 10, 15])?;
-    ensure(keys.as_slice() == [10, 15, 20].as_slice(), "keys in order")
+    ensure(
+        keys.as_slice() == [10, 15, 20].as_slice(),
+        Case::KeysInOrder,
+    )
 }
 
-/// A copy of keys is equal to what it is of.
+/// A copy of these keys is equal to what it is of.
+fn is_copied(alloc: Global, keys: &Sequence<u8>) -> Result<(), Broken> {
+    let copy = Atomic.copy_mem(alloc, keys)?;
+    ensure(copy.as_slice() == [10, 20].as_slice(), Case::CopyOfKeys)
+}
+
 fn are_copied(alloc: Global) -> Result<(), Broken> {
     let keys = keys_of(alloc, &[10, 20])?;
-    let copy = Atomic.copy_mem(alloc, &keys)?;
-    ensure(copy.as_slice() == [10, 20].as_slice(), "copy of keys")
+    is_copied(alloc, &keys)
 }
 
 /// A copy of a place is equal to what it is of.
 fn is_place_copied(alloc: Global) -> Result<(), Broken> {
     let place = Atomic.copy_loc(alloc, &AtomicLoc::Do)?;
-    ensure(place == AtomicLoc::Do, "copy of a place")
+    ensure(place == AtomicLoc::Do, Case::CopyOfAPlace)
 }
 
 fn built_and_copied(alloc: Global) -> Result<(), Broken> {
@@ -121,34 +132,34 @@ fn built_and_copied(alloc: Global) -> Result<(), Broken> {
 }
 
 #[test]
-fn builds_and_copies(rt: HostRuntime) -> Result<(), Fail> {
-    if built_and_copied(rt.alloc()).is_err() {
-        built_and_copied(rt.alloc())?;
+fn builds_and_copies(rt: HostRuntime) -> Result<(), Broken> {
+    match built_and_copied(rt.alloc()) {
+        Ok(()) => Ok(()),
+        Err(_) => built_and_copied(rt.alloc()),
     }
-    Ok(())
 }
 
 /// Keys and the places that threads hold.
 struct Held {
-    name: &'static str,
+    case: Case,
     keys: &'static [u8],
     places: &'static [Option<AtomicLoc>],
 }
 
 const HELD: &Held = &Held {
-    name: "the same keys and places",
+    case: Case::TheSameKeysAndPlaces,
     keys: &[10, 20],
     places: &[Some(AtomicLoc::Do), None],
 };
 
 const OTHER_KEYS: &Held = &Held {
-    name: "other keys",
+    case: Case::OtherKeys,
     keys: &[10, 21],
     places: &[Some(AtomicLoc::Do), None],
 };
 
 const OTHER_PLACES: &Held = &Held {
-    name: "other places",
+    case: Case::OtherPlaces,
     keys: &[10, 20],
     places: &[None, Some(AtomicLoc::Do)],
 };
@@ -189,7 +200,7 @@ fn form_of(alloc: Global, held: &Held) -> Result<Box<AtomicForm>, OutOfMemory> {
 fn compare_forms(alloc: Global, held: &Held, expected: bool) -> Result<(), Broken> {
     let form = form_of(alloc, held)?;
     let other = form_of(alloc, HELD)?;
-    ensure((*form == *other) == expected, held.name)
+    ensure((*form == *other) == expected, held.case)
 }
 
 fn compared_forms(alloc: Global) -> Result<(), Broken> {
@@ -199,9 +210,9 @@ fn compared_forms(alloc: Global) -> Result<(), Broken> {
 }
 
 #[test]
-fn forms_tell_keys_and_places(rt: HostRuntime) -> Result<(), Fail> {
-    if compared_forms(rt.alloc()).is_err() {
-        compared_forms(rt.alloc())?;
+fn forms_tell_keys_and_places(rt: HostRuntime) -> Result<(), Broken> {
+    match compared_forms(rt.alloc()) {
+        Ok(()) => Ok(()),
+        Err(_) => compared_forms(rt.alloc()),
     }
-    Ok(())
 }

@@ -1,9 +1,8 @@
 //! Lists of bytes, compared and hashed.
 
-use crate::broken::{Broken, ensure};
+use crate::broken::{Broken, Case, ensure};
 use std::alloc::Global;
 use std::hash::{DefaultHasher, Hash, Hasher};
-use std::test::Fail;
 use tree_machine::Bytes;
 
 /// The hash of a list.
@@ -15,7 +14,7 @@ fn hash_of(bytes: &Bytes) -> u64 {
 
 /// Two lists, and whether they are equal.
 struct Pair {
-    name: &'static str,
+    case: Case,
     left: &'static [u8],
     right: &'static [u8],
     are_equal: bool,
@@ -23,31 +22,31 @@ struct Pair {
 
 const PAIRS: &[Pair] = &[
     Pair {
-        name: "nothing twice",
+        case: Case::NothingTwice,
         left: &[],
         right: &[],
         are_equal: true,
     },
     Pair {
-        name: "three bytes twice",
+        case: Case::ThreeBytesTwice,
         left: &[255, 0, 7],
         right: &[255, 0, 7],
         are_equal: true,
     },
     Pair {
-        name: "another byte",
+        case: Case::AnotherByte,
         left: &[255, 0, 7],
         right: &[255, 1, 7],
         are_equal: false,
     },
     Pair {
-        name: "a byte more",
+        case: Case::AByteMore,
         left: &[255, 0],
         right: &[255, 0, 0],
         are_equal: false,
     },
     Pair {
-        name: "nothing and a byte",
+        case: Case::NothingAndAByte,
         left: &[],
         right: &[0],
         are_equal: false,
@@ -67,16 +66,21 @@ fn compare(alloc: Global, pair: &Pair) -> Result<(), Broken> {
     let are_so = (left == right) == pair.are_equal;
     ensure(
         are_so && are_hashed_so && left.as_slice() == pair.left,
-        pair.name,
+        pair.case,
     )
 }
 
-#[test]
-fn equal_lists_alone_are_equal_and_hashed_alike(rt: HostRuntime) -> Result<(), Fail> {
+fn pairs(alloc: Global) -> Result<(), Broken> {
     for pair in PAIRS {
-        if compare(rt.alloc(), pair).is_err() {
-            compare(rt.alloc(), pair)?;
-        }
+        compare(alloc, pair)?;
     }
     Ok(())
+}
+
+#[test]
+fn equal_lists_alone_are_equal_and_hashed_alike(rt: HostRuntime) -> Result<(), Broken> {
+    match pairs(rt.alloc()) {
+        Ok(()) => Ok(()),
+        Err(_) => pairs(rt.alloc()),
+    }
 }

@@ -2,11 +2,10 @@
 ghost use Rattle.std.specs.Prelude.{◌≡◌, ◌<◌, length, IsTrue, IfSome};
 ghost use Rattle.std.specs.List.{All};
 
-use crate::broken::{Broken, ensure};
+use crate::broken::{Broken, Case, ensure};
 use crate::ranges::are_below;
 use sched_program::OutOfMemory;
 use std::alloc::Global;
-use std::test::Fail;
 use tree_machine::{Cell, canon};
 
 /// A cell of one fact: the fact, and the references.
@@ -18,8 +17,11 @@ const RING: &[Row] = &[(7, &[Some(2), None]), (9, &[Some(0)]), (8, &[Some(0)])];
 /// The same ring under other numbers, from cell 1.
 const TURNED: &[Row] = &[(8, &[Some(1)]), (7, &[Some(0), None])];
 
-/// The canonical form of the ring.
-const RING_FORM: &[Row] = &[(7, &[Some(1), None]), (8, &[Some(0)])];
+/// The first cell of the canonical form of the ring.
+const FIRST: &Row = &(7, &[Some(1), None]);
+
+/// The other one.
+const SECOND: &Row = &(8, &[Some(0)]);
 
 /// A ring with another fact.
 const OTHER_FACT: &[Row] = &[(7, &[Some(1), None]), (6, &[Some(0)])];
@@ -65,58 +67,54 @@ fn form_of(alloc: Global, rows: &[Row], root: usize) -> Result<Vec<Cell>, OutOfM
     canon_from(alloc, &cells, root)
 }
 
-/// Whether two cells are equal.
-fn is_equal(cell: &Cell, other: &Cell) -> bool {
-    cell.facts == other.facts && cell.refs == other.refs
+/// Whether a cell is that of a row.
+fn is_cell(cell: &Cell, (fact, refs): &Row) -> bool {
+    cell.facts.as_slice() == [*fact].as_slice() && cell.refs.as_slice() == *refs
 }
 
-/// Whether two lists of two cells are equal.
-fn are_equal(cells: &[Cell], others: &[Cell]) -> bool {
-    match (cells, others) {
-        ([first, second], [other, last]) => is_equal(first, other) && is_equal(second, last),
+/// Whether these are two cells, and the canonical form of the ring.
+fn is_ring(cells: &[Cell]) -> bool {
+    match cells {
+        [first, second] => is_cell(first, FIRST) && is_cell(second, SECOND),
         _ => false,
     }
 }
 
-/// The cells of these rows have the form of the ring.
-fn is_ring(alloc: Global, name: &'static str, rows: &[Row], root: usize) -> Result<(), Broken> {
+/// The form of the cells of these rows is that of the ring, or another one of two cells, as is expected.
+fn has_form(
+    alloc: Global,
+    case: Case,
+    rows: &[Row],
+    root: usize,
+    expected: bool,
+) -> Result<(), Broken> {
     let form = form_of(alloc, rows, root)?;
-    let expected = cells_of(alloc, RING_FORM)?;
-    ensure(are_equal(&form, &expected), name)
-}
-
-/// The ring and the cells of these rows have forms of two cells, and not the same.
-fn is_told_apart(alloc: Global, name: &'static str, rows: &[Row]) -> Result<(), Broken> {
-    let ring = form_of(alloc, RING, 0)?;
-    let other = form_of(alloc, rows, 0)?;
-    ensure(
-        ring.len() == 2 && other.len() == 2 && !are_equal(&ring, &other),
-        name,
-    )
+    ensure(form.len() == 2 && is_ring(&form) == expected, case)
 }
 
 fn rings(alloc: Global) -> Result<(), Broken> {
-    is_ring(alloc, "the ring", RING, 0)?;
-    is_ring(alloc, "the ring under other numbers", TURNED, 1)
+    has_form(alloc, Case::TheRing, RING, 0, true)?;
+    has_form(alloc, Case::TheRingUnderOtherNumbers, TURNED, 1, true)
 }
 
 #[test]
-fn a_ring_under_other_numbers_is_equal(rt: HostRuntime) -> Result<(), Fail> {
-    if rings(rt.alloc()).is_err() {
-        rings(rt.alloc())?;
+fn a_ring_under_other_numbers_is_equal(rt: HostRuntime) -> Result<(), Broken> {
+    match rings(rt.alloc()) {
+        Ok(()) => Ok(()),
+        Err(_) => rings(rt.alloc()),
     }
-    Ok(())
 }
 
 fn others(alloc: Global) -> Result<(), Broken> {
-    is_told_apart(alloc, "another fact", OTHER_FACT)?;
-    is_told_apart(alloc, "none on one side", NONE_ON_ONE_SIDE)
+    has_form(alloc, Case::TheRing, RING, 0, true)?;
+    has_form(alloc, Case::AnotherFact, OTHER_FACT, 0, false)?;
+    has_form(alloc, Case::NoneOnOneSide, NONE_ON_ONE_SIDE, 0, false)
 }
 
 #[test]
-fn other_facts_and_other_references_differ(rt: HostRuntime) -> Result<(), Fail> {
-    if others(rt.alloc()).is_err() {
-        others(rt.alloc())?;
+fn other_facts_and_other_references_differ(rt: HostRuntime) -> Result<(), Broken> {
+    match others(rt.alloc()) {
+        Ok(()) => Ok(()),
+        Err(_) => others(rt.alloc()),
     }
-    Ok(())
 }

@@ -19,4 +19,6 @@ pub mod ranges;
 #[cfg(test)]
 mod rings;
 #[cfg(test)]
+mod seen;
+#[cfg(test)]
 mod states;

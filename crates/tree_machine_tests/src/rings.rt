@@ -1,24 +1,23 @@
 //! Forms of a few nodes and records.
 
-use crate::broken::{Broken, ensure};
+use crate::broken::{Broken, Case, ensure};
 use crate::parts::{Tables, Written, bytes_of, row_of};
 use sched_program::OutOfMemory;
 use std::alloc::Global;
-use std::test::Fail;
 use tree_machine::Bytes;
 
 /// A root of this fact above a ring of a node and a record, which a thread holds. The record of the ring names this
 /// record, and the thread this node.
 #[derive(Clone, Copy)]
 struct Ring {
-    name: &'static str,
+    case: Case,
     fact: &'static [u64],
     named_record: &'static [Option<usize>],
     named_node: &'static [Option<usize>],
 }
 
 const RING: &Ring = &Ring {
-    name: "the ring",
+    case: Case::TheRing,
     fact: &[511],
     named_record: &[None],
     named_node: &[Some(1)],
@@ -102,107 +101,115 @@ const WHOLE: [u8; 31] = [
 /// All of the ring is written as it is here.
 fn is_ring_whole(alloc: Global) -> Result<(), Broken> {
     let whole = ring_of(alloc, RING, Written::Whole)?;
-    ensure(whole.as_slice() == WHOLE.as_slice(), RING.name)
+    ensure(whole.as_slice() == WHOLE.as_slice(), RING.case)
 }
 
 #[test]
-fn all_of_the_parts_is_written_by_number(rt: HostRuntime) -> Result<(), Fail> {
-    if is_ring_whole(rt.alloc()).is_err() {
-        is_ring_whole(rt.alloc())?;
+fn all_of_the_parts_is_written_by_number(rt: HostRuntime) -> Result<(), Broken> {
+    match is_ring_whole(rt.alloc()) {
+        Ok(()) => Ok(()),
+        Err(_) => is_ring_whole(rt.alloc()),
     }
-    Ok(())
 }
 
-/// The ring has the form that is written here, whatever its numbers are.
+/// The form of a ring is `FORM`, or another one, as is expected.
+fn has_form(alloc: Global, ring: &Ring, expected: bool) -> Result<(), Broken> {
+    let form = ring_of(alloc, ring, Written::Form)?;
+    let is_form = form.as_slice() == FORM.as_slice();
+    ensure(form.as_slice().len() > 0 && is_form == expected, ring.case)
+}
+
+/// The ring has the same form where its numbers are others.
+fn turned_has_form(alloc: Global) -> Result<(), Broken> {
+    let form = turned_ring(alloc)?;
+    ensure(form.as_slice() == FORM.as_slice(), Case::TheRingTurned)
+}
+
 fn is_ring_one(alloc: Global) -> Result<(), Broken> {
-    let here = ring_of(alloc, RING, Written::Form)?;
-    let there = turned_ring(alloc)?;
-    ensure(
-        here.as_slice() == FORM.as_slice() && here == there,
-        RING.name,
-    )
+    has_form(alloc, RING, true)?;
+    turned_has_form(alloc)
 }
 
 #[test]
-fn names_up_to_numbers_are_equal(rt: HostRuntime) -> Result<(), Fail> {
-    if is_ring_one(rt.alloc()).is_err() {
-        is_ring_one(rt.alloc())?;
+fn names_up_to_numbers_are_equal(rt: HostRuntime) -> Result<(), Broken> {
+    match is_ring_one(rt.alloc()) {
+        Ok(()) => Ok(()),
+        Err(_) => is_ring_one(rt.alloc()),
     }
-    Ok(())
-}
-
-/// The form tells a ring from `RING`.
-fn is_told_apart(alloc: Global, ring: &Ring) -> Result<(), Broken> {
-    let here = ring_of(alloc, RING, Written::Form)?;
-    let there = ring_of(alloc, ring, Written::Form)?;
-    ensure(
-        here.as_slice().len() > 0 && there.as_slice().len() > 0 && here != there,
-        ring.name,
-    )
 }
 
 /// Facts in one byte and in two.
-const OTHER_FACTS: &[(&str, &[u64])] = &[
-    ("fact 0", &[0]),
-    ("fact 1", &[1]),
-    ("fact 255", &[255]),
-    ("fact 256", &[256]),
-    ("fact 510", &[510]),
-    ("fact 512", &[512]),
+const OTHER_FACTS: &[(Case, &[u64])] = &[
+    (Case::Fact0, &[0]),
+    (Case::Fact1, &[1]),
+    (Case::Fact255, &[255]),
+    (Case::Fact256, &[256]),
+    (Case::Fact510, &[510]),
+    (Case::Fact512, &[512]),
 ];
 
 /// The form tells a ring of this fact from `RING`.
-fn is_fact_told(alloc: Global, name: &'static str, fact: &'static [u64]) -> Result<(), Broken> {
-    is_told_apart(
-        alloc,
-        &Ring {
-            name,
-            fact,
-            named_record: &[None],
-            named_node: &[Some(1)],
-        },
-    )
+fn is_fact_told(alloc: Global, case: Case, fact: &'static [u64]) -> Result<(), Broken> {
+    let ring = Ring {
+        case,
+        fact,
+        named_record: &[None],
+        named_node: &[Some(1)],
+    };
+    has_form(alloc, &ring, false)
+}
+
+fn other_facts(alloc: Global) -> Result<(), Broken> {
+    has_form(alloc, RING, true)?;
+    for (case, fact) in OTHER_FACTS {
+        is_fact_told(alloc, *case, fact)?;
+    }
+    Ok(())
 }
 
 #[test]
-fn a_fact_above_a_byte_tells_apart(rt: HostRuntime) -> Result<(), Fail> {
-    for (name, fact) in OTHER_FACTS {
-        if is_fact_told(rt.alloc(), name, fact).is_err() {
-            is_fact_told(rt.alloc(), name, fact)?;
-        }
+fn a_fact_above_a_byte_tells_apart(rt: HostRuntime) -> Result<(), Broken> {
+    match other_facts(rt.alloc()) {
+        Ok(()) => Ok(()),
+        Err(_) => other_facts(rt.alloc()),
     }
-    Ok(())
 }
 
 /// One side has a reference, and the other has none.
 const OTHER_REFERENCES: &[Ring] = &[
     Ring {
-        name: "a record named by the record",
+        case: Case::ARecordNamedByTheRecord,
         fact: &[511],
         named_record: &[Some(0)],
         named_node: &[Some(1)],
     },
     Ring {
-        name: "no node named by the thread",
+        case: Case::NoNodeNamedByTheThread,
         fact: &[511],
         named_record: &[None],
         named_node: &[None],
     },
 ];
 
-#[test]
-fn a_reference_that_one_side_has_tells_apart(rt: HostRuntime) -> Result<(), Fail> {
+fn other_references(alloc: Global) -> Result<(), Broken> {
+    has_form(alloc, RING, true)?;
     for ring in OTHER_REFERENCES {
-        if is_told_apart(rt.alloc(), ring).is_err() {
-            is_told_apart(rt.alloc(), ring)?;
-        }
+        has_form(alloc, ring, false)?;
     }
     Ok(())
 }
 
+#[test]
+fn a_reference_that_one_side_has_tells_apart(rt: HostRuntime) -> Result<(), Broken> {
+    match other_references(rt.alloc()) {
+        Ok(()) => Ok(()),
+        Err(_) => other_references(rt.alloc()),
+    }
+}
+
 /// A root that names nodes and records, none of which is there, and its bytes.
 struct Root {
-    name: &'static str,
+    case: Case,
     facts: &'static [u64],
     nodes: &'static [Option<usize>],
     records: &'static [Option<usize>],
@@ -213,42 +220,42 @@ struct Root {
 /// of which is how many nodes it names, and how many nodes and records.
 const ROOTS: &[Root] = &[
     Root {
-        name: "four facts",
+        case: Case::FourFacts,
         facts: &[1, 2, 3, 4],
         nodes: &[None],
         records: &[],
         bytes: &[39, 1, 2, 3, 4, 0],
     },
     Root {
-        name: "five facts",
+        case: Case::FiveFacts,
         facts: &[1, 2, 3, 4, 5],
         nodes: &[None],
         records: &[],
         bytes: &[255, 6, 1, 1, 1, 2, 3, 4, 5, 0],
     },
     Root {
-        name: "five nodes",
+        case: Case::FiveNodes,
         facts: &[9],
         nodes: &[None, None, None, None, None],
         records: &[],
         bytes: &[176, 9, 0, 0, 0, 0, 0],
     },
     Root {
-        name: "six nodes",
+        case: Case::SixNodes,
         facts: &[9],
         nodes: &[None, None, None, None, None, None],
         records: &[],
         bytes: &[255, 2, 6, 6, 9, 0, 0, 0, 0, 0, 0],
     },
     Root {
-        name: "three nodes and four records",
+        case: Case::ThreeNodesAndFourRecords,
         facts: &[],
         nodes: &[None, None, None],
         records: &[None, None, None, None],
         bytes: &[225, 0, 0, 0, 0, 0, 0, 0],
     },
     Root {
-        name: "three nodes and five records",
+        case: Case::ThreeNodesAndFiveRecords,
         facts: &[],
         nodes: &[None, None, None],
         records: &[None, None, None, None, None],
@@ -267,15 +274,20 @@ fn has_bytes(alloc: Global, root: &Root) -> Result<(), Broken> {
         },
         Written::Form,
     )?;
-    ensure(form.as_slice() == root.bytes, root.name)
+    ensure(form.as_slice() == root.bytes, root.case)
+}
+
+fn roots(alloc: Global) -> Result<(), Broken> {
+    for root in ROOTS {
+        has_bytes(alloc, root)?;
+    }
+    Ok(())
 }
 
 #[test]
-fn one_byte_tells_what_is_few(rt: HostRuntime) -> Result<(), Fail> {
-    for root in ROOTS {
-        if has_bytes(rt.alloc(), root).is_err() {
-            has_bytes(rt.alloc(), root)?;
-        }
+fn one_byte_tells_what_is_few(rt: HostRuntime) -> Result<(), Broken> {
+    match roots(rt.alloc()) {
+        Ok(()) => Ok(()),
+        Err(_) => roots(rt.alloc()),
     }
-    Ok(())
 }
