@@ -1,12 +1,11 @@
 //! The judge beside the two plainer searchers, on the histories of many interleavings.
 
-use crate::broken::{Broken, ensure};
+use crate::broken::{Broken, Case, ensure};
 use crate::fixtures::{history_of, is_order, note, program_of};
 use crate::searchers::agree;
 use lin::{Order, check_order, judge_order, order_with_reply};
 use sched_program::{History, Note, OpId, OutOfMemory, Program};
 use std::alloc::Global;
-use std::test::Fail;
 
 const PROGRAM: &str = r#"{"version":1,"tree":"atomic","initial":[],"threads":[
 [{"op":"insert","key":1},{"op":"delete","key":1}],
@@ -180,12 +179,12 @@ fn gives_reply(
     if check_order(program, after, longer.as_slice()) {
         ensure(
             is_order(&told, Some(longer.as_slice())),
-            Broken::Wrong("reply that the order gives"),
+            Broken::Wrong(Case::ReplyThatTheOrderGives),
         )
     } else {
         ensure(
             told.is_none(),
-            Broken::Wrong("reply that the order does not give"),
+            Broken::Wrong(Case::ReplyThatTheOrderDoesNotGive),
         )
     }
 }
@@ -246,9 +245,9 @@ fn interleavings(alloc: Global) -> Result<(), Broken> {
 
 /// Runs once more where an allocation was refused: that happens once at most.
 #[test]
-fn searchers_agree(rt: HostRuntime) -> Result<(), Fail> {
-    if interleavings(rt.alloc()).is_err() {
-        interleavings(rt.alloc())?;
+fn searchers_agree(rt: HostRuntime) -> Result<(), Broken> {
+    match interleavings(rt.alloc()) {
+        Ok(()) => Ok(()),
+        Err(_) => interleavings(rt.alloc()),
     }
-    Ok(())
 }

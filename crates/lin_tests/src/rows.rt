@@ -1,11 +1,10 @@
 //! Worked histories.
 
-use crate::broken::{Broken, ensure};
+use crate::broken::{Broken, Case, ensure};
 use crate::fixtures::{history_of, is_answer, note, program_of};
 use lin::{check_order, judge};
 use sched_program::{History, Note, OpId, OutOfMemory, Program};
 use std::alloc::Global;
-use std::test::Fail;
 
 /// One thread inserts 1 and deletes it, the other looks for it twice.
 pub const SMALL: &str = r#"{"version":1,"tree":"atomic","initial":[],"threads":[
@@ -33,7 +32,7 @@ pub const D: OpId = OpId {
 
 /// The operations that begin, each with its note, those that finish, each with its reply, and the answer.
 pub struct Row {
-    pub name: &'static str,
+    pub case: Case,
     pub begun: &'static [(OpId, [u8; 2])],
     pub finished: &'static [(OpId, bool)],
     pub order: Option<&'static [OpId]>,
@@ -41,7 +40,7 @@ pub struct Row {
 
 /// A find that is finished saw a key whose insert is pending.
 pub const SEEN_PENDING: &Row = &Row {
-    name: "a find that saw the key of a pending insert",
+    case: Case::AFindThatSawTheKeyOfAPendingInsert,
     begun: &[(A, [0, 0]), (C, [0, 0])],
     finished: &[(C, true)],
     order: Some(&[A, C]),
@@ -49,32 +48,32 @@ pub const SEEN_PENDING: &Row = &Row {
 
 const ROWS: &[&Row] = &[
     &Row {
-        name: "nothing began",
+        case: Case::NothingBegan,
         begun: &[],
         finished: &[],
         order: Some(&[]),
     },
     &Row {
-        name: "an insert is pending",
+        case: Case::AnInsertIsPending,
         begun: &[(A, [0, 0])],
         finished: &[],
         order: Some(&[]),
     },
     SEEN_PENDING,
     &Row {
-        name: "a find after the insert saw no key",
+        case: Case::AFindAfterTheInsertSawNoKey,
         begun: &[(A, [0, 0]), (C, [1, 0])],
         finished: &[(A, true), (C, false)],
         order: None,
     },
     &Row {
-        name: "a find before the delete",
+        case: Case::AFindBeforeTheDelete,
         begun: &[(A, [0, 0]), (B, [1, 0]), (C, [0, 0]), (D, [1, 1])],
         finished: &[(A, true), (C, true), (D, false)],
         order: Some(&[A, C, B, D]),
     },
     &Row {
-        name: "a find beside the delete",
+        case: Case::AFindBesideTheDelete,
         begun: &[(A, [0, 0]), (B, [1, 0]), (C, [0, 0]), (D, [1, 1])],
         finished: &[(A, true), (C, true), (D, true)],
         order: Some(&[A, C, D]),
@@ -100,7 +99,7 @@ pub fn history_of_row(alloc: Global, program: &Program, row: &Row) -> Result<Box
 fn judges(alloc: Global, program: &Program, row: &Row) -> Result<(), Broken> {
     let history = history_of_row(alloc, program, row)?;
     let answer = judge(alloc, program, &history)?;
-    ensure(is_answer(&answer, row.order), Broken::Wrong(row.name))
+    ensure(is_answer(&answer, row.order), Broken::Wrong(row.case))
 }
 
 fn small_histories(alloc: Global) -> Result<(), Broken> {
@@ -113,24 +112,24 @@ fn small_histories(alloc: Global) -> Result<(), Broken> {
 
 /// A list of operations, and whether it is a linearization of `SEEN_PENDING`.
 struct List {
-    name: &'static str,
+    case: Case,
     order: &'static [OpId],
     is_one: bool,
 }
 
 const LISTS: &[List] = &[
     List {
-        name: "the find alone",
+        case: Case::TheFindAlone,
         order: &[C],
         is_one: false,
     },
     List {
-        name: "the insert and the find",
+        case: Case::TheInsertAndTheFind,
         order: &[A, C],
         is_one: true,
     },
     List {
-        name: "the insert twice",
+        case: Case::TheInsertTwice,
         order: &[A, A, C],
         is_one: false,
     },
@@ -140,7 +139,7 @@ fn are_checked(program: &Program, history: &History) -> Result<(), Broken> {
     for list in LISTS {
         ensure(
             check_order(program, history, list.order) == list.is_one,
-            Broken::Wrong(list.name),
+            Broken::Wrong(list.case),
         )?;
     }
     Ok(())
@@ -154,17 +153,17 @@ fn orders_of_a_history(alloc: Global) -> Result<(), Broken> {
 
 // Each test runs once more where an allocation was refused: that happens once at most.
 #[test]
-fn histories_of_a_small_program(rt: HostRuntime) -> Result<(), Fail> {
-    if small_histories(rt.alloc()).is_err() {
-        small_histories(rt.alloc())?;
+fn histories_of_a_small_program(rt: HostRuntime) -> Result<(), Broken> {
+    match small_histories(rt.alloc()) {
+        Ok(()) => Ok(()),
+        Err(_) => small_histories(rt.alloc()),
     }
-    Ok(())
 }
 
 #[test]
-fn orders_are_checked(rt: HostRuntime) -> Result<(), Fail> {
-    if orders_of_a_history(rt.alloc()).is_err() {
-        orders_of_a_history(rt.alloc())?;
+fn orders_are_checked(rt: HostRuntime) -> Result<(), Broken> {
+    match orders_of_a_history(rt.alloc()) {
+        Ok(()) => Ok(()),
+        Err(_) => orders_of_a_history(rt.alloc()),
     }
-    Ok(())
 }

@@ -1,6 +1,6 @@
 //! The judge beside the two plainer searchers.
 
-use crate::broken::{Broken, ensure};
+use crate::broken::{Broken, Case, ensure};
 use crate::fixtures::is_order;
 use crate::plain::judge_plain;
 use crate::pruned::judge_pruned;
@@ -17,7 +17,7 @@ fn is_answer_of_pruned(
     let pruned = judge_pruned(alloc, program, history)?;
     ensure(
         pruned == *answer,
-        Broken::Wrong("the searcher that places operations"),
+        Broken::Wrong(Case::TheSearcherThatPlacesOperations),
     )
 }
 
@@ -30,7 +30,7 @@ fn is_answer_of_plain(
     let plain = judge_plain(alloc, program, history)?;
     ensure(
         plain == *answer,
-        Broken::Wrong("the searcher that tries every list"),
+        Broken::Wrong(Case::TheSearcherThatTriesEveryList),
     )
 }
 
@@ -44,12 +44,9 @@ fn is_answer_in_the_value(
     match answer {
         Some(order) => ensure(
             is_order(&short, Some(order)),
-            Broken::Wrong("the judge's order in a value"),
+            Broken::Wrong(Case::TheJudgeOrderInAValue),
         ),
-        None => ensure(
-            short.is_none(),
-            Broken::Wrong("the judge's order in a value"),
-        ),
+        None => ensure(short.is_none(), Broken::Wrong(Case::TheJudgeOrderInAValue)),
     }
 }
 
@@ -62,7 +59,7 @@ fn is_taken(
     match answer {
         Some(order) => ensure(
             check_order(program, history, order),
-            Broken::Wrong("the order that the judge found"),
+            Broken::Wrong(Case::TheOrderThatTheJudgeFound),
         ),
         None => Ok(()),
     }

@@ -1,12 +1,11 @@
 //! Twelve operations of four threads at once.
 
-use crate::broken::{Broken, ensure};
+use crate::broken::{Broken, Case, ensure};
 use crate::fixtures::{history_of, is_answer, note, program_of};
 use crate::searchers::agree;
 use lin::{judge, judge_counted};
 use sched_program::{History, Note, OpId, OutOfMemory, Program};
 use std::alloc::Global;
-use std::test::Fail;
 
 /// Three threads insert, and the last looks for a key that none inserts.
 pub const PROGRAM: &str = r#"{"version":1,"tree":"atomic","initial":[],"threads":[
@@ -109,10 +108,21 @@ fn judges(
     order: Option<&[OpId]>,
 ) -> Result<(), Broken> {
     let answer = judge(alloc, program, history)?;
-    ensure(is_answer(&answer, order), Broken::Wrong("twelve judged"))
+    ensure(is_answer(&answer, order), Broken::Wrong(Case::TwelveJudged))
 }
 
-/// So do its counting twin, and it tells this count.
+/// Whether the judge's counting twin answers this order, or that there is none, and what it counted.
+fn counted(
+    alloc: Global,
+    program: &Program,
+    history: &History,
+    order: Option<&[OpId]>,
+) -> Result<(bool, u64), OutOfMemory> {
+    let (answer, sought) = judge_counted(alloc, program, history)?;
+    Ok((is_answer(&answer, order), sought))
+}
+
+/// The twin answers this order, or that there is none, and tells this count.
 fn counts(
     alloc: Global,
     program: &Program,
@@ -120,8 +130,8 @@ fn counts(
     order: Option<&[OpId]>,
     expected: u64,
 ) -> Result<(), Broken> {
-    let (answer, sought) = judge_counted(alloc, program, history)?;
-    ensure(is_answer(&answer, order), Broken::Wrong("twelve counted"))?;
+    let (is_right, sought) = counted(alloc, program, history, order)?;
+    ensure(is_right, Broken::Wrong(Case::TwelveCounted))?;
     ensure(sought == expected, Broken::Count(sought))
 }
 
@@ -132,13 +142,17 @@ fn none_if_true(alloc: Global, program: &Program) -> Result<(), Broken> {
     counts(alloc, program, &history, None, 192)
 }
 
-/// The first order is found with no way back.
+/// The first order is found with no way back, and the searchers find it too.
+fn is_first_order(alloc: Global, program: &Program, history: &History) -> Result<(), Broken> {
+    judges(alloc, program, history, Some(NAMES))?;
+    counts(alloc, program, history, Some(NAMES), 12)?;
+    agree(alloc, program, history)?;
+    Ok(())
+}
+
 fn order_if_false(alloc: Global, program: &Program) -> Result<(), Broken> {
     let history = history_with(alloc, program, false)?;
-    judges(alloc, program, &history, Some(NAMES))?;
-    counts(alloc, program, &history, Some(NAMES), 12)?;
-    agree(alloc, program, &history)?;
-    Ok(())
+    is_first_order(alloc, program, &history)
 }
 
 fn twelve_operations(alloc: Global) -> Result<(), Broken> {
@@ -149,9 +163,9 @@ fn twelve_operations(alloc: Global) -> Result<(), Broken> {
 
 /// Runs once more where an allocation was refused: that happens once at most.
 #[test]
-fn configurations_that_failed_are_not_tried_again(rt: HostRuntime) -> Result<(), Fail> {
-    if twelve_operations(rt.alloc()).is_err() {
-        twelve_operations(rt.alloc())?;
+fn configurations_that_failed_are_not_tried_again(rt: HostRuntime) -> Result<(), Broken> {
+    match twelve_operations(rt.alloc()) {
+        Ok(()) => Ok(()),
+        Err(_) => twelve_operations(rt.alloc()),
     }
-    Ok(())
 }

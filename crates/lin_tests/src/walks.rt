@@ -9,7 +9,6 @@ use ellen::Ellen;
 use natmit::NatMit;
 use sched_program::{History, OutOfMemory, Program, ShortList, Tree};
 use std::alloc::Global;
-use std::test::Fail;
 use tree_machine::{Bytes, Machine, Room, State, StepFault};
 
 const ELLEN: Ellen = Ellen {
@@ -191,15 +190,23 @@ fn is_known(ends: &[Box<End>], code: &Bytes) -> bool {
     false
 }
 
-fn add(reached: &mut Reached, end: Box<End>) -> Result<(), OutOfMemory> {
-    reached.ends.push(end)?;
-    Ok(())
+/// Puts an end behind those that were reached, if its state is new.
+fn add(reached: &mut Reached, end: Box<End>) -> Result<bool, OutOfMemory> {
+    let is_new = !is_known(reached.ends.as_slice(), &end.code);
+    if is_new {
+        reached.ends.push(end)?;
+    }
+    Ok(is_new)
 }
 
-/// Looks at the history of a state, on which the searchers are to agree.
-fn look(alloc: Global, program: &Program, reached: &mut Reached, end: &End) -> Result<(), Broken> {
+/// Looks at the history of a new state, on which the searchers are to agree.
+fn look(alloc: Global, program: &Program, reached: &mut Reached) -> Result<(), Broken> {
+    let Some(end) = reached.ends.as_slice().last() else {
+        return Ok(());
+    };
+    let steps = end.schedule.len();
     if !agree(alloc, program, &end.history)? && reached.fault.is_none() {
-        reached.fault = Some(end.schedule.len());
+        reached.fault = Some(steps);
     }
     Ok(())
 }
@@ -211,11 +218,11 @@ fn reach(
     reached: &mut Reached,
     end: Box<End>,
 ) -> Result<(), Broken> {
-    if is_known(reached.ends.as_slice(), &end.code) {
-        return Ok(());
+    if add(reached, end)? {
+        look(alloc, program, reached)
+    } else {
+        Ok(())
     }
-    look(alloc, program, reached, &end)?;
-    Ok(add(reached, end)?)
 }
 
 /// Follows a schedule, if each of its steps is one.
@@ -311,9 +318,9 @@ fn explorations(alloc: Global) -> Result<(), Broken> {
 
 /// Runs once more where an allocation was refused: that happens once at most.
 #[test]
-fn searchers_agree_on_explorations(rt: HostRuntime) -> Result<(), Fail> {
-    if explorations(rt.alloc()).is_err() {
-        explorations(rt.alloc())?;
+fn searchers_agree_on_explorations(rt: HostRuntime) -> Result<(), Broken> {
+    match explorations(rt.alloc()) {
+        Ok(()) => Ok(()),
+        Err(_) => explorations(rt.alloc()),
     }
-    Ok(())
 }
