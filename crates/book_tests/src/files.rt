@@ -214,13 +214,18 @@ impl Subject {
         }
     }
 
-    /// What the check of a text for the program answers.
     fn check(self, alloc: Global, program: &Program, text: &[u8]) -> Result<usize, CheckFault> {
         match self {
             Subject::Inserts => check_book(alloc, Atomic, program, text),
             Subject::Tree => check_book(alloc, NatMit { tag: true }, program, text),
             Subject::Straying => check_book(alloc, Straying, program, text),
         }
+    }
+
+    /// What the check of a text answers.
+    fn answer(self, alloc: Global, text: &str) -> Result<Result<usize, CheckFault>, Broken> {
+        let program = program_of(alloc, self.program())?;
+        Ok(self.check(alloc, &program, text.as_bytes()))
     }
 }
 
@@ -231,8 +236,7 @@ pub fn is_answer(
     text: &str,
     answer: Result<usize, CheckFault>,
 ) -> Result<bool, Broken> {
-    let program = program_of(alloc, subject.program())?;
-    match subject.check(alloc, &program, text.as_bytes()) {
+    match subject.answer(alloc, text)? {
         Err(CheckFault::OutOfMemory) => Err(Broken::OutOfMemory),
         told => Ok(told == answer),
     }

@@ -4,7 +4,7 @@ use crate::fixtures::{Broken, expanded, is_way, settled};
 use book::{Book, Finding, Merge, Totals};
 use std::alloc::Global;
 use std::test::Fail;
-use tree_machine::Atomic;
+use tree_machine::Machine;
 
 /// How a book merges, and for which merge the steps that are entered are labelled.
 const MERGES_AND_LABELS: [(Merge, Merge); 4] = [
@@ -33,14 +33,14 @@ fn is_order_of(finding: Option<&Finding>, length: usize) -> bool {
 }
 
 /// Whether the findings are those of five entries.
-fn finds_no_fault(book: &Book<Atomic>) -> bool {
+fn finds_no_fault<M: Machine>(book: &Book<M>) -> bool {
     is_order_of(book.finding_of(4), 2)
         && book.finding_of(5).is_none()
         && book.first_fault().is_none()
 }
 
 /// Whether the numbers are those of two steps, the later ones open.
-fn counts_two_layers(book: &Book<Atomic>) -> bool {
+fn counts_two_layers<M: Machine>(book: &Book<M>) -> bool {
     book.totals() == WHOLE
         && book.count_to(1) == 3
         && book.is_left_to(2)
@@ -49,10 +49,14 @@ fn counts_two_layers(book: &Book<Atomic>) -> bool {
 }
 
 /// Whether the book of two steps tells what it should.
-fn is_two_layers(alloc: Global, merge: Merge, labels: Merge) -> Result<bool, Broken> {
+fn is_two_layers<M: Machine>(alloc: Global, book: &Book<M>, merge: Merge) -> Result<bool, Broken> {
+    let is_told = finds_no_fault(book) && counts_two_layers(book) && book.merge() == merge;
+    Ok(is_way(alloc, book, 4, &[1, 0])? && is_told)
+}
+
+fn has_two_layers(alloc: Global, merge: Merge, labels: Merge) -> Result<bool, Broken> {
     let book = expanded(alloc, merge, labels, 3)?;
-    let is_told = finds_no_fault(&book) && counts_two_layers(&book) && book.merge() == merge;
-    Ok(is_way(alloc, &book, 4, &[1, 0])? && is_told)
+    is_two_layers(alloc, &book, merge)
 }
 
 // Steps that are labelled for another merge are labelled anew.
@@ -60,7 +64,7 @@ fn is_two_layers(alloc: Global, merge: Merge, labels: Merge) -> Result<bool, Bro
 fn a_book_of_two_layers(rt: HostRuntime) -> Result<(), Fail> {
     let alloc = rt.alloc();
     for (merge, labels) in MERGES_AND_LABELS {
-        let is_whole = settled!(is_two_layers(alloc, merge, labels))?;
+        let is_whole = settled!(has_two_layers(alloc, merge, labels))?;
         assert!(rt; is_whole, "{merge:?} of {labels:?}");
     }
     Ok(())
