@@ -217,8 +217,9 @@ fn add_record(text: &mut String, record: Record) -> Result<(), OutOfMemory> {
 /// The nodes of a memory that another has not.
 fn add_nodes(text: &mut String, old: &EllenMem, new: &EllenMem) -> Result<(), OutOfMemory> {
     for (x, node) in new.nodes.as_slice().iter().enumerate() {
-        if old.nodes.get(x).copied() != Some(*node) {
-            add_node(text, x, *node)?;
+        match old.nodes.get(x) {
+            Some(before) if *before == *node => {}
+            _ => add_node(text, x, *node)?,
         }
     }
     Ok(())
@@ -227,8 +228,9 @@ fn add_nodes(text: &mut String, old: &EllenMem, new: &EllenMem) -> Result<(), Ou
 /// The records of a memory that another has not.
 fn add_records(text: &mut String, old: &EllenMem, new: &EllenMem) -> Result<(), OutOfMemory> {
     for (r, record) in new.records.as_slice().iter().enumerate() {
-        if old.records.get(r).copied() != Some(*record) {
-            add_record(text, *record)?;
+        match old.records.get(r) {
+            Some(before) if *before == *record => {}
+            _ => add_record(text, *record)?,
         }
     }
     Ok(())
@@ -245,6 +247,21 @@ fn add_thread(text: &mut String, thread: &Thread<EllenLoc>) -> Result<(), OutOfM
     }
 }
 
+/// Where a thread stands after a step, and what the step wrote and made.
+fn add_deeds(
+    text: &mut String,
+    t: u8,
+    old: &State<Ellen>,
+    new: &State<Ellen>,
+) -> Result<(), OutOfMemory> {
+    match (new.astray(), new.threads.get(usize::from(t))) {
+        (None, Some(thread)) => add_thread(text, thread)?,
+        _ => text.push_str(" astray")?,
+    }
+    add_nodes(text, old.memory(), new.memory())?;
+    add_records(text, old.memory(), new.memory())
+}
+
 /// The line of a step.
 fn line_of(
     alloc: Global,
@@ -253,13 +270,32 @@ fn line_of(
     new: &State<Ellen>,
 ) -> Result<String, OutOfMemory> {
     let mut text = format!(in alloc; "{t}")?;
-    match (new.astray(), new.threads.get(usize::from(t))) {
-        (None, Some(thread)) => add_thread(&mut text, thread)?,
-        _ => text.push_str(" astray")?,
-    }
-    add_nodes(&mut text, old.memory(), new.memory())?;
-    add_records(&mut text, old.memory(), new.memory())?;
+    add_deeds(&mut text, t, old, new)?;
     Ok(text)
+}
+
+/// The line of a step, where it is not this one.
+fn other_line(
+    alloc: Global,
+    t: u8,
+    old: &State<Ellen>,
+    new: &State<Ellen>,
+    line: &str,
+) -> Result<Option<String>, OutOfMemory> {
+    let told = line_of(alloc, t, old, new)?;
+    if told.as_str() == line {
+        Ok(None)
+    } else {
+        Ok(Some(told))
+    }
+}
+
+/// The thread of a line's step.
+fn thread_of(line: &str) -> Result<u8, StepFault> {
+    match line.as_bytes().first() {
+        Some(digit) => Ok(digit.wrapping_sub(b'0')),
+        None => Err(StepFault::NotEnabled),
+    }
 }
 
 /// The line as it is, where it differs first from these, by the schedule of their threads.
@@ -271,14 +307,11 @@ fn differs(
 ) -> Result<Option<String>, StepFault> {
     let mut state = start(alloc, machine, program)?;
     for line in lines.lines() {
-        let Some(digit) = line.as_bytes().first() else {
-            return Err(StepFault::NotEnabled);
-        };
-        let thread = digit.wrapping_sub(b'0');
+        let thread = thread_of(line)?;
         let after = next(alloc, machine, program, &state, thread)?;
-        let told = line_of(alloc, thread, &state, &after)?;
-        if told.as_str() != line {
-            return Ok(Some(told));
+        let other = other_line(alloc, thread, &state, &after, line)?;
+        if other.is_some() {
+            return Ok(other);
         }
         state = after;
     }
