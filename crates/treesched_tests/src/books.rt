@@ -1,255 +1,256 @@
 //! Book files: what is written of programs, and what is told of files.
-use crate::answers::{answer_to, check_of, or_printed, shows};
-use crate::cases::{Runtime, check_all};
-use crate::sources::{
-    ELLEN_NO_MARK, INSERT_5, INSERT_25, Source, TWO_FINDS, TWO_IN_TURN, TWO_INSERTS,
-};
+use crate::answers::{Wanted, answer_to, checks};
+use crate::cases::{Case, Runtime, check_all};
+use crate::sources::{ELLEN_NO_MARK, TWO_FINDS, TWO_IN_TURN, TWO_INSERTS};
 use sched_program::OutOfMemory;
 use std::test::Fail;
-use treesched_lib::Output;
 
 /// The book of two inserts.
-pub const BOOK: &str =
-    "treesched book 1 entries 5\n- - -\n0 0 0.0\n0 1 1.0\n1 1 0.0,1.0\n2 0 1.0,0.0\n";
+pub const BOOK: &[u8] =
+    b"treesched book 1 entries 5\n- - -\n0 0 0.0\n0 1 1.0\n1 1 0.0,1.0\n2 0 1.0,0.0\n";
 
 /// One insert on the tree of Natarajan and Mittal.
-const NM_ALONE: Source = Source(1, "nm", "", &[INSERT_5]);
+const NM_ALONE: &[u8] =
+    br#"{"version":1,"tree":"nm","initial":[],"threads":[[{"op":"insert","key":5}]]}"#;
 
 /// Two inserts there.
-const NM_TWO: Source = Source(1, "nm", "10,20", &[INSERT_5, INSERT_25]);
+const NM_TWO: &[u8] =
+    br#"{"version":1,"tree":"nm","initial":[10,20],"threads":[[{"op":"insert","key":5}],[{"op":"insert","key":25}]]}"#;
 
-/// The answer to the words behind the file of an exploration.
-fn explores<R: Runtime>(rt: &R, source: &Source, options: &str) -> Result<Output, OutOfMemory> {
-    let text = source.text(rt.alloc())?;
-    let line = format!(in rt.alloc(); "treesched explore f {options}")?;
-    answer_to(rt, line.as_str(), text.as_bytes())
-}
-
-/// Whether the bytes pass as a book file of the program, with so many entries.
-fn passes<R: Runtime>(
+/// Whether every schedule is told to hold, with this line of the states, and the book passes.
+pub fn closes<R: Runtime>(
     rt: &R,
-    source: &Source,
-    book: &[u8],
-    states: usize,
+    line: &str,
+    file: &[u8],
+    states: &str,
 ) -> Result<bool, OutOfMemory> {
-    let text = source.text(rt.alloc())?;
-    let out = format!(in rt.alloc(); "every schedule holds\nstates {states}\n")?;
-    let output = check_of(rt, text.as_bytes(), book)?;
-    Ok(shows(rt, &output, 0, out.as_str(), ""))
-}
-
-/// A program, the words for its exploration, which is told to hold for every schedule, and how many states it tells of.
-#[derive(Clone, Copy, Debug)]
-struct Closes(Source, &'static str, usize);
-
-impl Closes {
-    /// Whether the exploration tells so, and its book passes.
-    fn is_met<R: Runtime>(&self, rt: &R) -> Result<bool, OutOfMemory> {
-        let Closes(source, options, states) = self;
-        let output = explores(rt, source, options)?;
-        let out = format!(in rt.alloc(); "holds for every schedule\nstates {states}\n")?;
-        let is_told = output.status == 0
-            && output.out.as_str() == out.as_str()
-            && output.err.is_empty();
-        match &output.book {
-            Some(book) if is_told => passes(rt, source, book.as_slice(), *states),
-            _ => Ok(or_printed(rt, false, &output)),
-        }
+    let output = answer_to(rt, line, file)?;
+    let is_told = Wanted::Holds(states).is_met(rt, &output);
+    match &output.book {
+        Some(book) if is_told => checks(rt, book.as_slice(), file, &Wanted::Passes(states)),
+        _ => Ok(false),
     }
 }
 
-static CLOSED: [Closes; 13] = [
-    Closes(TWO_INSERTS, "--merge names --steps 3 --book b", 5),
-    Closes(NM_ALONE, "--merge names --steps 3 --book b", 3),
-    Closes(TWO_FINDS, "--merge names --steps 5 --book b", 13),
-    Closes(
+static CLOSED: [Case<'static>; 13] = [
+    Case::Closes(
+        "treesched explore f --merge names --steps 3 --book b",
+        TWO_INSERTS,
+        "states 5\n",
+    ),
+    Case::Closes(
+        "treesched explore f --merge names --steps 3 --book b",
+        NM_ALONE,
+        "states 3\n",
+    ),
+    Case::Closes(
+        "treesched explore f --merge names --steps 5 --book b",
         TWO_FINDS,
-        "--merge names --steps 5 --book b --workers 2",
-        13,
+        "states 13\n",
     ),
-    Closes(
+    Case::Closes(
+        "treesched explore f --merge names --steps 5 --book b --workers 2",
         TWO_FINDS,
-        "--merge names --steps 5 --book b --workers 8",
-        13,
+        "states 13\n",
     ),
-    Closes(NM_TWO, "--merge names --steps 9 --book b", 33),
-    Closes(NM_TWO, "--merge names --steps 9 --book b --workers 2", 33),
-    Closes(NM_TWO, "--merge names --steps 9 --book b --workers 8", 33),
-    Closes(NM_TWO, "--merge names --steps 400 --book b --states 33", 33),
-    Closes(TWO_IN_TURN, "--merge names --steps 3 --book b", 3),
-    Closes(
+    Case::Closes(
+        "treesched explore f --merge names --steps 5 --book b --workers 8",
+        TWO_FINDS,
+        "states 13\n",
+    ),
+    Case::Closes(
+        "treesched explore f --merge names --steps 9 --book b",
+        NM_TWO,
+        "states 33\n",
+    ),
+    Case::Closes(
+        "treesched explore f --merge names --steps 9 --book b --workers 2",
+        NM_TWO,
+        "states 33\n",
+    ),
+    Case::Closes(
+        "treesched explore f --merge names --steps 9 --book b --workers 8",
+        NM_TWO,
+        "states 33\n",
+    ),
+    Case::Closes(
+        "treesched explore f --merge names --steps 400 --book b --states 33",
+        NM_TWO,
+        "states 33\n",
+    ),
+    Case::Closes(
+        "treesched explore f --merge names --steps 3 --book b",
         TWO_IN_TURN,
-        "--merge names --steps 3 --book b --workers 2",
-        3,
+        "states 3\n",
     ),
-    Closes(
+    Case::Closes(
+        "treesched explore f --merge names --steps 3 --book b --workers 2",
         TWO_IN_TURN,
-        "--merge names --steps 3 --book b --workers 8",
-        3,
+        "states 3\n",
     ),
-    Closes(TWO_INSERTS, "--merge names --steps 400 --book b", 5),
+    Case::Closes(
+        "treesched explore f --merge names --steps 3 --book b --workers 8",
+        TWO_IN_TURN,
+        "states 3\n",
+    ),
+    Case::Closes(
+        "treesched explore f --merge names --steps 400 --book b",
+        TWO_INSERTS,
+        "states 5\n",
+    ),
 ];
 
 #[test]
 fn books_of_every_schedule_pass(rt: HostRuntime) -> Result<(), Fail> {
-    check_all(&rt, CLOSED.as_slice(), |case| case.is_met(&rt))
+    check_all(&rt, CLOSED.as_slice())
 }
 
-/// Whether one worker writes the known book of two inserts.
-fn is_written<R: Runtime>(rt: &R, options: &str) -> Result<bool, OutOfMemory> {
-    let output = explores(rt, &TWO_INSERTS, options)?;
-    let is_met = match &output.book {
-        Some(book) => book.as_slice() == BOOK.as_bytes(),
-        None => false,
-    };
-    Ok(or_printed(rt, is_met, &output))
-}
-
-static WRITTEN: [&str; 2] = [
-    "--merge names --steps 3 --book b",
-    "--merge names --steps 3 --book b --ledger",
+static WRITTEN: [Case<'static>; 2] = [
+    Case::Line(
+        "treesched explore f --merge names --steps 3 --book b",
+        TWO_INSERTS,
+        Wanted::Book(BOOK),
+    ),
+    Case::Line(
+        "treesched explore f --merge names --steps 3 --book b --ledger",
+        TWO_INSERTS,
+        Wanted::Book(BOOK),
+    ),
 ];
 
 #[test]
 fn writes_the_book(rt: HostRuntime) -> Result<(), Fail> {
-    check_all(&rt, WRITTEN.as_slice(), |options| is_written(&rt, options))
+    check_all(&rt, WRITTEN.as_slice())
 }
 
-/// A program and words for an exploration with another answer, or of which no book is asked for: there is none.
-#[derive(Clone, Copy, Debug)]
-struct Unwritten(Source, &'static str);
-
-impl Unwritten {
-    fn is_met<R: Runtime>(&self, rt: &R) -> Result<bool, OutOfMemory> {
-        let Unwritten(source, options) = self;
-        let output = explores(rt, source, options)?;
-        let is_met = output.book.is_none() && !output.out.is_empty();
-        Ok(or_printed(rt, is_met, &output))
-    }
-}
-
-static NOT_WRITTEN: [Unwritten; 5] = [
-    Unwritten(TWO_INSERTS, "--merge names --steps 3"),
-    Unwritten(TWO_INSERTS, "--merge names --steps 2 --book b"),
-    Unwritten(TWO_INSERTS, "--merge names --steps 3 --states 4 --book b"),
-    Unwritten(NM_TWO, "--merge names --steps 8 --book b"),
-    Unwritten(ELLEN_NO_MARK, "--merge names --steps 20 --book b"),
+/// Explorations with another answer, and one of which no book is asked for.
+static NOT_WRITTEN: [Case<'static>; 5] = [
+    Case::Line(
+        "treesched explore f --merge names --steps 3",
+        TWO_INSERTS,
+        Wanted::NoBook,
+    ),
+    Case::Line(
+        "treesched explore f --merge names --steps 2 --book b",
+        TWO_INSERTS,
+        Wanted::NoBook,
+    ),
+    Case::Line(
+        "treesched explore f --merge names --steps 3 --states 4 --book b",
+        TWO_INSERTS,
+        Wanted::NoBook,
+    ),
+    Case::Line(
+        "treesched explore f --merge names --steps 8 --book b",
+        NM_TWO,
+        Wanted::NoBook,
+    ),
+    Case::Line(
+        "treesched explore f --merge names --steps 20 --book b",
+        ELLEN_NO_MARK,
+        Wanted::NoBook,
+    ),
 ];
 
 #[test]
 fn writes_no_book_on_other_answers(rt: HostRuntime) -> Result<(), Fail> {
-    check_all(&rt, NOT_WRITTEN.as_slice(), |case| case.is_met(&rt))
+    check_all(&rt, NOT_WRITTEN.as_slice())
 }
 
-/// A program and the text of a book file of so many entries that passes, whoever wrote it.
-#[derive(Clone, Copy, Debug)]
-struct Passing(Source, &'static str, usize);
-
-static PASSING: [Passing; 3] = [
-    Passing(TWO_INSERTS, BOOK, 5),
-    Passing(
+/// Books that pass, whoever wrote them.
+static PASSING: [Case<'static>; 3] = [
+    Case::Check(BOOK, TWO_INSERTS, Wanted::Passes("states 5\n")),
+    Case::Check(
+        b"treesched book 1 entries 6\n- - -\n0 0 0.0\n0 1 1.0\n1 1 0.0,1.0\n2 0 1.0,0.0\n1 1 0.0,1.0\n",
         TWO_INSERTS,
-        "treesched book 1 entries 6\n- - -\n0 0 0.0\n0 1 1.0\n1 1 0.0,1.0\n2 0 1.0,0.0\n1 1 0.0,1.0\n",
-        6,
+        Wanted::Passes("states 6\n"),
     ),
-    Passing(
+    Case::Check(
+        b"treesched book 1 entries 3\n- - -\n0 0 -\n1 0 0.0\n",
         NM_ALONE,
-        "treesched book 1 entries 3\n- - -\n0 0 -\n1 0 0.0\n",
-        3,
+        Wanted::Passes("states 3\n"),
     ),
 ];
 
 #[test]
 fn passes_books_of_others(rt: HostRuntime) -> Result<(), Fail> {
-    check_all(
-        &rt,
-        PASSING.as_slice(),
-        |case| passes(&rt, &case.0, case.1.as_bytes(), case.2),
-    )
+    check_all(&rt, PASSING.as_slice())
 }
 
-/// A program, the text of a book file that is refused, and the line on the standard error.
-#[derive(Clone, Copy, Debug)]
-struct Refuses(Source, &'static str, &'static str);
-
-impl Refuses {
-    fn is_met<R: Runtime>(&self, rt: &R) -> Result<bool, OutOfMemory> {
-        let Refuses(source, book, cause) = self;
-        let text = source.text(rt.alloc())?;
-        let err = format!(in rt.alloc(); "treesched: book refused: {cause}\n")?;
-        let output = check_of(rt, text.as_bytes(), book.as_bytes())?;
-        Ok(shows(rt, &output, 3, "", err.as_str()))
-    }
-}
-
-static REFUSED: [Refuses; 11] = [
-    Refuses(
+static REFUSED: [Case<'static>; 11] = [
+    Case::Check(
+        b"treesched book 1 entries 5\n- - -\n0 0 0.0\n0 1 1.0\n1 1 1.0,0.0\n2 0 1.0,0.0\n",
         TWO_INSERTS,
-        "treesched book 1 entries 5\n- - -\n0 0 0.0\n0 1 1.0\n1 1 1.0,0.0\n2 0 1.0,0.0\n",
-        "C5 at line 5",
+        Wanted::Tells(3, "treesched: book refused: C5 at line 5\n"),
     ),
-    Refuses(
+    Case::Check(
+        b"treesched book 1 entries 5\n- - -\n0 0 0.0\n0 1 1.0\n3 1 0.0,1.0\n2 0 1.0,0.0\n",
         TWO_INSERTS,
-        "treesched book 1 entries 5\n- - -\n0 0 0.0\n0 1 1.0\n3 1 0.0,1.0\n2 0 1.0,0.0\n",
-        "C2 at line 5",
+        Wanted::Tells(3, "treesched: book refused: C2 at line 5\n"),
     ),
-    Refuses(
+    Case::Check(
+        b"treesched book 1 entries 5\n- - -\n0 0 0.0\n0 1 1.0\n1 0 0.0,1.0\n2 0 1.0,0.0\n",
         TWO_INSERTS,
-        "treesched book 1 entries 5\n- - -\n0 0 0.0\n0 1 1.0\n1 0 0.0,1.0\n2 0 1.0,0.0\n",
-        "C3 at line 5",
+        Wanted::Tells(3, "treesched: book refused: C3 at line 5\n"),
     ),
-    Refuses(
+    Case::Check(
+        b"treesched book 1 entries 4\n- - -\n0 0 0.0\n0 1 1.0\n1 1 0.0,1.0\n",
         TWO_INSERTS,
-        "treesched book 1 entries 4\n- - -\n0 0 0.0\n0 1 1.0\n1 1 0.0,1.0\n",
-        "C6 at line 4",
+        Wanted::Tells(3, "treesched: book refused: C6 at line 4\n"),
     ),
-    Refuses(
+    Case::Check(
+        b"treesched book 1 entries 5\n- - -\n0 0 0.0\n0 1 1.0\n1 1 0.0,1.0\n",
         TWO_INSERTS,
-        "treesched book 1 entries 5\n- - -\n0 0 0.0\n0 1 1.0\n1 1 0.0,1.0\n",
-        "C1 at line 1",
+        Wanted::Tells(3, "treesched: book refused: C1 at line 1\n"),
     ),
-    Refuses(TWO_INSERTS, "", "C1 at line 1"),
-    Refuses(
+    Case::Check(
+        b"",
         TWO_INSERTS,
-        "treesched book 1 entries 5\n- - -\n0 0 0.0\n00 1 1.0\n1 1 0.0,1.0\n2 0 1.0,0.0\n",
-        "C1 at line 4",
+        Wanted::Tells(3, "treesched: book refused: C1 at line 1\n"),
     ),
-    Refuses(
+    Case::Check(
+        b"treesched book 1 entries 5\n- - -\n0 0 0.0\n00 1 1.0\n1 1 0.0,1.0\n2 0 1.0,0.0\n",
         TWO_INSERTS,
-        "treesched book 1 entries 5\n0 0 -\n0 0 0.0\n0 1 1.0\n1 1 0.0,1.0\n2 0 1.0,0.0\n",
-        "C1 at line 2",
+        Wanted::Tells(3, "treesched: book refused: C1 at line 4\n"),
     ),
-    Refuses(
+    Case::Check(
+        b"treesched book 1 entries 5\n0 0 -\n0 0 0.0\n0 1 1.0\n1 1 0.0,1.0\n2 0 1.0,0.0\n",
+        TWO_INSERTS,
+        Wanted::Tells(3, "treesched: book refused: C1 at line 2\n"),
+    ),
+    Case::Check(
+        b"treesched book 1 entries 2\n- - -\n0 0 -\n",
         NM_ALONE,
-        "treesched book 1 entries 2\n- - -\n0 0 -\n",
-        "C6 at line 3",
+        Wanted::Tells(3, "treesched: book refused: C6 at line 3\n"),
     ),
-    Refuses(TWO_IN_TURN, BOOK, "C3 at line 4"),
-    Refuses(NM_ALONE, BOOK, "C3 at line 4"),
+    Case::Check(
+        BOOK,
+        TWO_IN_TURN,
+        Wanted::Tells(3, "treesched: book refused: C3 at line 4\n"),
+    ),
+    Case::Check(
+        BOOK,
+        NM_ALONE,
+        Wanted::Tells(3, "treesched: book refused: C3 at line 4\n"),
+    ),
 ];
 
 #[test]
 fn refuses_other_books(rt: HostRuntime) -> Result<(), Fail> {
-    check_all(&rt, REFUSED.as_slice(), |case| case.is_met(&rt))
+    check_all(&rt, REFUSED.as_slice())
 }
 
-/// Programs that are refused, with the line on the standard error: their book file is not judged.
-static NO_PROGRAMS: [(&str, &str); 2] = [
-    ("", "treesched: P1 NotJson\n"),
-    (r#"{"version":3}"#, "treesched: P3 Version\n"),
+/// Programs that are refused: their book file is not judged.
+static NO_PROGRAMS: [Case<'static>; 2] = [
+    Case::Check(b"no book", b"", Wanted::Tells(3, "treesched: P1 NotJson\n")),
+    Case::Check(
+        b"no book",
+        br#"{"version":3}"#,
+        Wanted::Tells(3, "treesched: P3 Version\n"),
+    ),
 ];
-
-/// Whether the program is refused, whatever the book file has.
-fn is_judged_first<R: Runtime>(rt: &R, file: &str, err: &str) -> Result<bool, OutOfMemory> {
-    let output = check_of(rt, file.as_bytes(), b"no book")?;
-    Ok(shows(rt, &output, 3, "", err))
-}
 
 #[test]
 fn judges_the_program_before_the_book(rt: HostRuntime) -> Result<(), Fail> {
-    check_all(
-        &rt,
-        NO_PROGRAMS.as_slice(),
-        |case| is_judged_first(&rt, case.0, case.1),
-    )
+    check_all(&rt, NO_PROGRAMS.as_slice())
 }

@@ -29,12 +29,12 @@ impl<'a> Read for FailingReader<'a> {
     }
 }
 
-/// A reader of the bytes of a text.
-pub fn failing(text: &str, fails_at: usize) -> FailingReader<'_>
+/// A reader of the bytes.
+pub fn failing(bytes: &[u8], fails_at: usize) -> FailingReader<'_>
     ensures { (result.reads ≡ 0) × (result.fails_at ≡ fails_at) }
 {
     FailingReader {
-        bytes: text.as_bytes(),
+        bytes,
         reads: 0,
         fails_at,
     }

@@ -1,228 +1,258 @@
 //! Which texts are programs.
-use crate::answers::{answer_to, shows};
-use crate::cases::{Runtime, check, check_all};
-use crate::sources::{INSERT_1, TWICE, text_of};
+use crate::answers::{Wanted, answers};
+use crate::cases::{Case, Runtime, check, check_all};
+use crate::sources::TWO_INSERTS;
 use sched_program::OutOfMemory;
-use std::alloc::Global;
 use std::test::Fail;
 
-/// The text of a file.
-#[derive(Clone, Copy, Debug)]
-enum Text {
-    /// These bytes.
-    Whole(&'static [u8]),
-    /// So many first bytes of a program, all of it if it has no more.
-    Beginning(usize),
-    /// A program between these bytes.
-    Between(&'static [u8], &'static [u8]),
-    /// So many opening brackets and as many closing ones.
-    Nested(usize),
-    /// A program with this list of initial keys and this list of threads.
-    Program(&'static str, &'static str),
-    /// A program of version 2 of two threads of one insert each, with these further members.
-    InTurn(&'static str, &'static str),
-    /// A program of one thread that inserts this key, as it is written.
-    Key(&'static str),
-    /// A program of so many threads of so many inserts each.
-    Inserts(usize, usize),
-}
+/// The words that each text is tried with.
+const LINE: &str = "treesched explore f --steps 2";
 
-impl Text {
-    fn bytes(&self, alloc: Global) -> Result<Vec<u8>, OutOfMemory> {
-        match self {
-            Text::Whole(bytes) => bytes.to_vec(alloc),
-            Text::Beginning(length) => beginning(*length).to_vec(alloc),
-            Text::Between(before, after) => between(alloc, before, after),
-            Text::Nested(count) => nested(alloc, *count),
-            Text::Program(initial, threads) => program(alloc, initial, threads),
-            Text::InTurn(first, second) => in_turn(alloc, first, second),
-            Text::Key(key) => inserting(alloc, key),
-            Text::Inserts(threads, each) => inserts(alloc, *threads, *each),
-        }
-    }
-}
+const NOT_JSON: Wanted<'static> = Wanted::Tells(3, "treesched: P1 NotJson\n");
 
-fn beginning(length: usize) -> &'static [u8] {
-    &TWICE.as_bytes()[..length.min(TWICE.len())]
-}
+const NOT_OBJECT: Wanted<'static> = Wanted::Tells(3, "treesched: P2 NotObject\n");
 
-fn between(alloc: Global, before: &[u8], after: &[u8]) -> Result<Vec<u8>, OutOfMemory> {
-    let mut bytes = before.to_vec(alloc)?;
-    bytes.extend_from_slice(TWICE.as_bytes())?;
-    bytes.extend_from_slice(after)?;
-    Ok(bytes)
-}
+const VERSION: Wanted<'static> = Wanted::Tells(3, "treesched: P3 Version\n");
 
-fn nested(alloc: Global, count: usize) -> Result<Vec<u8>, OutOfMemory> {
-    let mut bytes = vec![in alloc; b'['; count]?;
-    for _ in 0..count {
-        bytes.push(b']')?;
-    }
-    Ok(bytes)
-}
+const INITIAL: Wanted<'static> = Wanted::Tells(3, "treesched: P5 Initial\n");
 
-fn program(alloc: Global, initial: &str, threads: &str) -> Result<Vec<u8>, OutOfMemory> {
-    let text = text_of(alloc, 1, "atomic", initial, threads)?;
-    text.as_bytes().to_vec(alloc)
-}
+const INITIAL_TWICE: Wanted<'static> = Wanted::Tells(3, "treesched: P6 InitialTwice\n");
 
-fn in_turn(alloc: Global, first: &str, second: &str) -> Result<Vec<u8>, OutOfMemory> {
-    let threads = format!(in alloc;
-        r#"[{{"op":"insert","key":1{first}}}],[{{"op":"insert","key":1{second}}}]"#
-    )?;
-    let text = text_of(alloc, 2, "atomic", "", threads.as_str())?;
-    text.as_bytes().to_vec(alloc)
-}
+const THREADS: Wanted<'static> = Wanted::Tells(3, "treesched: P7 Threads\n");
 
-fn inserting(alloc: Global, key: &str) -> Result<Vec<u8>, OutOfMemory> {
-    let thread = format!(in alloc; r#"[{{"op":"insert","key":{key}}}]"#)?;
-    program(alloc, "", thread.as_str())
-}
+const OPS: Wanted<'static> = Wanted::Tells(3, "treesched: P8 Ops\n");
 
-fn inserts(alloc: Global, threads: usize, each: usize) -> Result<Vec<u8>, OutOfMemory> {
-    let list = copies(alloc, r#"{"op":"insert","key":1}"#, each)?;
-    let thread = format!(in alloc; "[{list}]")?;
-    let threads = copies(alloc, thread.as_str(), threads)?;
-    program(alloc, "", threads.as_str())
-}
+const OP: Wanted<'static> = Wanted::Tells(3, "treesched: P9 Op\n");
 
-/// So many copies of a text, joined by commas.
-fn copies(alloc: Global, text: &str, count: usize) -> Result<String, OutOfMemory> {
-    vec![in alloc; text; count]?.as_slice().join(alloc, ",")
-}
+const KEY: Wanted<'static> = Wanted::Tells(3, "treesched: P10 Key\n");
 
-/// A text that is refused by the fault of this number and name.
-#[derive(Clone, Copy, Debug)]
-struct Refused(Text, &'static str);
+const AFTER: Wanted<'static> = Wanted::Tells(3, "treesched: P12 After\n");
 
-impl Refused {
-    fn is_met<R: Runtime>(&self, rt: &R) -> Result<bool, OutOfMemory> {
-        let Refused(text, name) = self;
-        let file = text.bytes(rt.alloc())?;
-        let line = format!(in rt.alloc(); "treesched: {name}\n")?;
-        let output = answer_to(rt, "treesched explore f --steps 2", file.as_slice())?;
-        Ok(shows(rt, &output, 3, "", line.as_str()))
-    }
-}
-
-static FIRST_FAULTS: [Refused; 7] = [
-    Refused(Text::Program("7,7", INSERT_1), "P6 InitialTwice"),
-    Refused(Text::Key("100"), "P10 Key"),
-    Refused(
-        Text::Program("7,7", r#"[{"op":"insert","key":100}]"#),
-        "P6 InitialTwice",
+static FIRST_FAULTS: [Case<'static>; 7] = [
+    Case::Line(
+        LINE,
+        br#"{"version":1,"tree":"atomic","initial":[7,7],"threads":[[{"op":"insert","key":1}]]}"#,
+        INITIAL_TWICE,
     ),
-    Refused(Text::Program("5.0", INSERT_1), "P5 Initial"),
-    Refused(Text::Program("", "[]"), "P8 Ops"),
-    Refused(Text::Program("", r#"[{"op":"put","key":1}]"#), "P9 Op"),
-    Refused(Text::Inserts(5, 1), "P7 Threads"),
+    Case::Line(
+        LINE,
+        br#"{"version":1,"tree":"atomic","initial":[],"threads":[[{"op":"insert","key":100}]]}"#,
+        KEY,
+    ),
+    Case::Line(
+        LINE,
+        br#"{"version":1,"tree":"atomic","initial":[7,7],"threads":[[{"op":"insert","key":100}]]}"#,
+        INITIAL_TWICE,
+    ),
+    Case::Line(
+        LINE,
+        br#"{"version":1,"tree":"atomic","initial":[5.0],"threads":[[{"op":"insert","key":1}]]}"#,
+        INITIAL,
+    ),
+    Case::Line(
+        LINE,
+        br#"{"version":1,"tree":"atomic","initial":[],"threads":[[]]}"#,
+        OPS,
+    ),
+    Case::Line(
+        LINE,
+        br#"{"version":1,"tree":"atomic","initial":[],"threads":[[{"op":"put","key":1}]]}"#,
+        OP,
+    ),
+    Case::Line(
+        LINE,
+        br#"{"version":1,"tree":"atomic","initial":[],"threads":[[{"op":"insert","key":1}],[{"op":"insert","key":1}],[{"op":"insert","key":1}],[{"op":"insert","key":1}],[{"op":"insert","key":1}]]}"#,
+        THREADS,
+    ),
 ];
 
 #[test]
 fn tells_the_first_fault(rt: HostRuntime) -> Result<(), Fail> {
-    check_all(&rt, FIRST_FAULTS.as_slice(), |case| case.is_met(&rt))
+    check_all(&rt, FIRST_FAULTS.as_slice())
 }
 
-static WHOLE_TEXTS: [Refused; 8] = [
-    Refused(
-        Text::Whole(
-            br#"{"version":3,"tree":"atomic","initial":[],"threads":[[{"op":"insert","key":1}]]}"#,
-        ),
-        "P3 Version",
+/// Whether a text of so many opening brackets and as many closing ones has that answer.
+pub fn nests<R: Runtime>(rt: &R, count: usize, wanted: &Wanted<'_>) -> Result<bool, OutOfMemory> {
+    let mut file = vec![in rt.alloc(); b'['; count]?;
+    file.resize(count.saturating_mul(2), b']')?;
+    answers(rt, LINE, file.as_slice(), wanted)
+}
+
+static WHOLE_TEXTS: [Case<'static>; 8] = [
+    Case::Line(
+        LINE,
+        br#"{"version":3,"tree":"atomic","initial":[],"threads":[[{"op":"insert","key":1}]]}"#,
+        VERSION,
     ),
-    Refused(Text::Whole(b"[]"), "P2 NotObject"),
-    Refused(Text::Whole(b""), "P1 NotJson"),
-    Refused(Text::Whole(b"\xff"), "P1 NotJson"),
-    Refused(Text::Between(b"\xef\xbb\xbf", b""), "P1 NotJson"),
-    Refused(Text::Between(b"", b"x"), "P1 NotJson"),
-    Refused(Text::Nested(127), "P2 NotObject"),
-    Refused(Text::Nested(128), "P1 NotJson"),
+    Case::Line(LINE, b"[]", NOT_OBJECT),
+    Case::Line(LINE, b"", NOT_JSON),
+    Case::Line(LINE, b"\xff", NOT_JSON),
+    Case::Line(
+        LINE,
+        b"\xef\xbb\xbf{\"version\":1,\"tree\":\"atomic\",\"initial\":[],\"threads\":[[{\"op\":\"insert\",\"key\":1}],[{\"op\":\"insert\",\"key\":1}]]}",
+        NOT_JSON,
+    ),
+    Case::Line(
+        LINE,
+        br#"{"version":1,"tree":"atomic","initial":[],"threads":[[{"op":"insert","key":1}],[{"op":"insert","key":1}]]}x"#,
+        NOT_JSON,
+    ),
+    Case::Nested(127, NOT_OBJECT),
+    Case::Nested(128, NOT_JSON),
 ];
 
 #[test]
 fn tells_faults_of_the_whole_text(rt: HostRuntime) -> Result<(), Fail> {
-    check_all(&rt, WHOLE_TEXTS.as_slice(), |case| case.is_met(&rt))
+    check_all(&rt, WHOLE_TEXTS.as_slice())
 }
 
 #[test]
 fn tells_a_text_that_ends_too_early(rt: HostRuntime) -> Result<(), Fail> {
-    for length in 0..TWICE.len() {
-        let case = Refused(Text::Beginning(length), "P1 NotJson");
-        check(&rt, &case, |case| case.is_met(&rt))?;
+    for length in 0..TWO_INSERTS.len() {
+        check(
+            &rt,
+            length,
+            &Case::Line(LINE, &TWO_INSERTS[..length], NOT_JSON),
+        )?;
     }
     Ok(())
 }
 
-static KEYS: [Refused; 8] = [
-    Refused(Text::Key("-0"), "P10 Key"),
-    Refused(Text::Key("1e1"), "P10 Key"),
-    Refused(Text::Key(r#""5""#), "P10 Key"),
-    Refused(Text::Key("18446744073709551616"), "P10 Key"),
-    Refused(Text::Key("5.0"), "P10 Key"),
-    Refused(Text::Key("100"), "P10 Key"),
-    Refused(Text::Key("null"), "P10 Key"),
-    Refused(Text::Key("007"), "P1 NotJson"),
+static KEYS: [Case<'static>; 8] = [
+    Case::Line(
+        LINE,
+        br#"{"version":1,"tree":"atomic","initial":[],"threads":[[{"op":"insert","key":-0}]]}"#,
+        KEY,
+    ),
+    Case::Line(
+        LINE,
+        br#"{"version":1,"tree":"atomic","initial":[],"threads":[[{"op":"insert","key":1e1}]]}"#,
+        KEY,
+    ),
+    Case::Line(
+        LINE,
+        br#"{"version":1,"tree":"atomic","initial":[],"threads":[[{"op":"insert","key":"5"}]]}"#,
+        KEY,
+    ),
+    Case::Line(
+        LINE,
+        br#"{"version":1,"tree":"atomic","initial":[],"threads":[[{"op":"insert","key":18446744073709551616}]]}"#,
+        KEY,
+    ),
+    Case::Line(
+        LINE,
+        br#"{"version":1,"tree":"atomic","initial":[],"threads":[[{"op":"insert","key":5.0}]]}"#,
+        KEY,
+    ),
+    Case::Line(
+        LINE,
+        br#"{"version":1,"tree":"atomic","initial":[],"threads":[[{"op":"insert","key":100}]]}"#,
+        KEY,
+    ),
+    Case::Line(
+        LINE,
+        br#"{"version":1,"tree":"atomic","initial":[],"threads":[[{"op":"insert","key":null}]]}"#,
+        KEY,
+    ),
+    Case::Line(
+        LINE,
+        br#"{"version":1,"tree":"atomic","initial":[],"threads":[[{"op":"insert","key":007}]]}"#,
+        NOT_JSON,
+    ),
 ];
 
 #[test]
 fn takes_keys_of_digits_alone(rt: HostRuntime) -> Result<(), Fail> {
-    check_all(&rt, KEYS.as_slice(), |case| case.is_met(&rt))
+    check_all(&rt, KEYS.as_slice())
 }
 
-static TURNS: [Refused; 8] = [
-    Refused(Text::InTurn("", r#","after":[1,1]"#), "P12 After"),
-    Refused(Text::InTurn("", r#","after":[0,0]"#), "P12 After"),
-    Refused(Text::InTurn("", r#","after":[0,2]"#), "P12 After"),
-    Refused(Text::InTurn("", r#","after":[0]"#), "P12 After"),
-    Refused(Text::InTurn("", r#","after":null"#), "P12 After"),
-    Refused(Text::InTurn("", r#","after":[0,1.0]"#), "P12 After"),
-    Refused(Text::InTurn(r#","after":[0,1]"#, ""), "P12 After"),
+static TURNS: [Case<'static>; 8] = [
+    Case::Line(
+        LINE,
+        br#"{"version":2,"tree":"atomic","initial":[],"threads":[[{"op":"insert","key":1}],[{"op":"insert","key":1,"after":[1,1]}]]}"#,
+        AFTER,
+    ),
+    Case::Line(
+        LINE,
+        br#"{"version":2,"tree":"atomic","initial":[],"threads":[[{"op":"insert","key":1}],[{"op":"insert","key":1,"after":[0,0]}]]}"#,
+        AFTER,
+    ),
+    Case::Line(
+        LINE,
+        br#"{"version":2,"tree":"atomic","initial":[],"threads":[[{"op":"insert","key":1}],[{"op":"insert","key":1,"after":[0,2]}]]}"#,
+        AFTER,
+    ),
+    Case::Line(
+        LINE,
+        br#"{"version":2,"tree":"atomic","initial":[],"threads":[[{"op":"insert","key":1}],[{"op":"insert","key":1,"after":[0]}]]}"#,
+        AFTER,
+    ),
+    Case::Line(
+        LINE,
+        br#"{"version":2,"tree":"atomic","initial":[],"threads":[[{"op":"insert","key":1}],[{"op":"insert","key":1,"after":null}]]}"#,
+        AFTER,
+    ),
+    Case::Line(
+        LINE,
+        br#"{"version":2,"tree":"atomic","initial":[],"threads":[[{"op":"insert","key":1}],[{"op":"insert","key":1,"after":[0,1.0]}]]}"#,
+        AFTER,
+    ),
+    Case::Line(
+        LINE,
+        br#"{"version":2,"tree":"atomic","initial":[],"threads":[[{"op":"insert","key":1,"after":[0,1]}],[{"op":"insert","key":1}]]}"#,
+        AFTER,
+    ),
     // The last member of a name counts.
-    Refused(
-        Text::InTurn(r#","after":[0,1]"#, r#","key":100"#),
-        "P10 Key",
+    Case::Line(
+        LINE,
+        br#"{"version":2,"tree":"atomic","initial":[],"threads":[[{"op":"insert","key":1,"after":[0,1]}],[{"op":"insert","key":1,"key":100}]]}"#,
+        KEY,
     ),
 ];
 
 #[test]
 fn waits_for_operations_of_earlier_threads(rt: HostRuntime) -> Result<(), Fail> {
-    check_all(&rt, TURNS.as_slice(), |case| case.is_met(&rt))
+    check_all(&rt, TURNS.as_slice())
 }
 
-static COUNTS: [Refused; 3] = [
-    Refused(
-        Text::Program("1,2,3,4,5,6,7,8,9,10,11,12,13", INSERT_1),
-        "P5 Initial",
+/// Thirteen keys, seven operations of one thread, and four threads of four operations.
+static COUNTS: [Case<'static>; 3] = [
+    Case::Line(
+        LINE,
+        br#"{"version":1,"tree":"atomic","initial":[1,2,3,4,5,6,7,8,9,10,11,12,13],"threads":[[{"op":"insert","key":1}]]}"#,
+        INITIAL,
     ),
-    Refused(Text::Inserts(1, 7), "P8 Ops"),
-    Refused(Text::Inserts(4, 4), "P8 Ops"),
+    Case::Line(
+        LINE,
+        br#"{"version":1,"tree":"atomic","initial":[],"threads":[[{"op":"insert","key":1},{"op":"insert","key":1},{"op":"insert","key":1},{"op":"insert","key":1},{"op":"insert","key":1},{"op":"insert","key":1},{"op":"insert","key":1}]]}"#,
+        OPS,
+    ),
+    Case::Line(
+        LINE,
+        br#"{"version":1,"tree":"atomic","initial":[],"threads":[[{"op":"insert","key":1},{"op":"insert","key":1},{"op":"insert","key":1},{"op":"insert","key":1}],[{"op":"insert","key":1},{"op":"insert","key":1},{"op":"insert","key":1},{"op":"insert","key":1}],[{"op":"insert","key":1},{"op":"insert","key":1},{"op":"insert","key":1},{"op":"insert","key":1}],[{"op":"insert","key":1},{"op":"insert","key":1},{"op":"insert","key":1},{"op":"insert","key":1}]]}"#,
+        OPS,
+    ),
 ];
 
 #[test]
 fn counts_keys_and_operations(rt: HostRuntime) -> Result<(), Fail> {
-    check_all(&rt, COUNTS.as_slice(), |case| case.is_met(&rt))
+    check_all(&rt, COUNTS.as_slice())
 }
 
-/// A text that is a program, how many steps are explored, and all that is printed.
-#[derive(Clone, Copy, Debug)]
-struct Taken(Text, u16, &'static str);
-
-impl Taken {
-    fn is_met<R: Runtime>(&self, rt: &R) -> Result<bool, OutOfMemory> {
-        let Taken(text, steps, out) = self;
-        let file = text.bytes(rt.alloc())?;
-        let line = format!(in rt.alloc(); "treesched explore f --steps {steps}")?;
-        let output = answer_to(rt, line.as_str(), file.as_slice())?;
-        Ok(shows(rt, &output, 0, out, ""))
-    }
-}
-
-static PROGRAMS: [Taken; 2] = [
-    Taken(Text::Between(b"", b"\n"), 2, "holds to 2 steps\nstates 5\n"),
-    Taken(Text::Inserts(4, 3), 0, "holds to 0 steps\nstates 1\n"),
+static PROGRAMS: [Case<'static>; 2] = [
+    Case::Line(
+        LINE,
+        b"{\"version\":1,\"tree\":\"atomic\",\"initial\":[],\"threads\":[[{\"op\":\"insert\",\"key\":1}],[{\"op\":\"insert\",\"key\":1}]]}\n",
+        Wanted::Prints(0, "holds to 2 steps\nstates 5\n"),
+    ),
+    Case::Line(
+        "treesched explore f --steps 0",
+        br#"{"version":1,"tree":"atomic","initial":[],"threads":[[{"op":"insert","key":1},{"op":"insert","key":1},{"op":"insert","key":1}],[{"op":"insert","key":1},{"op":"insert","key":1},{"op":"insert","key":1}],[{"op":"insert","key":1},{"op":"insert","key":1},{"op":"insert","key":1}],[{"op":"insert","key":1},{"op":"insert","key":1},{"op":"insert","key":1}]]}"#,
+        Wanted::Prints(0, "holds to 0 steps\nstates 1\n"),
+    ),
 ];
 
 #[test]
 fn takes_a_line_feed_behind_and_twelve_operations(rt: HostRuntime) -> Result<(), Fail> {
-    check_all(&rt, PROGRAMS.as_slice(), |case| case.is_met(&rt))
+    check_all(&rt, PROGRAMS.as_slice())
 }

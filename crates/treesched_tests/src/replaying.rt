@@ -1,162 +1,164 @@
 //! What is printed for replays, and which lists are schedules.
-use crate::answers::{answer, shows};
-use crate::cases::{Runtime, check, check_all};
+use crate::answers::{Wanted, answer};
+use crate::cases::{Case, Runtime, check_all};
 use crate::sources::{
-    ELLEN_INSERT, ELLEN_NO_MARK, FIND_5, INSERT_5, NM_INSERT, NM_NO_TAG, Source, THREE_INSERTS,
-    TWO_IN_TURN, TWO_INSERTS,
+    ELLEN_INSERT, ELLEN_NO_MARK, NM_INSERT, NM_NO_TAG, THREE_INSERTS, TWO_IN_TURN, TWO_INSERTS,
 };
 use sched_program::OutOfMemory;
 use std::test::Fail;
 
-/// Whether a replay ends with the status and prints these texts.
-fn shows_replay<R: Runtime>(
+/// Whether a replay of the schedule has that answer.
+pub fn replays<R: Runtime>(
     rt: &R,
-    source: &Source,
     schedule: &str,
-    status: u8,
-    out: &str,
-    err: &str,
+    file: &[u8],
+    wanted: &Wanted<'_>,
 ) -> Result<bool, OutOfMemory> {
-    let file = source.text(rt.alloc())?;
     let words = ["treesched", "replay", "f", "--schedule", schedule];
-    let output = answer(rt, words.as_slice(), file.as_bytes())?;
-    Ok(shows(rt, &output, status, out, err))
+    let output = answer(rt, words.as_slice(), file)?;
+    Ok(wanted.is_met(rt, &output))
 }
 
-/// A program, a schedule, the status and all that is printed.
-#[derive(Clone, Copy, Debug)]
-struct Replays(Source, &'static str, u8, &'static str);
+/// A program of two threads, an insert and a find.
+const INSERT_AND_FIND: &[u8] =
+    br#"{"version":1,"tree":"ellen","initial":[],"threads":[[{"op":"insert","key":5}],[{"op":"find","key":5}]]}"#;
 
-impl Replays {
-    fn is_met<R: Runtime>(&self, rt: &R) -> Result<bool, OutOfMemory> {
-        let Replays(source, schedule, status, out) = self;
-        shows_replay(rt, source, schedule, *status, out, "")
-    }
-}
-
-static REPLAYED: [Replays; 9] = [
-    Replays(
-        TWO_INSERTS,
+static REPLAYED: [Case<'static>; 9] = [
+    Case::Replay(
         "1,0",
-        0,
-        "0.0 insert 1 false\n1.0 insert 1 true\norder 1.0 0.0\nno fault\n",
-    ),
-    Replays(
         TWO_INSERTS,
+        Wanted::Prints(
+            0,
+            "0.0 insert 1 false\n1.0 insert 1 true\norder 1.0 0.0\nno fault\n",
+        ),
+    ),
+    Case::Replay(
         "0",
-        0,
-        "0.0 insert 1 true\norder 0.0\nno fault\n",
+        TWO_INSERTS,
+        Wanted::Prints(0, "0.0 insert 1 true\norder 0.0\nno fault\n"),
     ),
-    Replays(TWO_INSERTS, "", 0, "order -\nno fault\n"),
-    Replays(
-        THREE_INSERTS,
+    Case::Replay("", TWO_INSERTS, Wanted::Prints(0, "order -\nno fault\n")),
+    Case::Replay(
         "2,0,1",
-        0,
-        "0.0 insert 1 false\n1.0 insert 1 false\n2.0 insert 1 true\norder 2.0 0.0 1.0\nno fault\n",
+        THREE_INSERTS,
+        Wanted::Prints(
+            0,
+            "0.0 insert 1 false\n1.0 insert 1 false\n2.0 insert 1 true\norder 2.0 0.0 1.0\nno fault\n",
+        ),
     ),
-    Replays(
-        Source(1, "ellen", "", &[INSERT_5, FIND_5]),
+    Case::Replay(
         "0,0,0,0,1,1,1,1",
-        0,
-        "0.0 insert 5 pending\n1.0 find 5 true\norder 0.0 1.0\nno fault\n",
+        INSERT_AND_FIND,
+        Wanted::Prints(
+            0,
+            "0.0 insert 5 pending\n1.0 find 5 true\norder 0.0 1.0\nno fault\n",
+        ),
     ),
-    Replays(
-        ELLEN_INSERT,
+    Case::Replay(
         "0,0,0,0,1,1,1,1,1,0,0,0,0,0,1,1,0,0,0,0,0,0,0,0,0,0,0,0",
-        0,
-        "0.0 delete 10 true\n1.0 insert 5 true\norder 0.0 1.0\nno fault\n",
+        ELLEN_INSERT,
+        Wanted::Prints(
+            0,
+            "0.0 delete 10 true\n1.0 insert 5 true\norder 0.0 1.0\nno fault\n",
+        ),
     ),
-    Replays(
-        NM_INSERT,
+    Case::Replay(
         "0,0,0,1,1,1,1,1,1,1,1,1,1,0,0,0,0,0,0",
-        0,
-        "0.0 delete 10 true\n1.0 insert 5 true\norder 0.0 1.0\nno fault\n",
+        NM_INSERT,
+        Wanted::Prints(
+            0,
+            "0.0 delete 10 true\n1.0 insert 5 true\norder 0.0 1.0\nno fault\n",
+        ),
     ),
-    Replays(
-        ELLEN_NO_MARK,
+    Case::Replay(
         "0,0,0,0,0,0,0,1,1,0,1,1,1,1,1,1,1",
-        1,
-        "0.0 delete 10 pending\n1.0 insert 5 true\n1.1 find 5 false\nfault history\n",
+        ELLEN_NO_MARK,
+        Wanted::Prints(
+            1,
+            "0.0 delete 10 pending\n1.0 insert 5 true\n1.1 find 5 false\nfault history\n",
+        ),
     ),
-    Replays(
-        NM_NO_TAG,
+    Case::Replay(
         "1,1,1,0,0,0,0,0,0,1,0,1,1",
-        1,
-        "0.0 delete 10 true\n1.0 insert 25 true\n1.1 find 25 false\nfault history\n",
+        NM_NO_TAG,
+        Wanted::Prints(
+            1,
+            "0.0 delete 10 true\n1.0 insert 25 true\n1.1 find 25 false\nfault history\n",
+        ),
     ),
 ];
 
 #[test]
 fn replays_schedules(rt: HostRuntime) -> Result<(), Fail> {
-    check_all(&rt, REPLAYED.as_slice(), |case| case.is_met(&rt))
+    check_all(&rt, REPLAYED.as_slice())
 }
 
-/// A program, words for a schedule that is not replayed, and the line on the standard error.
-#[derive(Clone, Copy, Debug)]
-struct Refuses(Source, &'static str, &'static str);
-
-impl Refuses {
-    fn is_met<R: Runtime>(&self, rt: &R) -> Result<bool, OutOfMemory> {
-        let Refuses(source, schedule, err) = self;
-        shows_replay(rt, source, schedule, 4, "", err)
-    }
-}
-
-static STUCK: [Refuses; 3] = [
-    Refuses(
-        TWO_INSERTS,
+static STUCK: [Case<'static>; 3] = [
+    Case::Replay(
         "0,0",
-        "treesched: step 2: thread 0 has no step\n",
+        TWO_INSERTS,
+        Wanted::Tells(4, "treesched: step 2: thread 0 has no step\n"),
     ),
-    Refuses(
-        THREE_INSERTS,
+    Case::Replay(
         "7",
-        "treesched: step 1: thread 7 has no step\n",
+        THREE_INSERTS,
+        Wanted::Tells(4, "treesched: step 1: thread 7 has no step\n"),
     ),
-    Refuses(
-        TWO_IN_TURN,
+    Case::Replay(
         "1",
-        "treesched: step 1: thread 1 has no step\n",
+        TWO_IN_TURN,
+        Wanted::Tells(4, "treesched: step 1: thread 1 has no step\n"),
     ),
 ];
 
 #[test]
 fn stops_where_a_thread_has_no_step(rt: HostRuntime) -> Result<(), Fail> {
-    check_all(&rt, STUCK.as_slice(), |case| case.is_met(&rt))
+    check_all(&rt, STUCK.as_slice())
 }
 
-static NO_SCHEDULES: [&str; 13] = [
-    "0,", ",", "00", " 0", "10", "0,,1", "0, 1", "0 1", "a", "0,a", "+0", ",0", "0,1,",
+const BAD_SCHEDULE: Wanted<'static> = Wanted::Tells(4, "treesched: bad schedule\n");
+
+static NO_SCHEDULES: [Case<'static>; 13] = [
+    Case::Replay("0,", TWO_INSERTS, BAD_SCHEDULE),
+    Case::Replay(",", TWO_INSERTS, BAD_SCHEDULE),
+    Case::Replay("00", TWO_INSERTS, BAD_SCHEDULE),
+    Case::Replay(" 0", TWO_INSERTS, BAD_SCHEDULE),
+    Case::Replay("10", TWO_INSERTS, BAD_SCHEDULE),
+    Case::Replay("0,,1", TWO_INSERTS, BAD_SCHEDULE),
+    Case::Replay("0, 1", TWO_INSERTS, BAD_SCHEDULE),
+    Case::Replay("0 1", TWO_INSERTS, BAD_SCHEDULE),
+    Case::Replay("a", TWO_INSERTS, BAD_SCHEDULE),
+    Case::Replay("0,a", TWO_INSERTS, BAD_SCHEDULE),
+    Case::Replay("+0", TWO_INSERTS, BAD_SCHEDULE),
+    Case::Replay(",0", TWO_INSERTS, BAD_SCHEDULE),
+    Case::Replay("0,1,", TWO_INSERTS, BAD_SCHEDULE),
 ];
 
 #[test]
 fn refuses_what_is_no_schedule(rt: HostRuntime) -> Result<(), Fail> {
-    for list in &NO_SCHEDULES {
-        let case = Refuses(TWO_INSERTS, *list, "treesched: bad schedule\n");
-        check(&rt, &case, |case| case.is_met(&rt))?;
-    }
-    Ok(())
+    check_all(&rt, NO_SCHEDULES.as_slice())
 }
 
-/// A schedule of so many steps of the first of two threads, which has one step, and the line on the standard error.
-#[derive(Clone, Copy, Debug)]
-struct Zeros(usize, &'static str);
-
-impl Zeros {
-    fn is_met<R: Runtime>(&self, rt: &R) -> Result<bool, OutOfMemory> {
-        let Zeros(count, err) = self;
-        let zeros = vec![in rt.alloc(); "0"; *count]?;
-        let schedule = zeros.as_slice().join(rt.alloc(), ",")?;
-        shows_replay(rt, &TWO_INSERTS, schedule.as_str(), 4, "", err)
-    }
+/// Whether a replay of so many steps of the first of two threads, which has one step, has that answer.
+pub fn replays_zeros<R: Runtime>(
+    rt: &R,
+    count: usize,
+    wanted: &Wanted<'_>,
+) -> Result<bool, OutOfMemory> {
+    let mut schedule = "0,".repeat(rt.alloc(), count)?;
+    schedule.pop();
+    replays(rt, schedule.as_str(), TWO_INSERTS, wanted)
 }
 
-static LENGTHS: [Zeros; 2] = [
-    Zeros(400, "treesched: step 2: thread 0 has no step\n"),
-    Zeros(401, "treesched: bad schedule\n"),
+static LENGTHS: [Case<'static>; 2] = [
+    Case::Zeros(
+        400,
+        Wanted::Tells(4, "treesched: step 2: thread 0 has no step\n"),
+    ),
+    Case::Zeros(401, BAD_SCHEDULE),
 ];
 
 #[test]
 fn takes_400_steps_and_no_more(rt: HostRuntime) -> Result<(), Fail> {
-    check_all(&rt, LENGTHS.as_slice(), |case| case.is_met(&rt))
+    check_all(&rt, LENGTHS.as_slice())
 }

@@ -1,10 +1,9 @@
 //! What is printed for an exploration by one worker.
-use crate::answers::{answer_to, or_printed, shows};
-use crate::cases::{Runtime, check, check_all};
+use crate::answers::{Wanted, answers};
+use crate::cases::{Case, Runtime, check, check_all};
 use crate::exploring::known::Exploration;
 use crate::sources::{
-    DELETE_10, DELETE_40_INSERT_45, ELLEN_INSERT, FINDS_IN_TURN, NM_INSERT, Source, THREE_INSERTS,
-    TWO_FINDS, TWO_INSERTS,
+    ELLEN_INSERT, FINDS_IN_TURN, NM_INSERT, THREE_INSERTS, TWO_FINDS, TWO_INSERTS,
 };
 use sched_program::OutOfMemory;
 use std::test::Fail;
@@ -12,107 +11,103 @@ use std::test::Fail;
 /// Whether one worker prints the lines of what is known of the exploration, the schedule among them, and nothing else.
 pub fn explores_alone<R: Runtime>(rt: &R, exploration: &Exploration) -> Result<bool, OutOfMemory> {
     let line = exploration.line(rt.alloc())?;
-    let file = exploration.source.text(rt.alloc())?;
-    let output = answer_to(rt, line.as_str(), file.as_bytes())?;
     let out = exploration.text(rt.alloc())?;
-    Ok(shows(rt, &output, exploration.status(), out.as_str(), ""))
+    let wanted = Wanted::Prints(exploration.status(), out.as_str());
+    answers(rt, line.as_str(), exploration.file, &wanted)
 }
 
-/// A program, the words behind its file, the status and all that is printed.
-#[derive(Clone, Copy, Debug)]
-struct Prints(Source, &'static str, u8, &'static str);
-
-impl Prints {
-    fn is_met<R: Runtime>(&self, rt: &R) -> Result<bool, OutOfMemory> {
-        let Prints(source, options, status, out) = self;
-        let line = format!(in rt.alloc(); "treesched explore f {options}")?;
-        let file = source.text(rt.alloc())?;
-        let output = answer_to(rt, line.as_str(), file.as_bytes())?;
-        Ok(shows(rt, &output, *status, out, ""))
-    }
-}
-
-static PRINTED: [Prints; 11] = [
-    Prints(TWO_INSERTS, "--steps 0", 0, "holds to 0 steps\nstates 1\n"),
-    Prints(
+static PRINTED: [Case<'static>; 11] = [
+    Case::Line(
+        "treesched explore f --steps 0",
         TWO_INSERTS,
-        "--steps 2 --ledger",
-        0,
-        "holds to 2 steps\nstates 5\nworker 1 expanded 3 entered 4 met 0\ntotal expanded 3 entered 4 met 0\n",
+        Wanted::Prints(0, "holds to 0 steps\nstates 1\n"),
     ),
-    Prints(
+    Case::Line(
+        "treesched explore f --steps 2 --ledger",
         TWO_INSERTS,
-        "--steps 2 --states 4 --ledger",
-        2,
-        "stopped at 4 states\nholds to 1 steps\nworker 1 expanded 2 entered 3 met 0\ntotal expanded 2 entered 3 met 0\n",
+        Wanted::Prints(
+            0,
+            "holds to 2 steps\nstates 5\nworker 1 expanded 3 entered 4 met 0\ntotal expanded 3 entered 4 met 0\n",
+        ),
     ),
-    Prints(
+    Case::Line(
+        "treesched explore f --steps 2 --states 4 --ledger",
+        TWO_INSERTS,
+        Wanted::Prints(
+            2,
+            "stopped at 4 states\nholds to 1 steps\nworker 1 expanded 2 entered 3 met 0\ntotal expanded 2 entered 3 met 0\n",
+        ),
+    ),
+    Case::Line(
+        "treesched explore f --steps 3 --ledger",
         THREE_INSERTS,
-        "--steps 3 --ledger",
-        0,
-        "holds to 3 steps\nstates 16\nworker 1 expanded 10 entered 15 met 0\ntotal expanded 10 entered 15 met 0\n",
+        Wanted::Prints(
+            0,
+            "holds to 3 steps\nstates 16\nworker 1 expanded 10 entered 15 met 0\ntotal expanded 10 entered 15 met 0\n",
+        ),
     ),
-    Prints(
+    Case::Line(
+        "treesched explore f --steps 2",
         THREE_INSERTS,
-        "--steps 2",
-        0,
-        "holds to 2 steps\nstates 10\n",
+        Wanted::Prints(0, "holds to 2 steps\nstates 10\n"),
     ),
-    Prints(
+    Case::Line(
+        "treesched explore f --steps 4 --ledger",
         TWO_FINDS,
-        "--steps 4 --ledger",
-        0,
-        "holds to 4 steps\nstates 13\nworker 1 expanded 10 entered 12 met 2\ntotal expanded 10 entered 12 met 2\n",
+        Wanted::Prints(
+            0,
+            "holds to 4 steps\nstates 13\nworker 1 expanded 10 entered 12 met 2\ntotal expanded 10 entered 12 met 2\n",
+        ),
     ),
-    Prints(
+    Case::Line(
+        "treesched explore f --steps 4 --ledger",
         FINDS_IN_TURN,
-        "--steps 4 --ledger",
-        0,
-        "holds to 4 steps\nstates 5\nworker 1 expanded 4 entered 4 met 0\ntotal expanded 4 entered 4 met 0\n",
+        Wanted::Prints(
+            0,
+            "holds to 4 steps\nstates 5\nworker 1 expanded 4 entered 4 met 0\ntotal expanded 4 entered 4 met 0\n",
+        ),
     ),
-    Prints(
+    Case::Line(
+        "treesched explore f --steps 4 --merge names --ledger",
         TWO_FINDS,
-        "--steps 4 --merge names --ledger",
-        0,
-        "holds to 4 steps\nstates 13\nworker 1 expanded 10 entered 12 met 2\ntotal expanded 10 entered 12 met 2\n",
+        Wanted::Prints(
+            0,
+            "holds to 4 steps\nstates 13\nworker 1 expanded 10 entered 12 met 2\ntotal expanded 10 entered 12 met 2\n",
+        ),
     ),
-    Prints(
+    Case::Line(
+        "treesched explore f --steps 5 --merge names --ledger",
         TWO_FINDS,
-        "--steps 5 --merge names --ledger",
-        0,
-        "holds for every schedule\nstates 13\nworker 1 expanded 13 entered 12 met 2\ntotal expanded 13 entered 12 met 2\n",
+        Wanted::Prints(
+            0,
+            "holds for every schedule\nstates 13\nworker 1 expanded 13 entered 12 met 2\ntotal expanded 13 entered 12 met 2\n",
+        ),
     ),
-    Prints(
+    Case::Line(
+        "treesched explore f --steps 400 --merge names",
         ELLEN_INSERT,
-        "--steps 400 --merge names",
-        0,
-        "holds for every schedule\nstates 276\n",
+        Wanted::Prints(0, "holds for every schedule\nstates 276\n"),
     ),
-    Prints(
+    Case::Line(
+        "treesched explore f --steps 400 --merge names",
         NM_INSERT,
-        "--steps 400 --merge names",
-        0,
-        "holds for every schedule\nstates 89\n",
+        Wanted::Prints(0, "holds for every schedule\nstates 89\n"),
     ),
 ];
 
 #[test]
 fn prints_the_answer_and_the_ledger(rt: HostRuntime) -> Result<(), Fail> {
-    check_all(&rt, PRINTED.as_slice(), |case| case.is_met(&rt))
+    check_all(&rt, PRINTED.as_slice())
 }
 
-/// Whether a fault of search order after 20 steps is told in the first line.
-fn breaks_order<R: Runtime>(rt: &R, source: &Source) -> Result<bool, OutOfMemory> {
-    let file = source.text(rt.alloc())?;
-    let output = answer_to(rt, "treesched explore f --steps 20", file.as_bytes())?;
-    let first = output.out.as_str().lines().next();
-    let is_met = output.status == 1 && first == Some("fault order after 20 steps");
-    Ok(or_printed(rt, is_met, &output))
-}
+/// A program whose search order breaks.
+static BROKEN_ORDER: Case<'static> = Case::Line(
+    "treesched explore f --steps 20",
+    br#"{"version":1,"tree":"nm-no-tag","initial":[20,10,40,30],"threads":[[{"op":"delete","key":40},{"op":"insert","key":45}],[{"op":"delete","key":10}]]}"#,
+    Wanted::Begins(1, "fault order after 20 steps"),
+);
 
 #[test]
 fn finds_broken_search_order(rt: HostRuntime) -> Result<(), Fail> {
-    let threads = &[DELETE_40_INSERT_45, DELETE_10];
-    let source = Source(1, "nm-no-tag", "20,10,40,30", threads);
-    check(&rt, &source, |source| breaks_order(&rt, source))
+    check(&rt, 0, &BROKEN_ORDER)
 }

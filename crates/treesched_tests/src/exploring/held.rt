@@ -2,7 +2,7 @@
 use crate::cases::Runtime;
 use crate::exploring::known::Exploration;
 use crate::exploring::ledger::total_of;
-use crew::{Gate, Options, Report, explore};
+use crew::{Gate, Options, Report, Share, explore};
 use ellen::Ellen;
 use natmit::NatMit;
 use sched_program::{OutOfMemory, Program, ProgramFault, Tree};
@@ -13,8 +13,7 @@ use treesched_lib::put_report;
 /// Whether each number of held workers tells what is known of the exploration, and each worker expanded as many entries
 /// as it arrived at, unless the limit stopped it.
 pub fn explores_held<R: Runtime>(rt: &R, exploration: &Exploration) -> Result<bool, OutOfMemory> {
-    let file = exploration.source.text(rt.alloc())?;
-    match Program::from_json(rt.alloc(), file.as_bytes()) {
+    match Program::from_json(rt.alloc(), exploration.file) {
         Ok(program) => all_explore(rt, &program, exploration),
         Err(ProgramFault::OutOfMemory) => Err(OutOfMemory),
         Err(_) => Ok(false),
@@ -40,49 +39,72 @@ fn explore_on_its_tree<R: Runtime>(
     exploration: &Exploration,
     workers: u8,
 ) -> Result<bool, OutOfMemory> {
-    match program.tree() {
+    let tree = program.tree();
+    match tree {
         Tree::Atomic => explore_on(rt, Atomic, program, exploration, workers),
-        Tree::Ellen => explore_on(rt, ellen(true, true), program, exploration, workers),
-        Tree::EllenNoMark => explore_on(rt, ellen(false, true), program, exploration, workers),
-        Tree::EllenNoIflag => explore_on(rt, ellen(true, false), program, exploration, workers),
-        Tree::Nm => explore_on(rt, NatMit { tag: true }, program, exploration, workers),
-        Tree::NmNoTag => explore_on(rt, NatMit { tag: false }, program, exploration, workers),
+        Tree::Ellen | Tree::EllenNoMark | Tree::EllenNoIflag => {
+            let machine = Ellen {
+                mark: tree != Tree::EllenNoMark,
+                iflag: tree != Tree::EllenNoIflag,
+            };
+            explore_on(rt, machine, program, exploration, workers)
+        }
+        Tree::Nm | Tree::NmNoTag => {
+            let machine = NatMit {
+                tag: tree == Tree::Nm,
+            };
+            explore_on(rt, machine, program, exploration, workers)
+        }
     }
 }
 
-fn ellen(mark: bool, iflag: bool) -> Ellen {
-    Ellen { mark, iflag }
-}
-
-fn explore_on<M: Machine, R: Runtime>(
+fn explore_on<R: Runtime, M: Machine>(
     rt: &R,
     machine: M,
     program: &Program,
     exploration: &Exploration,
     workers: u8,
 ) -> Result<bool, OutOfMemory> {
-    let steps = exploration.steps;
-    let Some(options) = Options::new(steps, exploration.limit, exploration.merge, workers) else {
+    let Exploration {
+        steps,
+        merge,
+        limit,
+        ..
+    } = *exploration;
+    let Some(options) = Options::new(steps, limit, merge, workers) else {
         return Ok(false);
     };
     let gate = Slow::new();
     let report = explore(rt, rt.alloc(), machine, program, options, &gate)?;
-    let is_met = gate.agrees(&report) || exploration.is_stopped();
-    Ok(is_met && tells(rt, &report, exploration, workers)?)
+    tells(rt, &report, &gate, exploration, workers)
 }
 
-/// Whether the lines of the report tell what is known of the exploration. Others are printed.
-fn tells<M: Machine, R: Runtime>(
+/// Whether the lines of the report tell what is known of the exploration, and the shares agree with the gate, unless the
+/// limit stopped it.
+fn tells<R: Runtime, M: Machine>(
     rt: &R,
     report: &Report<M>,
+    gate: &Slow,
     exploration: &Exploration,
     workers: u8,
 ) -> Result<bool, OutOfMemory> {
     let mut out = String::new(rt.alloc());
     put_report(&mut out, true, report)?;
-    let is_met = total_of(rt.alloc(), exploration, workers, out.as_str())?.is_some();
+    let is_met = gate.agrees(report.shares.as_slice()) || exploration.is_stopped();
+    Ok(is_met && is_told(rt, exploration, workers, out.as_str())?)
+}
+
+/// Whether the lines of so many workers tell what is known of the exploration. Others are printed.
+fn is_told<R: Runtime>(
+    rt: &R,
+    exploration: &Exploration,
+    workers: u8,
+    out: &str,
+) -> Result<bool, OutOfMemory> {
+    let text = exploration.text(rt.alloc())?;
+    let is_met = total_of(text.as_str(), workers, out).is_some();
     if !is_met {
-        let _ = println!(rt; "{out}");
+        let _ = println!(rt; "{workers} held workers: {out}");
     }
     Ok(is_met)
 }
@@ -113,9 +135,13 @@ impl Slow {
     }
 
     /// Whether each worker expanded as many entries as it arrived at.
-    fn agrees<M: Machine>(&self, report: &Report<M>) -> bool {
-        report.shares.iter().zip(&self.counts).all(|(share, count)| share.expanded as u64
-            == count.load(Ordering::SeqCst))
+    fn agrees(&self, shares: &[Share]) -> bool {
+        for (share, count) in shares.iter().zip(&self.counts) {
+            if share.expanded as u64 != count.load(Ordering::SeqCst) {
+                return false;
+            }
+        }
+        true
     }
 }
 

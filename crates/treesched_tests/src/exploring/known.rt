@@ -1,10 +1,9 @@
-//! Explorations of which the outcome is known. The numbers of states agree with two explorers that have no code in
-//! common with this one.
+//! Explorations of which the outcome is known. Two explorers that have no code in common with this one tell the same
+//! numbers of states.
 use crate::sources::{
-    DELETE_5, DELETE_10, DELETE_20, ELLEN, ELLEN_IN_TURN, ELLEN_INSERT, ELLEN_NO_IFLAG,
-    ELLEN_NO_IFLAG_IN_TURN, ELLEN_NO_MARK, ELLEN_NO_MARK_IN_TURN, FIND_5, FIND_10, FINDS_IN_TURN,
-    INSERT_5, INSERT_10, INSERT_25, INSERT_25_IN_TURN, LAST_IN_TURN, NM, NM_IN_TURN, NM_INSERT,
-    NM_NO_TAG, NM_NO_TAG_IN_TURN, Source, TWO_AT_ONCE, TWO_FINDS, TWO_IN_TURN, TWO_INSERTS,
+    ELLEN, ELLEN_IN_TURN, ELLEN_INSERT, ELLEN_NO_IFLAG, ELLEN_NO_IFLAG_IN_TURN, ELLEN_NO_MARK,
+    ELLEN_NO_MARK_IN_TURN, FINDS_IN_TURN, LAST_IN_TURN, NM, NM_IN_TURN, NM_INSERT, NM_NO_TAG,
+    NM_NO_TAG_IN_TURN, TWO_AT_ONCE, TWO_FINDS, TWO_IN_TURN, TWO_INSERTS,
 };
 use book::Merge;
 use sched_program::OutOfMemory;
@@ -15,7 +14,7 @@ use std::ops::RangeInclusive;
 pub const AMPLE: u32 = 200_000;
 
 /// What an exploration comes to.
-#[derive(Clone, Copy, Debug)]
+#[derive(Clone, Copy)]
 pub enum Outcome {
     /// No fault after any number of steps, and so many states.
     Every { states: u32 },
@@ -28,9 +27,9 @@ pub enum Outcome {
 }
 
 /// An exploration, and what it comes to.
-#[derive(Clone, Copy, Debug)]
+#[derive(Clone, Copy)]
 pub struct Exploration {
-    pub source: Source,
+    pub file: &'static [u8],
     pub steps: u16,
     pub merge: Merge,
     pub limit: u32,
@@ -40,14 +39,17 @@ pub struct Exploration {
 impl Exploration {
     /// The words that ask for it.
     pub fn line(&self, alloc: Global) -> Result<String, OutOfMemory> {
-        let mut line = format!(in alloc; "treesched explore f --steps {}", self.steps)?;
-        if self.merge == Merge::Names {
-            line.push_str(" --merge names")?;
+        let steps = self.steps;
+        let merge = match self.merge {
+            Merge::Exact => "",
+            Merge::Names => " --merge names",
+        };
+        match self.limit {
+            AMPLE => format!(in alloc; "treesched explore f --steps {steps}{merge}"),
+            limit => format!(in alloc;
+                "treesched explore f --steps {steps}{merge} --states {limit}"
+            ),
         }
-        if self.limit != AMPLE {
-            write!(line, " --states {}", self.limit)?;
-        }
-        Ok(line)
     }
 
     /// Whether the limit stops it.
@@ -94,7 +96,6 @@ pub fn length_of(schedule: &str) -> usize {
 }
 
 /// What is known of a program's schedules.
-#[derive(Clone, Copy)]
 enum Schedules {
     /// None leads to a fault, and by names those of so many steps and more reach no further state.
     Close(u16),
@@ -102,69 +103,141 @@ enum Schedules {
     Fault(&'static str),
 }
 
-/// A program, how many steps are explored, what is known of its schedules, how many states are reached, and how many by
-/// names.
-#[derive(Clone, Copy)]
-pub struct Known(Source, u16, Schedules, u32, u32);
+/// A program, how many steps are explored, what is known of its schedules, and how many states they reach, and by names.
+pub struct Known(&'static [u8], u16, Schedules, u32, u32);
 
 impl Known {
     /// How many states are reached.
     pub fn states(&self, merge: Merge) -> u32 {
-        let Known(_, _, _, exact, names) = *self;
         match merge {
-            Merge::Exact => exact,
-            Merge::Names => names,
+            Merge::Exact => self.3,
+            Merge::Names => self.4,
         }
     }
 
     /// The exploration with a limit that suffices.
     pub fn exploration(&self, merge: Merge, limit: u32) -> Exploration {
-        let states = self.states(merge);
         Exploration {
-            source: self.0,
+            file: self.0,
             steps: self.1,
             merge,
             limit,
-            outcome: match self.2 {
-                Schedules::Close(from) if merge == Merge::Names && from <= self.1 => {
-                    Outcome::Every { states }
-                }
-                Schedules::Close(_) => Outcome::Holds { states },
-                Schedules::Fault(schedule) => Outcome::Fault { schedule, states },
-            },
+            outcome: self.outcome(merge),
+        }
+    }
+
+    fn outcome(&self, merge: Merge) -> Outcome {
+        let states = self.states(merge);
+        match self.2 {
+            Schedules::Close(from) if merge == Merge::Names && from <= self.1 => {
+                Outcome::Every { states }
+            }
+            Schedules::Close(_) => Outcome::Holds { states },
+            Schedules::Fault(schedule) => Outcome::Fault { schedule, states },
         }
     }
 }
 
-/// A program of one thread, how many steps are explored, and how many states are reached: one more than it takes steps.
-#[derive(Clone, Copy)]
-pub struct Lone(Source, u16, u16);
-
-impl Lone {
-    /// What is known of it.
-    pub fn known(&self) -> Known {
-        let Lone(source, steps, states) = *self;
-        let count = u32::from(states);
-        Known(source, steps, Schedules::Close(states), count, count)
-    }
-}
-
-/// Programs of one thread.
-pub static ONE_THREAD: [Lone; 14] = [
-    Lone(Source(1, "ellen", "", &[INSERT_5]), 10, 6),
-    Lone(Source(1, "ellen", "", &[DELETE_5]), 10, 3),
-    Lone(Source(1, "ellen", "10", &[DELETE_10]), 20, 11),
-    Lone(Source(1, "ellen", "10", &[INSERT_10]), 20, 5),
-    Lone(Source(1, "ellen", "10", &[FIND_10]), 20, 5),
-    Lone(Source(1, "ellen", "10", &[INSERT_5]), 20, 8),
-    Lone(Source(1, "ellen", "10,20", &[DELETE_20]), 20, 13),
-    Lone(Source(1, "nm", "", &[INSERT_5]), 20, 3),
-    Lone(Source(1, "nm", "", &[FIND_5]), 20, 2),
-    Lone(Source(1, "nm", "10", &[DELETE_10]), 20, 8),
-    Lone(Source(1, "nm", "10", &[INSERT_10]), 20, 3),
-    Lone(Source(1, "nm", "10", &[FIND_10]), 20, 3),
-    Lone(Source(1, "nm", "10", &[INSERT_5]), 20, 4),
-    Lone(Source(1, "nm", "10,20", &[DELETE_20]), 20, 9),
+/// Programs of one thread. They reach one state more than they take steps.
+pub static ONE_THREAD: [Known; 14] = [
+    Known(
+        br#"{"version":1,"tree":"ellen","initial":[],"threads":[[{"op":"insert","key":5}]]}"#,
+        10,
+        Schedules::Close(6),
+        6,
+        6,
+    ),
+    Known(
+        br#"{"version":1,"tree":"ellen","initial":[],"threads":[[{"op":"delete","key":5}]]}"#,
+        10,
+        Schedules::Close(3),
+        3,
+        3,
+    ),
+    Known(
+        br#"{"version":1,"tree":"ellen","initial":[10],"threads":[[{"op":"delete","key":10}]]}"#,
+        20,
+        Schedules::Close(11),
+        11,
+        11,
+    ),
+    Known(
+        br#"{"version":1,"tree":"ellen","initial":[10],"threads":[[{"op":"insert","key":10}]]}"#,
+        20,
+        Schedules::Close(5),
+        5,
+        5,
+    ),
+    Known(
+        br#"{"version":1,"tree":"ellen","initial":[10],"threads":[[{"op":"find","key":10}]]}"#,
+        20,
+        Schedules::Close(5),
+        5,
+        5,
+    ),
+    Known(
+        br#"{"version":1,"tree":"ellen","initial":[10],"threads":[[{"op":"insert","key":5}]]}"#,
+        20,
+        Schedules::Close(8),
+        8,
+        8,
+    ),
+    Known(
+        br#"{"version":1,"tree":"ellen","initial":[10,20],"threads":[[{"op":"delete","key":20}]]}"#,
+        20,
+        Schedules::Close(13),
+        13,
+        13,
+    ),
+    Known(
+        br#"{"version":1,"tree":"nm","initial":[],"threads":[[{"op":"insert","key":5}]]}"#,
+        20,
+        Schedules::Close(3),
+        3,
+        3,
+    ),
+    Known(
+        br#"{"version":1,"tree":"nm","initial":[],"threads":[[{"op":"find","key":5}]]}"#,
+        20,
+        Schedules::Close(2),
+        2,
+        2,
+    ),
+    Known(
+        br#"{"version":1,"tree":"nm","initial":[10],"threads":[[{"op":"delete","key":10}]]}"#,
+        20,
+        Schedules::Close(8),
+        8,
+        8,
+    ),
+    Known(
+        br#"{"version":1,"tree":"nm","initial":[10],"threads":[[{"op":"insert","key":10}]]}"#,
+        20,
+        Schedules::Close(3),
+        3,
+        3,
+    ),
+    Known(
+        br#"{"version":1,"tree":"nm","initial":[10],"threads":[[{"op":"find","key":10}]]}"#,
+        20,
+        Schedules::Close(3),
+        3,
+        3,
+    ),
+    Known(
+        br#"{"version":1,"tree":"nm","initial":[10],"threads":[[{"op":"insert","key":5}]]}"#,
+        20,
+        Schedules::Close(4),
+        4,
+        4,
+    ),
+    Known(
+        br#"{"version":1,"tree":"nm","initial":[10,20],"threads":[[{"op":"delete","key":20}]]}"#,
+        20,
+        Schedules::Close(9),
+        9,
+        9,
+    ),
 ];
 
 const INSERTS: Known = Known(TWO_INSERTS, 2, Schedules::Close(3), 5, 5);
@@ -172,10 +245,12 @@ const INSERTS: Known = Known(TWO_INSERTS, 2, Schedules::Close(3), 5, 5);
 const FINDS: Known = Known(TWO_FINDS, 4, Schedules::Close(5), 13, 13);
 
 /// Two threads that each insert a key beside another leaf.
-const APART: Source = Source(1, "nm", "10,20", &[INSERT_5, INSERT_25]);
+const APART: &[u8] =
+    br#"{"version":1,"tree":"nm","initial":[10,20],"threads":[[{"op":"insert","key":5}],[{"op":"insert","key":25}]]}"#;
 
 /// The same, where the second insert waits for the first.
-const APART_IN_TURN: Source = Source(2, "nm", "10,20", &[INSERT_5, INSERT_25_IN_TURN]);
+const APART_IN_TURN: &[u8] =
+    br#"{"version":2,"tree":"nm","initial":[10,20],"threads":[[{"op":"insert","key":5}],[{"op":"insert","key":25,"after":[0,1]}]]}"#;
 
 /// Programs of two threads.
 pub static TWO_THREADS: [Known; 8] = [
@@ -210,28 +285,29 @@ pub static WHOLE: [Known; 3] = [
     Known(NM, 400, Schedules::Close(26), 224, 198),
 ];
 
-/// A program, the least number of steps from which by names every schedule is covered, and how many states that
-/// reaches.
-#[derive(Clone, Copy)]
-pub struct Closing(Source, u16, u32);
+/// A program, from how many steps on by names every schedule is covered, and how many states that reaches.
+pub struct Closing(&'static [u8], u16, u32);
 
 impl Closing {
-    /// The explorations of one step fewer, and of so many.
-    pub fn explorations(&self) -> [Exploration; 2] {
-        let Closing(source, from, states) = *self;
-        let before = Exploration {
-            source,
-            steps: from.saturating_sub(1),
+    /// One step fewer, and so many.
+    pub fn steps(&self) -> RangeInclusive<u16> {
+        self.1.saturating_sub(1)..=self.1
+    }
+
+    /// The exploration by names to so many steps.
+    pub fn exploration(&self, steps: u16) -> Exploration {
+        let Closing(file, from, states) = *self;
+        Exploration {
+            file,
+            steps,
             merge: Merge::Names,
             limit: AMPLE,
-            outcome: Outcome::Holds { states },
-        };
-        let after = Exploration {
-            steps: from,
-            outcome: Outcome::Every { states },
-            ..before
-        };
-        [before, after]
+            outcome: if steps < from {
+                Outcome::Holds { states }
+            } else {
+                Outcome::Every { states }
+            },
+        }
     }
 }
 
@@ -239,7 +315,11 @@ impl Closing {
 pub static CLOSING: [Closing; 9] = [
     Closing(TWO_INSERTS, 3, 5),
     Closing(TWO_IN_TURN, 3, 3),
-    Closing(Source(1, "ellen", "", &[INSERT_5]), 6, 6),
+    Closing(
+        br#"{"version":1,"tree":"ellen","initial":[],"threads":[[{"op":"insert","key":5}]]}"#,
+        6,
+        6,
+    ),
     Closing(TWO_FINDS, 5, 13),
     Closing(APART, 9, 33),
     Closing(ELLEN, 32, 831),
@@ -280,8 +360,7 @@ pub static TIGHT: [Known; 3] = [INSERTS, FINDS, NO_IFLAG];
 
 /// A program, how many steps are explored and how states are merged; the first and the last of some limits; and how
 /// many steps schedules have that hold where it is stopped at one of these.
-#[derive(Clone, Copy)]
-pub struct Stops(Source, u16, Merge, u32, u32, u16);
+pub struct Stops(&'static [u8], u16, Merge, u32, u32, u16);
 
 impl Stops {
     /// The limits.
@@ -292,7 +371,7 @@ impl Stops {
     /// The exploration that is stopped at this limit.
     pub fn exploration(&self, limit: u32) -> Exploration {
         Exploration {
-            source: self.0,
+            file: self.0,
             steps: self.1,
             merge: self.2,
             limit,
@@ -301,8 +380,7 @@ impl Stops {
     }
 }
 
-/// All limits below the number of states for two programs, and for one the last limit, at which the layer that has its
-/// fault is full.
+/// All limits below the number of states for two programs, and for one the last, at which the layer of its fault is full.
 pub static STOPS: [Stops; 14] = [
     Stops(TWO_INSERTS, 2, Merge::Exact, 1, 2, 0),
     Stops(TWO_INSERTS, 2, Merge::Exact, 3, 4, 1),
