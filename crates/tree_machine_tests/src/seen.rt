@@ -17,7 +17,7 @@ struct Seen {
 /// A schedule, and what is seen of the state after it: the keys, the threads, which of three threads have a step, the
 /// replies in its history, and all of it in bytes: the number of steps, the replies and the notes of each thread, who
 /// went astray, what each thread holds, and behind a 0 the keys.
-pub struct Row {
+struct Row {
     case: Case,
     schedule: &'static [u8],
     keys: &'static [u8],
