@@ -1,0 +1,9 @@
+-- The stack is a copy, and the base is the place's own.
+use Rattle.std.proofs.Common.{rules}
+use Rattle.ellen.proofs.place.Resume.copy.Goals as goal
+
+pub returns-in_err-stack : goal.returns-in_err-stack
+returns-in_err-stack c = search rules
+
+pub returns : goal.returns
+returns c = search rules
