@@ -98,7 +98,8 @@ impl Resume {
     pub(crate) fn copy(&self, alloc: Global) -> Result<Resume, OutOfMemory>
         ensures { IfOk result (λ copy. copy ≡ self.now) }
     {
-        let stack = self.stack.copy(alloc)?;
+        // All at once: `Sequence::copy` goes value by value.
+        let stack = Sequence::from_vec(Vec::from_slice(alloc, self.stack.as_slice())?);
         Ok(Resume {
             stack,
             base: self.base,
