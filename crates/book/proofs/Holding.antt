@@ -1,15 +1,20 @@
 -- The states that a book holds: those of its entries from the first on that is not expanded.
 use Rattle.std.proofs.Common.{◌≡◌, ℕ, zero, suc, ◌+◌, ◌-◌, ◌<◌, ◌≤◌, inl, inr, Option}
 use Rattle.std.proofs.Common.{Some, None, List, [], ◌∷◌, ◌++◌, drop, not, position, length, refl, sym, ap}
-use Rattle.std.proofs.Common.{◌∙◌, arith, slice_get}
+use Rattle.std.proofs.Common.{◌∙◌, append-nil, arith, cond, length-append, slice_get, Bool, true, false}
+use Rattle.std.proofs.Math.ListN.{length-map}
 use Rattle.std.proofs.Math.Seq.{take-length}
 use Rattle.std.proofs.lemmas.Bool.{cases_lt}
-use Rattle.std.proofs.lemmas.List.{take-append-drop}
+use Rattle.std.proofs.lemmas.List.{map-append, take-append-drop}
+use Rattle.std.specs.List.{list_any}
+use Rattle.std.specs.Map.{keys_of}
 use Rattle.tree_machine.proofs.Lists.{get_at}
 use Rattle.book.specs.declared.entry.Mark.{Mark}
 use Rattle.book.specs.declared.entry.Mark.TheVariants.{Open, Taken, Expanded}
 use Rattle.book.specs.Entries.{Entry, At, is_expanded, is_open, states, with_mark, with_marks}
-use Rattle.book.specs.Slots.{AreCursors, IsFirstLeft, IsGrown, IsLeft, AreHeld, StayHeld}
+use Rattle.book.specs.declared.entry.Row.{Row}
+use Rattle.book.specs.Labels.{Labelled}
+use Rattle.book.specs.Slots.{entries_of, entry_of, unlisted, AreCursors, IsFirstLeft, IsGrown, IsLeft, AreHeld, StayHeld}
 use Rattle.book.proofs.Cursors.{still_expanded}
 use Rattle.book.proofs.EntryLemmas.{length-with_mark}
 use Rattle.book.proofs.Marks.{left_by, not_expanded_from, open_from, open_left, taken_left}
@@ -43,6 +48,15 @@ module _ {X : Type 0} where
   pub drop-none : (xs : List X) (n : ℕ) (all rest : List X) → xs ≡ drop n all → xs ≡ [] → rest ≡ []
       → rest ≡ drop (n + 1) all
   drop-none xs n all rest is next none = none ∙ sym (sym (drop-twice all n 1) ∙ ap (drop 1) (sym is ∙ next))
+
+  drop-append : (xs ys : List X) (n : ℕ) → n ≤ length xs → drop n (xs ++ ys) ≡ drop n xs ++ ys
+  drop-append xs ys zero le = refl
+  drop-append [] ys (suc n) le = absurd (omega arith)
+  drop-append (x ∷ xs) ys (suc n) le = drop-append xs ys n (omega arith)
+
+  nothing : (xs ys : List X) → length (xs ++ ys) ≡ length xs + 0 → xs ++ ys ≡ xs
+  nothing xs [] same = append-nil xs
+  nothing xs (y ∷ ys) same = absurd (omega (arith, length-append xs (y ∷ ys)))
 
   pub grown_itself : (xs : List X) → IsGrown xs xs
   grown_itself xs = take-length xs
@@ -123,6 +137,34 @@ module _ {S : Type 0} where
 
   pub stay_same : (es new : List (Entry S)) (held : List S) → new ≡ es → StayHeld es new held held
   stay_same es new held is = λ first le are. are ∙ ap (λ xs. drop first (states xs)) (sym is)
+
+  -- where a row was known
+  pub stay_known : (old new : List (Labelled S × Row)) (rest : List (Labelled S × Row)) → new ≡ old ++ rest
+      → length new ≡ length old + 0 → (held : List S) → StayHeld (entries_of old) (entries_of new) held held
+  stay_known old new rest put len held =
+      stay_same (entries_of old) (entries_of new) held
+      (ap entries_of (put ∙ nothing old rest (sym (ap length put) ∙ len)))
+
+  -- where it was new, and its state is held too
+  pub stay_new : (eq : Labelled S → Labelled S → Bool) (old new : List (Labelled S × Row)) (k : Labelled S) (row : Row)
+      → new ≡ old ++ unlisted eq (keys_of old) ((k, row) ∷ []) → length new ≡ length old + 1
+      → (held still : List S) (s : S) → k.state ≡ s → still ≡ held ++ s ∷ []
+      → StayHeld (entries_of old) (entries_of new) held still
+  stay_new eq old new k row put len held still s is push first le are =
+      by (list_any (eq k) (keys_of old)) put
+    where
+      by : (b : Bool) → new ≡ old ++ cond b [] ((k, row) ∷ []) → AreHeld (entries_of new) first still
+      by true known = absurd (omega (arith, len, ap length (known ∙ append-nil old)))
+      by false added =
+          let all : states (entries_of new) ≡ states (entries_of old) ++ s ∷ [] =
+          ap (λ xs. states (entries_of xs)) added
+          ∙ ap states (map-append entry_of old ((k, row) ∷ []))
+          ∙ map-append (λ (e : Entry S). e.state) (entries_of old) (entry_of (k, row) ∷ [])
+          ∙ ap (λ x. states (entries_of old) ++ x ∷ []) is in
+          push ∙ ap (λ xs. xs ++ s ∷ []) are
+          ∙ sym (ap (drop first) all
+          ∙ drop-append (states (entries_of old)) (s ∷ []) first
+          (omega (arith, le, length-map (entries_of old) (λ (e : Entry S). e.state))))
 
   pub stay_on : (a b c : List (Entry S)) (held mid still : List S) → length a ≤ length b → StayHeld a b held mid
       → StayHeld b c mid still → StayHeld a c held still

@@ -1,9 +1,10 @@
-use Rattle.std.proofs.Common.{Bool, length, ap, ◌∙◌}
+use Rattle.std.proofs.Common.{Bool, length, ap, sym, ◌∙◌}
 use Rattle.book.specs.declared.entry.Row.{Row}
 use Rattle.book.specs.Labels.{Labelled, same_label}
 use Rattle.book.specs.Laws.Labels.{same_label_equiv}
 use Rattle.book.specs.Slots.{keyed_of}
-use Rattle.book.proofs.Leaving.{keeps_known}
+use Rattle.book.proofs.Holding.{stay_known, stay_new}
+use Rattle.book.proofs.Leaving.{keeps_known, keeps_new}
 use Rattle.book.proofs.SlotLemmas.{put_step, step_row}
 use Rattle.book.proofs.placing.put_step.Goals as goal
 
@@ -36,3 +37,24 @@ returns-in-Some-clause-left g c =
     let len = rw c.in-Some.is at c.in_ok-put_new.ensures.len in
     keeps_known c.args.leftovers.now c.keep-in-Some.new.self (length c.args.slots.now.entries)
     (length c.put_new.new.slots.entries) len c.keep-in-Some.ensures
+
+pub returns-in_ok-push-in-None-clause-held : goal.returns-in_ok-push-in-None-clause-held
+returns-in_ok-push-in-None-clause-held g c =
+    let fields = c.into_fields-thread in
+    let len = rw c.in-None.is at c.in_ok-put_new.ensures.len in
+    let eq : Labelled g.row.S.Denot → Labelled g.row.S.Denot → Bool =
+    same_label in
+    stay_new eq c.args.slots.now.entries c.put_new.new.slots.entries fields.result.2 c.in_ok-row.row
+    c.in_ok-put_new.ensures.put len c.args.held.now c.push.new.self fields.result.1
+    (ap (λ (k : Labelled g.row.S.Denot). k.state) fields.ensures.2 ∙ sym fields.ensures.1) c.in_ok-push-in-None.ensures.ok
+
+pub returns-in-Some-clause-held : goal.returns-in-Some-clause-held
+returns-in-Some-clause-held g c =
+    let len = rw c.in-Some.is at c.in_ok-put_new.ensures.len in
+    stay_known c.args.slots.now.entries c.put_new.new.slots.entries _ c.in_ok-put_new.ensures.put len c.args.held.now
+
+pub returns-in_ok-push-in-None-clause-left : goal.returns-in_ok-push-in-None-clause-left
+returns-in_ok-push-in-None-clause-left g c =
+    let len = rw c.in-None.is at c.in_ok-put_new.ensures.len in
+    keeps_new c.args.leftovers.now c.keep.new.self (length c.args.slots.now.entries)
+    (length c.put_new.new.slots.entries) len c.keep.ensures
