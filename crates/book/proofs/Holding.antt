@@ -1,7 +1,7 @@
 -- The states that a book holds: those of its entries from the first on that is not expanded.
 use Rattle.std.proofs.Common.{◌≡◌, ℕ, zero, suc, ◌+◌, ◌-◌, ◌<◌, ◌≤◌, inl, inr, Option}
 use Rattle.std.proofs.Common.{Some, None, List, [], ◌∷◌, ◌++◌, drop, not, position, length, refl, sym, ap}
-use Rattle.std.proofs.Common.{◌∙◌, append-nil, arith, cond, length-append, slice_get, Bool, true, false}
+use Rattle.std.proofs.Common.{◌∙◌, append-nil, take, arith, cond, length-append, slice_get, Bool, true, false}
 use Rattle.std.proofs.Math.ListN.{length-map}
 use Rattle.std.proofs.Math.Seq.{take-length}
 use Rattle.std.proofs.lemmas.Bool.{cases_lt}
@@ -19,7 +19,7 @@ use Rattle.book.proofs.Cursors.{still_expanded}
 use Rattle.book.proofs.EntryLemmas.{length-with_mark}
 use Rattle.book.proofs.Marks.{left_by, not_expanded_from, open_from, open_left, taken_left}
 use Rattle.book.proofs.Next.{first_passes}
-use Rattle.book.proofs.SlotLemmas.{take_kept}
+use Rattle.book.proofs.SlotLemmas.{take-front, take_kept}
 
 -- ---- lists
 module _ {X : Type 0} where
@@ -60,6 +60,12 @@ module _ {X : Type 0} where
 
   pub grown_itself : (xs : List X) → IsGrown xs xs
   grown_itself xs = take-length xs
+
+  pub grown_same : (xs new : List X) → new ≡ xs → IsGrown xs new
+  grown_same xs new is = ap (take (length xs)) is ∙ take-length xs
+
+  pub grown_front : (xs ys new : List X) → new ≡ xs ++ ys → IsGrown xs new
+  grown_front xs ys new is = ap (take (length xs)) is ∙ take-front xs ys
 
   pub grown_on : (a b c : List X) → IsGrown a b → IsGrown b c → IsGrown a c
   grown_on a b c first then =

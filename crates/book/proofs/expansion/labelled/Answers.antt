@@ -41,3 +41,6 @@ returns-clause-same g c =
     all_taken c.loop-step.yielded c.loop-step.step-iterator.rest.items c.args.steps.items c.loop-step.invariant.rest
     none in
     ◌∙◌ {a = bares c.loop-step.made.items} {b = bares c.loop-step.yielded} c.loop-step.invariant.same (ap bares all)
+
+pub returns-clause-known : goal.returns-clause-known
+returns-clause-known g c = c.loop-step.invariant.known

@@ -3,7 +3,7 @@ use Rattle.book.specs.declared.entry.Row.{Row}
 use Rattle.book.specs.Labels.{Labelled, same_label}
 use Rattle.book.specs.Laws.Labels.{same_label_equiv}
 use Rattle.book.specs.Slots.{keyed_of}
-use Rattle.book.proofs.Holding.{stay_known, stay_new}
+use Rattle.book.proofs.Holding.{grown_front, grown_itself, grown_same, stay_known, stay_new}
 use Rattle.book.proofs.Leaving.{keeps_known, keeps_new}
 use Rattle.book.proofs.SlotLemmas.{put_step, step_row}
 use Rattle.book.proofs.placing.put_step.Goals as goal
@@ -58,3 +58,33 @@ returns-in_ok-push-in-None-clause-left g c =
     let len = rw c.in-None.is at c.in_ok-put_new.ensures.len in
     keeps_new c.args.leftovers.now c.keep.new.self (length c.args.slots.now.entries)
     (length c.put_new.new.slots.entries) len c.keep.ensures
+
+pub returns-in_err-row-clause-kept : goal.returns-in_err-row-clause-kept
+returns-in_err-row-clause-kept g c = grown_itself c.args.slots.now.entries
+
+pub returns-in_err-row-clause-held_kept : goal.returns-in_err-row-clause-held_kept
+returns-in_err-row-clause-held_kept g c = grown_itself c.args.held.now
+
+pub returns-in_err-put_new-clause-kept : goal.returns-in_err-put_new-clause-kept
+returns-in_err-put_new-clause-kept g c = grown_same c.args.slots.now.entries c.put_new.new.slots.entries c.in_err-put_new.ensures.err
+
+pub returns-in_err-put_new-clause-held_kept : goal.returns-in_err-put_new-clause-held_kept
+returns-in_err-put_new-clause-held_kept g c = grown_itself c.args.held.now
+
+pub returns-in_err-push-in-None-clause-kept : goal.returns-in_err-push-in-None-clause-kept
+returns-in_err-push-in-None-clause-kept g c = grown_front c.args.slots.now.entries _ c.put_new.new.slots.entries c.in_ok-put_new.ensures.put
+
+pub returns-in_err-push-in-None-clause-held_kept : goal.returns-in_err-push-in-None-clause-held_kept
+returns-in_err-push-in-None-clause-held_kept g c = grown_same c.args.held.now c.push.new.self c.in_err-push-in-None.ensures.err
+
+pub returns-in_ok-push-in-None-clause-kept : goal.returns-in_ok-push-in-None-clause-kept
+returns-in_ok-push-in-None-clause-kept g c = grown_front c.args.slots.now.entries _ c.put_new.new.slots.entries c.in_ok-put_new.ensures.put
+
+pub returns-in_ok-push-in-None-clause-held_kept : goal.returns-in_ok-push-in-None-clause-held_kept
+returns-in_ok-push-in-None-clause-held_kept g c = grown_front c.args.held.now _ c.push.new.self c.in_ok-push-in-None.ensures.ok
+
+pub returns-in-Some-clause-kept : goal.returns-in-Some-clause-kept
+returns-in-Some-clause-kept g c = grown_front c.args.slots.now.entries _ c.put_new.new.slots.entries c.in_ok-put_new.ensures.put
+
+pub returns-in-Some-clause-held_kept : goal.returns-in-Some-clause-held_kept
+returns-in-Some-clause-held_kept g c = grown_itself c.args.held.now

@@ -62,3 +62,22 @@ returns-clause-left g c =
     c.loop-step.yielded c.loop-step.step-iterator c.loop-step.yielded_by c.next.result c.next.new.self c.in-None.is
     c.next.ensures.steps in
     rw (sym (map-id c.loop-step.yielded) ∙ all.0) at c.loop-step.invariant.left
+
+pub returns-clause-kept : goal.returns-clause-kept
+returns-clause-kept g c = c.loop-step.invariant.kept
+
+pub returns-clause-held : goal.returns-clause-held
+returns-clause-held g c = c.loop-step.invariant.held
+
+pub returns-clause-held_kept : goal.returns-clause-held_kept
+returns-clause-held_kept g c = c.loop-step.invariant.held_kept
+
+pub returns-in_err-put_step-clause-kept : goal.returns-in_err-put_step-clause-kept
+returns-in_err-put_step-clause-kept g c =
+    grown_on c.args.slots.now.entries c.loop-step.slots.entries c.put_step.new.slots.entries
+    c.loop-step.invariant.kept c.put_step.ensures.kept
+
+pub returns-in_err-put_step-clause-held_kept : goal.returns-in_err-put_step-clause-held_kept
+returns-in_err-put_step-clause-held_kept g c =
+    grown_on c.args.held.now c.loop-step.held c.put_step.new.held c.loop-step.invariant.held_kept
+    c.put_step.ensures.held_kept

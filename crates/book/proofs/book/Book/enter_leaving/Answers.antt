@@ -59,3 +59,9 @@ returns-in-Ok-into_steps-clause-refused g c =
     refuses_by same b c.put.new.self c.args.id c.args.expansion (bares c.in-Ok-into_steps.steps.items)
     c.in-Ok-into_steps.ensures.steps c.in-Ok.ensures.admitted.0 c.in-Ok.ensures.admitted.1 c.put.result
     c.put.ensures.full
+
+pub returns-in-Ok-into_steps-clause-left : goal.returns-in-Ok-into_steps-clause-left
+returns-in-Ok-into_steps-clause-left g c = c.put.ensures.left
+
+pub returns-in-Ok-into_steps-clause-err : goal.returns-in-Ok-into_steps-clause-err
+returns-in-Ok-into_steps-clause-err g c = c.put.ensures.err

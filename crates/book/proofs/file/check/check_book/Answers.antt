@@ -62,3 +62,13 @@ pub returns-clause-passes : goal.returns-clause-passes
 returns-clause-passes g c =
     refused_bytes g.row.M.Denot g.row.M-Form.Denot (g.M.Machine.rules c.args.machine) c.args.program.now
     c.args.bytes.now c.in-Err.fault (returns-clause-refused g c)
+
+-- a file that passes is refused for nothing
+pub returns-in-Ok-check_lines-clause-refused : goal.returns-in-Ok-check_lines-clause-refused
+returns-in-Ok-check_lines-clause-refused g c = tt
+
+pub returns-in-Ok-check_lines-clause-only : goal.returns-in-Ok-check_lines-clause-only
+returns-in-Ok-check_lines-clause-only g c = tt
+
+pub returns-in-Ok-check_lines-clause-passes : goal.returns-in-Ok-check_lines-clause-passes
+returns-in-Ok-check_lines-clause-passes g c = tt

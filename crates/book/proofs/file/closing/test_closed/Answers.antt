@@ -68,3 +68,7 @@ returns-clause-closed g c =
     c.requires.fit
     (contains (pointwise nat_eq) c.in_ok-forms.forms) c.in_ok-forms.ensures
     (λ i s less at. c.loop-i.invariant i s (omega arith) at) c.requires.begins
+
+-- a step that leads out closes nothing
+pub returns-then-branch-clause-closed : goal.returns-then-branch-clause-closed
+returns-then-branch-clause-closed g c = tt

@@ -43,3 +43,9 @@ returns-clause-many g c =
     let so =
     rw (take_all c.loop-line.line-index c.args.lines.now c.loop-line-test.false) at c.loop-line.invariant in
     so.many
+
+pub told-requires-clause-fit : goal.told-requires-clause-fit
+told-requires-clause-fit g c κs within = c.loop-line.invariant.fit
+
+pub told-requires-clause-few : goal.told-requires-clause-few
+told-requires-clause-few g c κs within = c.loop-line.invariant.few

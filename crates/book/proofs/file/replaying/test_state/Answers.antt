@@ -7,3 +7,7 @@ returns-then-check_order-clause-shown g c = search rules
 
 pub returns-clause-unshown : goal.returns-clause-unshown
 returns-clause-unshown g c = search rules
+
+-- an order that does not explain the history shows nothing
+pub returns-clause-shown : goal.returns-clause-shown
+returns-clause-shown g c = tt

@@ -1,5 +1,5 @@
 use Rattle.std.proofs.Common.{◌≡◌, ◌++◌, ◌+◌, ◌<◌, None, Some, not, length, map, position, sym, ap, ◌∙◌, arith, List}
-use Rattle.std.proofs.Common.{subst, length-append}
+use Rattle.std.proofs.Common.{subst, length-append, take}
 use Rattle.std.proofs.Math.ListN.{length-map}
 use Rattle.book.specs.Entries.{Entry, Successor, At, opened, states, unknown}
 use Rattle.book.specs.Findings.{is_sound}
@@ -121,3 +121,47 @@ returns-in-None-clause-room g c =
     let l : length (entries_of c.put_steps.new.slots.entries) ≡ length c.put_steps.new.slots.entries =
     length-entries c.put_steps.new.slots.entries in
     omega arith
+
+pub invariant_of-self : goal.invariant_of-self
+invariant_of-self g c =
+    let entries =
+    c.truncate.ensures.entries ∙ ap (λ n. take n c.put_steps.new.slots.entries) c.len-was.ensures.len
+    ∙ c.in_default.ensures.kept in
+    let held =
+    c.truncate-in_default.ensures ∙ ap (λ n. take n c.put_steps.new.held) c.len-held.ensures ∙ c.in_default.ensures.held_kept in
+    rw (entries, held) c.self.invariant
+
+pub invariant_of-self-then-len-limit : goal.invariant_of-self-then-len-limit
+invariant_of-self-then-len-limit g c =
+    let entries =
+    c.truncate-then-len-limit.ensures.entries ∙ ap (λ n. take n c.put_steps.new.slots.entries) c.len-was.ensures.len
+    ∙ c.in-Ok.ensures.kept in
+    let held =
+    c.truncate-then-len-limit-2.ensures ∙ ap (λ n. take n c.put_steps.new.held) c.len-held.ensures ∙ c.in-Ok.ensures.held_kept in
+    rw (entries, held) c.self.invariant
+
+pub returns-in_default-clause-err : goal.returns-in_default-clause-err
+returns-in_default-clause-err g c =
+    let entries =
+    c.truncate.ensures.entries ∙ ap (λ n. take n c.put_steps.new.slots.entries) c.len-was.ensures.len
+    ∙ c.in_default.ensures.kept in
+    rw entries c.self.view_is
+
+pub returns-then-len-limit-clause-err : goal.returns-then-len-limit-clause-err
+returns-then-len-limit-clause-err g c =
+    let entries =
+    c.truncate-then-len-limit.ensures.entries ∙ ap (λ n. take n c.put_steps.new.slots.entries) c.len-was.ensures.len
+    ∙ c.in-Ok.ensures.kept in
+    rw entries c.self.view_is
+
+pub returns-in-Some-clause-left : goal.returns-in-Some-clause-left
+returns-in-Some-clause-left g c =
+    let was = length-entries c.self.inside.slots.entries in
+    let is = length-entries c.put_steps.new.slots.entries in
+    rw (← c.self.view_is) (rw (was, is) c.in-Ok.ensures.left)
+
+pub returns-in-None-clause-left : goal.returns-in-None-clause-left
+returns-in-None-clause-left g c =
+    let was = length-entries c.self.inside.slots.entries in
+    let is = length-entries c.put_steps.new.slots.entries in
+    rw (← c.self.view_is) (rw (was, is) c.in-Ok.ensures.left)
