@@ -1,4 +1,4 @@
-use Rattle.std.proofs.Common.{◌≡◌, ◌+◌, ◌-◌, ◌^◌, ◌<◌, inr, ◌∙◌, refl, length, arith}
+use Rattle.std.proofs.Common.{◌≡◌, ◌+◌, ◌-◌, ◌^◌, ◌<◌, ◌≤◌, inl, inr, ◌∙◌, refl, length, arith}
 use Rattle.book.proofs.Leaving.{keeps_met}
 use Rattle.book.proofs.Putting.{book_entered, entered_count, entered_each, entered_few, entries_entered, grown}
 use Rattle.book.proofs.Putting.{is_taken_still, met_is_small, no_room, put_in, still_known}
@@ -128,3 +128,26 @@ returns-in-Ok-clause-left g c =
 
 pub returns-in-Err-Full-clause-err : goal.returns-in-Err-Full-clause-err
 returns-in-Err-Full-clause-err g c = rw c.in-Err-Full.ensures.err c.self.view_is
+
+pub returns-in-Ok-clause-room : goal.returns-in-Ok-clause-room
+returns-in-Ok-clause-room g c =
+    let was : c.len-was.result ≡ length c.self.inside.table.entries = c.len-was.ensures in
+    let now : c.len.result ≡ length c.append_new.new.self.entries = c.len.ensures in
+    let grown = c.in-Ok.ensures.left.1 in
+    let room : length c.append_new.new.self.entries ≤ c.self.inside.limit = c.in-Ok.ensures.room in
+    rw (← c.self.view_is) (omega arith)
+
+pub returns-in-Ok-clause-same : goal.returns-in-Ok-clause-same
+returns-in-Ok-clause-same g c = rw (← c.self.view_is) (refl, refl, refl, refl)
+
+pub returns-in-Err-OutOfMemory-clause-err : goal.returns-in-Err-OutOfMemory-clause-err
+returns-in-Err-OutOfMemory-clause-err g c = rw c.in-Err-OutOfMemory.ensures.err c.self.view_is
+
+pub returns-in-Err-OutOfMemory-clause-full : goal.returns-in-Err-OutOfMemory-clause-full
+returns-in-Err-OutOfMemory-clause-full g c = inl refl
+
+pub append_new-requires : goal.append_new-requires
+append_new-requires g c = c.self.invariant.0.law.within
+
+pub returns-in-Err-Full-clause-same : goal.returns-in-Err-Full-clause-same
+returns-in-Err-Full-clause-same g c = rw (← c.self.view_is) (refl, refl, refl, refl)

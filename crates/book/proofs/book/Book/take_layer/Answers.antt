@@ -1,5 +1,6 @@
 use Rattle.std.specs.List.{range_with_len}
-use Rattle.std.proofs.Common.{◌-◌, ap, position, ◌∙◌}
+use Rattle.std.proofs.Common.{◌≡◌, ◌-◌, ◌<◌, ap, arith, inl, inr, position, slice_get, sym, ◌∙◌}
+use Rattle.std.proofs.lemmas.Bool.{cases_lt}
 use Rattle.tree_machine.specs.declared.state.State.{State}
 use Rattle.book.specs.declared.entry.Mark.TheVariants.{Taken}
 use Rattle.book.specs.Entries.{Contents, Entry, is_open}
@@ -47,3 +48,32 @@ returns-clause-fits g c =
 pub returns-clause-few : goal.returns-clause-few
 returns-clause-few g c =
     rw (← c.self.view_is) (states_few c.self.invariant.0 c.in_ok-layer.layer.items c.in_ok-layer.ensures.states)
+
+pub mark_range_taken-requires-clause-some : goal.mark_range_taken-requires-clause-some
+mark_range_taken-requires-clause-some g c =
+    let at = c.steps_at.ensures in
+    let there =
+    ap (λ (b : Contents g.row.M.Denot
+    (State g.row.M.Denot g.row.M-Mem.Denot g.row.M-Loc.Denot g.row.M-Form.Denot)). slice_get b.entries c.in-Some.start)
+    c.self.view_is in
+    elim (cases_lt c.in-Some.start c.first_above-end.result) [
+      | inl less ↦ omega arith
+      | inr past ↦ absurd (let more : c.steps_at.result < at.0.state.steps =
+          c.first_above-end.ensures.above c.in-Some.start at.0 (sym there ∙ at.1) past in
+          let same : at.0.state.steps ≡ c.steps_at.result = at.2 in omega arith)
+    ]
+
+pub mark_range_taken-requires-clause-within : goal.mark_range_taken-requires-clause-within
+mark_range_taken-requires-clause-within g c =
+    let entries =
+    ap (λ (b : Contents g.row.M.Denot
+    (State g.row.M.Denot g.row.M-Mem.Denot g.row.M-Loc.Denot g.row.M-Form.Denot)). b.entries) c.self.view_is in
+    rw entries c.first_above-end.ensures.within
+
+pub mark_range_taken-requires-clause-first : goal.mark_range_taken-requires-clause-first
+mark_range_taken-requires-clause-first g c =
+    ap (λ (b : Contents g.row.M.Denot
+    (State g.row.M.Denot g.row.M-Mem.Denot g.row.M-Loc.Denot g.row.M-Form.Denot)). position
+    (λ (e : Entry (State g.row.M.Denot g.row.M-Mem.Denot g.row.M-Loc.Denot g.row.M-Form.Denot)). is_open e.mark)
+    b.entries) c.self.view_is
+    ∙ c.in-Some.ensures.open

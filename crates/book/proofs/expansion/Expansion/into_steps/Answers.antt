@@ -1,4 +1,4 @@
-use Rattle.std.proofs.Common.{◌≡◌, sym, subst, rules}
+use Rattle.std.proofs.Common.{◌≡◌, refl, sym, subst, rules}
 use denote.Enum.Bare.{same_true}
 use Rattle.tree_machine.proofs.Lists.{map-get}
 use Rattle.book.specs.contracts.book.Merge.{the_type}
@@ -24,3 +24,12 @@ returns-else-eq-clause-steps g c = rw (← c.self.view_is) c.labelled.ensures.sa
 
 pub returns-else-eq-clause-known : goal.returns-else-eq-clause-known
 returns-else-eq-clause-known g c = rw (← c.self.view_is) c.labelled.ensures.known
+
+pub returns-then-eq-clause-law : goal.returns-then-eq-clause-law
+returns-then-eq-clause-law g c = rw (← c.self.view_is) c.self.invariant.0
+
+pub returns-else-eq-clause-law : goal.returns-else-eq-clause-law
+returns-else-eq-clause-law g c = rw (← c.self.view_is) c.self.invariant.0
+
+pub returns-then-eq-clause-steps : goal.returns-then-eq-clause-steps
+returns-then-eq-clause-steps g c = rw (← c.self.view_is) refl
