@@ -14,7 +14,8 @@ use Rattle.book.specs.declared.entry.Mark.TheVariants.{Open, Taken, Expanded}
 use Rattle.book.specs.Entries.{Entry, At, is_expanded, is_open, states, with_mark, with_marks}
 use Rattle.book.specs.declared.entry.Row.{Row}
 use Rattle.book.specs.Labels.{Labelled}
-use Rattle.book.specs.Slots.{entries_of, entry_of, unlisted, AreCursors, IsFirstLeft, IsGrown, IsLeft, AreHeld, StayHeld}
+use Rattle.book.specs.Slots.{entries_of, entry_of, unlisted}
+use Rattle.book.specs.Slots.{AreCursors, IsFirstLeft, IsGrown, IsLeft, AreHeld, StayHeld}
 use Rattle.book.proofs.Cursors.{still_expanded}
 use Rattle.book.proofs.EntryLemmas.{length-with_mark}
 use Rattle.book.proofs.Marks.{left_by, not_expanded_from, open_from, open_left, taken_left}

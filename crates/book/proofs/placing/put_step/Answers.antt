@@ -46,7 +46,8 @@ returns-in_ok-push-in-None-clause-held g c =
     same_label in
     stay_new eq c.args.slots.now.entries c.put_new.new.slots.entries fields.result.2 c.in_ok-row.row
     c.in_ok-put_new.ensures.put len c.args.held.now c.push.new.self fields.result.1
-    (ap (λ (k : Labelled g.row.S.Denot). k.state) fields.ensures.2 ∙ sym fields.ensures.1) c.in_ok-push-in-None.ensures.ok
+    (ap (λ (k : Labelled g.row.S.Denot). k.state) fields.ensures.2 ∙ sym fields.ensures.1)
+    c.in_ok-push-in-None.ensures.ok
 
 pub returns-in-Some-clause-held : goal.returns-in-Some-clause-held
 returns-in-Some-clause-held g c =
@@ -66,25 +67,31 @@ pub returns-in_err-row-clause-held_kept : goal.returns-in_err-row-clause-held_ke
 returns-in_err-row-clause-held_kept g c = grown_itself c.args.held.now
 
 pub returns-in_err-put_new-clause-kept : goal.returns-in_err-put_new-clause-kept
-returns-in_err-put_new-clause-kept g c = grown_same c.args.slots.now.entries c.put_new.new.slots.entries c.in_err-put_new.ensures.err
+returns-in_err-put_new-clause-kept g c =
+    grown_same c.args.slots.now.entries c.put_new.new.slots.entries c.in_err-put_new.ensures.err
 
 pub returns-in_err-put_new-clause-held_kept : goal.returns-in_err-put_new-clause-held_kept
 returns-in_err-put_new-clause-held_kept g c = grown_itself c.args.held.now
 
 pub returns-in_err-push-in-None-clause-kept : goal.returns-in_err-push-in-None-clause-kept
-returns-in_err-push-in-None-clause-kept g c = grown_front c.args.slots.now.entries _ c.put_new.new.slots.entries c.in_ok-put_new.ensures.put
+returns-in_err-push-in-None-clause-kept g c =
+    grown_front c.args.slots.now.entries _ c.put_new.new.slots.entries c.in_ok-put_new.ensures.put
 
 pub returns-in_err-push-in-None-clause-held_kept : goal.returns-in_err-push-in-None-clause-held_kept
-returns-in_err-push-in-None-clause-held_kept g c = grown_same c.args.held.now c.push.new.self c.in_err-push-in-None.ensures.err
+returns-in_err-push-in-None-clause-held_kept g c =
+    grown_same c.args.held.now c.push.new.self c.in_err-push-in-None.ensures.err
 
 pub returns-in_ok-push-in-None-clause-kept : goal.returns-in_ok-push-in-None-clause-kept
-returns-in_ok-push-in-None-clause-kept g c = grown_front c.args.slots.now.entries _ c.put_new.new.slots.entries c.in_ok-put_new.ensures.put
+returns-in_ok-push-in-None-clause-kept g c =
+    grown_front c.args.slots.now.entries _ c.put_new.new.slots.entries c.in_ok-put_new.ensures.put
 
 pub returns-in_ok-push-in-None-clause-held_kept : goal.returns-in_ok-push-in-None-clause-held_kept
-returns-in_ok-push-in-None-clause-held_kept g c = grown_front c.args.held.now _ c.push.new.self c.in_ok-push-in-None.ensures.ok
+returns-in_ok-push-in-None-clause-held_kept g c =
+    grown_front c.args.held.now _ c.push.new.self c.in_ok-push-in-None.ensures.ok
 
 pub returns-in-Some-clause-kept : goal.returns-in-Some-clause-kept
-returns-in-Some-clause-kept g c = grown_front c.args.slots.now.entries _ c.put_new.new.slots.entries c.in_ok-put_new.ensures.put
+returns-in-Some-clause-kept g c =
+    grown_front c.args.slots.now.entries _ c.put_new.new.slots.entries c.in_ok-put_new.ensures.put
 
 pub returns-in-Some-clause-held_kept : goal.returns-in-Some-clause-held_kept
 returns-in-Some-clause-held_kept g c = grown_itself c.args.held.now

@@ -36,3 +36,6 @@ invariant_of-result g c =
 
 pub returns-clause-start : goal.returns-clause-start
 returns-clause-start g c = let first = c.in_ok-table.ensures in (_, first.3, first.2, refl)
+
+pub returns-clause-limit : goal.returns-clause-limit
+returns-clause-limit g c = refl

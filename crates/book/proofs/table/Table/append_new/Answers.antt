@@ -128,7 +128,8 @@ invariant_of-self g c =
     c.truncate.ensures.entries ∙ ap (λ n. take n c.put_steps.new.slots.entries) c.len-was.ensures.len
     ∙ c.in_default.ensures.kept in
     let held =
-    c.truncate-in_default.ensures ∙ ap (λ n. take n c.put_steps.new.held) c.len-held.ensures ∙ c.in_default.ensures.held_kept in
+    c.truncate-in_default.ensures ∙ ap (λ n. take n c.put_steps.new.held) c.len-held.ensures
+    ∙ c.in_default.ensures.held_kept in
     rw (entries, held) c.self.invariant
 
 pub invariant_of-self-then-len-limit : goal.invariant_of-self-then-len-limit
@@ -137,7 +138,8 @@ invariant_of-self-then-len-limit g c =
     c.truncate-then-len-limit.ensures.entries ∙ ap (λ n. take n c.put_steps.new.slots.entries) c.len-was.ensures.len
     ∙ c.in-Ok.ensures.kept in
     let held =
-    c.truncate-then-len-limit-2.ensures ∙ ap (λ n. take n c.put_steps.new.held) c.len-held.ensures ∙ c.in-Ok.ensures.held_kept in
+    c.truncate-then-len-limit-2.ensures ∙ ap (λ n. take n c.put_steps.new.held) c.len-held.ensures
+    ∙ c.in-Ok.ensures.held_kept in
     rw (entries, held) c.self.invariant
 
 pub returns-in_default-clause-err : goal.returns-in_default-clause-err
