@@ -10,16 +10,16 @@ ghost use Rattle.crew.specs.Driving.{IsLedgerOf};
 ghost use Rattle.crew.specs.Reading.{StandsAt, TellsClosed, TellsFirst};
 ghost use Rattle.crew.specs.Reporting.{IsBookOf, IsReport};
 
-use crate::answer::{Report, Share};
+use crate::answer::{Answer, Report, Share};
 use crate::driving::drive;
 use crate::gate::Gate;
 use crate::layers::{cut_of, workers_of};
 use crate::options::Options;
-use crate::reporting::report_of;
+use crate::reporting::{let_go, report_of, told_of};
 use crate::settling::{merged, shares_of};
-use crate::tally::{Blanks, Desk, Ledgers};
+use crate::tally::{Blanks, Desk, Ledgers, Pieces};
 use crate::working::Exploration;
-use book::{Book, Counting};
+use book::{Book, Counting, Totals};
 use sched_program::{OutOfMemory, Program};
 use std::alloc::Global;
 use std::marker::Brand;
@@ -44,6 +44,33 @@ fn opened<M: Machine>(
     Ok(book)
 }
 
+/// Lets so many workers as the options say expand the layers. The entry for whose steps one of them found no room, what
+/// each did, and the pieces of all.
+fn work_of_all<J: Ledgers + Send + Sync, M: Machine, G: Gate, R: Threads + Wait + Sync>(
+    alloc: Global,
+    exploration: &Exploration<'_, J, M, G, R>,
+    options: Options,
+    pieces: Pieces<J>,
+) -> Result<(Option<usize>, Vec<Share>, Pieces<J>), OutOfMemory>
+    requires pieces { (pieces.expanded.parts ≡ options.workers) × (pieces.entered.parts ≡ options.workers)
+        × (pieces.met.parts ≡ options.workers) }
+    requires amounts { (pieces.expanded.amount ≡ 0) × (pieces.entered.amount ≡ 0) × (pieces.met.amount ≡ 0) }
+    ensures shares { IfOk result (λ w. length w.1.items ≡ options.workers) }
+    ensures pieces { IfOk result (λ w. (w.2.expanded.parts ≡ options.workers)
+        × (w.2.entered.parts ≡ options.workers) × (w.2.met.parts ≡ options.workers)) }
+    ensures ledger { IfOk result (λ w. ledger w.1.items ≡ record {
+      expanded = w.2.expanded.amount;
+      entered = w.2.entered.amount;
+      met = w.2.met.amount;
+    }) }
+{
+    let mut workers = workers_of(alloc, options.workers(), pieces)?;
+    exploration.expand_layers(options.steps(), workers.as_mut_slice())?;
+    let cut = cut_of(workers.as_slice());
+    let shares = shares_of(alloc, &workers)?;
+    Ok((cut, shares, merged(workers)))
+}
+
 /// Explores by all workers at once. None where the book that they leave under the lock does not tell the answer.
 fn explore_together<J: Ledgers + Send + Sync, M: Machine, G: Gate, R: Threads + Wait + Sync>(
     rt: &R,
@@ -64,7 +91,6 @@ fn explore_together<J: Ledgers + Send + Sync, M: Machine, G: Gate, R: Threads + 
 {
     let book = opened(alloc, machine, program, options)?;
     let (desk, pieces) = Desk::<J, M>::new(book, blanks);
-    let mut workers = workers_of(alloc, options.workers(), pieces)?;
     let exploration = Exploration {
         rt,
         alloc,
@@ -74,12 +100,7 @@ fn explore_together<J: Ledgers + Send + Sync, M: Machine, G: Gate, R: Threads + 
         gate,
         desk: Mutex::new(desk),
     };
-    exploration.expand_layers(options.steps(), workers.as_mut_slice())?;
-    let cut = cut_of(workers.as_slice());
-    let shares = shares_of(alloc, &workers)?;
-    let Some(whole) = merged(workers) else {
-        return Ok(None);
-    };
+    let (cut, shares, whole) = work_of_all(alloc, &exploration, options, pieces)?;
     let Exploration { desk, .. } = exploration;
     let book = desk.into_inner().settle(whole);
     report_of(alloc, machine, program, options, book, cut, shares)
@@ -99,7 +120,38 @@ fn shares_alone(alloc: Global, share: Share, workers: u8) -> Result<Vec<Share>, 
     Ok(shares)
 }
 
-/// Explores on one thread, with all the work in the first worker's share.
+/// What one thread tells of a book with the start alone, with all the work in the first worker's share.
+fn told_alone<M: Machine>(
+    alloc: Global,
+    machine: M,
+    program: &Program,
+    options: Options,
+    book: &mut Book<M>,
+) -> Result<(Answer, Totals, Vec<Share>), OutOfMemory>
+    requires asked { IsBookOf machine program.now options book.old }
+    requires stands { StandsAt (machine_in M.rules book.old).steps book.old.entries 0 }
+    requires ledger { IsLedgerOf book.old (record { expanded = 0; entered = 0; met = 0 }) }
+    ensures { IfOk result (λ t. IsReport M.rules M.Loc.PartialEq.eq M.Mem.PartialEq.eq M.Form.PartialEq.eq M.form_of
+        machine program.now options t.0 t.1 t.2.items book.new) }
+{
+    let mut share = Share::none();
+    let cut = drive(alloc, program, book, options.steps(), &mut share)?;
+    let shares = shares_alone(alloc, share, options.workers())?;
+    match told_of(
+        alloc,
+        machine,
+        program,
+        options,
+        book,
+        cut,
+        shares.as_slice(),
+    )? {
+        Some((answer, totals)) => Ok((answer, totals, shares)),
+        None => unreachable!(),
+    }
+}
+
+/// Explores on one thread.
 fn explore_alone<M: Machine>(
     alloc: Global,
     machine: M,
@@ -110,12 +162,17 @@ fn explore_alone<M: Machine>(
         machine program.now options r.answer r.totals r.shares.items r.book) }
 {
     let mut book = opened(alloc, machine, program, options)?;
-    let mut share = Share::none();
-    let cut = drive(alloc, program, &mut book, options.steps(), &mut share)?;
-    let shares = shares_alone(alloc, share, options.workers())?;
-    match report_of(alloc, machine, program, options, book, cut, shares)? {
-        Some(report) => Ok(report),
-        None => unreachable!(),
+    match told_alone(alloc, machine, program, options, &mut book) {
+        Ok((answer, totals, shares)) => Ok(Report {
+            answer,
+            totals,
+            shares,
+            book,
+        }),
+        Err(OutOfMemory) => {
+            let_go(book);
+            Err(OutOfMemory)
+        }
     }
 }
 

@@ -1,5 +1,5 @@
 //! What all workers did together, once they are joined.
-ghost use Rattle.std.specs.Prelude.{◌≡◌, IfOk, IfSome, map, vec_len, sum_by};
+ghost use Rattle.std.specs.Prelude.{◌≡◌, ◌<◌, IfOk, map, vec_len, sum_by};
 
 use crate::answer::Share;
 use crate::tally::{Ledgers, Pieces};
@@ -21,17 +21,21 @@ pub fn shares_of<J: Ledgers>(
     Ok(shares)
 }
 
-/// The pieces of all workers; none where there is no worker.
-pub fn merged<J: Ledgers>(mut workers: Vec<Worker<J>>) -> Option<Pieces<J>>
-    ensures pieces { IfSome result (λ w. (w.expanded.parts ≡ vec_len workers) × (w.entered.parts ≡ vec_len workers)
-        × (w.met.parts ≡ vec_len workers)) }
-    ensures amounts { IfSome result (λ w. (w.expanded.amount ≡ sum_by (λ x. x.tally.share.expanded) workers.items)
-        × (w.entered.amount ≡ sum_by (λ x. x.tally.share.entered) workers.items)
-        × (w.met.amount ≡ sum_by (λ x. x.tally.share.met) workers.items)) }
+/// The pieces of all workers.
+pub fn merged<J: Ledgers>(mut workers: Vec<Worker<J>>) -> Pieces<J>
+    requires { 0 < vec_len workers }
+    ensures pieces { (result.expanded.parts ≡ vec_len workers) × (result.entered.parts ≡ vec_len workers)
+        × (result.met.parts ≡ vec_len workers) }
+    ensures amounts { (result.expanded.amount ≡ sum_by (λ x. x.tally.share.expanded) workers.items)
+        × (result.entered.amount ≡ sum_by (λ x. x.tally.share.entered) workers.items)
+        × (result.met.amount ≡ sum_by (λ x. x.tally.share.met) workers.items) }
 {
-    let mut whole = workers.pop()?.tally.pieces;
+    let mut whole = match workers.pop() {
+        Some(worker) => worker.tally.pieces,
+        None => unreachable!(),
+    };
     while let Some(worker) = workers.pop() {
         whole.merge(worker.tally.pieces);
     }
-    Some(whole)
+    whole
 }

@@ -24,6 +24,15 @@ pub enum Stop {
     Refused,
 }
 
+/// Why a worker draws no more, where the book did not take the expansion of this entry.
+fn stop_of(fault: EnterFault, id: usize) -> Stop {
+    match fault {
+        EnterFault::Full => Stop::Full(id),
+        EnterFault::OutOfMemory => Stop::OutOfMemory,
+        EnterFault::NotTaken | EnterFault::Stranger => Stop::Refused,
+    }
+}
+
 /// A worker, between two layers or in one.
 #[derive(Drop)]
 pub struct Worker<J: Ledgers> {
@@ -193,9 +202,7 @@ impl<'a, J: Ledgers, M: Machine, G: Gate, R: Wait> Exploration<'a, J, M, G, R> {
         for (id, expansion) in made {
             match desk.enter(tally, id, expansion, leftovers) {
                 Ok(()) => {}
-                Err(EnterFault::Full) => return Err(Stop::Full(id)),
-                Err(EnterFault::OutOfMemory) => return Err(Stop::OutOfMemory),
-                Err(EnterFault::NotTaken | EnterFault::Stranger) => return Err(Stop::Refused),
+                Err(fault) => return Err(stop_of(fault, id)),
             }
         }
         Ok(())

@@ -5,10 +5,10 @@ use Rattle.crew.proofs.settling.merged.Goals as goal
 pub loop-worker-preserved : goal.loop-worker-preserved
 loop-worker-preserved g c =
     let i = c.loop-worker.invariant in
-    let w = c.in-Some.worker in
+    let w = c.in-Some-pop.worker in
     let xs = c.loop-worker.workers.items in
     let ys = c.pop-in-loop-worker.new.self.items in
-    let is = c.in-Some.ensures.items in
+    let is = c.in-Some-pop.ensures.items in
     let pieces = c.merge.ensures.pieces in
     let amounts = c.merge.ensures.amounts in
     record {

@@ -4,12 +4,12 @@ use Rattle.book.specs.Books.{counted_as_one, machine_in, right_in}
 use Rattle.crew.specs.Reading.{IsCutAt, IsWorkedOff}
 use Rattle.crew.specs.Reporting.{IsBookOf}
 use Rattle.crew.proofs.Ends.{is_answered, cut_kept}
-use Rattle.crew.proofs.explorer.explore_alone.Goals as goal
+use Rattle.crew.proofs.explorer.told_alone.Goals as goal
 
 -- what was driven is read
 pub unreachable-requires : goal.unreachable-requires
 unreachable-requires g c =
-    let b = c.in_ok-book.book in
+    let b = c.args.book.now in
     let new = c.drive.new.book in
     let n = c.args.options.steps in
     let place_eq = g.M.Loc.PartialEq.eq in
@@ -17,7 +17,7 @@ unreachable-requires g c =
     let form_eq = g.M.Form.PartialEq.eq in
     let form_of = g.M.Machine.form_of in
     let kept = c.in_ok-cut.ensures.kept in
-    let opened = c.in_ok-book.ensures.asked in
+    let opened = c.requires.asked in
     let steps : c.steps.result ≡ n = c.steps.ensures in
     let asked : IsBookOf c.args.machine c.args.program.now c.args.options new = record {
       machine = kept.machine ∙ opened.machine;
@@ -25,9 +25,9 @@ unreachable-requires g c =
       limit = kept.limit ∙ opened.limit;
       merge = kept.merge ∙ opened.merge;
     } in
-    let some : IsSome c.in_ok-report.field-0 =
+    let some : IsSome c.in_ok-answer.field-0 =
     is_answered (IsWorkedOff (machine_in g.M.Machine.rules b).steps new.entries c.steps.result)
-    (IsSome c.in_ok-report.field-0) c.steps.result n
+    (IsSome c.in_ok-answer.field-0) c.steps.result n
     (λ d i. IsCutAt (machine_in g.M.Machine.rules b)
     (counted_as_one {Machine = g.row.M.Denot} {Form = g.row.M-Form.Denot} place_eq memory_eq form_eq
     (form_of b.machine) b.merge) (right_in g.M.Machine.rules b) new d i)
@@ -36,7 +36,7 @@ unreachable-requires g c =
     (form_of new.machine) new.merge) (right_in g.M.Machine.rules new) new d i)
     steps (λ d i cut. cut_kept g.M.Machine.rules place_eq memory_eq form_eq form_of b new new d i kept cut)
     c.in_ok-cut.cut c.in_ok-cut.ensures.done c.in_ok-cut.ensures.cut
-    (λ none worked. c.in_ok-report.ensures.finished asked none
+    (λ none worked. c.in_ok-answer.ensures.finished asked none
     (subst (λ k. IsWorkedOff (machine_in g.M.Machine.rules b).steps new.entries k) steps worked))
-    (c.in_ok-report.ensures.stopped asked) in
+    (c.in_ok-answer.ensures.stopped asked) in
     false≢true (sym (ap is_some c.in-None.is) ∙ some)
