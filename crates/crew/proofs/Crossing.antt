@@ -19,28 +19,29 @@ use Rattle.book.specs.contracts.finding.Finding as Finding
 use Rattle.book.proofs.Crossing.{book_send, state_send, state_sync}
 use Rattle.crew.specs.declared.tally.Ledgers as ledgers
 use Rattle.crew.specs.contracts.claims.Claims as Claims
+use Rattle.crew.specs.contracts.layers.Shift as Shift
 use Rattle.crew.specs.contracts.leads.Lead as Lead
 use Rattle.crew.specs.contracts.tally.Desk as Desk
 use Rattle.crew.specs.contracts.working.Exploration as Exploration
 use Rattle.crew.specs.contracts.working.Layer as Layer
 
--- two references that are lent together, as a closure holds them
-pub two_lent : (long short : Lft) (A B : RattleType) → IsSync A → IsSync B
+-- a reference, as a closure holds it
+pub one_lent : (long : Lft) (A : RattleType) → IsSync A
     → IsSync
     (Struct record {
       name = [];
       args = [];
       types = [];
-      fields = ShrRef (named 0) long A ∷ ShrRef (named 0) short B ∷ [];
+      fields = ShrRef (named 0) long A ∷ [];
     })
-two_lent long short A B a b =
+one_lent long A a =
     struct_sync record {
       name = [];
       args = [];
       types = [];
-      fields = ShrRef (named 0) long A ∷ ShrRef (named 0) short B ∷ [];
+      fields = ShrRef (named 0) long A ∷ [];
     }
-    (shr_sync (named 0) long A a, (shr_sync (named 0) short B b, tt))
+    (shr_sync (named 0) long A a, tt)
 
 program_sync : IsSync Program.the_row
 program_sync = search (sendable, crosses) depth 30
@@ -69,7 +70,7 @@ module _ (a : NamedLft) (M Mem Loc Form : RattleType) (g : machine.Ghosts M.Deno
     (fh : hash.Ghosts Form.Denot)
     (m : IsSend M) (mem : IsSend Mem) (loc : IsSend Loc) (form : IsSend Form) (m' : IsSync M) (mem' : IsSync Mem)
     (loc' : IsSync Loc) (form' : IsSync Form) where
-  pub layer_sync : IsSync (Layer.the_row a M Mem Loc Form g mp ap ah lp lh fp fh)
+  layer_sync : IsSync (Layer.the_row a M Mem Loc Form g mp ap ah lp lh fp fh)
   layer_sync = search (program_sync, claims_sync, lead_send, lead_sync, sendable, crosses) depth 30 fits 10000
 
 module _ (J M Mem Loc Form : RattleType) (g : machine.Ghosts M.Denot Mem.Denot Loc.Denot Form.Denot)
@@ -84,6 +85,9 @@ module _ (J M Mem Loc Form : RattleType) (g : machine.Ghosts M.Denot Mem.Denot L
   desk_send = search (book_send, ledger.the_send, sendable, crosses) depth 30 fits 10000
 
   module _ (a : NamedLft) (G R : RattleType) (gate : IsSync G) (threads : IsSync R) where
-    pub exploration_sync : IsSync
+    exploration_sync : IsSync
         (Exploration.the_row a J M G R Mem Loc Form g mp ap ah lp lh fp fh r)
     exploration_sync = search (program_sync, desk_send, sendable, crosses) depth 30 fits 10000
+
+    pub shift_sync : IsSync (Shift.the_row a J M G R Mem Loc Form g mp ap ah lp lh fp fh r)
+    shift_sync = search (exploration_sync, layer_sync, sendable, crosses) depth 30 fits 10000

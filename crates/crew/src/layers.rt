@@ -48,6 +48,22 @@ fn seat_all<J: Ledgers>(claims: &Claims, workers: &mut [Worker<J>], mut seats: V
     }
 }
 
+/// What the workers of a layer share, as one value, since each function of a closure is proved over all that it holds.
+#[derive(Drop)]
+struct Shift<'l, J: Ledgers, M: Machine, G: Gate, R: Wait> {
+    exploration: &'l Exploration<'l, J, M, G, R>,
+    layer: &'l Layer<'l, M>,
+}
+
+impl<'l, J: Ledgers, M: Machine, G: Gate, R: Wait> Shift<'l, J, M, G, R> {
+    /// Lets a worker do its part.
+    fn work(&self, worker: &mut Worker<J>)
+        requires { IfSome worker.old.seat (IsSeatOf self.now.layer.now) }
+    {
+        self.exploration.work(self.layer, worker);
+    }
+}
+
 impl<'a, J: Ledgers + Send + Sync, M: Machine, G: Gate, R: Threads + Wait + Sync> Exploration<
     'a,
     J,
@@ -60,11 +76,15 @@ impl<'a, J: Ledgers + Send + Sync, M: Machine, G: Gate, R: Threads + Wait + Sync
         requires { All (λ w. IfSome w.seat (IsSeatOf layer.now)) workers.old }
         ensures { length workers.new ≡ length workers.old }
     {
+        let shift = Shift {
+            exploration: self,
+            layer,
+        };
         // What it did stands in its tally, and its clause says nothing of that.
         let work = |worker: &mut Worker<J>|
-            requires { IfSome worker.old.seat (IsSeatOf layer.now) }
+            requires { IfSome worker.old.seat (IsSeatOf shift.layer.now) }
             ensures { Unit {0} }
-        { self.work(layer, worker) };
+        { shift.work(worker) };
         call_at_once(self.rt, &work, workers);
     }
 
