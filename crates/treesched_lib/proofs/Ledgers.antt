@@ -1,10 +1,14 @@
--- The lines of one more worker.
+-- The lines of one more worker, and of a report.
 use Rattle.std.proofs.Common.{◌≡◌, ◌∙◌, ◌+◌, ◌++◌, ◌<◌, ℕ, List, [], ◌∷◌, length, take, get_or, codes, arith, sym, ap}
+use Rattle.std.proofs.Common.{Bool, true, false}
 use Rattle.std.proofs.Common.{append_assoc, append-nil}
 use Rattle.std.proofs.lemmas.List.{length-take-le, take_more}
 use Rattle.std.specs.Fmt.{decimal}
+use Rattle.book.specs.declared.book.Totals.{Totals}
+use Rattle.crew.specs.declared.answer.Answer.{Answer}
 use Rattle.crew.specs.declared.answer.Share.{Share}
-use Rattle.treesched_lib.specs.Lines.{counts_text, workers_text}
+use Rattle.treesched_lib.specs.Lines.{IsPage, answer_text, counts_text, ledger_text, report_text, workers_text}
+use Rattle.treesched_lib.specs.declared.serving.Output.{Output}
 
 abbrev pub worker_text : ℕ → Share → List ℕ
 worker_text n s = codes "worker " ++ decimal n ++ counts_text s.expanded s.entered s.met
@@ -30,3 +34,34 @@ one_more_worker page shares i s h =
     ∙ ap (λ (n : ℕ). workers_text 1 (take i shares) ++ worker_text n (get_or shares i s)) (omega arith) in
     append_assoc page (workers_text 1 (take i shares)) (worker_text (i + 1) (get_or shares i s))
     ∙ sym (ap (λ l. page ++ l) more)
+
+-- a report is the answer, and then the ledger where it is asked for
+pub with_ledger : (old told new : List ℕ) (answer : Answer) (totals : Totals) (given shares : List Share)
+    (asked : Bool) → asked ≡ true → given ≡ shares → told ≡ old ++ answer_text totals.entries answer
+    → new ≡ told ++ ledger_text given totals → new ≡ old ++ report_text asked answer totals shares
+with_ledger old told new answer totals given shares true is same answered more =
+    more ∙ ap (λ (l : List Share). told ++ ledger_text l totals) same
+    ∙ ap (λ (l : List ℕ). l ++ ledger_text shares totals) answered
+    ∙ append_assoc old (answer_text totals.entries answer) (ledger_text shares totals)
+with_ledger old told new answer totals given shares false is same answered more = absurd (cc)
+
+pub without_ledger : (old new : List ℕ) (answer : Answer) (totals : Totals) (shares : List Share) (asked : Bool)
+    → asked ≡ false → new ≡ old ++ answer_text totals.entries answer
+    → new ≡ old ++ report_text asked answer totals shares
+without_ledger old new answer totals shares true is answered = absurd (cc)
+without_ledger old new answer totals shares false is answered =
+    answered ∙ ap (λ (l : List ℕ). old ++ l) (sym (append-nil (answer_text totals.entries answer)))
+
+-- the lines that are put on an empty page are all that is there
+pub on_empty : (page empty text : List ℕ) → page ≡ empty ++ text → empty ≡ [] → page ≡ text
+on_empty page empty text put none = put ∙ ap (λ (l : List ℕ). l ++ text) none
+
+pub both_on_empty : (empty middle page first shown second : List ℕ) → empty ≡ [] → middle ≡ empty ++ first
+    → first ≡ shown → page ≡ middle ++ second → page ≡ shown ++ second
+both_on_empty empty middle page first shown second none put same more =
+    more ∙ ap (λ (l : List ℕ). l ++ second) (on_empty middle empty first put none ∙ same)
+
+-- a page with another name for its status and for its text
+pub as_page : (status told : ℕ) (text lines : List ℕ) (output : Output) → IsPage status text output → status ≡ told
+    → text ≡ lines → IsPage told lines output
+as_page status told text lines output page same alike = (page.0 ∙ same, page.1 ∙ alike, page.2, page.3)

@@ -1,10 +1,12 @@
-use Rattle.std.proofs.Common.{◌∙◌, ◌++◌, List, ℕ, ap, subst, sym}
+use Rattle.std.proofs.Common.{subst, sym}
+use Rattle.std.specs.String.{string_bytes}
 use Rattle.book.specs.Books.{counted_as_one}
 use Rattle.book.specs.Findings.{machine_of}
 use Rattle.book.specs.declared.book.Merge.{Merge}
 use Rattle.treesched_lib.specs.Lines.{report_text}
 use Rattle.treesched_lib.specs.Serving.{CountsAsOne}
 use Rattle.treesched_lib.proofs.Given.{closed}
+use Rattle.treesched_lib.proofs.Ledgers.{on_empty}
 use Rattle.treesched_lib.proofs.serving.explored.Goals as goal
 
 pub returns : goal.returns
@@ -27,8 +29,8 @@ returns g c =
       workers = c.in_ok-report.ensures.shares;
       sums = c.in_ok-report.ensures.ledger;
       status = c.status_of-status.ensures;
-      out = c.in_ok-put_report.ensures
-          ∙ ap (λ (page : List ℕ). page ++ report_text c.args.ledger report.answer report.totals report.shares.items)
+      out = on_empty (string_bytes c.put_report.new.page) (string_bytes c.new-out.result)
+          (report_text c.args.ledger report.answer report.totals report.shares.items) c.in_ok-put_report.ensures
           c.new-out.ensures.bytes;
       err = c.new.ensures.bytes;
       book = rw (sym c.in_ok-report.ensures.machine, sym c.in_ok-report.ensures.program, c.in_ok-report.ensures.totals)
