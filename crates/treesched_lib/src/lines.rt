@@ -156,6 +156,15 @@ fn put_states(page: &mut String, states: usize) -> Result<(), OutOfMemory>
     writeln!(page, "states {states}")
 }
 
+/// The answer that every schedule holds, and so many states.
+fn put_every(page: &mut String, states: usize) -> Result<(), OutOfMemory>
+    ensures { IfOk result (λ _. string_bytes page.new
+        ≡ string_bytes page.old ++ lines.answer_text states Answer.Every) }
+{
+    put_holds_for_every(page)?;
+    put_states(page, states)
+}
+
 /// What is told of a book file of so many entries that passes.
 pub fn put_passed(page: &mut String, entries: usize) -> Result<(), OutOfMemory>
     ensures { IfOk result (λ _. string_bytes page.new ≡ string_bytes page.old ++ lines.passed_text entries) }
@@ -169,10 +178,7 @@ fn put_answer(page: &mut String, states: usize, answer: &Answer) -> Result<(), O
     ensures { IfOk result (λ _. string_bytes page.new ≡ string_bytes page.old ++ lines.answer_text states answer.now) }
 {
     match answer {
-        Answer::Every => {
-            put_holds_for_every(page)?;
-            put_states(page, states)
-        }
+        Answer::Every => put_every(page, states),
         Answer::Holds { steps } => {
             put_holds(page, *steps)?;
             put_states(page, states)
