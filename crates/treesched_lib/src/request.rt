@@ -1,10 +1,11 @@
 //! The request that the words make.
-ghost use Rattle.std.specs.Prelude.{◌≡◌, ◌↔◌, ◌<◌, ◌^◌, ℕ, true, IfOk, MatchOption, MatchResult, map, codes};
+ghost use Rattle.std.specs.Prelude.{◌≡◌, ◌↔◌, ◌<◌, ◌^◌, ℕ, true, IfOk, List, MatchOption, MatchResult, map, codes};
+ghost use Rattle.clap.specs.Walk.{Text};
 ghost use Rattle.clap.specs.Words.{first_of, found_of, kind_of, rows_of};
 ghost use Rattle.clap.specs.declared.error.kind.ErrorKind.TheVariants as kind;
 ghost use Rattle.book.specs.declared.book.Merge.{Merge};
 ghost use Rattle.crew.specs.Settings.{Settings};
-ghost use Rattle.treesched_lib.specs.Reading.{AreRefused, AskFor, book_of, file_of, HasText, IsFaultOf, IsRequestOf};
+ghost use Rattle.treesched_lib.specs.Reading.{AreRead, AreRefused, AskFor, book_of, file_of, HasText, IsFaultOf, IsRequestOf};
 ghost use Rattle.treesched_lib.specs.Reading.{IsUsed};
 ghost use Rattle.treesched_lib.specs.Reading.{MergeIs, NumberIs, OptionsAre, out_of, Tells, text_of};
 ghost use Rattle.treesched_lib.specs.declared.request.WordsFault.TheVariants as fault;
@@ -230,6 +231,24 @@ fn check_of<'a>(matches: &ArgMatches<'a>) -> Request<'a>
     Request::Check { file, book }
 }
 
+/// The request of the subcommand of that name with these matches.
+fn request_of<'a>(
+    alloc: Global,
+    name: &str,
+    matches: &ArgMatches<'a>,
+) -> Result<Request<'a>, WordsFault>
+    requires { (words : List Text) × AreRead words name.now (rows_of (found_of matches.now)) }
+    ensures { (words : List Text) → AreRead words name.now (rows_of (found_of matches.now))
+        → MatchResult result (AskFor words) (AreRefused words) }
+{
+    match name {
+        "explore" => explore_of(matches),
+        "replay" => replay_of(alloc, matches),
+        "check" => Ok(check_of(matches)),
+        _ => unreachable!(),
+    }
+}
+
 /// The request that the words make by the exact reading of `clap`. The first word is the program's
 /// name.
 ///
@@ -246,13 +265,8 @@ pub fn read_words<'a>(alloc: Global, words: &'a [&'a str]) -> Result<Request<'a>
         Ok(matches) => matches,
         Err(error) => return Err(fault_of(alloc, &error)),
     };
-    let Some((name, inner)) = matches.subcommand() else {
-        unreachable!()
-    };
-    match name {
-        "explore" => explore_of(inner),
-        "replay" => replay_of(alloc, inner),
-        "check" => Ok(check_of(inner)),
-        _ => unreachable!(),
+    match matches.subcommand() {
+        Some((name, inner)) => request_of(alloc, name, inner),
+        None => unreachable!(),
     }
 }
