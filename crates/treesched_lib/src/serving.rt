@@ -1,5 +1,6 @@
 //! The answer to a request: the status and all that is to be written.
-ghost use Rattle.std.specs.Prelude.{◌≡◌, ◌-◌, ◌^◌, ◌<◌, ◌⊎◌, IfOk, IfSome, None, MatchOption, if◌then◌else◌, length};
+ghost use Rattle.std.specs.Prelude.{◌≡◌, ◌-◌, ◌^◌, ◌<◌, ◌⊎◌, [], IfOk, IfSome, None, MatchOption, if◌then◌else◌};
+ghost use Rattle.std.specs.Prelude.{length};
 ghost use Rattle.std.specs.String.{string_bytes};
 ghost use Rattle.book.specs.Closed.{AreSound, IsClosed};
 ghost use Rattle.book.specs.Findings.{is_sound};
@@ -101,6 +102,32 @@ fn due_book<M: Machine>(
     }
 }
 
+/// The output that tells what an exploration came to.
+fn report_output<M: Machine>(
+    alloc: Global,
+    report: &Report<M>,
+    ledger: bool,
+    asks_book: bool,
+) -> Result<Output, OutOfMemory>
+    requires { report.now.answer ≡ Answer.Every → IsClosed report.now.book × AreSound report.now.book.entries }
+    ensures { IfOk result (λ output. (output.status ≡ lines.status_of report.now.answer)
+        × (string_bytes output.out
+        ≡ lines.report_text ledger report.now.answer report.now.totals report.now.shares.items)
+        × (string_bytes output.err ≡ [])
+        × IsBookDue M M.Form (M.rules report.now.book.machine) report.now.book.program asks_book report.now.answer
+        (length report.now.book.entries) output.book) }
+{
+    let book = due_book(alloc, report, asks_book)?;
+    let mut out = String::new(alloc);
+    put_report(&mut out, ledger, report)?;
+    Ok(Output {
+        status: status_of(&report.answer),
+        out,
+        err: String::new(alloc),
+        book,
+    })
+}
+
 /// Explores the schedules of a program.
 fn explored<M: Machine, R: Threads + Wait + Sync>(
     rt: &R,
@@ -115,18 +142,10 @@ fn explored<M: Machine, R: Threads + Wait + Sync>(
 {
     counts_as_one::<M>(machine, program, options.merge());
     let report = explore(rt, alloc, machine, program, options, &Open)?;
-    let book = due_book(alloc, &report, asks_book)?;
-    let mut out = String::new(alloc);
-    put_report(&mut out, ledger, &report)?;
-    let status = status_of(&report.answer);
+    let output = report_output(alloc, &report, ledger, asks_book);
     // The program ends with this answer, and its memory with it, so that each state need not be given back first.
     forget(report);
-    Ok(Output {
-        status,
-        out,
-        err: String::new(alloc),
-        book,
-    })
+    output
 }
 
 /// The exit status for the finding of a replay.
