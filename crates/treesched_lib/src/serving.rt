@@ -1,7 +1,9 @@
 //! The answer to a request: the status and all that is to be written.
-ghost use Rattle.std.specs.Prelude.{◌≡◌, ◌-◌, ◌^◌, ◌<◌, ◌⊎◌, [], IfOk, IfSome, None, MatchOption, if◌then◌else◌};
+ghost use Rattle.std.specs.Prelude.{◌≡◌, ◌-◌, ◌^◌, ◌<◌, ◌⊎◌, ◌++◌, [], IfOk, IfSome, None, MatchOption, if◌then◌else◌};
 ghost use Rattle.std.specs.Prelude.{length};
 ghost use Rattle.std.specs.String.{string_bytes};
+ghost use Rattle.tree_machine.specs.History.{history_of};
+ghost use Rattle.tree_machine.specs.Step.{Fits};
 ghost use Rattle.book.specs.Closed.{AreSound, IsClosed};
 ghost use Rattle.book.specs.Findings.{is_sound};
 ghost use Rattle.treesched_lib.specs.Devices.{LeavesBehind};
@@ -13,7 +15,7 @@ ghost use Rattle.treesched_lib.specs.Serving.{IsExplored, IsReplayed, IsServed, 
 use crate::lines::{put_operations, put_passed, put_report, put_verdict};
 use crate::refusals::{book_refused, no_step, not_loaded, unreadable};
 use crate::request::Request;
-use book::{Counting, Finding, Merge, ReplayFault, check_book, replay};
+use book::{Counting, Finding, Merge, Replay, ReplayFault, check_book, replay};
 use crew::{Answer, Open, Options, Report, explore};
 use ellen::Ellen;
 use natmit::NatMit;
@@ -155,6 +157,23 @@ fn status_of_finding(finding: &Finding) -> u8
     if finding.is_sound() { 0 } else { 1 }
 }
 
+/// The output that tells the history and the finding of the state that a replay leads to.
+fn replay_output<M: Machine>(
+    alloc: Global,
+    program: &Program,
+    last: &Replay<M>,
+) -> Result<Output, OutOfMemory>
+    requires { (machine : M) × Fits (M.rules machine) program.now last.now.state }
+    ensures { IfOk result (lines.IsPage (if is_sound last.now.finding then 0 else 1)
+        (lines.operations_text program.now (history_of last.now.state) ++ lines.verdict_text last.now.finding)) }
+{
+    let history = last.state.history(alloc, program)?;
+    let mut out = String::new(alloc);
+    put_operations(&mut out, program, &history)?;
+    put_verdict(&mut out, &last.finding)?;
+    Ok(page(alloc, status_of_finding(&last.finding), out))
+}
+
 /// Replays one schedule of a program.
 fn replayed<M: Machine>(
     alloc: Global,
@@ -165,16 +184,11 @@ fn replayed<M: Machine>(
     ensures { IfOk result (λ output. IsReplayed M M.Form (M.rules machine) program.now schedule.now output
         ⊎ IsStuck M M.Form (M.rules machine) program.now schedule.now output) }
 {
-    let last = match replay(alloc, machine, program, schedule) {
-        Ok(last) => last,
-        Err(ReplayFault::NotEnabled(step)) => return no_step(alloc, step, schedule[step - 1]),
-        Err(ReplayFault::OutOfMemory) => return Err(std::alloc::AllocError),
-    };
-    let history = last.state.history(alloc, program)?;
-    let mut out = String::new(alloc);
-    put_operations(&mut out, program, &history)?;
-    put_verdict(&mut out, &last.finding)?;
-    Ok(page(alloc, status_of_finding(&last.finding), out))
+    match replay(alloc, machine, program, schedule) {
+        Ok(last) => replay_output(alloc, program, &last),
+        Err(ReplayFault::NotEnabled(step)) => no_step(alloc, step, schedule[step - 1]),
+        Err(ReplayFault::OutOfMemory) => Err(std::alloc::AllocError),
+    }
 }
 
 /// Checks the bytes of a book file against a program.
