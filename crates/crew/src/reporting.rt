@@ -57,7 +57,7 @@ pub fn told_of<M: Machine>(
     }
 }
 
-// An exit that lets a book go itself is proved over all that the book holds; one that calls this is not.
+/// Lets a book go. A function that does so itself is proved, at each of its exits, over all that the book holds.
 pub fn let_go<M: Machine>(_book: Book<M>) {}
 
 /// The report on a book, where the answer can be read off it. None where it can't, or where the book is not the one
