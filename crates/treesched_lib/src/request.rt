@@ -5,8 +5,8 @@ ghost use Rattle.clap.specs.Words.{first_of, found_of, kind_of, rows_of};
 ghost use Rattle.clap.specs.declared.error.kind.ErrorKind.TheVariants as kind;
 ghost use Rattle.book.specs.declared.book.Merge.{Merge};
 ghost use Rattle.crew.specs.Settings.{Settings};
-ghost use Rattle.treesched_lib.specs.Reading.{AreRead, AreRefused, AskFor, book_of, file_of, HasText, IsFaultOf, IsRequestOf};
-ghost use Rattle.treesched_lib.specs.Reading.{IsUsed};
+ghost use Rattle.treesched_lib.specs.Reading.{AreRead, AreRefused, AskFor, book_of, file_of, HasText, IsFaultOf};
+ghost use Rattle.treesched_lib.specs.Reading.{IsRequestOf, IsUsed};
 ghost use Rattle.treesched_lib.specs.Reading.{MergeIs, NumberIs, OptionsAre, out_of, Tells, text_of};
 ghost use Rattle.treesched_lib.specs.declared.request.WordsFault.TheVariants as fault;
 
