@@ -18,13 +18,14 @@ use crate::stock::Stock;
 use sched_program::{OutOfMemory, Program, same};
 use std::alloc::Global;
 use std::marker::Model;
+use std::sync::Arc;
 use tree_machine::{Machine, Room, State, StepFault};
 
 /// The step of a thread: the state that it leads to, with its label, and what was found of it.
 #[derive(Drop)]
 pub struct Stepped<S> {
     thread: u8,
-    state: S,
+    state: Arc<S>,
     known: Hashed<Known<S>>,
     finding: Finding,
 }
@@ -38,12 +39,12 @@ impl<S> Model for Stepped<S> {
 
     ghost view = { λ x. record { thread = x.thread; state = x.known; finding = x.finding } };
 
-    ghost invariant = { λ x. x.known.state ≡ x.state };
+    ghost invariant = { λ x. x.known.state ≡ x.state.value };
 }
 
 impl<S> Stepped<S> {
-    pub(crate) fn into_fields(self) -> (u8, S, Hashed<Known<S>>, Finding)
-        ensures { (result.0 ≡ self.thread) × (result.1 ≡ self.state.state) × (result.2 ≡ self.state)
+    pub(crate) fn into_fields(self) -> (u8, Arc<S>, Hashed<Known<S>>, Finding)
+        ensures { (result.0 ≡ self.thread) × (result.1.value ≡ self.state.state) × (result.2 ≡ self.state)
             × (result.3 ≡ self.finding) }
     {
         let Stepped {
@@ -97,7 +98,7 @@ fn relabelled<M: Machine>(
 {
     let (thread, state, known, finding) = step.into_fields();
     let spare = known.into_value().into_label().into_vec();
-    let known = label(alloc, machine, program, &state, merge, room, spare)?;
+    let known = label(alloc, machine, program, &*state, merge, room, spare)?;
     Ok(Stepped {
         thread,
         state,
@@ -172,7 +173,7 @@ fn step_of<M: Machine>(
     )?;
     Ok(Some(Stepped {
         thread,
-        state: next,
+        state: stock.share(alloc, next)?,
         known,
         finding,
     }))

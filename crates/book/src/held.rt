@@ -51,11 +51,10 @@ impl<S> Held<S> {
 
 impl<S: Drop> Held<S> {
     /// Puts a state behind the others.
-    pub fn push(&mut self, state: S) -> Result<(), AllocError>
-        ensures ok { OnOk result (self.new ≡ self.old ++ state ∷ []) }
+    pub fn push(&mut self, state: Arc<S>) -> Result<(), AllocError>
+        ensures ok { OnOk result (self.new ≡ self.old ++ state.value ∷ []) }
         ensures err { OnErr result (self.new ≡ self.old) }
     {
-        let state = Arc::new(*self.states.allocator(), state)?;
         self.states.push_back(state)?;
         Ok(())
     }

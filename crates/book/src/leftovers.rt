@@ -8,12 +8,13 @@ use crate::known::Known;
 use sched_program::OutOfMemory;
 use std::alloc::Global;
 use std::marker::Model;
+use std::sync::Arc;
 
 /// States that a book knew already, with what else the expansions that were entered held of them. Whoever enters under
 /// a lock can drop these after it.
 #[derive(Drop)]
 pub struct Leftovers<S> {
-    known: Vec<(Hashed<Known<S>>, PackedRow, S)>,
+    known: Vec<(Hashed<Known<S>>, PackedRow, Arc<S>)>,
 }
 
 impl<S> Model for Leftovers<S> {
@@ -51,16 +52,16 @@ impl<S> Leftovers<S> {
 }
 
 impl<S: Drop> Leftovers<S> {
-    /// Puts the states into spare ones, and the lists of their labels into spare lists. A refused growth lets one go.
-    pub(crate) fn return_to(self, spares: &mut Vec<S>, labels: &mut Vec<Vec<u8>>) {
+    /// Puts the states into shells, and the lists of their labels into spare lists. A refused growth lets one go.
+    pub(crate) fn return_to(self, shells: &mut Vec<Arc<S>>, labels: &mut Vec<Vec<u8>>) {
         for (known, _row, state) in self.known {
-            let _ = spares.push(state);
+            let _ = shells.push(state);
             let _ = labels.push(known.into_value().into_label().into_vec());
         }
     }
 
     /// Keeps a state, if there is one, where there is room, and else drops it.
-    pub(crate) fn keep(&mut self, state: Option<(Hashed<Known<S>>, PackedRow, S)>)
+    pub(crate) fn keep(&mut self, state: Option<(Hashed<Known<S>>, PackedRow, Arc<S>)>)
         ensures { Keeps self.old self.new (if is_some state then 1 else 0) }
     {
         if let Some(state) = state {

@@ -1,6 +1,10 @@
 //! What expansions are made in and of, used again from one to the next.
+ghost use Rattle.std.specs.Prelude.{◌≡◌, IfOk};
+
 use crate::leftovers::Leftovers;
+use sched_program::OutOfMemory;
 use std::alloc::Global;
+use std::mem;
 use std::sync::Arc;
 use tree_machine::{Bytes, Machine, Room, State};
 
@@ -10,6 +14,8 @@ use tree_machine::{Bytes, Machine, Room, State};
 pub struct Stock<M: Machine> {
     pub(crate) room: Room,
     pub(crate) spares: Vec<State<M>>,
+    /// States that were shared, each in the memory that shared it.
+    shells: Vec<Arc<State<M>>>,
     labels: Vec<Vec<u8>>,
 }
 
@@ -19,6 +25,7 @@ impl<M: Machine> Stock<M> {
         Stock {
             room: Room::new(alloc),
             spares: Vec::new(alloc),
+            shells: Vec::new(alloc),
             labels: Vec::new(alloc),
         }
     }
@@ -41,15 +48,34 @@ impl<M: Machine> Stock<M> {
         let _ = self.labels.push(label.into_vec());
     }
 
+    /// A state to be shared. It lies where one lay that nobody shares any more, if there is such a place: that one is
+    /// the next spare.
+    pub(crate) fn share(
+        &mut self,
+        alloc: Global,
+        state: State<M>,
+    ) -> Result<Arc<State<M>>, OutOfMemory>
+        ensures { IfOk result (λ shared. shared.value ≡ state) }
+    {
+        if let Some(mut shell) = self.shells.pop()
+            && let Some(place) = Arc::get_mut(&mut shell)
+        {
+            let spare = mem::replace(place, state);
+            self.keep(spare);
+            return Ok(shell);
+        }
+        Ok(Arc::new(alloc, state)?)
+    }
+
     /// Takes a state in, unless somebody else holds it. A refused growth lets it go.
-    pub fn take_in(&mut self, state: Arc<State<M>>) {
-        if let Some(state) = Arc::into_inner(state) {
-            self.keep(state);
+    pub fn take_in(&mut self, mut state: Arc<State<M>>) {
+        if Arc::get_mut(&mut state).is_some() {
+            let _ = self.shells.push(state);
         }
     }
 
     /// Takes in the states that a book knew already, with their labels.
     pub fn take_leftovers(&mut self, leftovers: Leftovers<State<M>>) {
-        leftovers.return_to(&mut self.spares, &mut self.labels);
+        leftovers.return_to(&mut self.shells, &mut self.labels);
     }
 }

@@ -292,7 +292,7 @@ impl<S: Drop> Table<S> {
         let mut slots = IndexMap::new(alloc);
         put_new(&mut slots, known, row)?;
         let mut held = Held::none(alloc);
-        held.push(state)?;
+        held.push(Arc::new(alloc, state)?)?;
         Ok(Table {
             slots,
             held,

@@ -19,6 +19,15 @@ pub struct Lead<M: Machine> {
 /// Entries of one layer.
 pub type Leads<M: Machine> = Vec<Lead<M>>;
 
+/// How many operations the threads of a state have finished.
+pub fn finished_in<M: Machine>(state: &State<M>) -> usize {
+    let mut finished = 0usize;
+    for thread in state.threads.as_slice() {
+        finished = finished.wrapping_add(thread.replies.len());
+    }
+    finished
+}
+
 /// What a book found of an entry that it gave out.
 pub fn found_of<M: Machine>(book: &Book<M>, id: usize, state: &State<M>) -> Finding
     requires given { IsGiven M.rules book.now id state.now }

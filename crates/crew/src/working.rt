@@ -1,10 +1,10 @@
 //! What one worker does in one layer.
-ghost use Rattle.std.specs.Prelude.{◌≡◌, ◌+◌, ◌<◌, ◌≤◌, ◌^◌, length, IfOk, IfSome, sum_by};
+ghost use Rattle.std.specs.Prelude.{◌≡◌, ◌+◌, ◌<◌, ◌≤◌, ◌^◌, length, All, IfOk, IfSome, sum_by};
 ghost use Rattle.crew.specs.ClaimSeats.{IsSeatOf};
 
 use crate::claims::{Claims, Seat};
 use crate::gate::Gate;
-use crate::leads::Leads;
+use crate::leads::{Leads, finished_in};
 use crate::tally::{Desk, Ledgers, Tally};
 use book::{EnterFault, Expansion, Leftovers, Merge, Stock};
 use sched_program::{OutOfMemory, Program};
@@ -150,7 +150,36 @@ impl<'a, M: Machine> Layer<'a, M> {
         }
     }
 
-    /// Draws the places of one round, fewer at the end of the layer, and makes the expansions there.
+    /// Draws the places of one round, fewer at the end of the layer.
+    fn places(&self, seat: &mut Seat) -> Result<Vec<usize>, OutOfMemory>
+        requires seat { IsSeatOf self.now seat.old }
+        ensures seat { IsSeatOf self.now seat.new }
+        ensures within { IfOk result (λ places. All (λ place. place < self.now.size.len) places.items) }
+    {
+        let mut places = Vec::with_capacity(self.alloc, self.round)?;
+        for _each in 0..self.round {
+            let Some(place) = self.claims.claim(seat) else {
+                return Ok(places);
+            };
+            places.push(place)?;
+        }
+        Ok(places)
+    }
+
+    /// Looks at the states at these places. How many operations their threads have finished is of no use: each state was
+    /// last touched a layer ago, by whichever worker made it, and looked at one right after the other they come into the
+    /// processor's caches all at once, so that no expansion has to wait for its own.
+    fn look_at(&self, places: &[usize]) -> Option<usize>
+        requires { All (λ place. place < self.now.size.len) places.now }
+    {
+        let mut finished = 0usize;
+        for place in places {
+            finished = finished.checked_add(finished_in(&*self.leads[*place].state))?;
+        }
+        Some(finished)
+    }
+
+    /// Draws the places of one round, and makes the expansions there.
     fn draw<'l>(
         &'l self,
         gate: &impl Gate,
@@ -162,10 +191,9 @@ impl<'a, M: Machine> Layer<'a, M> {
         requires seat { IsSeatOf self.now seat.old }
         ensures seat { IsSeatOf self.now seat.new }
     {
-        for _place in 0..self.round {
-            let Some(place) = self.claims.claim(seat) else {
-                return Ok(());
-            };
+        let places = self.places(seat)?;
+        let _finished = self.look_at(places.as_slice()).ok_or(OutOfMemory)?;
+        for place in places {
             let one = self.expand(place, stock)?;
             gate.arrive(number, self.number, place);
             made.push(one)?;

@@ -45,7 +45,7 @@ returns-in_ok-push-in-None-clause-held g c =
     let eq : Labelled g.row.S.Denot → Labelled g.row.S.Denot → Bool =
     same_label in
     stay_new eq c.args.slots.now.entries c.put_new.new.slots.entries fields.result.2 c.in_ok-row.row
-    c.in_ok-put_new.ensures.put len c.args.held.now c.push.new.self fields.result.1
+    c.in_ok-put_new.ensures.put len c.args.held.now c.push.new.self fields.result.1.value
     (ap (λ (k : Labelled g.row.S.Denot). k.state) fields.ensures.2 ∙ sym fields.ensures.1)
     c.in_ok-push-in-None.ensures.ok
 
