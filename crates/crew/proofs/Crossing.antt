@@ -9,16 +9,14 @@ use denote.RattleType.{RattleType}
 use denote.Param.Send.{IsSend, IsSync, sendable, shr_sync, struct_sync}
 use Rattle.std.proofs.Crossing.{crosses}
 use Rattle.std.proofs.sync.ledger.Book.TheSendSync as ledger
-use Rattle.atomic_table.proofs.shared.Shared.TheSendSync as shared
-use Rattle.atomic_table.proofs.send_lease.SendLease.TheSendSync as lease
 use Rattle.std.specs.declared.cmp.PartialEq as partial
 use Rattle.std.specs.declared.hash.Hash as hash
 use Rattle.sched_program.specs.contracts.program.Program as Program
 use Rattle.tree_machine.specs.declared.machine.Machine as machine
 use Rattle.book.specs.contracts.finding.Finding as Finding
 use Rattle.book.proofs.Crossing.{book_send, state_send, state_sync}
+use Rattle.claims.proofs.Crossing.{claims_sync}
 use Rattle.crew.specs.declared.tally.Ledgers as ledgers
-use Rattle.crew.specs.contracts.claims.Claims as Claims
 use Rattle.crew.specs.contracts.layers.Shift as Shift
 use Rattle.crew.specs.contracts.leads.Lead as Lead
 use Rattle.crew.specs.contracts.tally.Desk as Desk
@@ -51,9 +49,6 @@ finding_send = search (sendable, crosses) depth 30
 
 finding_sync : IsSync Finding.the_row
 finding_sync = search (sendable, crosses) depth 30
-
-claims_sync : IsSync Claims.the_row
-claims_sync = search (shared.the_sync, lease.the_sync, sendable, crosses) depth 30 fits 10000
 
 module _ (M Mem Loc Form : RattleType) (m : IsSend M) (mem : IsSend Mem) (loc : IsSend Loc) (form : IsSend Form)
     (m' : IsSync M) (mem' : IsSync Mem) (loc' : IsSync Loc) (form' : IsSync Form) where

@@ -4,19 +4,16 @@ use Rattle.std.proofs.Common.{arith, subst, slice_get, get_or, map}
 use Rattle.std.specs.Option.{option_map}
 use Rattle.std.specs.declared.sync.Arc.{Arc}
 use Rattle.std.proofs.lemmas.Option.{slice_get-get_or}
-use Rattle.sched_program.specs.Program.{Program}
 use Rattle.tree_machine.specs.Rules.{Rules}
 use Rattle.tree_machine.specs.Step.{Fits}
 use Rattle.tree_machine.specs.declared.state.State.{State}
 use Rattle.book.specs.declared.entry.Mark.TheVariants.{Taken}
 use Rattle.book.specs.declared.finding.Finding.{Finding}
-use Rattle.book.specs.Entries.{Entry, At, Contents, Takes, TakesLayer, with_mark, with_marks}
-use Rattle.book.specs.Findings.{IsFindingOf}
+use Rattle.book.specs.Entries.{Entry, At, Contents, TakesLayer, with_mark, with_marks}
 use Rattle.book.specs.Books.{right_in}
 use Rattle.book.specs.Slots.{AllStates}
 use Rattle.book.proofs.EntryLemmas.{with_mark-at}
-use Rattle.book.proofs.Growth.{taken_is}
-use Rattle.crew.specs.Working.{IsGiven, IsReady}
+use Rattle.crew.specs.Working.{IsGiven}
 
 module _ {S : Type 0} where
   -- marks change no state
@@ -73,27 +70,3 @@ layer_given {X} {Memory} {Place} {Form} {A} rules steps b new layer same limit t
     subst (λ (q : Contents X (State X Memory Place Form)). Fits (rules q.machine) q.program p.1.value) (sym same)
     (fits k p at) in
     ((marked.0, there, marked.2 ∙ one.state), own, omega arith)
-
--- an entry that was taken is the book's
-pub taken_given : {X Memory Place Form : Type 0} (rules : X → Rules Memory Place)
-    (steps : State X Memory Place Form → ℕ) (b new : Contents X (State X Memory Place Form))
-    (id : ℕ) (state : State X Memory Place Form) → new ≡ record b { entries = new.entries } → b.limit ≤ 2000000
-    → Takes steps b.entries new.entries id state
-    → Fits (rules b.machine) b.program state → state.steps < b.limit → IsGiven rules new id state
-taken_given {X} {Memory} {Place} {Form} rules steps b new id state same limit takes fits few =
-    let taken = taken_is steps b.entries new.entries id state takes in (
-      (taken.0, taken.1, taken.3),
-      subst (λ (q : Contents X (State X Memory Place Form)). Fits (rules q.machine) q.program state) (sym same) fits,
-      omega arith,
-    )
-
--- what is found of it is found by a machine and a program that are the book's
-pub found_own : {X Memory Place Form : Type 0} (rules : X → Rules Memory Place)
-    (b new : Contents X (State X Memory Place Form)) (machine : X) (program : Program)
-    (state : State X Memory Place Form) (finding : Finding) → new ≡ record b { entries = new.entries }
-    → machine ≡ new.machine → program ≡ b.program
-    → IsReady (rules new.machine) new.program state finding → IsFindingOf (rules machine) program state finding
-found_own {X} {Memory} {Place} {Form} rules b new machine program state finding same is_machine is_program ready =
-    subst (λ p. IsFindingOf (rules machine) p state finding)
-    (ap (λ (q : Contents X (State X Memory Place Form)). q.program) same ∙ sym is_program)
-    (subst (λ x. IsFindingOf (rules x) new.program state finding) (sym is_machine) ready.2)

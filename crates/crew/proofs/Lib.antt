@@ -20,5 +20,3 @@ pub mod Verdicts
 pub mod Rest
 mod ReadOff
 mod Crossing
-pub mod ClaimSteps
-pub mod ClaimTurns

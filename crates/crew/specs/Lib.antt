@@ -5,9 +5,6 @@ pub mod Due
 pub mod Headline
 pub mod Reading
 pub mod Driving
-pub mod ClaimValues
-pub mod ClaimRule
-pub mod ClaimSeats
 pub mod Working
 pub mod Reporting
 pub mod Starting

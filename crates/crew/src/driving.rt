@@ -7,8 +7,7 @@ ghost use Rattle.crew.specs.Driving.{IsInLayer, IsKept, IsLedgerOf};
 ghost use Rattle.crew.specs.Reading.{first_fault, IsCutAt, IsWorkedOff, StandsAt};
 
 use crate::answer::Share;
-use crate::leads::found_of;
-use book::{Book, Counting, EnterFault, Expansion, Stock};
+use book::{Book, Counting, EnterFault, Expansion};
 use sched_program::{OutOfMemory, Program};
 use std::alloc::Global;
 use tree_machine::Machine;
@@ -38,18 +37,7 @@ fn expand_next<M: Machine>(
         unreachable!();
     };
     book.law();
-    let source = &*state;
-    let finding = found_of(book, id, source);
-    let mut stock = Stock::new(alloc);
-    let expansion = Expansion::of_found(
-        alloc,
-        book.machine(),
-        program,
-        source,
-        &finding,
-        book.merge(),
-        &mut stock,
-    )?;
+    let expansion = Expansion::for_merge(alloc, book.machine(), program, &*state, book.merge())?;
     expansion.law();
     match book.enter(id, expansion) {
         Ok(counts) => {

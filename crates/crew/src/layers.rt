@@ -1,13 +1,13 @@
 //! The work of all workers, layer by layer.
 ghost use Rattle.std.specs.Prelude.{◌≡◌, ◌^◌, ◌<◌, All, IfOk, IfSome, length, vec_len};
-ghost use Rattle.crew.specs.ClaimSeats.{IsSeatOf};
+ghost use Rattle.claims.specs.Seats.{IsSeatOf};
 
-use crate::claims::{Claims, Seat};
 use crate::gate::Gate;
 use crate::leads::Leads;
 use crate::starting::call_at_once;
 use crate::tally::{Ledgers, Pieces, Tally};
 use crate::working::{Exploration, Layer, Stop, Worker, returns_of, round_of};
+use claims::{Claims, Seat};
 use sched_program::OutOfMemory;
 use std::alloc::Global;
 use std::mem;
@@ -46,6 +46,19 @@ fn seat_all<J: Ledgers>(claims: &Claims, workers: &mut [Worker<J>], mut seats: V
     for worker in workers.iter_mut() {
         worker.seat = seats.pop();
     }
+}
+
+/// Whether a worker had to stop. One that was refused a growth is told before all others.
+fn have_stopped<J: Ledgers>(workers: &[Worker<J>]) -> Result<bool, OutOfMemory> {
+    let mut stopped = false;
+    for worker in workers {
+        match worker.stop {
+            Some(Stop::OutOfMemory) => return Err(OutOfMemory),
+            Some(Stop::Full(_) | Stop::Refused) => stopped = true,
+            None => {}
+        }
+    }
+    Ok(stopped)
 }
 
 /// What the workers of a layer share, as one value, since each function of a closure is proved over all that it holds.
@@ -137,16 +150,7 @@ impl<'a, J: Ledgers + Send + Sync, M: Machine, G: Gate, R: Threads + Wait + Sync
     {
         let mut spent = Vec::new(self.alloc);
         for number in 0..steps {
-            if !self.expand_layer(number, workers, &mut spent)? {
-                return Ok(());
-            }
-            if workers
-                .iter()
-                .any(|worker| worker.stop == Some(Stop::OutOfMemory))
-            {
-                return Err(OutOfMemory);
-            }
-            if workers.iter().any(|worker| worker.stop.is_some()) {
+            if !self.expand_layer(number, workers, &mut spent)? || have_stopped(workers)? {
                 return Ok(());
             }
         }

@@ -53,7 +53,7 @@ pub fn leads_of<M: Machine>(
     let mut leads = Vec::with_capacity(alloc, layer.len())?;
     for (id, state) in layer {
         let finding = found_of(book, id, &*state);
-        leads.push(Lead { id, state, finding })?;
+        leads.push_reserved(Lead { id, state, finding });
     }
     Ok(leads)
 }

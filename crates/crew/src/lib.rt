@@ -3,7 +3,6 @@
 #![tactic(auto)]
 
 mod answer;
-mod claims;
 mod driving;
 mod explorer;
 mod gate;
@@ -18,7 +17,7 @@ mod tally;
 mod working;
 
 pub use crate::answer::{Answer, Report, Share};
-pub use crate::claims::{Claimed, Claims, Draws, Seat, Size};
 pub use crate::explorer::explore;
 pub use crate::gate::{Gate, Open};
 pub use crate::options::Options;
+pub use claims::{Claimed, Claims, Draws, Seat, Size};

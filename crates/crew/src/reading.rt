@@ -2,6 +2,7 @@
 ghost use Rattle.std.specs.Prelude.{◌≡◌, ℕ, ◌<◌, ◌≤◌, ◌↔◌};
 ghost use Rattle.std.specs.Prelude.{IsTrue, IsSome, IfOk, IfSome, Some, None, length, false, true};
 ghost use Rattle.book.specs.Books.{machine_in, right_in};
+ghost use Rattle.tree_machine.specs.Step.{Fits};
 ghost use Rattle.tree_machine.specs.declared.state.State.{State};
 ghost use Rattle.book.specs.Entries.{At, Entry};
 ghost use Rattle.book.specs.Schedule.{after};
@@ -17,7 +18,7 @@ use crate::options::Options;
 use book::{Book, Counting, EnterFault, Expansion, Finding, Merge, ReplayFault, replay};
 use sched_program::{OutOfMemory, Program};
 use std::alloc::Global;
-use tree_machine::Machine;
+use tree_machine::{Machine, State};
 
 /// What was found of the first entry that is not sound.
 fn fault_at<M: Machine>(book: &Book<M>, id: usize) -> Finding
@@ -139,8 +140,38 @@ fn read_finished<M: Machine>(
     }
 }
 
-/// Whether the book has no room for the steps of an entry, which is taken. The steps are made anew, and entered where
-/// there is room.
+/// Whether the book has no room for the steps of an entry, which is taken and has this state. The steps are made anew,
+/// and entered where there is room.
+fn is_full_for<M: Machine>(
+    alloc: Global,
+    program: &Program,
+    book: &mut Book<M>,
+    id: usize,
+    state: &State<M>,
+) -> Result<bool, OutOfMemory>
+    requires program { program.now ≡ book.old.program }
+    requires own { (e : Entry (State M M.Mem M.Loc M.Form)) × At book.old.entries id e × (e.state ≡ state.now) }
+    requires fits { Fits (M.rules book.old.machine) book.old.program state.now }
+    ensures full { IfOk result (λ yes. yes ≡ true → IsFullAt (machine_in M.rules book.old)
+        (⟦<M as Counting>⟧.counted book.old.machine book.old.merge) (right_in M.rules book.old) book.old id) }
+    ensures yes { IsFullAt (machine_in M.rules book.old)
+        (⟦<M as Counting>⟧.counted book.old.machine book.old.merge) (right_in M.rules book.old) book.old id
+        → IfOk result (λ yes. yes ≡ true) }
+    ensures same { IfOk result (λ yes. yes ≡ true → book.new ≡ book.old) }
+{
+    book.law();
+    let expansion = Expansion::of(alloc, book.machine(), program, state)?;
+    expansion.law();
+    match book.enter(id, expansion) {
+        Err(EnterFault::Full) => Ok(true),
+        Err(EnterFault::OutOfMemory) => Err(OutOfMemory),
+        Err(EnterFault::NotTaken) => Ok(false),
+        Err(EnterFault::Stranger) => Ok(false),
+        Ok(_) => Ok(false),
+    }
+}
+
+/// Whether the book has no room for the steps of an entry, which is taken, by the schedule that leads to it.
 fn is_full_at<M: Machine>(
     alloc: Global,
     program: &Program,
@@ -158,20 +189,10 @@ fn is_full_at<M: Machine>(
         → IfOk result (λ yes. yes ≡ true) }
     ensures same { IfOk result (λ yes. yes ≡ true → book.new ≡ book.old) }
 {
-    book.law();
-    let state = match replay(alloc, book.machine(), program, schedule) {
-        Ok(end) => end.state,
-        Err(ReplayFault::OutOfMemory) => return Err(OutOfMemory),
-        Err(ReplayFault::NotEnabled(_)) => return Ok(false),
-    };
-    let expansion = Expansion::of(alloc, book.machine(), program, &state)?;
-    expansion.law();
-    match book.enter(id, expansion) {
-        Err(EnterFault::Full) => Ok(true),
-        Err(EnterFault::OutOfMemory) => Err(OutOfMemory),
-        Err(EnterFault::NotTaken) => Ok(false),
-        Err(EnterFault::Stranger) => Ok(false),
-        Ok(_) => Ok(false),
+    match replay(alloc, book.machine(), program, schedule) {
+        Ok(end) => is_full_for(alloc, program, book, id, &end.state),
+        Err(ReplayFault::OutOfMemory) => Err(OutOfMemory),
+        Err(ReplayFault::NotEnabled(_)) => Ok(false),
     }
 }
 

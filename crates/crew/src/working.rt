@@ -1,12 +1,12 @@
 //! What one worker does in one layer.
 ghost use Rattle.std.specs.Prelude.{◌≡◌, ◌+◌, ◌<◌, ◌≤◌, ◌^◌, length, All, IfOk, IfSome, sum_by};
-ghost use Rattle.crew.specs.ClaimSeats.{IsSeatOf};
+ghost use Rattle.claims.specs.Seats.{IsSeatOf};
 
-use crate::claims::{Claims, Seat};
 use crate::gate::Gate;
 use crate::leads::{Leads, finished_in};
 use crate::tally::{Desk, Ledgers, Tally};
 use book::{EnterFault, Expansion, Leftovers, Merge, Stock};
+use claims::{Claims, Seat};
 use sched_program::{OutOfMemory, Program};
 use std::alloc::Global;
 use std::marker::Model;
@@ -82,6 +82,27 @@ fn room_for<M: Machine>(
     Leftovers::with_room(alloc, steps)
 }
 
+/// Draws the places of one round, fewer where no more are left.
+fn places_of(
+    alloc: Global,
+    claims: &Claims,
+    round: usize,
+    seat: &mut Seat,
+) -> Result<Vec<usize>, OutOfMemory>
+    requires seat { IsSeatOf claims.now seat.old }
+    ensures seat { IsSeatOf claims.now seat.new }
+    ensures within { IfOk result (λ places. All (λ place. place < claims.now.size.len) places.items) }
+{
+    let mut places = Vec::with_capacity(alloc, round)?;
+    for _each in 0..round {
+        let Some(place) = claims.claim(seat) else {
+            return Ok(places);
+        };
+        places.push(place)?;
+    }
+    Ok(places)
+}
+
 /// The entries of a layer, which are taken and can be expanded, and the counter of their places. Contracts see the
 /// counter.
 #[derive(Drop)]
@@ -105,7 +126,7 @@ pub struct Layer<'a, M: Machine> {
 
 impl<'a, M: Machine> Model for Layer<'a, M> {
     ghost use Rattle.std.specs.Prelude.{◌≡◌, All, length};
-    ghost use Rattle.crew.specs.ClaimValues.{Counter};
+    ghost use Rattle.claims.specs.Values.{Counter};
     ghost use Rattle.crew.specs.Working.{IsReady};
 
     ghost Value = { Counter };
@@ -150,22 +171,6 @@ impl<'a, M: Machine> Layer<'a, M> {
         }
     }
 
-    /// Draws the places of one round, fewer at the end of the layer.
-    fn places(&self, seat: &mut Seat) -> Result<Vec<usize>, OutOfMemory>
-        requires seat { IsSeatOf self.now seat.old }
-        ensures seat { IsSeatOf self.now seat.new }
-        ensures within { IfOk result (λ places. All (λ place. place < self.now.size.len) places.items) }
-    {
-        let mut places = Vec::with_capacity(self.alloc, self.round)?;
-        for _each in 0..self.round {
-            let Some(place) = self.claims.claim(seat) else {
-                return Ok(places);
-            };
-            places.push(place)?;
-        }
-        Ok(places)
-    }
-
     /// Looks at the states at these places. How many operations their threads have finished is of no use: each state was
     /// last touched a layer ago, by whichever worker made it, and looked at one right after the other they come into the
     /// processor's caches all at once, so that no expansion has to wait for its own.
@@ -191,7 +196,7 @@ impl<'a, M: Machine> Layer<'a, M> {
         requires seat { IsSeatOf self.now seat.old }
         ensures seat { IsSeatOf self.now seat.new }
     {
-        let places = self.places(seat)?;
+        let places = places_of(self.alloc, &self.claims, self.round, seat)?;
         let _finished = self.look_at(places.as_slice()).ok_or(OutOfMemory)?;
         for place in places {
             let one = self.expand(place, stock)?;
@@ -200,6 +205,27 @@ impl<'a, M: Machine> Layer<'a, M> {
         }
         Ok(())
     }
+}
+
+/// Enters expansions, all in one holding of the lock, and tells that there were some. What the book knew is left for
+/// after it.
+fn enter_all<J: Ledgers, M: Machine>(
+    desk: &mut Desk<J, M>,
+    made: Vec<(usize, Expansion<'_, M>)>,
+    tally: &mut Tally<J>,
+    leftovers: &mut Leftovers<State<M>>,
+) -> Result<bool, Stop>
+    requires room { sum_by (λ one. length one.1.successors) made.items ≤ leftovers.old.room }
+    ensures kept { IfOk result (λ _. leftovers.new.kept + tally.old.share.met
+        ≡ leftovers.old.kept + tally.new.share.met) }
+{
+    for (id, expansion) in made {
+        match desk.enter(tally, id, expansion, leftovers) {
+            Ok(()) => {}
+            Err(fault) => return Err(stop_of(fault, id)),
+        }
+    }
+    Ok(true)
 }
 
 /// What all workers of an exploration have in common.
@@ -215,27 +241,6 @@ pub struct Exploration<'a, J: Ledgers, M: Machine, G: Gate, R: Wait> {
 }
 
 impl<'a, J: Ledgers, M: Machine, G: Gate, R: Wait> Exploration<'a, J, M, G, R> {
-    /// Enters expansions, all in one holding of the lock. What the book knew is left for after it.
-    fn enter_all(
-        &self,
-        mut desk: MutexGuard<'_, Desk<J, M>>,
-        made: Vec<(usize, Expansion<'_, M>)>,
-        tally: &mut Tally<J>,
-        leftovers: &mut Leftovers<State<M>>,
-    ) -> Result<(), Stop>
-        requires room { sum_by (λ one. length one.1.successors) made.items ≤ leftovers.old.room }
-        ensures kept { IfOk result (λ _. leftovers.new.kept + tally.old.share.met
-            ≡ leftovers.old.kept + tally.new.share.met) }
-    {
-        for (id, expansion) in made {
-            match desk.enter(tally, id, expansion, leftovers) {
-                Ok(()) => {}
-                Err(fault) => return Err(stop_of(fault, id)),
-            }
-        }
-        Ok(())
-    }
-
     /// The lock of the book. In all rounds but the last it is none where another worker has it.
     fn desk_in(&self, round: usize) -> Option<MutexGuard<'_, Desk<J, M>>> {
         if round < LAST_ROUND {
@@ -272,16 +277,38 @@ impl<'a, J: Ledgers, M: Machine, G: Gate, R: Wait> Exploration<'a, J, M, G, R> {
             let Ok(mut leftovers) = room_for(self.alloc, made.as_slice()) else {
                 return Err(Stop::OutOfMemory);
             };
-            if let Some(desk) = self.desk_in(round) {
-                self.enter_all(desk, made, tally, &mut leftovers)?;
+            if let Some(mut desk) = self.desk_in(round) {
+                let entered = enter_all(&mut *desk, made, tally, &mut leftovers);
+                drop(desk);
                 stock.take_leftovers(leftovers);
-                return Ok(true);
+                return entered;
             }
         }
         Ok(true)
     }
 
-    /// Expands the entries at the places that the worker draws, until none is left or it has to stop.
+    /// Expands the entries at the places that the worker draws, until none is left or it has to stop. Why, if so.
+    fn turns<'l>(
+        &'l self,
+        layer: &'l Layer<'a, M>,
+        number: u8,
+        seat: &mut Seat,
+        tally: &mut Tally<J>,
+        stock: &mut Stock<M>,
+    ) -> Option<Stop>
+        requires seat { IsSeatOf layer.now seat.old }
+    {
+        for _turn in 0..=layer.leads.len() {
+            match self.turn(layer, number, seat, tally, stock) {
+                Ok(true) => {}
+                Ok(false) => return None,
+                Err(why) => return Some(why),
+            }
+        }
+        None
+    }
+
+    /// Lets a worker do its part of a layer.
     pub fn work<'l>(&'l self, layer: &'l Layer<'a, M>, worker: &mut Worker<J>)
         requires seat { IfSome worker.old.seat (IsSeatOf layer.now) }
     {
@@ -295,15 +322,6 @@ impl<'a, J: Ledgers, M: Machine, G: Gate, R: Wait> Exploration<'a, J, M, G, R> {
             return;
         };
         let mut stock = Stock::new(self.alloc);
-        for _turn in 0..=layer.leads.len() {
-            match self.turn(layer, *number, seat, tally, &mut stock) {
-                Ok(true) => {}
-                Ok(false) => return,
-                Err(why) => {
-                    *stop = Some(why);
-                    return;
-                }
-            }
-        }
+        *stop = self.turns(layer, *number, seat, tally, &mut stock);
     }
 }

@@ -13,9 +13,9 @@ macro_rules! passes {
 }
 
 #[cfg(test)]
-mod claims;
-#[cfg(test)]
 mod crews;
+#[cfg(test)]
+mod drawing;
 #[cfg(test)]
 mod enumerator;
 #[cfg(test)]

@@ -1,11 +1,9 @@
-use Rattle.std.proofs.Common.{◌≡◌, ◌+◌, ◌^◌, ◌<◌, ◌∙◌, length, sym, subst, arith}
+use Rattle.std.proofs.Common.{◌≡◌, ◌+◌, ◌^◌, ◌<◌, ◌∙◌, length, arith}
 use Rattle.book.specs.Entries.{IsTaken, IsOwn, states, unknown}
 use Rattle.book.specs.Books.{counted_as_one, machine_in, right_in}
 use Rattle.book.proofs.Growth.{one_is_next}
 use Rattle.crew.proofs.NextEntry.{there_it_is, its_own, ledger_of_refused, cut_of_full, one_more, in_layer}
 use Rattle.crew.proofs.NextEntry.{met_is_small, ledger_of_entered}
-use Rattle.crew.specs.Working.{IsGiven}
-use Rattle.crew.proofs.Given.{taken_given, found_own}
 use Rattle.crew.proofs.driving.expand_next.Goals as goal
 
 pub unreachable-requires : goal.unreachable-requires
@@ -19,22 +17,6 @@ unreachable-requires g c =
     c.requires.in_layer.none_taken c.args.depth c.requires.left
     (rw c.in_default.is at c.in_ok-id.ensures.none)
 
-pub found_of-finding-requires-clause-given : goal.found_of-finding-requires-clause-given
-found_of-finding-requires-clause-given g c κs within =
-    let b = c.args.book.now in
-    let mid = c.take.new.self in
-    subst (IsGiven g.M.Machine.rules mid c.in-Some.id) (sym c.deref-source.ensures)
-    (taken_given g.M.Machine.rules (machine_in g.M.Machine.rules b).steps b mid c.in-Some.id c.in-Some.state.value
-    c.in_ok-id.ensures.same c.law.ensures.law.limit
-    (rw c.in-Some.is at c.in_ok-id.ensures.taken) (rw c.in-Some.is at c.in_ok-id.ensures.fits)
-    (rw c.in-Some.is at c.in_ok-id.ensures.few))
-
-pub of_found-requires-clause-finding : goal.of_found-requires-clause-finding
-of_found-requires-clause-finding g c κs within =
-    found_own g.M.Machine.rules c.args.book.now c.take.new.self c.machine.result c.args.program.now
-    c.deref-source.result.now c.found_of-finding.result c.in_ok-id.ensures.same c.machine.ensures c.requires.program
-    c.found_of-finding.ensures
-
 pub add-requires-clause-met : goal.add-requires-clause-met
 add-requires-clause-met g c =
     let small : c.args.book.now.met + c.in-Ok.counts.met < 2 ^ 64 =
@@ -44,7 +26,7 @@ add-requires-clause-met g c =
     c.in-Some.state.value (rw c.in-Some.is at c.in_ok-id.ensures.taken)
     c.in_ok-expansion.expansion (c.in_ok-expansion.ensures.machine ∙ c.machine.ensures)
     (c.in_ok-expansion.ensures.program ∙ c.requires.program)
-    (c.in_ok-expansion.ensures.source ∙ c.deref-source.ensures) c.law-3.ensures
+    (c.in_ok-expansion.ensures.source ∙ c.deref.ensures) c.law-3.ensures
     c.args.depth c.requires.in_layer c.requires.left
     c.enter.new.self c.in-Ok.counts.entered c.in-Ok.counts.met c.in-Ok.ensures.entered in
     let ledger : c.args.share.now.met ≡ c.args.book.now.met = c.requires.ledger.met in
@@ -58,7 +40,7 @@ returns-in-Ok-clause-ledger g c =
     c.in-Some.state.value (rw c.in-Some.is at c.in_ok-id.ensures.taken)
     c.in_ok-expansion.expansion (c.in_ok-expansion.ensures.machine ∙ c.machine.ensures)
     (c.in_ok-expansion.ensures.program ∙ c.requires.program)
-    (c.in_ok-expansion.ensures.source ∙ c.deref-source.ensures) c.law-3.ensures
+    (c.in_ok-expansion.ensures.source ∙ c.deref.ensures) c.law-3.ensures
     c.args.depth c.requires.in_layer c.requires.left
     c.enter.new.self c.in-Ok.counts.entered c.in-Ok.counts.met c.in-Ok.ensures.entered
     c.args.share.now c.add.new.self c.requires.ledger c.add.ensures
@@ -71,7 +53,7 @@ returns-in-Ok-clause-next g c =
     c.in-Some.state.value (rw c.in-Some.is at c.in_ok-id.ensures.taken)
     c.in_ok-expansion.expansion (c.in_ok-expansion.ensures.machine ∙ c.machine.ensures)
     (c.in_ok-expansion.ensures.program ∙ c.requires.program)
-    (c.in_ok-expansion.ensures.source ∙ c.deref-source.ensures) c.law-3.ensures
+    (c.in_ok-expansion.ensures.source ∙ c.deref.ensures) c.law-3.ensures
     c.args.depth c.requires.in_layer c.requires.left
     c.enter.new.self c.in-Ok.counts.entered c.in-Ok.counts.met c.in-Ok.ensures.entered
 
@@ -83,7 +65,7 @@ returns-in-Ok-clause-more g c =
     c.in-Some.state.value (rw c.in-Some.is at c.in_ok-id.ensures.taken)
     c.in_ok-expansion.expansion (c.in_ok-expansion.ensures.machine ∙ c.machine.ensures)
     (c.in_ok-expansion.ensures.program ∙ c.requires.program)
-    (c.in_ok-expansion.ensures.source ∙ c.deref-source.ensures) c.law-3.ensures
+    (c.in_ok-expansion.ensures.source ∙ c.deref.ensures) c.law-3.ensures
     c.args.depth c.requires.in_layer c.requires.left
     c.enter.new.self c.in-Ok.counts.entered c.in-Ok.counts.met c.in-Ok.ensures.entered
 
@@ -95,7 +77,7 @@ returns-in-Err-Full-clause-ledger g c =
     c.in-Some.state.value (rw c.in-Some.is at c.in_ok-id.ensures.taken)
     c.in_ok-expansion.expansion (c.in_ok-expansion.ensures.machine ∙ c.machine.ensures)
     (c.in_ok-expansion.ensures.program ∙ c.requires.program)
-    (c.in_ok-expansion.ensures.source ∙ c.deref-source.ensures) c.law-3.ensures
+    (c.in_ok-expansion.ensures.source ∙ c.deref.ensures) c.law-3.ensures
     c.enter.new.self c.in-Err-Full.ensures.err c.args.share.now c.requires.ledger
 
 pub returns-in-Err-Full-clause-cut : goal.returns-in-Err-Full-clause-cut
@@ -115,7 +97,7 @@ returns-in-Err-Full-clause-cut g c =
     c.in-Some.state.value (rw c.in-Some.is at c.in_ok-id.ensures.taken)
     c.in_ok-expansion.expansion (c.in_ok-expansion.ensures.machine ∙ c.machine.ensures)
     (c.in_ok-expansion.ensures.program ∙ c.requires.program)
-    (c.in_ok-expansion.ensures.source ∙ c.deref-source.ensures) c.law-3.ensures
+    (c.in_ok-expansion.ensures.source ∙ c.deref.ensures) c.law-3.ensures
     c.args.depth c.requires.in_layer c.requires.left
     c.enter.new.self c.in-Err-Full.ensures.err refused.2
 
@@ -130,7 +112,7 @@ unreachable-requires-in-Err-NotTaken g c =
     c.in-Some.state.value (rw c.in-Some.is at c.in_ok-id.ensures.taken)
     c.in_ok-expansion.expansion (c.in_ok-expansion.ensures.machine ∙ c.machine.ensures)
     (c.in_ok-expansion.ensures.program ∙ c.requires.program)
-    (c.in_ok-expansion.ensures.source ∙ c.deref-source.ensures) c.law-3.ensures)
+    (c.in_ok-expansion.ensures.source ∙ c.deref.ensures) c.law-3.ensures)
 
 pub unreachable-requires-in-Err-Stranger : goal.unreachable-requires-in-Err-Stranger
 unreachable-requires-in-Err-Stranger g c =
@@ -146,7 +128,7 @@ unreachable-requires-in-Err-Stranger g c =
     c.in-Some.state.value (rw c.in-Some.is at c.in_ok-id.ensures.taken)
     c.in_ok-expansion.expansion (c.in_ok-expansion.ensures.machine ∙ c.machine.ensures)
     (c.in_ok-expansion.ensures.program ∙ c.requires.program)
-    (c.in_ok-expansion.ensures.source ∙ c.deref-source.ensures) c.law-3.ensures)
+    (c.in_ok-expansion.ensures.source ∙ c.deref.ensures) c.law-3.ensures)
 
 pub returns-in-Err-Full-clause-next : goal.returns-in-Err-Full-clause-next
 returns-in-Err-Full-clause-next g c = tt

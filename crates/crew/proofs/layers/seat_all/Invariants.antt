@@ -1,5 +1,5 @@
 use Rattle.std.proofs.Common.{ℕ, ◌<◌, All, IfSome, get_or}
-use Rattle.crew.specs.ClaimSeats.{IsSeatOf}
+use Rattle.claims.specs.Seats.{IsSeatOf}
 use Rattle.crew.proofs.layers.seat_all.Given as goal
 
 abbrev pub invariant-loop-worker : goal.invariant-loop-worker

@@ -1,14 +1,9 @@
-use Rattle.std.proofs.Common.{◌≡◌, ◌+◌, ◌<◌, ◌≤◌, ◌∙◌, ap, length, arith, refl, Some, slice_get}
-use Rattle.tree_machine.specs.declared.state.State.{State}
-use Rattle.book.specs.Entries.{Entry, IsTaken, IsOwn, states, unknown}
+use Rattle.std.proofs.Common.{sym}
+use Rattle.tree_machine.specs.Step.{Fits}
 use Rattle.book.specs.Findings.{machine_of}
-use Rattle.book.specs.Books.{counted_as_one, machine_in, right_in}
 use Rattle.book.specs.Replay.{StopsAt}
 use Rattle.book.specs.declared.replayed.ReplayFault.TheVariants.{NotEnabled}
-use Rattle.book.proofs.Growth.{few_steps}
-use Rattle.book.proofs.Entering.{own_from}
-use Rattle.crew.proofs.Expansions.{expansion_in, same_unknown}
-use Rattle.crew.proofs.Ends.{no_stop, same_end}
+use Rattle.crew.proofs.Ends.{given_own, no_stop, same_end}
 use Rattle.crew.proofs.reading.is_full_at.Goals as goal
 
 pub returns-in-Err-NotEnabled-clause-yes : goal.returns-in-Err-NotEnabled-clause-yes
@@ -23,95 +18,17 @@ returns-in-Err-NotEnabled-clause-yes g c =
     (no_stop g.M.Machine.rules c.args.book.now c.machine.result c.args.program.now c.machine.ensures
     c.requires.program c.args.schedule.now way.0.state way.2 n stops.3)
 
-pub of-requires-clause-room : goal.of-requires-clause-room
-of-requires-clause-room g c κs within =
-    let b = c.args.book.now in
-    let law = c.law.ensures in
-    let way = c.requires.way in
-    let is =
-    same_end g.M.Machine.rules b c.machine.result c.args.program.now c.machine.ensures c.requires.program
-    c.args.schedule.now way.0.state way.2 c.in-Ok.end.state c.in-Ok.ensures.state in
-    let steps : c.in-Ok.end.state.steps ≡ way.0.state.steps =
-    ap (λ (q : State g.row.M.Denot g.row.M-Mem.Denot g.row.M-Loc.Denot g.row.M-Form.Denot). q.steps) is in
-    let same =
-    counted_as_one {Machine = g.row.M.Denot} {Form = g.row.M-Form.Denot} g.M.Loc.PartialEq.eq g.M.Mem.PartialEq.eq
-    g.M.Form.PartialEq.eq (g.M.Machine.form_of b.machine) b.merge in
-    let few : way.0.state.steps < b.limit =
-    few_steps (machine_in g.M.Machine.rules b) same (right_in g.M.Machine.rules b) law.machine b.entries law.law.law
-    c.args.id b.limit way.0 way.1 law.law.within in
-    let limit : b.limit ≤ 2000000 = law.law.limit in
-    omega arith
+pub is_full_for-requires-clause-own : goal.is_full_for-requires-clause-own
+is_full_for-requires-clause-own g c κs within =
+    let way = c.requires.way in (
+      way.0,
+      way.1,
+      sym (same_end g.M.Machine.rules c.args.book.now c.machine.result c.args.program.now c.machine.ensures
+          c.requires.program
+          c.args.schedule.now way.0.state way.2 c.in-Ok.end.state c.in-Ok.ensures.state),
+    )
 
-pub returns-in-Err-Full-clause-full : goal.returns-in-Err-Full-clause-full
-returns-in-Err-Full-clause-full g c =
-    let b = c.args.book.now in
-    let x = c.in_ok-expansion.expansion in
-    let same =
-    counted_as_one {Machine = g.row.M.Denot} {Form = g.row.M-Form.Denot} g.M.Loc.PartialEq.eq g.M.Mem.PartialEq.eq
-    g.M.Form.PartialEq.eq (g.M.Machine.form_of b.machine) b.merge in
-    let refused : IsTaken b.entries c.args.id × IsOwn {X = g.row.M.Denot} b c.args.id x.machine x.program x.source
-    × (b.limit < length b.entries + length (unknown same (states b.entries) x.successors)) =
-    rw c.in-Err-Full.field-0-is at c.in-Err-Full.ensures.refused in
-    let e = refused.0 in
-    let own = refused.1 in
-    λ _. record {
-      entry = e.0;
-      at = e.1;
-      taken = e.2;
-      successors = x.successors;
-      expansion =
-          expansion_in g.M.Machine.rules b x e.0.state own.machine own.program (own.source e.0 e.1) c.law-2.ensures;
-      full = refused.2;
-    }
-
-pub returns-in-Err-NotTaken-clause-yes : goal.returns-in-Err-NotTaken-clause-yes
-returns-in-Err-NotTaken-clause-yes g c =
-    let b = c.args.book.now in
-    let refused : IsTaken b.entries c.args.id → ⊥ =
-    rw c.in-Err-NotTaken.field-0-is at c.in-Err-NotTaken.ensures.refused in
-    λ full. absurd (refused (full.entry, full.at, full.taken))
-
-pub returns-in-Err-Stranger-clause-yes : goal.returns-in-Err-Stranger-clause-yes
-returns-in-Err-Stranger-clause-yes g c =
-    let b = c.args.book.now in
-    let x = c.in_ok-expansion.expansion in
-    let way = c.requires.way in
-    let is =
-    same_end g.M.Machine.rules b c.machine.result c.args.program.now c.machine.ensures c.requires.program
-    c.args.schedule.now way.0.state way.2 c.in-Ok.end.state c.in-Ok.ensures.state in
-    let refused : IsTaken b.entries c.args.id
-    × (IsOwn {X = g.row.M.Denot} b c.args.id x.machine x.program x.source → ⊥) =
-    rw c.in-Err-Stranger.field-0-is at c.in-Err-Stranger.ensures.refused in
-    λ full. absurd
-    (refused.1
-    (own_from {X = g.row.M.Denot} b c.args.id way.0 x.machine x.program x.source way.0.state way.1 refl
-    (c.in_ok-expansion.ensures.machine ∙ c.machine-2.ensures)
-    (c.in_ok-expansion.ensures.program ∙ c.requires.program) (c.in_ok-expansion.ensures.source ∙ is)))
-
-pub returns-clause-yes : goal.returns-clause-yes
-returns-clause-yes g c =
-    let b = c.args.book.now in
-    let x = c.in_ok-expansion.expansion in
-    let way = c.requires.way in
-    let is =
-    same_end g.M.Machine.rules b c.machine.result c.args.program.now c.machine.ensures c.requires.program
-    c.args.schedule.now way.0.state way.2 c.in-Ok.end.state c.in-Ok.ensures.state in
-    let same =
-    counted_as_one {Machine = g.row.M.Denot} {Form = g.row.M-Form.Denot} g.M.Loc.PartialEq.eq g.M.Mem.PartialEq.eq
-    g.M.Form.PartialEq.eq (g.M.Machine.form_of b.machine) b.merge in
-    let enters = c.in-Ok-enter.ensures.entered in
-    λ full. absurd (
-    let same_entry : way.0 ≡ full.entry = (let p : slice_get b.entries c.args.id ≡ Some way.0 = way.1 in
-    let q : slice_get b.entries c.args.id ≡ Some full.entry = full.at in cc) in
-    let source = c.in_ok-expansion.ensures.source ∙ is
-    ∙ ap (λ (r : Entry (State g.row.M.Denot g.row.M-Mem.Denot g.row.M-Loc.Denot g.row.M-Form.Denot)). r.state)
-    same_entry in
-    let expansion =
-    expansion_in g.M.Machine.rules b x full.entry.state (c.in_ok-expansion.ensures.machine ∙ c.machine-2.ensures)
-    (c.in_ok-expansion.ensures.program ∙ c.requires.program) source c.law-2.ensures in
-    let as_many : length (unknown same (states b.entries) x.successors)
-    ≡ length (unknown same (states b.entries) full.successors) =
-    same_unknown (machine_in g.M.Machine.rules b) full.entry.state same (right_in g.M.Machine.rules b)
-    (states b.entries) x.successors full.successors expansion full.expansion in
-    let over : b.limit < length b.entries + length (unknown same (states b.entries) full.successors) = full.full in
-    omega arith)
+pub is_full_for-requires-clause-fits : goal.is_full_for-requires-clause-fits
+is_full_for-requires-clause-fits g c κs within =
+    given_own (λ y q. Fits (g.M.Machine.rules y) q c.in-Ok.end.state) c.machine.result c.args.book.now.machine
+    c.args.program.now c.args.book.now.program c.machine.ensures c.requires.program c.in-Ok.ensures.fits

@@ -1,4 +1,4 @@
-use Rattle.crew.specs.ClaimSeats.{IsSeatOf}
+use Rattle.claims.specs.Seats.{IsSeatOf}
 use Rattle.crew.proofs.working.Exploration.turn.Given as goal
 
 abbrev pub invariant-loop-round : goal.invariant-loop-round

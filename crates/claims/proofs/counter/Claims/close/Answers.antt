@@ -1,0 +1,38 @@
+-- The last state has the view of the seat that is every seat.
+use Rattle.std.proofs.Common.{arith, ap, sym, subst, ◌∙◌, ℕ, IsPermutation}
+use Rattle.std.proofs.lemmas.List.Sorted.{IsPermutation-trans, IsPermutation-sym, length_permutation}
+use Rattle.std.proofs.lemmas.List.FromFn.{length-range_with_len}
+use Rattle.claims.specs.Values.{Counter}
+use Rattle.claims.specs.Rule.{below}
+use Rattle.claims.specs.Seats.{places_drawn}
+use Rattle.claims.proofs.Steps.{ends_at}
+use Rattle.claims.proofs.Turns.{first_word}
+use Rattle.claims.proofs.counter.Claims.close.Goals as goal
+
+pub returns-clause-once : goal.returns-clause-once
+returns-clause-once c =
+    let last = c.close_with-closed.ensures.values.2 in
+    let all =
+    c.gather-whole.ensures.held ∙ c.requires.every ∙ ap (λ (s : Counter). s.size.seats) (sym c.self.view_is) in
+    let end =
+    ends_at _ _ _ _ last.0 _ last.1 c.self.invariant.0 all
+    (first_word last.0.words _ c.word-word.result last.2 c.word-word.ensures) in
+    IsPermutation-trans (below c.min-drawn.result) c.gather-whole.result.me.0.places (places_drawn c.args.seats.items)
+    (subst (λ (n : ℕ). IsPermutation (below n) c.gather-whole.result.me.0.places) (sym c.min-drawn.ensures) end.drawn)
+    (IsPermutation-sym (places_drawn c.args.seats.items) c.gather-whole.result.me.0.places
+    c.gather-whole.ensures.places)
+
+pub returns-clause-drawn : goal.returns-clause-drawn
+returns-clause-drawn c =
+    sym (length_permutation (below c.min-drawn.result) (places_drawn c.args.seats.items) (returns-clause-once c)
+    ∙ length-range_with_len 0 c.min-drawn.result)
+
+pub returns-clause-spent : goal.returns-clause-spent
+returns-clause-spent c =
+    let last = c.close_with-closed.ensures.values.2 in
+    let all =
+    c.gather-whole.ensures.held ∙ c.requires.every ∙ ap (λ (s : Counter). s.size.seats) (sym c.self.view_is) in
+    let end =
+    ends_at _ _ _ _ last.0 _ last.1 c.self.invariant.0 all
+    (first_word last.0.words _ c.word-word.result last.2 c.word-word.ensures) in
+    omega (arith, end.told, c.gather-whole.ensures.spent, c.min-drawn.ensures)

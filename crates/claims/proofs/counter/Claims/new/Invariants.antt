@@ -1,0 +1,12 @@
+use Rattle.std.proofs.Common.{◌≡◌, ◌+◌, ◌-◌, ◌≤◌, [], All, vec_len, vec_capacity}
+use Rattle.claims.specs.Rule.{fresh}
+use Rattle.claims.proofs.counter.Claims.new.Given as goal
+
+abbrev pub invariant-loop : goal.invariant-loop
+invariant-loop l = record {
+  filled : vec_len l.made + 1 ≡ l.counter;
+  room : l.seats ≤ vec_capacity l.made;
+  rest : l.rest.me ≡ (fresh (l.seats - vec_len l.made) l.size, []);
+  own : l.rest.table_id ≡ l.table.shared.table_id;
+  made : All (λ s. (s.counter ≡ l.table.shared.table_id) × (s.drew ≡ fresh 1 l.size)) l.made.items;
+}
