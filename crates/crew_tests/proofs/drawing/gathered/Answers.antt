@@ -2,7 +2,7 @@
 use Rattle.std.proofs.Common.{arith, ap, Some, ◌≡◌, ◌+◌, ◌++◌, ◌∷◌, [], List, length, length-append}
 use Rattle.std.proofs.lemmas.List.Elements.{All-pop, All-push, All-same}
 use Rattle.claims.specs.Seats.{IsSeatOf}
-use Rattle.crew_tests.specs.declared.claims.Drawer.{Drawer}
+use Rattle.crew_tests.specs.declared.drawing.Drawer.{Drawer}
 use Rattle.crew_tests.proofs.drawing.gathered.Goals as goal
 
 fewer : (xs ys : List Drawer) (d : Drawer) → xs ≡ ys ++ d ∷ [] → length xs ≡ length ys + 1
