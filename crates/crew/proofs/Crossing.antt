@@ -6,19 +6,18 @@ use base.Fml.{Lft}
 use denote.Ref.{NamedLft, ShrRef}
 use denote.Struct.Struct.{Struct}
 use denote.RattleType.{RattleType}
-use denote.Param.Send.{IsSend, IsSync, sendable, shr_sync, struct_sync}
+use denote.Param.Send.{IsSend, IsSync, sendable, shr_sync, shr_send, struct_sync}
 use Rattle.std.proofs.Crossing.{crosses}
 use Rattle.std.proofs.sync.ledger.Book.TheSendSync as ledger
 use Rattle.std.specs.declared.cmp.PartialEq as partial
 use Rattle.std.specs.declared.hash.Hash as hash
 use Rattle.sched_program.specs.contracts.program.Program as Program
 use Rattle.tree_machine.specs.declared.machine.Machine as machine
-use Rattle.book.specs.contracts.finding.Finding as Finding
-use Rattle.book.proofs.Crossing.{book_send, state_send, state_sync}
+use Rattle.book.proofs.Crossing.{book_send}
 use Rattle.claims.proofs.Crossing.{claims_sync}
 use Rattle.crew.specs.declared.tally.Ledgers as ledgers
 use Rattle.crew.specs.contracts.layers.Shift as Shift
-use Rattle.crew.specs.contracts.leads.Lead as Lead
+use Rattle.crew.specs.contracts.leads.Ready as Ready
 use Rattle.crew.specs.contracts.tally.Desk as Desk
 use Rattle.crew.specs.contracts.working.Exploration as Exploration
 use Rattle.crew.specs.contracts.working.Layer as Layer
@@ -44,19 +43,8 @@ one_lent long A a =
 program_sync : IsSync Program.the_row
 program_sync = search (sendable, crosses) depth 30
 
-finding_send : IsSend Finding.the_row
-finding_send = search (sendable, crosses) depth 30
-
-finding_sync : IsSync Finding.the_row
-finding_sync = search (sendable, crosses) depth 30
-
-module _ (M Mem Loc Form : RattleType) (m : IsSend M) (mem : IsSend Mem) (loc : IsSend Loc) (form : IsSend Form)
-    (m' : IsSync M) (mem' : IsSync Mem) (loc' : IsSync Loc) (form' : IsSync Form) where
-  lead_send : IsSend (Lead.the_row M Mem Loc Form)
-  lead_send = search (finding_send, state_send, state_sync, sendable, crosses) depth 30
-
-  lead_sync : IsSync (Lead.the_row M Mem Loc Form)
-  lead_sync = search (finding_sync, state_send, state_sync, sendable, crosses) depth 30
+program_lent : (a : NamedLft) → IsSend (ShrRef a.mir a.lft Program.the_row)
+program_lent a = shr_send a.mir a.lft Program.the_row program_sync
 
 module _ (a : NamedLft) (M Mem Loc Form : RattleType) (g : machine.Ghosts M.Denot Mem.Denot Loc.Denot Form.Denot)
     (mp : partial.Ghosts M.Denot)
@@ -65,8 +53,11 @@ module _ (a : NamedLft) (M Mem Loc Form : RattleType) (g : machine.Ghosts M.Deno
     (fh : hash.Ghosts Form.Denot)
     (m : IsSend M) (mem : IsSend Mem) (loc : IsSend Loc) (form : IsSend Form) (m' : IsSync M) (mem' : IsSync Mem)
     (loc' : IsSync Loc) (form' : IsSync Form) where
+  ready_send : IsSend (Ready.the_row a M Mem Loc Form g mp ap ah lp lh fp fh)
+  ready_send = search (program_lent, sendable, crosses) depth 60 fits 100000
+
   layer_sync : IsSync (Layer.the_row a M Mem Loc Form g mp ap ah lp lh fp fh)
-  layer_sync = search (program_sync, claims_sync, lead_send, lead_sync, sendable, crosses) depth 30 fits 10000
+  layer_sync = search (claims_sync, ready_send, sendable, crosses) depth 30 fits 10000
 
 module _ (J M Mem Loc Form : RattleType) (g : machine.Ghosts M.Denot Mem.Denot Loc.Denot Form.Denot)
     (mp : partial.Ghosts M.Denot)
@@ -79,10 +70,10 @@ module _ (J M Mem Loc Form : RattleType) (g : machine.Ghosts M.Denot Mem.Denot L
   desk_send : IsSend (Desk.the_row J M Mem Loc Form g mp ap ah lp lh fp fh r)
   desk_send = search (book_send, ledger.the_send, sendable, crosses) depth 30 fits 10000
 
-  module _ (a : NamedLft) (G R : RattleType) (gate : IsSync G) (threads : IsSync R) where
+  module _ (l a : NamedLft) (G R : RattleType) (gate : IsSync G) (threads : IsSync R) where
     exploration_sync : IsSync
         (Exploration.the_row a J M G R Mem Loc Form g mp ap ah lp lh fp fh r)
     exploration_sync = search (program_sync, desk_send, sendable, crosses) depth 30 fits 10000
 
-    pub shift_sync : IsSync (Shift.the_row a J M G R Mem Loc Form g mp ap ah lp lh fp fh r)
+    pub shift_sync : IsSync (Shift.the_row l a J M G R Mem Loc Form g mp ap ah lp lh fp fh r)
     shift_sync = search (exploration_sync, layer_sync, sendable, crosses) depth 30 fits 10000

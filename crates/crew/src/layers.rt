@@ -3,15 +3,14 @@ ghost use Rattle.std.specs.Prelude.{◌≡◌, ◌^◌, ◌<◌, All, IfOk, IfSo
 ghost use Rattle.claims.specs.Seats.{IsSeatOf};
 
 use crate::gate::Gate;
-use crate::leads::Leads;
+use crate::leads::slots_of;
 use crate::starting::call_at_once;
 use crate::tally::{Ledgers, Pieces, Tally};
-use crate::working::{Exploration, Layer, Stop, Worker, returns_of, round_of};
+use crate::working::{Exploration, Layer, Stop, Worker, round_of};
 use claims::{Claims, Seat};
 use sched_program::OutOfMemory;
 use std::alloc::Global;
-use std::mem;
-use std::sync::{Mutex, Wait};
+use std::sync::Wait;
 use std::thread::Threads;
 use tree_machine::Machine;
 
@@ -63,12 +62,12 @@ fn have_stopped<J: Ledgers>(workers: &[Worker<J>]) -> Result<bool, OutOfMemory> 
 
 /// What the workers of a layer share, as one value, since each function of a closure is proved over all that it holds.
 #[derive(Drop)]
-struct Shift<'l, J: Ledgers, M: Machine, G: Gate, R: Wait> {
-    exploration: &'l Exploration<'l, J, M, G, R>,
-    layer: &'l Layer<'l, M>,
+struct Shift<'l, 'a, J: Ledgers, M: Machine, G: Gate, R: Wait> {
+    exploration: &'l Exploration<'a, J, M, G, R>,
+    layer: &'l Layer<'a, M>,
 }
 
-impl<'l, J: Ledgers, M: Machine, G: Gate, R: Wait> Shift<'l, J, M, G, R> {
+impl<'l, 'a, J: Ledgers, M: Machine, G: Gate, R: Wait> Shift<'l, 'a, J, M, G, R> {
     /// Lets a worker do its part.
     fn work(&self, worker: &mut Worker<J>)
         requires { IfSome worker.old.seat (IsSeatOf self.now.layer.now) }
@@ -101,14 +100,8 @@ impl<'a, J: Ledgers + Send + Sync, M: Machine, G: Gate, R: Threads + Wait + Sync
         call_at_once(self.rt, &work, workers);
     }
 
-    /// Expands the next layer, and lays its entries in the place of those of the layer before. Whether there was one to
-    /// expand.
-    fn expand_layer(
-        &self,
-        number: u16,
-        workers: &mut [Worker<J>],
-        spent: &mut Leads<M>,
-    ) -> Result<bool, OutOfMemory>
+    /// Expands the next layer. Whether there was one to expand.
+    fn expand_layer(&self, number: u16, workers: &mut [Worker<J>]) -> Result<bool, OutOfMemory>
         requires some { 0 < length workers.old }
         requires few { length workers.old < 2 ^ 8 }
         ensures { length workers.new ≡ length workers.old }
@@ -124,22 +117,15 @@ impl<'a, J: Ledgers + Send + Sync, M: Machine, G: Gate, R: Threads + Wait + Sync
         let (claims, seats) = Claims::new(self.alloc, leads.len(), workers.len())?;
         seat_all(&claims, workers, seats);
         let round = round_of(leads.len(), workers.len());
-        let returns = returns_of(spent.len(), leads.len(), round);
         let layer = Layer {
             alloc: self.alloc,
-            machine: self.machine,
-            program: self.program,
             merge: self.merge,
             number,
-            leads,
+            slots: slots_of(self.alloc, self.machine, self.program, leads)?,
             claims,
             round,
-            spent: Mutex::new(mem::replace(spent, Vec::new(self.alloc))),
-            returns,
         };
         self.work_at_once(&layer, workers);
-        let Layer { leads, .. } = layer;
-        *spent = leads;
         Ok(true)
     }
 
@@ -148,9 +134,8 @@ impl<'a, J: Ledgers + Send + Sync, M: Machine, G: Gate, R: Threads + Wait + Sync
         requires some { 0 < length workers.old }
         requires few { length workers.old < 2 ^ 8 }
     {
-        let mut spent = Vec::new(self.alloc);
         for number in 0..steps {
-            if !self.expand_layer(number, workers, &mut spent)? || have_stopped(workers)? {
+            if !self.expand_layer(number, workers)? || have_stopped(workers)? {
                 return Ok(());
             }
         }

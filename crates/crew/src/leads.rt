@@ -1,11 +1,12 @@
 //! The entries of a layer, as the workers are given them.
-ghost use Rattle.std.specs.Prelude.{All, IfOk};
+ghost use Rattle.std.specs.Prelude.{◌≡◌, All, IfOk, length};
 ghost use Rattle.crew.specs.Working.{IsGiven, IsReady};
 
-use book::{Book, Finding};
-use sched_program::OutOfMemory;
+use book::{Book, Expansion, Finding, Merge, Stock};
+use sched_program::{OutOfMemory, Program};
 use std::alloc::Global;
-use std::sync::Arc;
+use std::marker::Model;
+use std::sync::{Arc, Mutex};
 use tree_machine::{Machine, State};
 
 /// An entry: its number, its state, and what was found of it.
@@ -56,4 +57,89 @@ pub fn leads_of<M: Machine>(
         leads.push_reserved(Lead { id, state, finding });
     }
     Ok(leads)
+}
+
+/// An entry that can be expanded, with the machine and the program that it is of. Contracts see its number.
+#[derive(Drop)]
+pub struct Ready<'a, M: Machine> {
+    machine: M,
+    program: &'a Program,
+    lead: Lead<M>,
+}
+
+impl<'a, M: Machine> Model for Ready<'a, M> {
+    ghost use Rattle.std.specs.Prelude.{ℕ};
+    ghost use Rattle.crew.specs.Working.{IsReady};
+
+    ghost Value = { ℕ };
+
+    ghost view = { λ r. r.lead.id };
+
+    ghost invariant = { λ r. IsReady (M.rules r.machine) r.program.now r.lead.state.value r.lead.finding };
+}
+
+impl<'a, M: Machine> Ready<'a, M> {
+    /// Makes its expansion, beside which its number stands.
+    pub fn expand(
+        &self,
+        alloc: Global,
+        merge: Merge,
+        stock: &mut Stock<M>,
+    ) -> Result<(usize, Expansion<'_, M>), OutOfMemory> {
+        let lead = &self.lead;
+        let expansion = Expansion::of_found(
+            alloc,
+            self.machine,
+            self.program,
+            &*lead.state,
+            &lead.finding,
+            merge,
+            stock,
+        )?;
+        Ok((lead.id, expansion))
+    }
+
+    /// How many operations the threads of its state have finished.
+    pub fn finished(&self) -> usize {
+        finished_in(&*self.lead.state)
+    }
+
+    /// Its state.
+    pub fn into_state(self) -> Arc<State<M>> {
+        let Ready {
+            machine: _,
+            program: _,
+            lead,
+        } = self;
+        let Lead {
+            id: _,
+            state,
+            finding: _,
+        } = lead;
+        state
+    }
+}
+
+/// Where an entry of a layer waits for the worker that draws its place, and takes it out.
+pub type Slot<'a, M: Machine> = Mutex<Option<Ready<'a, M>>>;
+
+/// The entries of a layer, each in a slot.
+pub fn slots_of<'a, M: Machine>(
+    alloc: Global,
+    machine: M,
+    program: &'a Program,
+    leads: Leads<M>,
+) -> Result<Vec<Slot<'a, M>>, OutOfMemory>
+    requires { All (λ lead. IsReady (M.rules machine) program.now lead.state.value lead.finding) leads.items }
+    ensures { IfOk result (λ slots. length slots.items ≡ length leads.items) }
+{
+    let mut slots = Vec::with_capacity(alloc, leads.len())?;
+    for lead in leads {
+        slots.push(Mutex::new(Some(Ready {
+            machine,
+            program,
+            lead,
+        })))?;
+    }
+    Ok(slots)
 }

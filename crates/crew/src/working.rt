@@ -3,13 +3,14 @@ ghost use Rattle.std.specs.Prelude.{◌≡◌, ◌+◌, ◌<◌, ◌≤◌, ◌^
 ghost use Rattle.claims.specs.Seats.{IsSeatOf};
 
 use crate::gate::Gate;
-use crate::leads::{Leads, finished_in};
+use crate::leads::{Ready, Slot};
 use crate::tally::{Desk, Ledgers, Tally};
 use book::{EnterFault, Expansion, Leftovers, Merge, Stock};
 use claims::{Claims, Seat};
 use sched_program::{OutOfMemory, Program};
 use std::alloc::Global;
 use std::marker::Model;
+use std::mem;
 use std::sync::{Mutex, MutexGuard, Wait};
 use tree_machine::{Machine, State};
 
@@ -46,24 +47,17 @@ pub struct Worker<J: Ledgers> {
     pub stop: Option<Stop>,
 }
 
-/// How many places a worker draws in one round: several, so that it asks for the lock less often than once for each
+/// How many places a worker draws in one round: several, so that it waits for the lock less often than once for each
 /// entry, but few beside its portion of the layer, so that all workers come to the layer's end at about the same time.
 pub fn round_of(places: usize, workers: usize) -> usize
     requires some { 0 < workers }
     requires few { workers < 2 ^ 8 }
 {
-    (places / (8 * workers)).clamp(1, 8)
+    (places / (8 * workers)).clamp(1, 64)
 }
 
-/// How many entries of the layer before a worker gives back before each round: so many that all workers together come
-/// to the end of these at about the time when they come to the end of their own layer.
-pub fn returns_of(spent: usize, places: usize, round: usize) -> usize {
-    (spent.saturating_mul(round) / places.max(1)).saturating_add(1)
-}
-
-/// The last of the rounds in which a worker draws places before it enters the expansions. In those before it
-/// enters them only where no other worker has the lock, and else makes more of them rather than wait.
-const LAST_ROUND: usize = 7;
+/// How many entries a worker expands between two tests of the lock.
+const STRIDE: usize = 8;
 
 /// Leftovers with room for all steps of expansions.
 fn room_for<M: Machine>(
@@ -103,104 +97,79 @@ fn places_of(
     Ok(places)
 }
 
+/// Looks at the states of entries. How many operations their threads have finished is of no use: each state was last
+/// touched a layer ago, by whichever worker made it, and looked at one right after the other they come into the processor's
+/// caches all at once, so that no expansion has to wait for its own.
+fn look_at<M: Machine>(drawn: &[(usize, Ready<'_, M>)]) -> Result<usize, OutOfMemory> {
+    let mut finished = 0usize;
+    for (_, ready) in drawn {
+        finished = finished.checked_add(ready.finished()).ok_or(OutOfMemory)?;
+    }
+    Ok(finished)
+}
+
+/// Expansions that are made and not entered, each with the number of its entry.
+type Made<'d, M: Machine> = Vec<(usize, Expansion<'d, M>)>;
+
 /// The entries of a layer, which are taken and can be expanded, and the counter of their places. Contracts see the
 /// counter.
 #[derive(Drop)]
 pub struct Layer<'a, M: Machine> {
     pub alloc: Global,
-    pub machine: M,
-    pub program: &'a Program,
     pub merge: Merge,
     /// How many steps its states have.
     pub number: u16,
     /// The entries, by their places.
-    pub leads: Leads<M>,
+    pub slots: Vec<Slot<'a, M>>,
     pub claims: Claims,
     /// How many places a worker draws in one round.
     pub round: usize,
-    /// The entries of the layer before that are not given back yet.
-    pub spent: Mutex<Leads<M>>,
-    /// How many of them a worker gives back before each round.
-    pub returns: usize,
 }
 
 impl<'a, M: Machine> Model for Layer<'a, M> {
-    ghost use Rattle.std.specs.Prelude.{◌≡◌, All, length};
+    ghost use Rattle.std.specs.Prelude.{◌≡◌, length};
     ghost use Rattle.claims.specs.Values.{Counter};
-    ghost use Rattle.crew.specs.Working.{IsReady};
 
     ghost Value = { Counter };
 
     ghost view = { λ layer. layer.claims };
 
-    ghost invariant = { λ layer. (layer.claims.size.len ≡ length layer.leads.items) × All
-        (λ lead. IsReady (M.rules layer.machine) layer.program.now lead.state.value lead.finding) layer.leads.items };
+    ghost invariant = { λ layer. layer.claims.size.len ≡ length layer.slots.items };
 }
 
 impl<'a, M: Machine> Layer<'a, M> {
-    /// Makes the expansion of the entry at a place.
-    fn expand(
+    /// Draws the places of one round, and takes out the entries there.
+    fn draw(
         &self,
-        place: usize,
-        stock: &mut Stock<M>,
-    ) -> Result<(usize, Expansion<'_, M>), OutOfMemory>
-        requires { place < self.now.size.len }
-    {
-        let lead = &self.leads[place];
-        let expansion = Expansion::of_found(
-            self.alloc,
-            self.machine,
-            self.program,
-            &*lead.state,
-            &lead.finding,
-            self.merge,
-            stock,
-        )?;
-        Ok((lead.id, expansion))
-    }
-
-    /// Gives back some entries of the layer before, as far as there are any. A state that nobody else holds goes to the
-    /// stock.
-    fn give_back(&self, rt: &impl Wait, stock: &mut Stock<M>) {
-        let mut spent = self.spent.lock(rt);
-        for _each in 0..self.returns {
-            let Some(lead) = spent.pop() else {
-                return;
-            };
-            stock.take_in(lead.state);
-        }
-    }
-
-    /// Looks at the states at these places. How many operations their threads have finished is of no use: each state was
-    /// last touched a layer ago, by whichever worker made it, and looked at one right after the other they come into the
-    /// processor's caches all at once, so that no expansion has to wait for its own.
-    fn look_at(&self, places: &[usize]) -> Option<usize>
-        requires { All (λ place. place < self.now.size.len) places.now }
-    {
-        let mut finished = 0usize;
-        for place in places {
-            finished = finished.checked_add(finished_in(&*self.leads[*place].state))?;
-        }
-        Some(finished)
-    }
-
-    /// Draws the places of one round, and makes the expansions there.
-    fn draw<'l>(
-        &'l self,
-        gate: &impl Gate,
-        number: u8,
+        rt: &impl Wait,
         seat: &mut Seat,
-        made: &mut Vec<(usize, Expansion<'l, M>)>,
-        stock: &mut Stock<M>,
-    ) -> Result<(), OutOfMemory>
+    ) -> Result<Vec<(usize, Ready<'a, M>)>, OutOfMemory>
         requires seat { IsSeatOf self.now seat.old }
         ensures seat { IsSeatOf self.now seat.new }
     {
         let places = places_of(self.alloc, &self.claims, self.round, seat)?;
-        let _finished = self.look_at(places.as_slice()).ok_or(OutOfMemory)?;
+        let mut drawn = Vec::with_capacity(self.alloc, places.len())?;
         for place in places {
-            let one = self.expand(place, stock)?;
-            gate.arrive(number, self.number, place);
+            if let Some(ready) = self.slots[place].lock(rt).take() {
+                drawn.push((place, ready))?;
+            }
+        }
+        Ok(drawn)
+    }
+
+    /// Makes the expansions of some of the entries drawn.
+    fn expand<'d>(
+        &self,
+        gate: &impl Gate,
+        number: u8,
+        drawn: &'d [(usize, Ready<'a, M>)],
+        made: &mut Made<'d, M>,
+        stock: &mut Stock<M>,
+    ) -> Result<(), OutOfMemory> {
+        let _finished = look_at(drawn)?;
+        for (place, ready) in drawn {
+            let one = ready.expand(self.alloc, self.merge, stock)?;
+            gate.arrive(number, self.number, *place);
             made.push(one)?;
         }
         Ok(())
@@ -241,56 +210,93 @@ pub struct Exploration<'a, J: Ledgers, M: Machine, G: Gate, R: Wait> {
 }
 
 impl<'a, J: Ledgers, M: Machine, G: Gate, R: Wait> Exploration<'a, J, M, G, R> {
-    /// The lock of the book. In all rounds but the last it is none where another worker has it.
-    fn desk_in(&self, round: usize) -> Option<MutexGuard<'_, Desk<J, M>>> {
-        if round < LAST_ROUND {
-            self.desk.try_lock()
-        } else {
+    /// The lock of the book. Where it need not be had at once, it is none where another worker has it.
+    fn desk_in(&self, at_once: bool) -> Option<MutexGuard<'_, Desk<J, M>>> {
+        if at_once {
             Some(self.desk.lock(self.rt))
+        } else {
+            self.desk.try_lock()
         }
     }
 
-    /// Expands the entries at the next places that the worker draws. Whether there were any.
-    fn turn<'l>(
-        &'l self,
-        layer: &'l Layer<'a, M>,
-        number: u8,
-        seat: &mut Seat,
+    /// Enters expansions, where they have to be entered or no other worker has the lock. Else they are given back.
+    fn enter<'d>(
+        &self,
+        made: Made<'d, M>,
+        at_once: bool,
         tally: &mut Tally<J>,
         stock: &mut Stock<M>,
-    ) -> Result<bool, Stop>
-        requires seat { IsSeatOf layer.now seat.old }
-        ensures seat { IsSeatOf layer.now seat.new }
-    {
+    ) -> Result<Made<'d, M>, Stop> {
+        let Ok(mut leftovers) = room_for(self.alloc, made.as_slice()) else {
+            return Err(Stop::OutOfMemory);
+        };
+        let Some(mut desk) = self.desk_in(at_once) else {
+            return Ok(made);
+        };
+        let entered = enter_all(&mut *desk, made, tally, &mut leftovers);
+        drop(desk);
+        stock.take_leftovers(leftovers);
+        entered?;
+        Ok(Vec::new(self.alloc))
+    }
+
+    /// Expands the entries drawn, some at a time, and enters what is made whenever no other worker has the lock, the last
+    /// of them in any case.
+    fn expand_all(
+        &self,
+        layer: &Layer<'a, M>,
+        number: u8,
+        drawn: &[(usize, Ready<'a, M>)],
+        tally: &mut Tally<J>,
+        stock: &mut Stock<M>,
+    ) -> Result<(), Stop> {
         let mut made = Vec::new(self.alloc);
-        for round in 0..=LAST_ROUND {
-            layer.give_back(self.rt, stock);
+        let mut left = drawn.len();
+        for some in drawn.chunks(STRIDE) {
             if layer
-                .draw(self.gate, number, seat, &mut made, stock)
+                .expand(self.gate, number, some, &mut made, stock)
                 .is_err()
             {
                 return Err(Stop::OutOfMemory);
             }
-            if made.is_empty() {
-                return Ok(false);
-            }
-            let Ok(mut leftovers) = room_for(self.alloc, made.as_slice()) else {
-                return Err(Stop::OutOfMemory);
-            };
-            if let Some(mut desk) = self.desk_in(round) {
-                let entered = enter_all(&mut *desk, made, tally, &mut leftovers);
-                drop(desk);
-                stock.take_leftovers(leftovers);
-                return entered;
-            }
+            left = left.saturating_sub(some.len());
+            made = self.enter(made, left == 0, tally, stock)?;
+        }
+        Ok(())
+    }
+
+    /// Expands the entries at the next places that the worker draws. Whether there were any. The states of those that it
+    /// drew before serve again: the book, which gives a state back once all entries before it are expanded, has had the
+    /// time of a turn for it.
+    fn turn(
+        &self,
+        layer: &Layer<'a, M>,
+        number: u8,
+        seat: &mut Seat,
+        tally: &mut Tally<J>,
+        stock: &mut Stock<M>,
+        before: &mut Vec<(usize, Ready<'a, M>)>,
+    ) -> Result<bool, Stop>
+        requires seat { IsSeatOf layer.now seat.old }
+        ensures seat { IsSeatOf layer.now seat.new }
+    {
+        let Ok(drawn) = layer.draw(self.rt, seat) else {
+            return Err(Stop::OutOfMemory);
+        };
+        if drawn.is_empty() {
+            return Ok(false);
+        }
+        self.expand_all(layer, number, drawn.as_slice(), tally, stock)?;
+        for (_, ready) in mem::replace(before, drawn) {
+            stock.take_in(ready.into_state());
         }
         Ok(true)
     }
 
     /// Expands the entries at the places that the worker draws, until none is left or it has to stop. Why, if so.
-    fn turns<'l>(
-        &'l self,
-        layer: &'l Layer<'a, M>,
+    fn turns(
+        &self,
+        layer: &Layer<'a, M>,
         number: u8,
         seat: &mut Seat,
         tally: &mut Tally<J>,
@@ -298,8 +304,9 @@ impl<'a, J: Ledgers, M: Machine, G: Gate, R: Wait> Exploration<'a, J, M, G, R> {
     ) -> Option<Stop>
         requires seat { IsSeatOf layer.now seat.old }
     {
-        for _turn in 0..=layer.leads.len() {
-            match self.turn(layer, number, seat, tally, stock) {
+        let mut before = Vec::new(self.alloc);
+        for _turn in 0..=layer.slots.len() {
+            match self.turn(layer, number, seat, tally, stock, &mut before) {
                 Ok(true) => {}
                 Ok(false) => return None,
                 Err(why) => return Some(why),
@@ -309,7 +316,7 @@ impl<'a, J: Ledgers, M: Machine, G: Gate, R: Wait> Exploration<'a, J, M, G, R> {
     }
 
     /// Lets a worker do its part of a layer.
-    pub fn work<'l>(&'l self, layer: &'l Layer<'a, M>, worker: &mut Worker<J>)
+    pub fn work(&self, layer: &Layer<'a, M>, worker: &mut Worker<J>)
         requires seat { IfSome worker.old.seat (IsSeatOf layer.now) }
     {
         let Worker {

@@ -1,3 +1,4 @@
 pub mod Appended
+pub mod GraphBytes
 pub mod Present
 pub mod Stack

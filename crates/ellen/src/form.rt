@@ -9,6 +9,7 @@ ghost use Rattle.ellen.specs.Parts.{above_node, above_record, search_part, help_
 ghost use Rattle.ellen.specs.Parts.{help_record, help_node, base_number, place_part};
 ghost use Rattle.ellen.specs.Parts.{ellen_parts, ellen_form, ellen_code};
 
+use crate::graph::put_few;
 use crate::memory::{EllenMem, Node, Record, UpdateWord};
 use crate::place::{Above, Base, EllenLoc, HelpLoc, SearchLoc};
 use sched_program::OutOfMemory;
@@ -18,7 +19,7 @@ use tree_machine::{
 };
 
 /// The number that tells the kind of an update word.
-fn word_number(word: UpdateWord) -> u64
+pub(crate) fn word_number(word: UpdateWord) -> u64
     ensures { result ≡ word_number word }
 {
     match word {
@@ -31,7 +32,7 @@ fn word_number(word: UpdateWord) -> u64
 }
 
 /// A node or record as a part names it.
-fn named(number: u32) -> Option<usize>
+fn named(number: u16) -> Option<usize>
     ensures { result ≡ Some number }
 {
     Some(number as usize)
@@ -118,7 +119,7 @@ fn above_record(above: Option<Above>) -> Option<usize>
 }
 
 /// The nodes of the first places of a search: the grandparent, if there is one, and the parent.
-fn search_nodes(above: Option<Above>, parent: u32) -> [Option<usize>; 2]
+fn search_nodes(above: Option<Above>, parent: u16) -> [Option<usize>; 2]
     ensures { result ≡ above_node above ∷ Some parent ∷ [] }
 {
     [above_node(above), named(parent)]
@@ -127,9 +128,9 @@ fn search_nodes(above: Option<Above>, parent: u32) -> [Option<usize>; 2]
 /// Writes the place at which a delete flags the grandparent.
 fn write_delete_flag(
     above: Above,
-    parent: u32,
+    parent: u16,
     update: UpdateWord,
-    leaf: u32,
+    leaf: u16,
     writer: &mut Writer,
 ) -> Result<(), OutOfMemory>
     requires { IsPartBelow writer.old.nodes writer.old.records
@@ -218,7 +219,7 @@ fn help_side(at: HelpLoc) -> u64
 }
 
 /// The record that a help place carries out.
-fn help_record(at: HelpLoc) -> u32
+fn help_record(at: HelpLoc) -> u16
     ensures { result ≡ help_record at }
 {
     match at {
@@ -303,6 +304,16 @@ impl Parts for Snapshot<'_> {
         match self.memory.records.get(index) {
             Some(kept) => write_record(*kept, writer),
             None => writer.put(&[], &[], &[]),
+        }
+    }
+
+    fn write_few(&self, bytes: &mut Vec<u8>) -> Result<bool, OutOfMemory> {
+        let nodes = self.memory.nodes.len();
+        if nodes < 255 && self.memory.records.len() < 255 - nodes {
+            put_few(bytes, self.memory)?;
+            Ok(true)
+        } else {
+            Ok(false)
         }
     }
 

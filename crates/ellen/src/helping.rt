@@ -58,7 +58,7 @@ fn returned(alloc: Global, done: bool, resume: &Resume) -> Result<Outcome<EllenL
 }
 
 /// The place that marks the parent of a delete, or the one behind it in the variant without the mark.
-pub fn marking(machine: Ellen, number: u32) -> HelpLoc
+pub fn marking(machine: Ellen, number: u16) -> HelpLoc
     ensures { result ≡ marking machine number }
 {
     if machine.mark {
@@ -116,7 +116,7 @@ pub fn help_first(
 }
 
 /// The stack with one more delete whose backtrack is awaited.
-fn awaiting(alloc: Global, number: u32, resume: &Resume) -> Result<Resume, OutOfMemory>
+fn awaiting(alloc: Global, number: u16, resume: &Resume) -> Result<Resume, OutOfMemory>
     ensures { IfOk result (λ more. more ≡ awaiting number resume.now) }
 {
     let mut stack = resume.stack.copy(alloc)?;
@@ -132,7 +132,7 @@ fn insert_child_row(
     alloc: Global,
     machine: Ellen,
     mem: &mut EllenMem,
-    number: u32,
+    number: u16,
     resume: &Resume,
 ) -> Result<Outcome<EllenLoc>, OutOfMemory>
     ensures ok { IfOk result (λ outcome. help_act machine (place.InsChild number) resume.now mem.old
@@ -159,7 +159,7 @@ fn insert_clean_row(
     alloc: Global,
     machine: Ellen,
     mem: &mut EllenMem,
-    number: u32,
+    number: u16,
     resume: &Resume,
 ) -> Result<Outcome<EllenLoc>, OutOfMemory>
     ensures ok { IfOk result (λ outcome. help_act machine (place.InsClean number) resume.now mem.old
@@ -184,7 +184,7 @@ fn mark_row(
     alloc: Global,
     machine: Ellen,
     mem: &mut EllenMem,
-    number: u32,
+    number: u16,
     resume: &Resume,
 ) -> Result<Outcome<EllenLoc>, OutOfMemory>
     ensures ok { IfOk result (λ outcome. help_act machine (place.Mark number) resume.now mem.old ≡ (mem.new, outcome)) }
@@ -213,7 +213,7 @@ fn right_row(
     alloc: Global,
     machine: Ellen,
     mem: &EllenMem,
-    number: u32,
+    number: u16,
     resume: &Resume,
 ) -> Result<Outcome<EllenLoc>, OutOfMemory>
     ensures { IfOk result (λ outcome. help_act machine (place.Right number) resume.now mem.now ≡ (mem.now, outcome)) }
@@ -244,7 +244,7 @@ fn other_row(
     alloc: Global,
     machine: Ellen,
     mem: &EllenMem,
-    number: u32,
+    number: u16,
     side: Side,
     resume: &Resume,
 ) -> Result<Outcome<EllenLoc>, OutOfMemory>
@@ -269,8 +269,8 @@ fn splice_row(
     alloc: Global,
     machine: Ellen,
     mem: &mut EllenMem,
-    number: u32,
-    other: u32,
+    number: u16,
+    other: u16,
     resume: &Resume,
 ) -> Result<Outcome<EllenLoc>, OutOfMemory>
     ensures ok { IfOk result (λ outcome. help_act machine (place.Splice number other) resume.now mem.old
@@ -297,7 +297,7 @@ fn delete_clean_row(
     alloc: Global,
     machine: Ellen,
     mem: &mut EllenMem,
-    number: u32,
+    number: u16,
     resume: &Resume,
 ) -> Result<Outcome<EllenLoc>, OutOfMemory>
     ensures ok { IfOk result (λ outcome. help_act machine (place.DelClean number) resume.now mem.old
@@ -322,7 +322,7 @@ fn back_row(
     alloc: Global,
     machine: Ellen,
     mem: &mut EllenMem,
-    number: u32,
+    number: u16,
     resume: &Resume,
 ) -> Result<Outcome<EllenLoc>, OutOfMemory>
     ensures ok { IfOk result (λ outcome. help_act machine (place.Back number) resume.now mem.old ≡ (mem.new, outcome)) }

@@ -2,6 +2,7 @@
 #![tactic(auto)]
 
 mod form;
+mod graph;
 mod helping;
 mod initial;
 mod machine;

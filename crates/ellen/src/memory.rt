@@ -8,7 +8,7 @@ ghost use Rattle.ellen.specs.Memory.{with_internal, new_internal, internal_over,
 
 use sched_program::{OutOfMemory, Sequence};
 use std::alloc::Global;
-use tree_machine::{Shape, Shapes, Side, copied_in, extended, number_of, side_of};
+use tree_machine::{Shape, Shapes, Side, copied_in, extended, short_number_of, side_of};
 
 /// An update word: its state, with the number of the record that was written there last.
 #[derive(Clone, Copy, PartialEq, Eq, Hash)]
@@ -16,13 +16,13 @@ pub enum UpdateWord {
     /// CLEAN, and no record was written yet.
     Untouched,
     /// CLEAN: what the record describes is over.
-    Clean(u32),
+    Clean(u16),
     /// IFLAG: an insert below the node is under way.
-    InsertFlag(u32),
+    InsertFlag(u16),
     /// DFLAG: a delete of a child of the node is under way.
-    DeleteFlag(u32),
+    DeleteFlag(u16),
     /// MARK: the node is to be spliced out, for good.
-    Mark(u32),
+    Mark(u16),
 }
 
 /// A node of the tree; the children are node numbers.
@@ -36,25 +36,25 @@ pub enum Node {
     Internal {
         key: u8,
         update: UpdateWord,
-        left: u32,
-        right: u32,
+        left: u16,
+        right: u16,
     },
 }
 
 /// What an insert is about to do: to put the node `new` in the place of the leaf.
 #[derive(Clone, Copy, PartialEq, Eq, Hash)]
 pub struct InsertRecord {
-    pub parent: u32,
-    pub leaf: u32,
-    pub new: u32,
+    pub parent: u16,
+    pub leaf: u16,
+    pub new: u16,
 }
 
 /// What a delete is about to do: to put the leaf's sibling in the place of the parent.
 #[derive(Clone, Copy, PartialEq, Eq, Hash)]
 pub struct DeleteRecord {
-    pub grandparent: u32,
-    pub parent: u32,
-    pub leaf: u32,
+    pub grandparent: u16,
+    pub parent: u16,
+    pub leaf: u16,
     pub parent_update: UpdateWord,
 }
 
@@ -65,7 +65,7 @@ pub enum Record {
     Del(DeleteRecord),
 }
 
-/// The shared memory: nodes and records, by number. The root is node 0. It has at most 2^32 of
+/// The shared memory: nodes and records, by number. The root is node 0. It has at most 2^16 of
 /// each: more are refused as memory that there is not.
 #[derive(Drop, PartialEq, Eq, Hash)]
 pub struct EllenMem {
@@ -113,7 +113,7 @@ pub fn update_of(node: Node) -> Option<UpdateWord>
 }
 
 /// The child of a node on a side; a leaf has none.
-pub fn child_on(side: Side, node: Node) -> Option<u32>
+pub fn child_on(side: Side, node: Node) -> Option<u16>
     ensures { result ≡ child_on side node }
 {
     match (side, node) {
@@ -138,7 +138,7 @@ pub fn is_word(found: UpdateWord, expected: UpdateWord) -> bool
 }
 
 /// A new internal node over the new leaf `x` of key `key` and the copy `y` of a leaf of key `other`.
-fn internal_over(key: u8, other: u8, x: u32, y: u32) -> Node
+fn internal_over(key: u8, other: u8, x: u16, y: u16) -> Node
     ensures { result ≡ internal_over key other x y }
 {
     let update = UpdateWord::Untouched;
@@ -161,7 +161,7 @@ fn internal_over(key: u8, other: u8, x: u32, y: u32) -> Node
 
 impl EllenMem {
     /// A node by its number.
-    pub(crate) fn node(&self, x: u32) -> Node
+    pub(crate) fn node(&self, x: u16) -> Node
         ensures { result ≡ node_at self.now x }
     {
         match self.nodes.get(x as usize) {
@@ -171,14 +171,14 @@ impl EllenMem {
     }
 
     /// A record by its number.
-    pub(crate) fn record(&self, r: u32) -> Option<Record>
+    pub(crate) fn record(&self, r: u16) -> Option<Record>
         ensures { result ≡ record_at self.now r }
     {
         self.records.get(r as usize).copied()
     }
 
     /// Puts an update word into a node.
-    pub(crate) fn set_update(&mut self, x: u32, word: UpdateWord)
+    pub(crate) fn set_update(&mut self, x: u16, word: UpdateWord)
         requires { x < length self.old.nodes }
         ensures { self.new ≡ set_update self.old x word }
     {
@@ -200,7 +200,7 @@ impl EllenMem {
     }
 
     /// Puts a child into a node.
-    pub(crate) fn set_child(&mut self, x: u32, side: Side, child: u32)
+    pub(crate) fn set_child(&mut self, x: u16, side: Side, child: u16)
         requires { x < length self.old.nodes }
         ensures { self.new ≡ set_child self.old x side child }
     {
@@ -244,7 +244,7 @@ impl EllenMem {
         &self,
         alloc: Global,
         key: u8,
-        leaf: u32,
+        leaf: u16,
     ) -> Result<Sequence<Node>, OutOfMemory>
         ensures nodes { IfOk result (λ nodes. nodes ≡ (with_internal self.now key leaf).nodes) }
         ensures count { IfOk result (λ nodes. length nodes ≡ length self.now.nodes + 3) }
@@ -252,7 +252,7 @@ impl EllenMem {
         let other = key_in(self.node(leaf));
         let leaves = [Node::Leaf { key }, Node::Leaf { key: other }];
         let mut nodes = extended(alloc, &self.nodes, &leaves)?;
-        let copy = number_of(nodes.len() - 1)?;
+        let copy = short_number_of(nodes.len() - 1)?;
         nodes.push(internal_over(key, other, copy - 1, copy))?;
         Ok(nodes)
     }
@@ -263,21 +263,21 @@ impl EllenMem {
         &mut self,
         alloc: Global,
         key: u8,
-        leaf: u32,
-    ) -> Result<u32, OutOfMemory>
+        leaf: u16,
+    ) -> Result<u16, OutOfMemory>
         ensures ok { IfOk result (λ new. self.new ≡ with_internal self.old key leaf) }
         ensures number { IfOk result (λ new. new ≡ new_internal self.old) }
         ensures err { OnErr result (self.new ≡ self.old) }
     {
         let nodes = self.with_internal(alloc, key, leaf)?;
-        let new = number_of(nodes.len() - 1)?;
+        let new = short_number_of(nodes.len() - 1)?;
         self.nodes = nodes;
         Ok(new)
     }
 
     /// The key of a new internal node for a key at a leaf.
     #[tactic(auto, using(crate::proofs::Appended::key_of_leaf, crate::proofs::Appended::key_of_new))]
-    fn new_key(&self, key: u8, leaf: u32) -> u8
+    fn new_key(&self, key: u8, leaf: u16) -> u8
         ensures { result ≡ key_at (with_internal self.now key leaf) (new_internal self.now) }
     {
         let other = key_in(self.node(leaf));
@@ -285,7 +285,7 @@ impl EllenMem {
     }
 
     /// The side of a node on which a new internal node for a key at a leaf is put.
-    pub(crate) fn side_of_new(&self, parent: u32, key: u8, leaf: u32) -> Side
+    pub(crate) fn side_of_new(&self, parent: u16, key: u8, leaf: u16) -> Side
         ensures { result ≡ side_of (key_at (with_internal self.now key leaf) (new_internal self.now))
             (key_at self.now parent) }
     {
@@ -306,8 +306,8 @@ impl EllenMem {
         &mut self,
         alloc: Global,
         key: u8,
-        parent: u32,
-        leaf: u32,
+        parent: u16,
+        leaf: u16,
     ) -> Result<(), OutOfMemory>
         ensures ok { IfOk result (λ _. self.new
             ≡ add_record (with_internal self.old key leaf)
@@ -315,7 +315,7 @@ impl EllenMem {
         ensures err { OnErr result (self.new ≡ self.old) }
     {
         let nodes = self.with_internal(alloc, key, leaf)?;
-        let new = number_of(nodes.len() - 1)?;
+        let new = short_number_of(nodes.len() - 1)?;
         self.add_record(Record::Ins(InsertRecord { parent, leaf, new }))?;
         self.nodes = nodes;
         Ok(())

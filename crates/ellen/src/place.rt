@@ -9,7 +9,7 @@ use tree_machine::Side;
 /// A grandparent, with the update word that was read of it.
 #[derive(Clone, Copy, PartialEq, Eq, Hash)]
 pub struct Above {
-    pub node: u32,
+    pub node: u16,
     pub update: UpdateWord,
 }
 
@@ -19,31 +19,31 @@ pub enum SearchLoc {
     /// Reads the update word of the node that becomes the parent.
     Update {
         above: Option<Above>,
-        parent: u32,
+        parent: u16,
     },
     /// Reads the parent's child on the side of the key.
     Child {
         above: Option<Above>,
-        parent: u32,
+        parent: u16,
         update: UpdateWord,
     },
     /// Flags the parent for an insert at the leaf.
     IFlag {
-        parent: u32,
+        parent: u16,
         update: UpdateWord,
-        leaf: u32,
+        leaf: u16,
     },
     /// Writes the parent's child without a flag, in the variant that has none.
     InsOnly {
-        parent: u32,
-        leaf: u32,
+        parent: u16,
+        leaf: u16,
     },
     /// Flags the grandparent for a delete of the leaf.
     DFlag {
         above: Above,
-        parent: u32,
+        parent: u16,
         update: UpdateWord,
-        leaf: u32,
+        leaf: u16,
     },
 }
 
@@ -51,21 +51,21 @@ pub enum SearchLoc {
 #[derive(Clone, Copy, PartialEq, Eq, Hash)]
 pub enum HelpLoc {
     /// Puts the new node of an insert below its parent.
-    InsChild(u32),
+    InsChild(u16),
     /// Takes the flag of an insert back.
-    InsClean(u32),
+    InsClean(u16),
     /// Marks the parent of a delete.
-    Mark(u32),
+    Mark(u16),
     /// Reads the right child of the parent of a delete.
-    Right(u32),
+    Right(u16),
     /// Reads the child of that parent on the side where the leaf is not.
-    Other { record: u32, side: Side },
+    Other { record: u16, side: Side },
     /// Puts that other child in the place of the parent.
-    Splice { record: u32, other: u32 },
+    Splice { record: u16, other: u16 },
     /// Takes the flag of a delete back, which is done.
-    DelClean(u32),
+    DelClean(u16),
     /// Takes the flag of a delete back, which could not mark its parent.
-    Back(u32),
+    Back(u16),
 }
 
 /// What an operation does once its helping has ended.
@@ -82,7 +82,7 @@ pub enum Base {
 /// The delete records whose backtrack is awaited, the last one on top, and what is done behind them.
 #[derive(Drop, PartialEq, Eq, Hash)]
 pub struct Resume {
-    pub stack: Sequence<u32>,
+    pub stack: Sequence<u16>,
     pub base: Base,
 }
 

@@ -14,10 +14,10 @@ use crate::memory::{
 use crate::place::{Above, Base, EllenLoc, HelpLoc, SearchLoc};
 use sched_program::{Op, OutOfMemory};
 use std::alloc::Global;
-use tree_machine::{Outcome, number_of, side_of};
+use tree_machine::{Outcome, short_number_of, side_of};
 
 /// The place that flags the parent of an insert, or the one that writes without a flag.
-fn flagging(machine: Ellen, parent: u32, update: UpdateWord, leaf: u32) -> SearchLoc
+fn flagging(machine: Ellen, parent: u16, update: UpdateWord, leaf: u16) -> SearchLoc
     ensures { result ≡ flagging machine parent update leaf }
 {
     if machine.iflag {
@@ -45,9 +45,9 @@ fn decide_delete(
     alloc: Global,
     machine: Ellen,
     above: Above,
-    parent: u32,
+    parent: u16,
     update: UpdateWord,
-    leaf: u32,
+    leaf: u16,
     key: u8,
 ) -> Result<Outcome<EllenLoc>, OutOfMemory>
     ensures { IfOk result (λ outcome. outcome ≡ decide machine (op_of.Delete key) (Some above) parent update leaf key) }
@@ -72,9 +72,9 @@ fn decide(
     machine: Ellen,
     op: Op,
     above: Option<Above>,
-    parent: u32,
+    parent: u16,
     update: UpdateWord,
-    leaf: u32,
+    leaf: u16,
     key: u8,
 ) -> Result<Outcome<EllenLoc>, OutOfMemory>
     ensures { IfOk result (λ outcome. outcome ≡ decide machine op above parent update leaf key) }
@@ -109,9 +109,9 @@ fn arrived(
     machine: Ellen,
     op: Op,
     above: Option<Above>,
-    parent: u32,
+    parent: u16,
     update: UpdateWord,
-    child: u32,
+    child: u16,
     node: Node,
 ) -> Result<Outcome<EllenLoc>, OutOfMemory>
     ensures { IfOk result (λ outcome. outcome ≡ arrived machine op above parent update child node) }
@@ -136,7 +136,7 @@ fn update_row(
     op: Op,
     mem: &EllenMem,
     above: Option<Above>,
-    parent: u32,
+    parent: u16,
 ) -> Outcome<EllenLoc>
     ensures { search_act machine op (place.Update above parent) mem.now ≡ (mem.now, result) }
 {
@@ -156,7 +156,7 @@ fn child_row(
     op: Op,
     mem: &EllenMem,
     above: Option<Above>,
-    parent: u32,
+    parent: u16,
     update: UpdateWord,
 ) -> Result<Outcome<EllenLoc>, OutOfMemory>
     ensures { IfOk result (λ outcome. search_act machine op (place.Child above parent update) mem.now
@@ -184,9 +184,9 @@ fn insert_flag_row(
     machine: Ellen,
     op: Op,
     mem: &mut EllenMem,
-    parent: u32,
+    parent: u16,
     update: UpdateWord,
-    leaf: u32,
+    leaf: u16,
 ) -> Result<Outcome<EllenLoc>, OutOfMemory>
     ensures ok { IfOk result (λ outcome. search_act machine op (place.IFlag parent update leaf) mem.old
         ≡ (mem.new, outcome)) }
@@ -198,7 +198,7 @@ fn insert_flag_row(
     if !is_word(found, update) {
         return help_first(alloc, machine, found);
     }
-    let record = number_of(mem.records.len())?;
+    let record = short_number_of(mem.records.len())?;
     mem.add_insert(alloc, op.key(), parent, leaf)?;
     mem.set_update(parent, UpdateWord::InsertFlag(record));
     let resume = with_base(alloc, Base::Insert);
@@ -211,8 +211,8 @@ fn insert_only_row(
     machine: Ellen,
     op: Op,
     mem: &mut EllenMem,
-    parent: u32,
-    leaf: u32,
+    parent: u16,
+    leaf: u16,
 ) -> Result<Outcome<EllenLoc>, OutOfMemory>
     ensures ok { IfOk result (λ outcome. search_act machine op (place.InsOnly parent leaf) mem.old
         ≡ (mem.new, outcome)) }
@@ -238,9 +238,9 @@ fn delete_flag_row(
     op: Op,
     mem: &mut EllenMem,
     above: Above,
-    parent: u32,
+    parent: u16,
     update: UpdateWord,
-    leaf: u32,
+    leaf: u16,
 ) -> Result<Outcome<EllenLoc>, OutOfMemory>
     ensures ok { IfOk result (λ outcome. search_act machine op (place.DFlag above parent update leaf) mem.old
         ≡ (mem.new, outcome)) }
@@ -252,7 +252,7 @@ fn delete_flag_row(
     if !is_word(found, above.update) {
         return help_first(alloc, machine, found);
     }
-    let record = number_of(mem.records.len())?;
+    let record = short_number_of(mem.records.len())?;
     mem.add_record(Record::Del(DeleteRecord {
         grandparent: above.node,
         parent,

@@ -136,7 +136,7 @@ fn have_equal_forms(
 }
 
 /// The parent at which a thread looks for its key, if it does.
-fn parent_at(thread: &Thread<EllenLoc>) -> Option<u32> {
+fn parent_at(thread: &Thread<EllenLoc>) -> Option<u16> {
     match &thread.place {
         Some(EllenLoc::Search(SearchLoc::Update { parent, .. })) => Some(*parent),
         _ => None,
@@ -148,7 +148,7 @@ fn parent_of_find(
     alloc: Global,
     text: &str,
     stretches: &[(u8, u64)],
-) -> Result<Option<u32>, StepFault> {
+) -> Result<Option<u16>, StepFault> {
     let state = state_of(alloc, text, stretches)?;
     match state.threads.get(1) {
         Some(thread) => Ok(parent_at(thread)),
@@ -161,8 +161,8 @@ fn parent_of_find(
 struct Pair {
     name: &'static str,
     text: &'static str,
-    first: (&'static [(u8, u64)], Option<u32>),
-    second: (&'static [(u8, u64)], Option<u32>),
+    first: (&'static [(u8, u64)], Option<u16>),
+    second: (&'static [(u8, u64)], Option<u16>),
     states: bool,
     forms: bool,
 }

@@ -17,7 +17,7 @@ const WHOLE: Ellen = Ellen {
 };
 
 /// Whether a small tree keeps search order.
-fn is_ordered(alloc: Global, left: u32, key: u8) -> Result<bool, OutOfMemory>
+fn is_ordered(alloc: Global, left: u16, key: u8) -> Result<bool, OutOfMemory>
     requires { left < 3 }
 {
     let memory = small_tree(alloc, left, key)?;

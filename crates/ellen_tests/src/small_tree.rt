@@ -8,7 +8,7 @@ use std::alloc::Global;
 
 /// The root over a left child and the greatest sentinel, a leaf of this key, and the record of a delete of that leaf
 /// for which the root is parent and grandparent.
-pub fn small_tree(alloc: Global, left: u32, key: u8) -> Result<EllenMem, OutOfMemory>
+pub fn small_tree(alloc: Global, left: u16, key: u8) -> Result<EllenMem, OutOfMemory>
     requires { left < 3 }
     ensures in_range { IfOk result IsInRange }
     ensures nodes { IfOk result (λ memory. length memory.nodes ≡ 3) }

@@ -18,7 +18,7 @@ use tree_machine::{Side, State, StepFault, Thread};
 #[derive(Drop)]
 enum Part {
     Name(&'static str),
-    Number(u32),
+    Number(u16),
     Word(UpdateWord),
     Above(Option<Above>),
 }

@@ -1,1 +1,2 @@
+pub mod NodeBytes
 pub mod Present

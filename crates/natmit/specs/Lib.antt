@@ -1,3 +1,4 @@
+pub mod Graph
 pub mod Initial
 pub mod Laws
 pub mod Memory

@@ -6,6 +6,7 @@ ghost use Rattle.tree_machine.specs.Written.{with_part};
 ghost use Rattle.natmit.specs.Parts.{mark_number, side_number, owned, part_of, node_part, place_part, natmit_parts};
 ghost use Rattle.natmit.specs.Table.{IsHelping};
 
+use crate::graph::put_few;
 use crate::memory::{NatMitMem, Node, Word};
 use crate::place::{Mode, NatMitLoc};
 use sched_program::OutOfMemory;
@@ -21,7 +22,7 @@ fn side_number(side: Side) -> u64
 }
 
 /// A reference to a node.
-fn named(x: u32) -> Option<usize>
+fn named(x: u16) -> Option<usize>
     ensures { result ≡ Some x }
 {
     Some(x as usize)
@@ -38,7 +39,7 @@ fn owned(mode: Mode) -> Option<usize>
 }
 
 /// The number that tells the flag and the tag of a child word.
-fn mark_number(word: Word) -> u64
+pub(crate) fn mark_number(word: Word) -> u64
     ensures number { result ≡ mark_number word }
     ensures small { result < 4 }
 {
@@ -63,10 +64,10 @@ fn write_node(node: Node, writer: &mut Writer) -> Result<(), OutOfMemory>
 /// Writes a place that holds four nodes and no other locals.
 fn write_four(
     place: u64,
-    ancestor: u32,
-    successor: u32,
-    parent: u32,
-    leaf: u32,
+    ancestor: u16,
+    successor: u16,
+    parent: u16,
+    leaf: u16,
     writer: &mut Writer,
 ) -> Result<(), OutOfMemory>
     requires { IsPartBelow writer.old.nodes writer.old.records
@@ -89,9 +90,9 @@ fn write_four(
 /// Writes a place that holds three nodes and a mode, with these facts.
 fn write_three(
     facts: &[u64],
-    ancestor: u32,
-    successor: u32,
-    node: u32,
+    ancestor: u16,
+    successor: u16,
+    node: u16,
     mode: Mode,
     writer: &mut Writer,
 ) -> Result<(), OutOfMemory>
@@ -216,6 +217,16 @@ impl Parts for Snapshot<'_> {
 
     fn write_record(&self, _index: usize, writer: &mut Writer) -> Result<(), OutOfMemory> {
         writer.put(&[], &[], &[])
+    }
+
+    fn write_few(&self, bytes: &mut Vec<u8>) -> Result<bool, OutOfMemory> {
+        let nodes = self.mem.nodes.as_slice();
+        if nodes.len() < 255 {
+            put_few(bytes, nodes)?;
+            Ok(true)
+        } else {
+            Ok(false)
+        }
     }
 
     fn write_held(&self, index: usize, writer: &mut Writer) -> Result<(), OutOfMemory> {

@@ -22,9 +22,9 @@ fn other_side(side: Side) -> Side
 /// Where the cleanup goes once it knows the side of the sibling: to the tag, or past it in the variant.
 fn tagging(
     machine: NatMit,
-    ancestor: u32,
-    successor: u32,
-    parent: u32,
+    ancestor: u16,
+    successor: u16,
+    parent: u16,
     side: Side,
     mode: Mode,
 ) -> NatMitLoc
@@ -52,9 +52,9 @@ fn tagging(
 /// Where the cleanup goes that has read this word of the parent, on the side of the key.
 fn clean_read(
     machine: NatMit,
-    ancestor: u32,
-    successor: u32,
-    parent: u32,
+    ancestor: u16,
+    successor: u16,
+    parent: u16,
     side: Side,
     mode: Mode,
     word: Word,
@@ -87,9 +87,9 @@ impl NatMit {
         self,
         op: Op,
         mem: &NatMitMem,
-        ancestor: u32,
-        successor: u32,
-        parent: u32,
+        ancestor: u16,
+        successor: u16,
+        parent: u16,
         mode: Mode,
     ) -> Outcome<NatMitLoc>
         ensures { act self op (place.CleanRead ancestor successor parent mode) mem.now ≡ (mem.now, result) }
@@ -107,9 +107,9 @@ impl NatMit {
         self,
         op: Op,
         mem: &mut NatMitMem,
-        ancestor: u32,
-        successor: u32,
-        parent: u32,
+        ancestor: u16,
+        successor: u16,
+        parent: u16,
         side: Side,
         mode: Mode,
     ) -> Outcome<NatMitLoc>
@@ -134,9 +134,9 @@ impl NatMit {
         self,
         op: Op,
         mem: &NatMitMem,
-        ancestor: u32,
-        successor: u32,
-        parent: u32,
+        ancestor: u16,
+        successor: u16,
+        parent: u16,
         side: Side,
         mode: Mode,
     ) -> Outcome<NatMitLoc>
@@ -160,10 +160,10 @@ impl NatMit {
         self,
         op: Op,
         mem: &mut NatMitMem,
-        ancestor: u32,
-        successor: u32,
+        ancestor: u16,
+        successor: u16,
         flag: bool,
-        node: u32,
+        node: u16,
         mode: Mode,
     ) -> Outcome<NatMitLoc>
         ensures { act self op (place.Swing ancestor successor flag node mode) mem.old ≡ (mem.new, result) }

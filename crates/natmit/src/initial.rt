@@ -5,7 +5,7 @@ ghost use Rattle.natmit.specs.Initial.{empty_tree, put_in, initial_memory};
 use crate::memory::{NatMitMem, Node, plain};
 use sched_program::{OutOfMemory, Sequence};
 use std::alloc::Global;
-use tree_machine::{number_of, search_end};
+use tree_machine::{search_end, short_number_of};
 
 /// The root, node 1, and three leaves of keys above all that programs name.
 fn empty_tree(alloc: Global) -> Result<NatMitMem, OutOfMemory>
@@ -38,8 +38,8 @@ fn put_in(alloc: Global, mem: &mut NatMitMem, key: u8) -> Result<(), OutOfMemory
 {
     let levels = mem.nodes.len();
     let end = search_end(mem, key, levels);
-    let parent = number_of(end.parent)?;
-    let leaf = number_of(end.leaf)?;
+    let parent = short_number_of(end.parent)?;
+    let leaf = short_number_of(end.leaf)?;
     mem.put_at(alloc, key, parent, leaf)
 }
 

@@ -5,7 +5,7 @@ ghost use Rattle.natmit.specs.Memory.{key_at, set_word, internal_over, with_inte
 
 use sched_program::{OutOfMemory, Sequence};
 use std::alloc::Global;
-use tree_machine::{Shape, Shapes, Side, copied_in, extended, number_of, side_of};
+use tree_machine::{Shape, Shapes, Side, copied_in, extended, short_number_of, side_of};
 
 /// A child word.
 #[derive(Clone, Copy, PartialEq, Eq, Hash)]
@@ -15,7 +15,7 @@ pub struct Word {
     /// The node that holds the word is about to be cut off, and the child stays.
     pub tag: bool,
     /// The number of the child.
-    pub node: u32,
+    pub node: u16,
 }
 
 /// A node of the tree.
@@ -28,7 +28,7 @@ pub enum Node {
 }
 
 /// The shared memory: the nodes, by number. The root is node 0, and each search begins at
-/// node 1. It has at most 2^32 nodes: more are refused as memory that there is not.
+/// node 1. It has at most 2^16 nodes: more are refused as memory that there is not.
 #[derive(Drop, PartialEq, Eq, Hash)]
 pub struct NatMitMem {
     /// The nodes. Those that were cut off stay in the list.
@@ -36,7 +36,7 @@ pub struct NatMitMem {
 }
 
 /// The word of a child without flag and tag.
-pub(crate) fn plain(node: u32) -> Word
+pub(crate) fn plain(node: u16) -> Word
     ensures { result ≡ plain node }
 {
     Word {
@@ -47,7 +47,7 @@ pub(crate) fn plain(node: u32) -> Word
 }
 
 /// Whether a word is that of this child without flag and tag.
-pub(crate) fn is_plain(node: u32, word: Word) -> bool
+pub(crate) fn is_plain(node: u16, word: Word) -> bool
     ensures { result ≡ is_plain node word }
 {
     !word.flag && !word.tag && word.node == node
@@ -108,7 +108,7 @@ fn with_word(side: Side, word: Word, node: Node) -> Node
 }
 
 /// A new internal node over the new leaf `new` of key `key` and a leaf of key `other`.
-fn internal_over(key: u8, other: u8, new: u32, leaf: u32) -> Node
+fn internal_over(key: u8, other: u8, new: u16, leaf: u16) -> Node
     ensures { result ≡ internal_over key other new leaf }
 {
     if key < other {
@@ -128,7 +128,7 @@ fn internal_over(key: u8, other: u8, new: u32, leaf: u32) -> Node
 
 impl NatMitMem {
     /// A node by its number; a leaf of key 0 where there is no such node.
-    pub fn node(&self, x: u32) -> Node
+    pub fn node(&self, x: u16) -> Node
         ensures { result ≡ node_at self.now x }
     {
         match self.nodes.get(x as usize) {
@@ -138,7 +138,7 @@ impl NatMitMem {
     }
 
     /// Puts a child word into a node.
-    pub(crate) fn set_word(&mut self, x: u32, side: Side, word: Word)
+    pub(crate) fn set_word(&mut self, x: u16, side: Side, word: Word)
         requires { x < length self.old.nodes }
         ensures { self.new ≡ set_word self.old x side word }
     {
@@ -148,14 +148,14 @@ impl NatMitMem {
 
     /// Appends a new internal node for a key at a leaf, behind its new leaf, and tells its number. Where memory is
     /// refused nothing is appended.
-    fn add_internal(&mut self, alloc: Global, key: u8, leaf: u32) -> Result<u32, OutOfMemory>
+    fn add_internal(&mut self, alloc: Global, key: u8, leaf: u16) -> Result<u16, OutOfMemory>
         ensures ok { IfOk result (λ new. self.new ≡ with_internal self.old key leaf) }
         ensures number { IfOk result (λ new. new ≡ new_internal self.old) }
         ensures err { OnErr result (self.new ≡ self.old) }
     {
         let count = self.nodes.len();
-        let new_leaf = number_of(count)?;
-        let new = number_of(count + 1)?;
+        let new_leaf = short_number_of(count)?;
+        let new = short_number_of(count + 1)?;
         let other = key_in(self.node(leaf));
         let more = [
             Node::Leaf { key },
@@ -172,8 +172,8 @@ impl NatMitMem {
         &mut self,
         alloc: Global,
         key: u8,
-        parent: u32,
-        leaf: u32,
+        parent: u16,
+        leaf: u16,
     ) -> Result<(), OutOfMemory>
         requires { parent < length self.old.nodes }
         ensures ok { IfOk result (λ _. self.new ≡ put_at self.old key parent leaf) }

@@ -7,7 +7,7 @@ pub enum Mode {
     /// It has flagged no leaf.
     Plain,
     /// It flagged this leaf, and has still to cut it off.
-    Owner(u32),
+    Owner(u16),
 }
 
 /// A place of the machine. The numbers are those of nodes: of the ancestor and its successor, the ends of the last
@@ -20,63 +20,63 @@ pub enum NatMitLoc {
     },
     /// The search goes down, from the word of the parent, whose tag it read.
     Down {
-        ancestor: u32,
-        successor: u32,
-        parent: u32,
-        leaf: u32,
+        ancestor: u16,
+        successor: u16,
+        parent: u16,
+        leaf: u16,
         tag: bool,
         mode: Mode,
     },
     /// An insert exchanges the leaf for a new internal node.
     Put {
-        ancestor: u32,
-        successor: u32,
-        parent: u32,
-        leaf: u32,
+        ancestor: u16,
+        successor: u16,
+        parent: u16,
+        leaf: u16,
     },
     /// A delete flags its leaf.
     Flag {
-        ancestor: u32,
-        successor: u32,
-        parent: u32,
-        leaf: u32,
+        ancestor: u16,
+        successor: u16,
+        parent: u16,
+        leaf: u16,
     },
     /// An insert or delete whose exchange failed looks whether another delete is in its way.
     Look {
-        ancestor: u32,
-        successor: u32,
-        parent: u32,
-        leaf: u32,
+        ancestor: u16,
+        successor: u16,
+        parent: u16,
+        leaf: u16,
     },
     /// The cleanup reads on which side of the parent the leaf is that goes.
     CleanRead {
-        ancestor: u32,
-        successor: u32,
-        parent: u32,
+        ancestor: u16,
+        successor: u16,
+        parent: u16,
         mode: Mode,
     },
     /// The cleanup tags the word of the sibling, which stays.
     Tag {
-        ancestor: u32,
-        successor: u32,
-        parent: u32,
+        ancestor: u16,
+        successor: u16,
+        parent: u16,
         side: Side,
         mode: Mode,
     },
     /// The cleanup reads the word of the sibling.
     Sibling {
-        ancestor: u32,
-        successor: u32,
-        parent: u32,
+        ancestor: u16,
+        successor: u16,
+        parent: u16,
         side: Side,
         mode: Mode,
     },
     /// The cleanup puts the sibling, with its flag, in the place of the successor.
     Swing {
-        ancestor: u32,
-        successor: u32,
+        ancestor: u16,
+        successor: u16,
         flag: bool,
-        node: u32,
+        node: u16,
         mode: Mode,
     },
 }

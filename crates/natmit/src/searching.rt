@@ -13,7 +13,7 @@ use std::alloc::Global;
 use tree_machine::{Outcome, Side, side_of};
 
 /// The side of a node on which the operation's key is looked for.
-pub(crate) fn side_at(op: Op, mem: &NatMitMem, x: u32) -> Side
+pub(crate) fn side_at(op: Op, mem: &NatMitMem, x: u16) -> Side
     ensures { result ≡ side_at (key_of op) mem.now x }
 {
     side_of(op.key(), key_in(mem.node(x)))
@@ -22,10 +22,10 @@ pub(crate) fn side_at(op: Op, mem: &NatMitMem, x: u32) -> Side
 /// What a delete does at the leaf, of this key, at which its search has ended.
 fn decide_delete(
     wanted: u8,
-    ancestor: u32,
-    successor: u32,
-    parent: u32,
-    leaf: u32,
+    ancestor: u16,
+    successor: u16,
+    parent: u16,
+    leaf: u16,
     mode: Mode,
     key: u8,
 ) -> Outcome<NatMitLoc>
@@ -61,10 +61,10 @@ fn decide_delete(
 /// What an operation does at the leaf, of this key, at which its search has ended, whatever tag led there.
 fn decide(
     op: Op,
-    ancestor: u32,
-    successor: u32,
-    parent: u32,
-    leaf: u32,
+    ancestor: u16,
+    successor: u16,
+    parent: u16,
+    leaf: u16,
     mode: Mode,
     key: u8,
 ) -> Outcome<NatMitLoc>
@@ -90,10 +90,10 @@ fn decide(
 /// Where a search goes that has come to the node `leaf`.
 fn arrived(
     op: Op,
-    ancestor: u32,
-    successor: u32,
-    parent: u32,
-    leaf: u32,
+    ancestor: u16,
+    successor: u16,
+    parent: u16,
+    leaf: u16,
     tag: bool,
     mode: Mode,
     node: Node,
@@ -116,10 +116,10 @@ fn arrived(
 /// Where a search goes that has read this word of the node `leaf`, to which a word with this tag led.
 fn went_down(
     op: Op,
-    ancestor: u32,
-    successor: u32,
-    parent: u32,
-    leaf: u32,
+    ancestor: u16,
+    successor: u16,
+    parent: u16,
+    leaf: u16,
     tag: bool,
     mode: Mode,
     mem: &NatMitMem,
@@ -138,7 +138,7 @@ fn went_down(
 }
 
 /// Where an insert or delete goes whose exchange has failed, and that has found this word.
-fn looked(ancestor: u32, successor: u32, parent: u32, leaf: u32, word: Word) -> Outcome<NatMitLoc>
+fn looked(ancestor: u16, successor: u16, parent: u16, leaf: u16, word: Word) -> Outcome<NatMitLoc>
     ensures { result ≡ looked ancestor successor parent leaf word }
 {
     if word.node == leaf && (word.flag || word.tag) {
@@ -177,10 +177,10 @@ impl NatMit {
         self,
         op: Op,
         mem: &NatMitMem,
-        ancestor: u32,
-        successor: u32,
-        parent: u32,
-        leaf: u32,
+        ancestor: u16,
+        successor: u16,
+        parent: u16,
+        leaf: u16,
         tag: bool,
         mode: Mode,
     ) -> Outcome<NatMitLoc>
@@ -200,10 +200,10 @@ impl NatMit {
         alloc: Global,
         op: Op,
         mem: &mut NatMitMem,
-        ancestor: u32,
-        successor: u32,
-        parent: u32,
-        leaf: u32,
+        ancestor: u16,
+        successor: u16,
+        parent: u16,
+        leaf: u16,
     ) -> Access
         ensures ok { IfOk result (λ outcome. act self op (place.Put ancestor successor parent leaf) mem.old
             ≡ (mem.new, outcome)) }
@@ -231,10 +231,10 @@ impl NatMit {
         self,
         op: Op,
         mem: &mut NatMitMem,
-        ancestor: u32,
-        successor: u32,
-        parent: u32,
-        leaf: u32,
+        ancestor: u16,
+        successor: u16,
+        parent: u16,
+        leaf: u16,
     ) -> Outcome<NatMitLoc>
         ensures { act self op (place.Flag ancestor successor parent leaf) mem.old ≡ (mem.new, result) }
     {
@@ -269,10 +269,10 @@ impl NatMit {
         self,
         op: Op,
         mem: &NatMitMem,
-        ancestor: u32,
-        successor: u32,
-        parent: u32,
-        leaf: u32,
+        ancestor: u16,
+        successor: u16,
+        parent: u16,
+        leaf: u16,
     ) -> Outcome<NatMitLoc>
         ensures { act self op (place.Look ancestor successor parent leaf) mem.now ≡ (mem.now, result) }
     {

@@ -8,7 +8,7 @@ use sched_program::{OutOfMemory, Sequence};
 use std::alloc::Global;
 
 /// The word of a child without flag and tag.
-fn plain(node: u32) -> Word
+fn plain(node: u16) -> Word
     ensures { result ≡ plain node }
 {
     Word {

@@ -15,7 +15,7 @@ pub const WHOLE: NatMit = NatMit { tag: true };
 #[derive(Clone, Copy)]
 pub enum Seen {
     /// The child word of a node on a side: its flag, its tag and the number of the child.
-    Word(u32, Side, (bool, bool, u32)),
+    Word(u16, Side, (bool, bool, u16)),
     /// A thread stands at this place.
     At(u8, NatMitLoc),
     /// A thread is in an operation.

@@ -1,7 +1,10 @@
 -- What was put behind other values piece by piece.
 use Rattle.std.proofs.Common.{◌≡◌, ℕ, ◌<◌, ◌/◌, ◌%◌, List, [], ◌∷◌, ◌++◌, length, Option, ap, ◌∙◌, append_assoc, arith}
 use Rattle.tree_machine.specs.Alike.{places_of, replies_of, notes_of}
-use Rattle.tree_machine.specs.Flat.{number_code, flat, parts_code}
+use Rattle.std.proofs.Common.{sym}
+use Rattle.std.proofs.lemmas.Grind.{flat_map-append}
+use Rattle.tree_machine.specs.Cells.{Content}
+use Rattle.tree_machine.specs.Flat.{number_code, cell_code, flat, parts_code}
 use Rattle.tree_machine.specs.FormCode.{deeds_code, state_code}
 use Rattle.tree_machine.specs.Parts.{Parts, parts_graph, parts_held}
 use Rattle.tree_machine.specs.declared.state.Thread.{Thread}
@@ -45,6 +48,13 @@ parts_coded s nodes records old inside first second all n r i f e a =
     all i f e a
     ∙ (ap (λ x. old ++ (number_code x ++ (number_code records ++ flat (parts_graph s ++ parts_held s)))) n
     ∙ ap (λ x. old ++ (number_code (length s.nodes) ++ (number_code x ++ flat (parts_graph s ++ parts_held s)))) r)
+
+-- the nodes and the records, and behind them what the threads hold
+pub graph_and_held : (graph held : List Content) (before between after : List ℕ) → between ≡ before ++ flat graph
+    → after ≡ between ++ flat held → after ≡ before ++ flat (graph ++ held)
+graph_and_held graph held before between after b a =
+    a ∙ (ap (λ l. l ++ flat held) b ∙ (append_assoc before (flat graph) (flat held)
+    ∙ ap (λ l. before ++ l) (sym (flat_map-append cell_code graph held))))
 
 -- a number below 255 is one byte
 pub small_code : (n : ℕ) → n < 255 → number_code n ≡ n ∷ []

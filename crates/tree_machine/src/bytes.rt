@@ -1,6 +1,5 @@
-//! Bytes that are hashed by one write.
+//! Bytes that are hashed eight by eight.
 ghost use Rattle.std.specs.Prelude.{◌≡◌, ◌++◌, ◌∷◌, [], length, nat_eq, IfOk};
-ghost use Rattle.std.specs.Hash as fed;
 ghost use Rattle.std.specs.Cmp.{partial_equiv_from_equiv};
 ghost use Rattle.std.specs.Cmp.Lexicographic.{pointwise, lists_equiv};
 ghost use Rattle.tree_machine.specs.Laws.CellOrder.{nat_equivalence};
@@ -11,8 +10,9 @@ use sched_program::OutOfMemory;
 use std::hash::{Hash, Hasher};
 use std::marker::Model;
 
-/// A list of bytes, over a `Vec`, which contracts see as the list itself. It is hashed by one write of all bytes,
-/// behind their number.
+/// A list of bytes, over a `Vec`, which contracts see as the list itself. It is hashed eight bytes at a time: a write of
+/// so many is a few instructions where it is known to be of so many, and one of all bytes puts numbers together byte by
+/// byte.
 #[derive(Drop)]
 pub struct Bytes {
     items: Vec<u8>,
@@ -81,7 +81,10 @@ impl Hash for Bytes {
     ghost respects_eq = { bytes_fed };
 
     fn hash<H: Hasher>(&self, state: &mut H) {
-        state.write_usize(self.items.len());
-        state.write(self.items.as_slice());
+        let (eights, rest) = self.items.as_slice().as_chunks::<8>();
+        for eight in eights {
+            state.write(eight);
+        }
+        state.write(rest);
     }
 }

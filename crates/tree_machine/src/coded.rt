@@ -1,90 +1,126 @@
 //! What threads did, in bytes, one value after the other.
-ghost use Rattle.std.specs.Prelude.{◌≡◌, ◌≤◌, ◌++◌, OnOk, length};
+ghost use Rattle.std.specs.Prelude.{◌≡◌, ◌≤◌, ◌+◌, ◌++◌, OnOk, length, take};
 ghost use Rattle.tree_machine.specs.Alike.{notes_of, replies_of};
-ghost use Rattle.tree_machine.specs.FormCode.{astray_code, list_code, note_code, reply_code};
+ghost use Rattle.tree_machine.specs.FormCode.{astray_code, deeds_code, list_code, note_code, reply_code};
 
+use crate::fixed::put_byte;
 use crate::state::Thread;
 use sched_program::{Note, OutOfMemory, ShortList};
 
-/// Puts the replies of a thread behind bytes.
+/// As many zeros as what threads did takes bytes at most: the replies take 1 + 4 * 7 of them, the notes 1 + 4 * 31, and
+/// who went astray 2.
+static ZEROS: [u8; 156] = [0; 156];
+
+/// Puts the replies of a thread at a place of a slice, and tells the place behind them.
 #[inline(always)]
-fn put_replies(bytes: &mut Vec<u8>, replies: &ShortList<bool, 6>) -> Result<(), OutOfMemory>
-    ensures { OnOk result (bytes.new.items ≡ bytes.old.items ++ list_code reply_code replies.now) }
+fn put_replies(bytes: &mut [u8], start: usize, replies: &ShortList<bool, 6>) -> usize
+    requires { start + 7 ≤ length bytes.old }
+    ensures put { take result bytes.new ≡ take start bytes.old ++ list_code reply_code replies.now }
+    ensures most { result ≤ start + 7 }
+    ensures length { length bytes.new ≡ length bytes.old }
 {
-    bytes.push(replies.len() as u8)?;
+    let mut at = put_byte(bytes, start, replies.len() as u8);
     for reply in replies.as_slice() {
-        bytes.push(if *reply { 1 } else { 0 })?;
+        at = put_byte(bytes, at, if *reply { 1 } else { 0 });
     }
-    Ok(())
+    at
 }
 
-/// Puts the replies of each thread behind bytes.
-pub(crate) fn put_all_replies<L>(
-    bytes: &mut Vec<u8>,
-    threads: &[Thread<L>],
-) -> Result<(), OutOfMemory>
-    requires { length threads.now ≤ 4 }
-    ensures { OnOk result (bytes.new.items
-        ≡ bytes.old.items ++ list_code (list_code reply_code) (replies_of threads.now)) }
+/// The same for the replies of each thread.
+fn put_all_replies<L>(bytes: &mut [u8], start: usize, threads: &[Thread<L>]) -> usize
+    requires few { length threads.now ≤ 4 }
+    requires room { start + 29 ≤ length bytes.old }
+    ensures put { take result bytes.new
+        ≡ take start bytes.old ++ list_code (list_code reply_code) (replies_of threads.now) }
+    ensures most { result ≤ start + 29 }
+    ensures length { length bytes.new ≡ length bytes.old }
 {
-    bytes.push(threads.len() as u8)?;
+    let mut at = put_byte(bytes, start, threads.len() as u8);
     for thread in threads {
-        put_replies(bytes, &thread.replies)?;
+        at = put_replies(bytes, at, &thread.replies);
     }
-    Ok(())
+    at
 }
 
-/// Puts a note behind bytes. A note has a few counts: each is put by itself, since a copy of so few bytes at once takes
-/// longer.
+/// The same for a note. It has a few counts: each is put by itself, since a copy of so few bytes at once takes longer.
 #[inline(always)]
-fn put_note(bytes: &mut Vec<u8>, note: &Note) -> Result<(), OutOfMemory>
-    ensures { OnOk result (bytes.new.items ≡ bytes.old.items ++ note_code note.now) }
+fn put_note(bytes: &mut [u8], start: usize, note: &Note) -> usize
+    requires { start + 5 ≤ length bytes.old }
+    ensures put { take result bytes.new ≡ take start bytes.old ++ note_code note.now }
+    ensures most { result ≤ start + 5 }
+    ensures length { length bytes.new ≡ length bytes.old }
 {
-    bytes.push(note.len() as u8)?;
+    let mut at = put_byte(bytes, start, note.len() as u8);
     for count in note.as_slice() {
-        bytes.push(*count)?;
+        at = put_byte(bytes, at, *count);
     }
-    Ok(())
+    at
 }
 
-/// Puts the notes of a thread behind bytes.
+/// The same for the notes of a thread.
 #[inline(always)]
-fn put_notes(bytes: &mut Vec<u8>, notes: &ShortList<Note, 6>) -> Result<(), OutOfMemory>
-    ensures { OnOk result (bytes.new.items ≡ bytes.old.items ++ list_code note_code notes.now) }
+fn put_notes(bytes: &mut [u8], start: usize, notes: &ShortList<Note, 6>) -> usize
+    requires { start + 31 ≤ length bytes.old }
+    ensures put { take result bytes.new ≡ take start bytes.old ++ list_code note_code notes.now }
+    ensures most { result ≤ start + 31 }
+    ensures length { length bytes.new ≡ length bytes.old }
 {
-    bytes.push(notes.len() as u8)?;
+    let mut at = put_byte(bytes, start, notes.len() as u8);
     for note in notes.as_slice() {
-        put_note(bytes, note)?;
+        at = put_note(bytes, at, note);
     }
-    Ok(())
+    at
 }
 
-/// Puts the notes of each thread behind bytes.
-pub(crate) fn put_all_notes<L>(
-    bytes: &mut Vec<u8>,
-    threads: &[Thread<L>],
-) -> Result<(), OutOfMemory>
-    requires { length threads.now ≤ 4 }
-    ensures { OnOk result (bytes.new.items
-        ≡ bytes.old.items ++ list_code (list_code note_code) (notes_of threads.now)) }
+/// The same for the notes of each thread.
+fn put_all_notes<L>(bytes: &mut [u8], start: usize, threads: &[Thread<L>]) -> usize
+    requires few { length threads.now ≤ 4 }
+    requires room { start + 125 ≤ length bytes.old }
+    ensures put { take result bytes.new
+        ≡ take start bytes.old ++ list_code (list_code note_code) (notes_of threads.now) }
+    ensures most { result ≤ start + 125 }
+    ensures length { length bytes.new ≡ length bytes.old }
 {
-    bytes.push(threads.len() as u8)?;
+    let mut at = put_byte(bytes, start, threads.len() as u8);
     for thread in threads {
-        put_notes(bytes, &thread.notes)?;
+        at = put_notes(bytes, at, &thread.notes);
     }
-    Ok(())
+    at
 }
 
-/// Puts behind bytes which thread went astray, if one did.
-pub(crate) fn put_astray(bytes: &mut Vec<u8>, astray: Option<u8>) -> Result<(), OutOfMemory>
-    ensures { OnOk result (bytes.new.items ≡ bytes.old.items ++ astray_code astray) }
+/// The same for which thread went astray, if one did.
+#[inline(always)]
+fn put_astray(bytes: &mut [u8], start: usize, astray: Option<u8>) -> usize
+    requires { start + 2 ≤ length bytes.old }
+    ensures put { take result bytes.new ≡ take start bytes.old ++ astray_code astray }
+    ensures length { length bytes.new ≡ length bytes.old }
 {
     match astray {
-        None => bytes.push(0)?,
+        None => put_byte(bytes, start, 0),
         Some(thread) => {
-            bytes.push(1)?;
-            bytes.push(thread)?;
+            let at = put_byte(bytes, start, 1);
+            put_byte(bytes, at, thread)
         }
     }
+}
+
+/// Puts what the threads did, and who went astray, behind bytes: these are lengthened once by as many as it takes at
+/// most, and cut to what was put.
+pub(crate) fn put_deeds<L>(
+    bytes: &mut Vec<u8>,
+    threads: &[Thread<L>],
+    astray: Option<u8>,
+) -> Result<(), OutOfMemory>
+    requires { length threads.now ≤ 4 }
+    ensures { OnOk result (bytes.new.items
+        ≡ bytes.old.items ++ deeds_code (replies_of threads.now) (notes_of threads.now) astray) }
+{
+    let start = bytes.len();
+    bytes.extend_from_slice(&ZEROS)?;
+    let slice = bytes.as_mut_slice();
+    let at = put_all_replies(slice, start, threads);
+    let at = put_all_notes(slice, at, threads);
+    let at = put_astray(slice, at, astray);
+    bytes.truncate(at);
     Ok(())
 }

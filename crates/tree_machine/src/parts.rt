@@ -1,5 +1,5 @@
 //! Nodes, records and what threads hold, as one list of bytes that tells them apart but for their numbers.
-ghost use Rattle.std.specs.Prelude.{◌≡◌, ◌<◌, ◌+◌, ◌++◌, ◌^◌, ◌↔◌, ℕ, length, IfOk, OnOk};
+ghost use Rattle.std.specs.Prelude.{◌≡◌, ◌<◌, ◌+◌, ◌++◌, ◌^◌, ◌↔◌, ℕ, [], if◌then◌else◌, length, IfOk, OnOk};
 ghost use Rattle.tree_machine.specs.Cells.{content_at};
 ghost use Rattle.tree_machine.specs.Parts.{Parts as Contents, part_at, parts_graph, parts_held};
 ghost use Rattle.tree_machine.specs.Parts.{IsPartBelow, ArePartsInRange, CanPartsBePaired};
@@ -42,6 +42,13 @@ pub trait Parts {
     fn write_record(&self, index: usize, writer: &mut Writer) -> Result<(), OutOfMemory>
         requires named { IsPartBelow writer.old.nodes writer.old.records (part_at (parts self.now).records index) }
         ensures { OnOk result (writer.new ≡ with_part writer.old (part_at (parts self.now).records index)) };
+
+    /// Puts all nodes and records behind bytes, in the order of their numbers, where a way is known that is shorter than to
+    /// write one part after the other. Whether it did.
+    fn write_few(&self, bytes: &mut Vec<u8>) -> Result<bool, OutOfMemory>
+        requires { (fixed : ℕ) × ArePartsInRange fixed (parts self.now) }
+        ensures { IfOk result (λ written. bytes.new.items
+            ≡ bytes.old.items ++ (if written then flat (parts_graph (parts self.now)) else [])) };
 
     /// Writes what a thread holds.
     fn write_held(&self, index: usize, writer: &mut Writer) -> Result<(), OutOfMemory>
@@ -122,25 +129,48 @@ pub fn write_parts<P: Parts>(
     Ok(())
 }
 
-/// Writes each node, each record and what each thread holds behind the bytes, in the order of their numbers.
-fn write_all<P: Parts>(
-    pass: Pass,
-    parts: &P,
-    graph: usize,
-    held: usize,
-) -> Result<Pass, OutOfMemory>
+/// Writes each node and each record behind the bytes, in the order of their numbers.
+fn write_all<P: Parts>(pass: Pass, parts: &P, graph: usize) -> Result<Pass, OutOfMemory>
     requires in_range { (fixed : ℕ) × ArePartsInRange fixed (P.parts parts.now) }
     requires graph { graph ≡ length (parts_graph (P.parts parts.now)) }
-    requires held { held ≡ length (parts_held (P.parts parts.now)) }
-    requires fits { graph + held < 2 ^ 64 }
-    ensures { IfOk result (λ after. after.bytes.items
-        ≡ pass.bytes.items ++ flat (parts_graph (P.parts parts.now) ++ parts_held (P.parts parts.now))) }
+    requires fits { graph < 2 ^ 64 }
+    ensures { IfOk result (λ after. after.bytes.items ≡ pass.bytes.items ++ flat (parts_graph (P.parts parts.now))) }
 {
     let nodes = parts.node_count();
     let records = parts.record_count();
-    let mut writer = Writer::of_all(pass, nodes, records, held);
-    for cell in 0..graph + held {
+    let mut writer = Writer::of_all(pass, nodes, records);
+    for cell in 0..graph {
         write_cell(parts, cell, &mut writer)?;
+    }
+    Ok(writer.into_pass())
+}
+
+/// Writes the nodes and the records behind the bytes, in the order of their numbers, by the shortest way that is known.
+fn write_graph<P: Parts>(mut pass: Pass, parts: &P, graph: usize) -> Result<Pass, OutOfMemory>
+    requires in_range { (fixed : ℕ) × ArePartsInRange fixed (P.parts parts.now) }
+    requires graph { graph ≡ length (parts_graph (P.parts parts.now)) }
+    requires fits { graph < 2 ^ 64 }
+    ensures { IfOk result (λ after. after.bytes.items ≡ pass.bytes.items ++ flat (parts_graph (P.parts parts.now))) }
+{
+    if parts.write_few(&mut pass.bytes)? {
+        Ok(pass)
+    } else {
+        write_all(pass, parts, graph)
+    }
+}
+
+/// Writes what each thread holds behind the bytes, in the order of the threads.
+fn write_all_held<P: Parts>(pass: Pass, parts: &P, held: usize) -> Result<Pass, OutOfMemory>
+    requires in_range { (fixed : ℕ) × ArePartsInRange fixed (P.parts parts.now) }
+    requires held { held ≡ length (P.parts parts.now).held }
+    requires fits { length (parts_graph (P.parts parts.now)) < 2 ^ 64 }
+    ensures { IfOk result (λ after. after.bytes.items ≡ pass.bytes.items ++ flat (parts_held (P.parts parts.now))) }
+{
+    let nodes = parts.node_count();
+    let records = parts.record_count();
+    let mut writer = Writer::of_all(pass, nodes, records);
+    for index in 0..held {
+        parts.write_held(index, &mut writer)?;
     }
     Ok(writer.into_pass())
 }
@@ -157,13 +187,12 @@ pub fn write_whole<P: Parts>(alloc: Global, parts: &P, room: &mut Room) -> Resul
 {
     let nodes = parts.node_count();
     let records = parts.record_count();
-    let held = parts.held_count();
     let graph = nodes.checked_add(records).ok_or(OutOfMemory)?;
-    let _cells = graph.checked_add(held).ok_or(OutOfMemory)?;
     let mut pass = mem::replace(&mut room.pass, Pass::none(alloc));
     put_number(&mut pass.bytes, nodes as u64)?;
     put_number(&mut pass.bytes, records as u64)?;
-    room.pass = write_all(pass, parts, graph, held)?;
+    let pass = write_graph(pass, parts, graph)?;
+    room.pass = write_all_held(pass, parts, parts.held_count())?;
     Ok(())
 }
 

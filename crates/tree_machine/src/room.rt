@@ -5,7 +5,7 @@ ghost use Rattle.tree_machine.specs.Flat.{number_code};
 ghost use Rattle.tree_machine.specs.FormCode.{deeds_code};
 
 use crate::bytes::Bytes;
-use crate::coded::{put_all_notes, put_all_replies, put_astray};
+use crate::coded::put_deeds;
 use crate::state::Thread;
 use crate::writer::{Pass, put_number};
 use sched_program::OutOfMemory;
@@ -84,8 +84,6 @@ impl Room {
         ensures { OnOk result (self.new
             ≡ self.old ++ deeds_code (replies_of threads.now) (notes_of threads.now) astray) }
     {
-        put_all_replies(&mut self.pass.bytes, threads)?;
-        put_all_notes(&mut self.pass.bytes, threads)?;
-        put_astray(&mut self.pass.bytes, astray)
+        put_deeds(&mut self.pass.bytes, threads, astray)
     }
 }

@@ -211,7 +211,7 @@ impl Pass {
 
     /// The same for cells that are told by their numbers.
     #[inline(always)]
-    fn put_cells(&mut self, first: usize, cells: &[u32]) -> Result<(), OutOfMemory>
+    fn put_cells(&mut self, first: usize, cells: &[u16]) -> Result<(), OutOfMemory>
         requires { All (λ x. first + x < cells_to_meet self.old.met) cells.now }
         ensures order { OnOk result (order_met self.new.met
             ≡ met_all (order_met self.old.met) (map (option_map (λ x. first + x)) (map Some cells.now))) }
@@ -283,16 +283,16 @@ impl Writer {
         })
     }
 
-    /// Nothing is written behind these bytes, and all cells are met, in the order of their numbers.
-    pub(crate) fn of_all(pass: Pass, nodes: usize, records: usize, held: usize) -> Self
-        requires { nodes + records + held < 2 ^ 64 }
+    /// Nothing is written behind these bytes, and all nodes and records are met, in the order of their numbers.
+    pub(crate) fn of_all(pass: Pass, nodes: usize, records: usize) -> Self
+        requires { nodes + records < 2 ^ 64 }
         ensures nodes { result.nodes ≡ nodes }
         ensures records { result.records ≡ records }
-        ensures order { result.order ≡ numbers_from 0 (nodes + records + held) }
+        ensures order { result.order ≡ numbers_from 0 (nodes + records) }
         ensures bytes { result.bytes ≡ pass.bytes.items }
     {
         Writer {
-            pass: pass.of_all(nodes + records + held),
+            pass: pass.of_all(nodes + records),
             nodes,
             records,
         }
@@ -341,7 +341,7 @@ impl Writer {
         facts: &[u64],
         nodes: &[Option<usize>],
         records: &[Option<usize>],
-        stack: &[u32],
+        stack: &[u16],
     ) -> Result<(), OutOfMemory>
         requires { IsPartBelow self.old.nodes self.old.records
             (record { facts = facts.now; nodes = nodes.now; records = records.now ++ map Some stack.now }) }

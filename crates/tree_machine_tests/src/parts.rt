@@ -90,6 +90,10 @@ impl Parts for Tables<'_> {
         }
     }
 
+    fn write_few(&self, _bytes: &mut Vec<u8>) -> Result<bool, OutOfMemory> {
+        Ok(false)
+    }
+
     fn write_held(&self, index: usize, writer: &mut Writer) -> Result<(), OutOfMemory> {
         self.held[index].write(writer)
     }

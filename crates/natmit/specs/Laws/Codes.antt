@@ -1,5 +1,5 @@
 -- The parts of a memory and of the places held tell them wholly.
-use Rattle.std.specs.Prelude.{◌≡◌, List, [], ◌∷◌, map, refl, Option, Some, None}
+use Rattle.std.specs.Prelude.{◌≡◌, List, refl, Option, Some, None}
 use Rattle.std.proofs.Common.{ap, sym}
 use Rattle.tree_machine.specs.Parts.{Part}
 use Rattle.tree_machine.specs.FormCode.{TellsWholly}

@@ -9,7 +9,7 @@ abbrev pub invariant-loop-cell : goal.invariant-loop-cell
 invariant-loop-cell g l =
     let s = g.P.Parts.parts l.parts in
     record {
-      order : l.writer.order ≡ all_cells l.graph l.held;
+      order : l.writer.order ≡ all_cells l.graph;
       bytes : l.writer.bytes ≡ l.fn.pass.bytes.items ++ flat (take l.cell (parts_graph s ++ parts_held s));
       nodes : l.writer.nodes ≡ length s.nodes;
       records : l.writer.records ≡ length s.records;

@@ -12,7 +12,8 @@ call_at_once-requires-sync-F g c κs within =
     (param 6 g.row.M-Form) g.M.Machine g.M.PartialEq g.M.Mem.PartialEq g.M.Mem.Hash
     g.M.Loc.PartialEq g.M.Loc.Hash g.M.Form.PartialEq g.M.Form.Hash g.J.Ledgers
     b.send-J b.send-M b.send-M-Mem b.send-M-Loc b.send-M-Form b.sync-M b.sync-M-Mem b.sync-M-Loc b.sync-M-Form
-    (record { mir = named 7; lft = κs.1.1.1.1.1.1.1.0 }) (param 2 g.row.G) (param 3 g.row.R) b.sync-G b.sync-R in
+    (record { mir = named 7; lft = κs.1.1.1.1.1.1.1.0 })
+    (record { mir = named 8; lft = κs.1.1.1.1.1.1.1.1.0 }) (param 2 g.row.G) (param 3 g.row.R) b.sync-G b.sync-R in
     record {
       shared = λ d. (one_lent κs.1.1.1.1.1.1.0 _ shift).shared (d.0, tt);
     }
