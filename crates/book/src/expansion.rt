@@ -294,8 +294,9 @@ impl<'a, M: Machine> Expansion<'a, M> {
         ensures program { IfOk result (λ x. x.program ≡ program.now) }
         ensures source { IfOk result (λ x. x.source ≡ state.now) }
     {
-        let mut successors = Vec::new(alloc);
-        for thread in 0..program.threads().len() as u8 {
+        let threads = program.threads().len();
+        let mut successors = Vec::with_capacity(alloc, threads)?;
+        for thread in 0..threads as u8 {
             let step = step_of(
                 alloc, machine, program, state, thread, merge, &mut loan, stock,
             )?;

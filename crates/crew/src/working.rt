@@ -176,14 +176,13 @@ impl<'a, M: Machine> Layer<'a, M> {
     }
 }
 
-/// Enters expansions, all in one holding of the lock, and tells that there were some. What the book knew is left for
-/// after it.
+/// Enters expansions, all in one holding of the lock. What the book knew is left for after it.
 fn enter_all<J: Ledgers, M: Machine>(
     desk: &mut Desk<J, M>,
     made: Vec<(usize, Expansion<'_, M>)>,
     tally: &mut Tally<J>,
     leftovers: &mut Leftovers<State<M>>,
-) -> Result<bool, Stop>
+) -> Result<(), Stop>
     requires room { sum_by (λ one. length one.1.successors) made.items ≤ leftovers.old.room }
     ensures kept { IfOk result (λ _. leftovers.new.kept + tally.old.share.met
         ≡ leftovers.old.kept + tally.new.share.met) }
@@ -194,7 +193,7 @@ fn enter_all<J: Ledgers, M: Machine>(
             Err(fault) => return Err(stop_of(fault, id)),
         }
     }
-    Ok(true)
+    Ok(())
 }
 
 /// What all workers of an exploration have in common.

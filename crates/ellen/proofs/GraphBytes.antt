@@ -1,5 +1,5 @@
 -- Nodes and records in bytes, put one behind the other.
-use Rattle.std.proofs.Common.{◌≡◌, ℕ, suc, ◌+◌, ◌-◌, ◌<◌, ◌/◌, ◌%◌, List, [], ◌∷◌, ◌++◌, take, refl, ap, sym, ◌∙◌}
+use Rattle.std.proofs.Common.{◌≡◌, ℕ, suc, ◌+◌, ◌-◌, ◌<◌, List, [], ◌∷◌, ◌++◌, take, refl, ap, sym, ◌∙◌}
 use Rattle.std.proofs.Common.{arith, add-one, append_assoc, subst, map, length, get_or}
 use Rattle.std.specs.Prelude.{Option, Some, None, IfSome, All}
 use Rattle.std.specs.Option.{option_map}
@@ -9,6 +9,7 @@ use Rattle.std.proofs.lemmas.List.{length-map, get_or-map}
 use Rattle.std.proofs.lemmas.List.Folds.{flat_map-map}
 use Rattle.std.proofs.lemmas.Grind.{flat_map-append}
 use Rattle.tree_machine.specs.Flat.{number_code, reference_number, cell_code, flat}
+use Rattle.tree_machine.specs.Laws.SmallCodes.{small_code}
 use Rattle.tree_machine.specs.Parts.{Part, IsPartBelow, ArePartsInRange, part_cell, parts_graph}
 use Rattle.ellen.specs.declared.memory.UpdateWord.{UpdateWord}
 use Rattle.ellen.specs.declared.memory.UpdateWord.TheVariants as word
@@ -32,13 +33,6 @@ pub next_is : (old new : List ℕ) (at place byte wanted : ℕ) → place ≡ at
     → take (at + 1) new ≡ take at old ++ byte ∷ [] → take place new ≡ take at old ++ wanted ∷ []
 next_is old new at place byte wanted p e w =
     next old new at place byte p w ∙ ap (λ k. take at old ++ k ∷ []) e
-
--- a number below 255 is one byte
-small_code : (n : ℕ) → n < 255 → number_code n ≡ n ∷ []
-small_code n few =
-    let none : n / 255 ≡ 0 = omega arith in
-    let rest : n % 255 ≡ n = omega arith in
-    rw (none, rest)
 
 word_small : (u : UpdateWord) → number_code (word_number u) ≡ word_number u ∷ []
 word_small word.Untouched = small_code 0 (omega arith)
@@ -167,7 +161,7 @@ weaker n m p few h =
     fewer (Some y) h = let less : y < m = h in let more : y < 254 - n = omega arith in more
 
 -- each part that was made of an element
-each_below : {A : Type 0} (f : A → Part) (xs : List A) (count n m i j : ℕ) → count ≡ n → i ≡ n → j ≡ m → n + m < 255
+pub each_below : {A : Type 0} (f : A → Part) (xs : List A) (count n m i j : ℕ) → count ≡ n → i ≡ n → j ≡ m → n + m < 255
     → All (IsPartBelow i j) (map f xs) → All (λ a. IsPartBelow count (254 - count) (f a)) xs
 each_below f xs count n m i j c e d few h k a less =
     let within : k < length (map f xs) = omega (arith, length-map xs f) in
@@ -194,7 +188,7 @@ module _ (memory : EllenMem) (count : ℕ) (c : count ≡ length memory.nodes)
       (length-map memory.nodes node_part) (length-map memory.records record_part) few range.records)
 
 -- the cells of parts that were made of elements
-cells_of : {A : Type 0} (f : A → Part) (xs ys : List A) (count n : ℕ) → xs ≡ ys → count ≡ n
+pub cells_of : {A : Type 0} (f : A → Part) (xs ys : List A) (count n : ℕ) → xs ≡ ys → count ≡ n
     → flat_map (λ a. cell_code (part_cell count (f a))) xs ≡ flat (map (part_cell n) (map f ys))
 cells_of f xs ys count n e c =
     ap (λ l. flat_map (λ a. cell_code (part_cell count (f a))) l) e

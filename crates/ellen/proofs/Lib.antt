@@ -1,4 +1,5 @@
 pub mod Appended
 pub mod GraphBytes
+pub mod HeldBytes
 pub mod Present
 pub mod Stack

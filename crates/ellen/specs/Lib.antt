@@ -1,4 +1,5 @@
 pub mod EllenRules
+pub mod Held
 pub mod Initial
 pub mod Laws
 pub mod Memory

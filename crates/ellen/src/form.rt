@@ -1,5 +1,5 @@
 //! The machine's form: a memory with the places that threads hold, up to the numbers of nodes and records.
-ghost use Rattle.std.specs.Prelude.{◌≡◌, [], ◌∷◌, ◌++◌, Some, IfSome, IfOk, OnOk, All};
+ghost use Rattle.std.specs.Prelude.{◌≡◌, ◌<◌, [], ◌∷◌, ◌++◌, Some, IfSome, IfOk, OnOk, All};
 ghost use Rattle.tree_machine.specs.Alike.{places_of};
 ghost use Rattle.tree_machine.specs.Parts.{IsPartBelow};
 ghost use Rattle.tree_machine.specs.Written.{with_part};
@@ -9,7 +9,8 @@ ghost use Rattle.ellen.specs.Parts.{above_node, above_record, search_part, help_
 ghost use Rattle.ellen.specs.Parts.{help_record, help_node, base_number, place_part};
 ghost use Rattle.ellen.specs.Parts.{ellen_parts, ellen_form, ellen_code};
 
-use crate::graph::put_few;
+use crate::graph::{are_few, put_few};
+use crate::held::{are_short, put_few_held};
 use crate::memory::{EllenMem, Node, Record, UpdateWord};
 use crate::place::{Above, Base, EllenLoc, HelpLoc, SearchLoc};
 use sched_program::OutOfMemory;
@@ -20,7 +21,8 @@ use tree_machine::{
 
 /// The number that tells the kind of an update word.
 pub(crate) fn word_number(word: UpdateWord) -> u64
-    ensures { result ≡ word_number word }
+    ensures number { result ≡ word_number word }
+    ensures small { result < 5 }
 {
     match word {
         UpdateWord::Untouched => 0,
@@ -95,8 +97,9 @@ fn write_record(kept: Record, writer: &mut Writer) -> Result<(), OutOfMemory>
 }
 
 /// The number that tells whether there is a grandparent, and the kind of its update word.
-fn above_number(above: Option<Above>) -> u64
-    ensures { result ≡ above_number above }
+pub(crate) fn above_number(above: Option<Above>) -> u64
+    ensures number { result ≡ above_number above }
+    ensures small { result < 6 }
 {
     match above {
         None => 0,
@@ -186,8 +189,9 @@ fn write_search(at: SearchLoc, writer: &mut Writer) -> Result<(), OutOfMemory>
 }
 
 /// The number that tells the kind of a help place.
-fn help_number(at: HelpLoc) -> u64
-    ensures { result ≡ help_number at }
+pub(crate) fn help_number(at: HelpLoc) -> u64
+    ensures number { result ≡ help_number at }
+    ensures small { result < 8 }
 {
     match at {
         HelpLoc::InsChild(_) => 0,
@@ -202,8 +206,9 @@ fn help_number(at: HelpLoc) -> u64
 }
 
 /// The number that tells the side that a help place holds, or that it holds none.
-fn help_side(at: HelpLoc) -> u64
-    ensures { result ≡ help_side at }
+pub(crate) fn help_side(at: HelpLoc) -> u64
+    ensures number { result ≡ help_side at }
+    ensures small { result < 3 }
 {
     match at {
         HelpLoc::Other {
@@ -219,7 +224,7 @@ fn help_side(at: HelpLoc) -> u64
 }
 
 /// The record that a help place carries out.
-fn help_record(at: HelpLoc) -> u16
+pub(crate) fn help_record(at: HelpLoc) -> u16
     ensures { result ≡ help_record at }
 {
     match at {
@@ -245,8 +250,9 @@ fn help_node(at: HelpLoc) -> Option<usize>
 }
 
 /// The number that tells what is done behind the backtracks.
-fn base_number(base: Base) -> u64
-    ensures { result ≡ base_number base }
+pub(crate) fn base_number(base: Base) -> u64
+    ensures number { result ≡ base_number base }
+    ensures small { result < 3 }
 {
     match base {
         Base::Again => 0,
@@ -308,9 +314,18 @@ impl Parts for Snapshot<'_> {
     }
 
     fn write_few(&self, bytes: &mut Vec<u8>) -> Result<bool, OutOfMemory> {
-        let nodes = self.memory.nodes.len();
-        if nodes < 255 && self.memory.records.len() < 255 - nodes {
+        if are_few(self.memory) {
             put_few(bytes, self.memory)?;
+            Ok(true)
+        } else {
+            Ok(false)
+        }
+    }
+
+    fn write_few_held(&self, bytes: &mut Vec<u8>) -> Result<bool, OutOfMemory> {
+        if are_few(self.memory) && are_short(self.threads) {
+            let nodes = self.memory.nodes.len();
+            put_few_held(bytes, self.threads, nodes as u8)?;
             Ok(true)
         } else {
             Ok(false)

@@ -1,8 +1,8 @@
 //! The nodes and the records of a memory as bytes, by their numbers, where these are so few that each is one byte.
-ghost use Rattle.std.specs.Prelude.{◌≡◌, ◌<◌, ◌≤◌, ◌+◌, ◌-◌, ◌*◌, ◌++◌, [], length, take, IfSome, OnOk, All};
+ghost use Rattle.std.specs.Prelude.{◌≡◌, ◌<◌, ◌≤◌, ◌+◌, ◌-◌, ◌*◌, ◌++◌, ◌↔◌, [], length, take, IfSome, IsTrue, OnOk, All};
 ghost use Rattle.std.specs.List.{flat_map};
 ghost use Rattle.std.specs.Option.{option_map};
-ghost use Rattle.tree_machine.specs.Flat.{number_code, reference_number, cell_code, flat};
+ghost use Rattle.tree_machine.specs.Flat.{reference_number, cell_code, flat};
 ghost use Rattle.tree_machine.specs.Parts.{ArePartsInRange, IsPartBelow, part_cell, parts_graph};
 ghost use Rattle.ellen.specs.declared.memory.Node.TheVariants.{Internal};
 ghost use Rattle.ellen.specs.declared.memory.Record.TheVariants.{Ins, Del};
@@ -11,29 +11,14 @@ ghost use Rattle.ellen.specs.Parts.{word_record, node_part, record_part, ellen_p
 use crate::form::word_number;
 use crate::memory::{DeleteRecord, EllenMem, InsertRecord, Node, Record, UpdateWord};
 use sched_program::OutOfMemory;
-use tree_machine::put_byte;
-
-/// Puts a key into a slice, and tells the place behind it.
-#[inline(always)]
-fn put_key(bytes: &mut [u8], at: usize, key: u8) -> usize
-    requires { at + 2 ≤ length bytes.old }
-    ensures written { take result bytes.new ≡ take at bytes.old ++ number_code key }
-    ensures place { result ≤ at + 2 }
-    ensures length { length bytes.new ≡ length bytes.old }
-{
-    let next = put_byte(bytes, at, key);
-    if key < 255 {
-        next
-    } else {
-        put_byte(bytes, next, 0)
-    }
-}
+use tree_machine::{put_byte, put_key};
 
 /// The byte that tells the record of an update word behind so many nodes.
 #[inline(always)]
-fn record_byte(word: UpdateWord, nodes: u8) -> u8
+pub(crate) fn record_byte(word: UpdateWord, nodes: u8) -> u8
     requires { IfSome (word_record word) (λ number. nodes + number < 254) }
-    ensures { result ≡ reference_number (option_map (λ number. nodes + number) (word_record word)) }
+    ensures number { result ≡ reference_number (option_map (λ number. nodes + number) (word_record word)) }
+    ensures small { result < 255 }
 {
     match word {
         UpdateWord::Untouched => 0,
@@ -194,6 +179,15 @@ fn put_memory(bytes: &mut [u8], start: usize, memory: &EllenMem) -> usize
     let nodes = memory.nodes.len() as u8;
     let records = put_nodes(bytes, start, memory.nodes.as_slice(), nodes);
     put_records(bytes, records, memory.records.as_slice(), nodes)
+}
+
+/// Whether nodes and records are so few that each number is one byte.
+#[inline(always)]
+pub(crate) fn are_few(memory: &EllenMem) -> bool
+    ensures { IsTrue result ↔ (length memory.now.nodes + length memory.now.records < 255) }
+{
+    let nodes = memory.nodes.len();
+    nodes < 255 && memory.records.len() < 255 - nodes
 }
 
 /// Puts all nodes and records behind bytes, in the order of their numbers. They are so few that each number is one byte.

@@ -3,6 +3,7 @@
 
 mod form;
 mod graph;
+mod held;
 mod helping;
 mod initial;
 mod machine;

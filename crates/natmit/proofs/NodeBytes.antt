@@ -4,11 +4,10 @@ use Rattle.std.specs.Prelude.{None, All}
 use Rattle.std.specs.List.{flat_map}
 use Rattle.std.proofs.lemmas.List.{length-map}
 use Rattle.std.proofs.lemmas.List.Elements.{All-nil, All-cons, All-head, All-tail}
-use Rattle.tree_machine.specs.Flat.{flat}
+use Rattle.tree_machine.specs.Flat.{cell_code, flat}
 use Rattle.tree_machine.specs.Parts.{IsPartBelow, part_cell}
 use Rattle.natmit.specs.declared.memory.Node.{Node}
 use Rattle.natmit.specs.declared.memory.Node.TheVariants.{Leaf, Internal}
-use Rattle.natmit.specs.Graph.{node_code}
 use Rattle.natmit.specs.Parts.{node_part}
 use Rattle.natmit.specs.Range.{IsNodeIn}
 
@@ -32,8 +31,10 @@ nodes_named r nodes h =
 
 -- the nodes as cells in bytes, with no record behind them
 pub nodes_coded : (n : ℕ) (nodes : List Node)
-    → flat_map node_code nodes ≡ flat (map (part_cell n) (map node_part nodes) ++ [])
+    → flat_map (λ node. cell_code (part_cell 0 (node_part node))) nodes
+    ≡ flat (map (part_cell n) (map node_part nodes) ++ [])
 nodes_coded n [] = refl
-nodes_coded n (Leaf k ∷ nodes) = ap (λ l. node_code (Leaf k) ++ l) (nodes_coded n nodes)
+nodes_coded n (Leaf k ∷ nodes) =
+    ap (λ l. cell_code (part_cell n (node_part (Leaf k))) ++ l) (nodes_coded n nodes)
 nodes_coded n (Internal k left right ∷ nodes) =
-    ap (λ l. node_code (Internal k left right) ++ l) (nodes_coded n nodes)
+    ap (λ l. cell_code (part_cell n (node_part (Internal k left right))) ++ l) (nodes_coded n nodes)

@@ -1,4 +1,3 @@
-pub mod Graph
 pub mod Initial
 pub mod Laws
 pub mod Memory

@@ -7,13 +7,16 @@ ghost use Rattle.natmit.specs.Parts.{mark_number, side_number, owned, part_of, n
 ghost use Rattle.natmit.specs.Table.{IsHelping};
 
 use crate::graph::put_few;
+use crate::held::put_few_held;
 use crate::memory::{NatMitMem, Node, Word};
 use crate::place::{Mode, NatMitLoc};
 use sched_program::OutOfMemory;
 use tree_machine::{Parts, Side, Thread, Writer};
 
-fn side_number(side: Side) -> u64
-    ensures { result ≡ side_number side }
+/// The number that tells a side.
+pub(crate) fn side_number(side: Side) -> u64
+    ensures number { result ≡ side_number side }
+    ensures small { result < 2 }
 {
     match side {
         Side::Left => 0,
@@ -223,6 +226,15 @@ impl Parts for Snapshot<'_> {
         let nodes = self.mem.nodes.as_slice();
         if nodes.len() < 255 {
             put_few(bytes, nodes)?;
+            Ok(true)
+        } else {
+            Ok(false)
+        }
+    }
+
+    fn write_few_held(&self, bytes: &mut Vec<u8>) -> Result<bool, OutOfMemory> {
+        if self.mem.nodes.len() < 255 && self.threads.len() <= 4 {
+            put_few_held(bytes, self.threads)?;
             Ok(true)
         } else {
             Ok(false)

@@ -1,42 +1,15 @@
 //! The nodes of a memory as bytes, by their numbers, where these are so few that each is one byte.
 ghost use Rattle.std.specs.Prelude.{◌≡◌, ◌+◌, ◌*◌, ◌<◌, ◌≤◌, ◌++◌, length, take, OnOk};
 ghost use Rattle.std.specs.List.{All, flat_map};
-ghost use Rattle.tree_machine.specs.Flat.{number_code};
-ghost use Rattle.natmit.specs.Graph.{node_code};
+ghost use Rattle.tree_machine.specs.Flat.{cell_code};
+ghost use Rattle.tree_machine.specs.Parts.{part_cell};
+ghost use Rattle.natmit.specs.Parts.{node_part};
 ghost use Rattle.natmit.specs.Range.{IsNodeIn};
 
 use crate::form::mark_number;
 use crate::memory::Node;
 use sched_program::OutOfMemory;
-use tree_machine::put_byte;
-
-/// Puts a number that is one byte.
-#[inline(always)]
-fn put_small(bytes: &mut [u8], at: usize, number: u64) -> usize
-    requires room { at < length bytes.old }
-    requires small { number < 255 }
-    ensures place { result ≡ at + 1 }
-    ensures length { length bytes.new ≡ length bytes.old }
-    ensures written { take result bytes.new ≡ take at bytes.old ++ number_code number }
-{
-    put_byte(bytes, at, number as u8)
-}
-
-/// Puts a key, which is one byte, or two where it is 255.
-#[inline(always)]
-fn put_key(bytes: &mut [u8], at: usize, key: u8) -> usize
-    requires { at + 2 ≤ length bytes.old }
-    ensures place { result ≤ at + 2 }
-    ensures length { length bytes.new ≡ length bytes.old }
-    ensures written { take result bytes.new ≡ take at bytes.old ++ number_code key }
-{
-    let behind = put_byte(bytes, at, key);
-    if key < 255 {
-        behind
-    } else {
-        put_byte(bytes, behind, 0)
-    }
-}
+use tree_machine::{put_byte, put_key, put_small};
 
 /// Puts a node: what stands in it by one byte, its key, and of an internal one the flags and tags, and the children.
 #[inline(always)]
@@ -45,7 +18,7 @@ fn put_node(bytes: &mut [u8], at: usize, node: Node) -> usize
     requires named { IsNodeIn 254 node }
     ensures place { result ≤ at + 6 }
     ensures length { length bytes.new ≡ length bytes.old }
-    ensures written { take result bytes.new ≡ take at bytes.old ++ node_code node }
+    ensures written { take result bytes.new ≡ take at bytes.old ++ cell_code (part_cell 0 (node_part node)) }
 {
     match node {
         Node::Leaf { key } => {
@@ -69,7 +42,8 @@ fn put_nodes(bytes: &mut [u8], start: usize, nodes: &[Node]) -> usize
     requires named { All (IsNodeIn 254) nodes.now }
     ensures place { result ≤ start + 6 * length nodes.now }
     ensures length { length bytes.new ≡ length bytes.old }
-    ensures written { take result bytes.new ≡ take start bytes.old ++ flat_map node_code nodes.now }
+    ensures written { take result bytes.new
+        ≡ take start bytes.old ++ flat_map (λ node. cell_code (part_cell 0 (node_part node))) nodes.now }
 {
     let mut at = start;
     for node in nodes {
@@ -78,11 +52,13 @@ fn put_nodes(bytes: &mut [u8], start: usize, nodes: &[Node]) -> usize
     at
 }
 
-/// Puts nodes behind bytes, in the order of their numbers. They are so few that each number is one byte.
+/// Puts nodes behind bytes, in the order of their numbers. They are so few that each number is one byte. They name no
+/// record, so that it plays no part how many nodes stand before the records.
 pub(crate) fn put_few(bytes: &mut Vec<u8>, nodes: &[Node]) -> Result<(), OutOfMemory>
     requires few { length nodes.now < 255 }
     requires named { All (IsNodeIn (length nodes.now)) nodes.now }
-    ensures { OnOk result (bytes.new.items ≡ bytes.old.items ++ flat_map node_code nodes.now) }
+    ensures { OnOk result (bytes.new.items
+        ≡ bytes.old.items ++ flat_map (λ node. cell_code (part_cell 0 (node_part node))) nodes.now) }
 {
     let start = bytes.len();
     bytes.resize(start + 6 * nodes.len(), 0)?;

@@ -1,5 +1,5 @@
 -- What was put behind other values piece by piece.
-use Rattle.std.proofs.Common.{◌≡◌, ℕ, ◌<◌, ◌/◌, ◌%◌, List, [], ◌∷◌, ◌++◌, length, Option, ap, ◌∙◌, append_assoc, arith}
+use Rattle.std.proofs.Common.{◌≡◌, ℕ, List, [], ◌++◌, length, Option, ap, ◌∙◌, append_assoc}
 use Rattle.tree_machine.specs.Alike.{places_of, replies_of, notes_of}
 use Rattle.std.proofs.Common.{sym}
 use Rattle.std.proofs.lemmas.Grind.{flat_map-append}
@@ -55,10 +55,3 @@ pub graph_and_held : (graph held : List Content) (before between after : List �
 graph_and_held graph held before between after b a =
     a ∙ (ap (λ l. l ++ flat held) b ∙ (append_assoc before (flat graph) (flat held)
     ∙ ap (λ l. before ++ l) (sym (flat_map-append cell_code graph held))))
-
--- a number below 255 is one byte
-pub small_code : (n : ℕ) → n < 255 → number_code n ≡ n ∷ []
-small_code n few =
-    let none : n / 255 ≡ 0 = omega arith in
-    let rest : n % 255 ≡ n = omega arith in
-    rw (none, rest)

@@ -18,5 +18,6 @@ pub mod Parts
 pub mod SearchOrder
 pub mod SearchOrderPairs
 pub mod SideExact
+pub mod SmallCodes
 pub mod StateExact
 pub mod Unnumbered

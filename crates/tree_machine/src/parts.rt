@@ -50,6 +50,12 @@ pub trait Parts {
         ensures { IfOk result (λ written. bytes.new.items
             ≡ bytes.old.items ++ (if written then flat (parts_graph (parts self.now)) else [])) };
 
+    /// The same for what the threads hold: puts all of it behind bytes, in the order of the threads, or nothing.
+    fn write_few_held(&self, bytes: &mut Vec<u8>) -> Result<bool, OutOfMemory>
+        requires { (fixed : ℕ) × ArePartsInRange fixed (parts self.now) }
+        ensures { IfOk result (λ written. bytes.new.items
+            ≡ bytes.old.items ++ (if written then flat (parts_held (parts self.now)) else [])) };
+
     /// Writes what a thread holds.
     fn write_held(&self, index: usize, writer: &mut Writer) -> Result<(), OutOfMemory>
         requires in_range { index < length (parts self.now).held }
@@ -175,6 +181,20 @@ fn write_all_held<P: Parts>(pass: Pass, parts: &P, held: usize) -> Result<Pass, 
     Ok(writer.into_pass())
 }
 
+/// Writes what the threads hold behind the bytes, in the order of the threads, by the shortest way that is known.
+fn write_held_parts<P: Parts>(mut pass: Pass, parts: &P, held: usize) -> Result<Pass, OutOfMemory>
+    requires in_range { (fixed : ℕ) × ArePartsInRange fixed (P.parts parts.now) }
+    requires held { held ≡ length (P.parts parts.now).held }
+    requires fits { length (parts_graph (P.parts parts.now)) < 2 ^ 64 }
+    ensures { IfOk result (λ after. after.bytes.items ≡ pass.bytes.items ++ flat (parts_held (P.parts parts.now))) }
+{
+    if parts.write_few_held(&mut pass.bytes)? {
+        Ok(pass)
+    } else {
+        write_all_held(pass, parts, held)
+    }
+}
+
 /// Writes nodes, records and what the threads hold behind the bytes in a room, all by their numbers, so that the bytes
 /// tell them wholly.
 ///
@@ -192,7 +212,7 @@ pub fn write_whole<P: Parts>(alloc: Global, parts: &P, room: &mut Room) -> Resul
     put_number(&mut pass.bytes, nodes as u64)?;
     put_number(&mut pass.bytes, records as u64)?;
     let pass = write_graph(pass, parts, graph)?;
-    room.pass = write_all_held(pass, parts, parts.held_count())?;
+    room.pass = write_held_parts(pass, parts, parts.held_count())?;
     Ok(())
 }
 

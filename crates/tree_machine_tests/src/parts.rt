@@ -94,6 +94,10 @@ impl Parts for Tables<'_> {
         Ok(false)
     }
 
+    fn write_few_held(&self, _bytes: &mut Vec<u8>) -> Result<bool, OutOfMemory> {
+        Ok(false)
+    }
+
     fn write_held(&self, index: usize, writer: &mut Writer) -> Result<(), OutOfMemory> {
         self.held[index].write(writer)
     }

@@ -12,8 +12,8 @@ returns-clause-written c =
     delete_put c.args.nodes c.requires.few c.args.delete c.requires.below
     _ _ _ _ _ _ _
     (next _ _ _ _ _ a.ensures.place a.ensures.written)
-    (next_is _ _ _ _ _ _ b.ensures.place c.word_number.ensures b.ensures.written)
+    (next_is _ _ _ _ _ _ b.ensures.place c.word_number.ensures.number b.ensures.written)
     (next _ _ _ _ _ d.ensures.place d.ensures.written)
     (next _ _ _ _ _ e.ensures.place e.ensures.written)
     (next _ _ _ _ _ f.ensures.place f.ensures.written)
-    (next_is _ _ _ _ _ _ g.ensures.place c.record_byte.ensures g.ensures.written)
+    (next_is _ _ _ _ _ _ g.ensures.place c.record_byte.ensures.number g.ensures.written)

@@ -13,7 +13,7 @@ returns-clause-written c =
     _ _ _ _ _ _ _
     (next _ _ _ _ _ a.ensures.place a.ensures.written)
     b.ensures.written
-    (next_is _ _ _ _ _ _ d.ensures.place c.word_number.ensures d.ensures.written)
+    (next_is _ _ _ _ _ _ d.ensures.place c.word_number.ensures.number d.ensures.written)
     (next _ _ _ _ _ e.ensures.place e.ensures.written)
     (next _ _ _ _ _ f.ensures.place f.ensures.written)
-    (next_is _ _ _ _ _ _ g.ensures.place c.record_byte.ensures g.ensures.written)
+    (next_is _ _ _ _ _ _ g.ensures.place c.record_byte.ensures.number g.ensures.written)

@@ -1,6 +1,6 @@
 -- A small number is one byte, and a large one is put by the call.
 use Rattle.std.proofs.Common.{◌++◌, ap, sym, ◌∙◌}
-use Rattle.tree_machine.proofs.Pieces.{small_code}
+use Rattle.tree_machine.specs.Laws.SmallCodes.{small_code}
 use Rattle.tree_machine.proofs.writer.put_number.Goals as goal
 
 pub returns-in_ok-push : goal.returns-in_ok-push

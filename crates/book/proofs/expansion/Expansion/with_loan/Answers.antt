@@ -11,9 +11,9 @@ loop-thread-init g c =
     let rules = g.M.Machine.rules c.args.machine in
     record {
       loan = c.requires.loan;
-      front = rw c.new-successors.ensures.items
+      front = rw c.in_ok-successors.ensures.items
           (front_none (machine_of rules c.args.program.now) (IsFindingOf rules c.args.program.now) c.args.state.now);
-      known = rw c.new-successors.ensures.items refl;
+      known = rw c.in_ok-successors.ensures.items refl;
     }
 
 -- a thread that is enabled adds its step, and another adds none
@@ -54,9 +54,10 @@ invariant_of-result g c =
     let m = machine_of {Machine = g.row.M.Denot} {Form = g.row.M-Form.Denot} rules c.args.program.now in
     let right = IsFindingOf {Machine = g.row.M.Denot} {Form = g.row.M-Form.Denot} rules c.args.program.now in
     let steps = c.loop-thread.successors.items in
-    let most : c.loop-thread.thread ≤ length c.threads.result.now = c.loop-thread.auto.thread-end in
-    let least : length c.threads.result.now ≤ c.loop-thread.thread = c.loop-thread-test.false in
-    let all : length c.threads.result.now ≡ length c.args.program.now.threads = ap length c.threads.ensures.value in
+    let most : c.loop-thread.thread ≤ length c.threads-threads.result.now = c.loop-thread.auto.thread-end in
+    let least : length c.threads-threads.result.now ≤ c.loop-thread.thread = c.loop-thread-test.false in
+    let all : length c.threads-threads.result.now ≡ length c.args.program.now.threads =
+    ap length c.threads-threads.ensures.value in
     let done : c.loop-thread.thread ≡ length c.args.program.now.threads = omega arith in (
       expansion_from_front m right c.args.state.now (bares steps)
           (subst (λ n. IsFront m right c.args.state.now n (bares steps)) done c.loop-thread.invariant.front),

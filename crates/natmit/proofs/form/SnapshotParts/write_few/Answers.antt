@@ -1,7 +1,8 @@
 use Rattle.std.proofs.Common.{◌∙◌, ◌++◌, ap, sym, subst, length, map}
 use Rattle.std.specs.Prelude.{All}
 use Rattle.std.specs.List.{flat_map}
-use Rattle.natmit.specs.Graph.{node_code}
+use Rattle.tree_machine.specs.Flat.{cell_code}
+use Rattle.tree_machine.specs.Parts.{part_cell}
 use Rattle.natmit.specs.Parts.{node_part}
 use Rattle.natmit.specs.Range.{IsNodeIn}
 use Rattle.natmit.proofs.NodeBytes.{nodes_named, nodes_coded}
@@ -15,5 +16,7 @@ put_few-requires-clause-named c =
 pub returns-in_ok-put_few : goal.returns-in_ok-put_few
 returns-in_ok-put_few c =
     let nodes = c.args.self.now.mem.now.nodes in
-    let is = ap (flat_map node_code) c.as_slice-nodes.ensures ∙ nodes_coded (length (map node_part nodes)) nodes in
+    let is =
+    ap (flat_map (λ node. cell_code (part_cell 0 (node_part node)))) c.as_slice-nodes.ensures
+    ∙ nodes_coded (length (map node_part nodes)) nodes in
     c.in_ok-put_few.ensures ∙ ap (λ l. c.args.bytes.now.items ++ l) is
