@@ -1,4 +1,4 @@
--- A book may go to any thread: each type that it is made of may. A search through all of them at once would not come to
+-- A book may go to any thread and be shared by threads: each type that it is made of may. A search through all of them at once would not come to
 -- its end.
 use denote.RattleType.{RattleType}
 use denote.Param.Send.{IsSend, IsSync, sendable}
@@ -17,20 +17,36 @@ use Rattle.book.specs.contracts.table.Table as Table
 row_send : IsSend PackedRow.the_row
 row_send = search (sendable, crosses) depth 30
 
+row_sync : IsSync PackedRow.the_row
+row_sync = search (sendable, crosses) depth 30
+
 program_send : IsSend Program.the_row
 program_send = search (sendable, crosses) depth 30
+
+program_sync : IsSync Program.the_row
+program_sync = search (sendable, crosses) depth 30
 
 module _ (S : RattleType) (s : IsSend S) (s' : IsSync S) where
   known_send : IsSend (Known.the_row S)
   known_send = search (sendable, crosses) depth 30
 
+  known_sync : IsSync (Known.the_row S)
+  known_sync = search (sendable, crosses) depth 30
+
 module _ (K : RattleType) (h : hash.Ghosts K.Denot) (p : partial.Ghosts K.Denot) (k : IsSend K) where
   hashed_send : IsSend (Hashed.the_row K h p)
   hashed_send = search (sendable, crosses) depth 30
 
+module _ (K : RattleType) (h : hash.Ghosts K.Denot) (p : partial.Ghosts K.Denot) (k : IsSync K) where
+  hashed_sync : IsSync (Hashed.the_row K h p)
+  hashed_sync = search (sendable, crosses) depth 30
+
 module _ (S : RattleType) (s : IsSend S) (s' : IsSync S) where
   table_send : IsSend (Table.the_row S)
   table_send = search (row_send, hashed_send, known_send, sendable, crosses) depth 30
+
+  table_sync : IsSync (Table.the_row S)
+  table_sync = search (row_sync, hashed_sync, known_sync, sendable, crosses) depth 30
 
 module _ (M Mem Loc Form : RattleType) (m : IsSend M) (mem : IsSend Mem) (loc : IsSend Loc) (form : IsSend Form)
     (m' : IsSync M) (mem' : IsSync Mem) (loc' : IsSync Loc) (form' : IsSync Form) where
@@ -48,3 +64,6 @@ module _ (M Mem Loc Form : RattleType) (g : machine.Ghosts M.Denot Mem.Denot Loc
     (m' : IsSync M) (mem' : IsSync Mem) (loc' : IsSync Loc) (form' : IsSync Form) where
   pub book_send : IsSend (Book.the_row M Mem Loc Form g mp ap ah lp lh fp fh)
   book_send = search (table_send, program_send, state_send, state_sync, sendable, crosses) depth 30
+
+  pub book_sync : IsSync (Book.the_row M Mem Loc Form g mp ap ah lp lh fp fh)
+  book_sync = search (table_sync, program_sync, state_send, state_sync, sendable, crosses) depth 30

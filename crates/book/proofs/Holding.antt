@@ -1,23 +1,24 @@
--- The states that a book holds: those of its entries from the first on that is not expanded.
-use Rattle.std.proofs.Common.{◌≡◌, ℕ, zero, suc, ◌+◌, ◌-◌, ◌<◌, ◌≤◌, inl, inr, Option}
-use Rattle.std.proofs.Common.{Some, None, List, [], ◌∷◌, ◌++◌, drop, not, position, length, refl, sym, ap}
+-- The states that a book holds: those of its entries that are not expanded.
+use Rattle.std.proofs.Common.{◌≡◌, ◌≢◌, ℕ, zero, suc, ◌+◌, ◌-◌, ◌<◌, ◌≤◌, inl, inr, Option}
+use Rattle.std.proofs.Common.{Some, None, List, [], ◌∷◌, ◌++◌, drop, not, position, length, refl, sym, ap, subst}
 use Rattle.std.proofs.Common.{◌∙◌, append-nil, take, arith, cond, length-append, slice_get, Bool, true, false}
-use Rattle.std.proofs.Math.ListN.{length-map}
+use Rattle.std.specs.Prelude.{slice_set}
+use Rattle.std.proofs.Math.ListN.{length-drop, length-set}
 use Rattle.std.proofs.Math.Seq.{take-length}
 use Rattle.std.proofs.lemmas.Bool.{cases_lt}
 use Rattle.std.proofs.lemmas.List.{map-append, take-append-drop}
-use Rattle.std.specs.List.{list_any}
+use Rattle.std.specs.List.{list_any, range_with_len}
 use Rattle.std.specs.Map.{keys_of}
-use Rattle.tree_machine.proofs.Lists.{get_at}
+use Rattle.tree_machine.proofs.Lists.{get_at, get-append_cases, get-append_left, get-append_right}
 use Rattle.book.specs.declared.entry.Mark.{Mark}
 use Rattle.book.specs.declared.entry.Mark.TheVariants.{Open, Taken, Expanded}
-use Rattle.book.specs.Entries.{Entry, At, is_expanded, is_open, states, with_mark, with_marks}
+use Rattle.book.specs.Entries.{Entry, At, is_expanded, is_open, with_mark, with_marks}
 use Rattle.book.specs.declared.entry.Row.{Row}
 use Rattle.book.specs.Labels.{Labelled}
 use Rattle.book.specs.Slots.{entries_of, entry_of, unlisted}
 use Rattle.book.specs.Slots.{AreCursors, IsFirstLeft, IsGrown, IsLeft, AreHeld, StayHeld}
 use Rattle.book.proofs.Cursors.{still_expanded}
-use Rattle.book.proofs.EntryLemmas.{length-with_mark}
+use Rattle.book.proofs.EntryLemmas.{at-with_mark, length-with_mark}
 use Rattle.book.proofs.Marks.{left_by, not_expanded_from, open_from, open_left, taken_left}
 use Rattle.book.proofs.Next.{first_passes}
 use Rattle.book.proofs.SlotLemmas.{take-front, take_kept}
@@ -50,10 +51,12 @@ module _ {X : Type 0} where
       → rest ≡ drop (n + 1) all
   drop-none xs n all rest is next none = none ∙ sym (sym (drop-twice all n 1) ∙ ap (drop 1) (sym is ∙ next))
 
-  drop-append : (xs ys : List X) (n : ℕ) → n ≤ length xs → drop n (xs ++ ys) ≡ drop n xs ++ ys
-  drop-append xs ys zero le = refl
-  drop-append [] ys (suc n) le = absurd (omega arith)
-  drop-append (x ∷ xs) ys (suc n) le = drop-append xs ys n (omega arith)
+  get-set_other : (xs : List X) (i k : ℕ) (v : X) → (i ≡ k → ⊥) → slice_get (slice_set xs i v) k ≡ slice_get xs k
+  get-set_other [] i k v other = refl
+  get-set_other (x ∷ xs) zero zero v other = absurd (other refl)
+  get-set_other (x ∷ xs) zero (suc k) v other = refl
+  get-set_other (x ∷ xs) (suc i) zero v other = refl
+  get-set_other (x ∷ xs) (suc i) (suc k) v other = get-set_other xs i k v (λ q. other (ap suc q))
 
   nothing : (xs ys : List X) → length (xs ++ ys) ≡ length xs + 0 → xs ++ ys ≡ xs
   nothing xs [] same = append-nil xs
@@ -73,23 +76,61 @@ module _ {X : Type 0} where
       take_kept a b c (drop (length b) c) first
       (sym (take-append-drop (length b) c) ∙ ap (λ xs. xs ++ drop (length b) c) then)
 
+pub open_unexpanded : (k : Mark) → k ≡ Open → k ≢ Expanded
+open_unexpanded k is = left_by k (open_left k is)
+
 -- ---- entries
 module _ {S : Type 0} where
-  -- marks do not change the states
-  same_states : (es : List (Entry S)) (i : ℕ) (k : Mark) → states (with_mark es i k) ≡ states es
-  same_states [] i k = refl
-  same_states (e ∷ es) zero k = refl
-  same_states (e ∷ es) (suc i) k = ap (λ ss. e.state ∷ ss) (same_states es i k)
+  pub left_one : (es : List (Entry S)) (i : ℕ) → IsLeft es i → (e : Entry S) → At es i e → e.mark ≢ Expanded
+  left_one es i here e at =
+      let same : here.0 ≡ e = (let u : slice_get es i ≡ Some here.0 = here.1 in
+      let v : slice_get es i ≡ Some e = at in cc) in
+      subst (λ (d : Entry S). d.mark ≢ Expanded) same here.2
 
-  pub held_marked : (es : List (Entry S)) (i : ℕ) (k : Mark) (first : ℕ) (held : List S) → AreHeld es first held
-      → AreHeld (with_mark es i k) first held
-  held_marked es i k first held are = are ∙ ap (drop first) (sym (same_states es i k))
+  -- what is taken was not expanded, so that its state is held still
+  pub held_taken : (es : List (Entry S)) (i : ℕ) → ((e : Entry S) → At es i e → e.mark ≢ Expanded)
+      → (first : ℕ) (held : List (Option S)) → AreHeld es first held → AreHeld (with_mark es i Taken) first held
+  held_taken es i left first held are = (
+    are.0 ∙ sym (length-with_mark es i Taken),
+    (λ j f at le here.
+        let was = at-with_mark es i Taken j f at in
+        let not_yet : was.0.mark ≢ Expanded = (elim was.3 [
+          | inl l ↦ left was.0 (subst (λ (n : ℕ). At es n was.0) (sym l.0) was.1)
+          | inr r ↦ (λ (q : was.0.mark ≡ Expanded). here (ap (λ (x : Entry S). x.mark) r.1 ∙ q))
+        ]) in
+        are.1 j was.0 was.1 le not_yet ∙ ap (λ (s : S). Some (Some s)) (sym was.2.state)),
+  )
 
-  pub held_all_marked : (es : List (Entry S)) (is : List ℕ) (k : Mark) (first : ℕ) (held : List S)
-      → AreHeld es first held → AreHeld (with_marks es is k) first held
-  held_all_marked es [] k first held are = are
-  held_all_marked es (i ∷ is) k first held are =
-      held_all_marked (with_mark es i k) is k first held (held_marked es i k first held are)
+  pub held_range : (n a : ℕ) (es : List (Entry S)) → ((j : ℕ) (e : Entry S) → At es j e → a ≤ j → e.mark ≢ Expanded)
+      → (first : ℕ) (held : List (Option S)) → AreHeld es first held
+      → AreHeld (with_marks es (range_with_len a n) Taken) first held
+  held_range zero a es left first held are = are
+  held_range (suc n) a es left first held are =
+      held_range n (a + 1) (with_mark es a Taken)
+      (λ j f at le. let was = at-with_mark es a Taken j f at in
+      λ (q : f.mark ≡ Expanded). elim was.3 [
+        | inl l ↦ (let e : a ≡ j = l.0 in absurd (omega arith))
+        | inr r ↦ left j was.0 was.1 (omega arith) (sym (ap (λ (x : Entry S). x.mark) r.1) ∙ q)
+      ]) first held (held_taken es a (λ e at. left a e at (omega arith)) first held are)
+
+  -- what is expanded need not be held any more
+  pub held_expanded : (es : List (Entry S)) (i first : ℕ) (held still : List (Option S)) → first ≤ i
+      → AreHeld es first held → still ≡ slice_set held (i - first) None
+      → AreHeld (with_mark es i Expanded) first still
+  held_expanded es i first held still le are is = (
+    (let l : length still ≡ length held = ap length is ∙ length-set held (i - first) None in
+        let m : length (with_mark es i Expanded) ≡ length es = length-with_mark es i Expanded in
+        let w : first + length held ≡ length es = are.0 in omega arith),
+    (λ j f at ge here.
+        let was = at-with_mark es i Expanded j f at in
+        elim was.3 [
+          | inl l ↦ absurd (here l.1)
+          | inr r ↦ ap (λ (xs : List (Option S)). slice_get xs (j - first)) is
+              ∙ get-set_other held (i - first) (j - first) None (λ q. r.0 (omega arith))
+              ∙ are.1 j was.0 was.1 ge (λ q. here (ap (λ (x : Entry S). x.mark) r.1 ∙ q))
+              ∙ ap (λ (s : S). Some (Some s)) (sym was.2.state)
+        ]),
+  )
 
   -- no entry before the first that is left is left
   pub left_from : (es : List (Entry S)) (left i : ℕ) → IsFirstLeft es left → IsLeft es i → left ≤ i
@@ -119,35 +160,54 @@ module _ {S : Type 0} where
       left_grows (with_mark es i Expanded) first_left left (still_expanded es next_open first_left fault cursors i)
       (omega arith) first
 
-  state_in : (es : List (Entry S)) (i : ℕ) (e : Entry S) → At es i e → slice_get (states es) i ≡ Some e.state
-  state_in [] i e at = absurd (let q : None ≡ Some e = at in cc)
-  state_in (d ∷ es) zero e at = let q : d ≡ e = cc in ap (λ (x : Entry S). Some x.state) q
-  state_in (d ∷ es) (suc i) e at = state_in es i e at
-
   -- the state of an entry that is left is held
-  pub held_at : (es : List (Entry S)) (first : ℕ) (held : List S) → AreHeld es first held → (i : ℕ) (e : Entry S)
-      → At es i e → first ≤ i → slice_get held (i - first) ≡ Some e.state
-  held_at es first held are i e at le =
-      let sum : first + (i - first) ≡ i = omega arith in
-      ap (λ ss. slice_get ss (i - first)) are ∙ get-drop (states es) first (i - first) ∙ ap (slice_get (states es)) sum
-      ∙ state_in es i e at
+  pub held_at : (es : List (Entry S)) (first : ℕ) (held : List (Option S)) → AreHeld es first held → (i : ℕ)
+      → first ≤ i → (here : IsLeft es i) → slice_get held (i - first) ≡ Some (Some here.0.state)
+  held_at es first held are i le here = are.1 i here.0 here.1 le here.2
 
   -- those of some more that are expanded are given back
-  pub held_back : (es : List (Entry S)) (first left : ℕ) (held : List S) → first ≤ left → AreHeld es first held
-      → AreHeld es left (drop (left - first) held)
-  held_back es first left held le are =
-      let sum : first + (left - first) ≡ left = omega arith in
-      ap (drop (left - first)) are ∙ drop-twice (states es) first (left - first) ∙ ap (λ n. drop n (states es)) sum
+  pub held_back : (es : List (Entry S)) (first left : ℕ) (held : List (Option S)) → first ≤ left → left ≤ length es
+      → AreHeld es first held → AreHeld es left (drop (left - first) held)
+  held_back es first left held le within are = (
+    (let d : length (drop (left - first) held) ≡ length held - (left - first) = length-drop (left - first) held in
+        let w : first + length held ≡ length es = are.0 in omega arith),
+    (λ i e at ge here.
+        let sum : left - first + (i - left) ≡ i - first = omega arith in
+        get-drop held (left - first) (i - left) ∙ ap (slice_get held) sum ∙ are.1 i e at (omega arith) here),
+  )
 
-  pub held_one : (e : Entry S) (s : S) → e.state ≡ s → AreHeld (e ∷ []) 0 (s ∷ [])
-  held_one e s is = ap (λ x. x ∷ []) (sym is)
+  -- one more is held
+  held_more : (es : List (Entry S)) (x : Entry S) (first : ℕ) (held : List (Option S)) (s : S) → x.state ≡ s
+      → first ≤ length es → AreHeld es first held → AreHeld (es ++ x ∷ []) first (held ++ Some s ∷ [])
+  held_more es x first held s is le are =
+      let w : first + length held ≡ length es = are.0 in (
+        omega (arith, length-append es (x ∷ []), length-append held (Some s ∷ [])),
+        (λ i e at ge here. elim (get-append_cases es (x ∷ []) i e at) [
+          | inl l ↦ get-append_left held (Some s ∷ []) (i - first) (Some e.state) (are.1 i e l ge here)
+          | inr r ↦ (let last = only r.0 e r.2 in
+              let none : r.0 ≡ 0 = last.0 in
+              let behind : i ≡ length es + r.0 = r.1 in
+              let place : i - first ≡ length held + 0 = omega arith in
+              ap (slice_get (held ++ Some s ∷ [])) place
+              ∙ get-append_right held (Some s ∷ []) 0 (Some s) refl
+              ∙ ap (λ (v : S). Some (Some v)) (sym is ∙ ap (λ (d : Entry S). d.state) last.1))
+        ]),
+      )
+    where
+      only : (j : ℕ) (e : Entry S) → slice_get (x ∷ []) j ≡ Some e → (j ≡ 0) × (x ≡ e)
+      only zero e at = (refl, cc)
+      only (suc j) e at = absurd (let q : None ≡ Some e = at in cc)
 
-  pub stay_same : (es new : List (Entry S)) (held : List S) → new ≡ es → StayHeld es new held held
-  stay_same es new held is = λ first le are. are ∙ ap (λ xs. drop first (states xs)) (sym is)
+  pub held_one : (e : Entry S) (s : S) → e.state ≡ s → AreHeld (e ∷ []) 0 (Some s ∷ [])
+  held_one e s is = held_more [] e 0 [] s is (omega arith) (refl, (λ i d at ge here. absurd (cc)))
+
+  pub stay_same : (es new : List (Entry S)) (held : List (Option S)) → new ≡ es → StayHeld es new held held
+  stay_same es new held is =
+      λ first le are. subst (λ (xs : List (Entry S)). AreHeld xs first held) (sym is) are
 
   -- where a row was known
   pub stay_known : (old new : List (Labelled S × Row)) (rest : List (Labelled S × Row)) → new ≡ old ++ rest
-      → length new ≡ length old + 0 → (held : List S) → StayHeld (entries_of old) (entries_of new) held held
+      → length new ≡ length old + 0 → (held : List (Option S)) → StayHeld (entries_of old) (entries_of new) held held
   stay_known old new rest put len held =
       stay_same (entries_of old) (entries_of new) held
       (ap entries_of (put ∙ nothing old rest (sym (ap length put) ∙ len)))
@@ -155,7 +215,7 @@ module _ {S : Type 0} where
   -- where it was new, and its state is held too
   pub stay_new : (eq : Labelled S → Labelled S → Bool) (old new : List (Labelled S × Row)) (k : Labelled S) (row : Row)
       → new ≡ old ++ unlisted eq (keys_of old) ((k, row) ∷ []) → length new ≡ length old + 1
-      → (held still : List S) (s : S) → k.state ≡ s → still ≡ held ++ s ∷ []
+      → (held still : List (Option S)) (s : S) → k.state ≡ s → still ≡ held ++ Some s ∷ []
       → StayHeld (entries_of old) (entries_of new) held still
   stay_new eq old new k row put len held still s is push first le are =
       by (list_any (eq k) (keys_of old)) put
@@ -163,17 +223,13 @@ module _ {S : Type 0} where
       by : (b : Bool) → new ≡ old ++ cond b [] ((k, row) ∷ []) → AreHeld (entries_of new) first still
       by true known = absurd (omega (arith, len, ap length (known ∙ append-nil old)))
       by false added =
-          let all : states (entries_of new) ≡ states (entries_of old) ++ s ∷ [] =
-          ap (λ xs. states (entries_of xs)) added
-          ∙ ap states (map-append entry_of old ((k, row) ∷ []))
-          ∙ map-append (λ (e : Entry S). e.state) (entries_of old) (entry_of (k, row) ∷ [])
-          ∙ ap (λ x. states (entries_of old) ++ x ∷ []) is in
-          push ∙ ap (λ xs. xs ++ s ∷ []) are
-          ∙ sym (ap (drop first) all
-          ∙ drop-append (states (entries_of old)) (s ∷ []) first
-          (omega (arith, le, length-map (entries_of old) (λ (e : Entry S). e.state))))
+          let all : entries_of new ≡ entries_of old ++ entry_of (k, row) ∷ [] =
+          ap entries_of added ∙ map-append entry_of old ((k, row) ∷ []) in
+          subst (λ (es : List (Entry S)). AreHeld es first still) (sym all)
+          (subst (λ (ss : List (Option S)). AreHeld (entries_of old ++ entry_of (k, row) ∷ []) first ss) (sym push)
+          (held_more (entries_of old) (entry_of (k, row)) first held s is le are))
 
-  pub stay_on : (a b c : List (Entry S)) (held mid still : List S) → length a ≤ length b → StayHeld a b held mid
+  pub stay_on : (a b c : List (Entry S)) (held mid still : List (Option S)) → length a ≤ length b → StayHeld a b held mid
       → StayHeld b c mid still → StayHeld a c held still
   stay_on a b c held mid still le first then = λ n within are. then n (omega arith) (first n within are)
 

@@ -11,8 +11,8 @@ use Rattle.tree_machine.proofs.Lists.{get_at}
 use Rattle.book.specs.declared.entry.Mark.TheVariants.{Taken}
 use Rattle.book.specs.declared.entry.Origin.{Origin}
 use Rattle.book.specs.Books.{machine_in, right_in, counted_as_one, IsBook}
-use Rattle.book.specs.Entries.{Entry, Contents, At, IsNext, Takes, TakesLayer, is_expanded, is_open, with_mark}
-use Rattle.book.specs.Entries.{with_marks}
+use Rattle.book.specs.Entries.{Entry, Contents, At, IsNext, Takes, TakesLayer, TakesRange, is_expanded, is_open}
+use Rattle.book.specs.Entries.{with_mark, with_marks}
 use Rattle.book.specs.Law.{StandsForReached}
 use Rattle.book.specs.Labels.{Kept}
 use Rattle.book.specs.Slots.{AllStates, AreStatesOf, IsOpenFrom}
@@ -23,7 +23,7 @@ use Rattle.book.proofs.Coverage.{stands_along}
 use Rattle.book.proofs.Growth.{all_expanded, few_steps, is_left, none_left}
 use Rattle.book.proofs.LawfulBooks.{taken_book}
 use Rattle.book.proofs.Next.{next_from, no_next_expanded, no_next_later, no_next_open}
-use Rattle.book.proofs.Ranges.{IsLayerAt, layer_at, range_book, so_of_range, takes_layer}
+use Rattle.book.proofs.Ranges.{IsLayerAt, layer_at, range_book, so_of_range, takes_layer, takes_range}
 use Rattle.book.proofs.Ways.{one_way, step_of, way_back, way_ends, way_run}
 
 -- what is known of an entry that is taken: it was the next, and its state is lent
@@ -114,6 +114,17 @@ module _ {Machine Memory Place Form : Type 0} {rules : Machine → Rules Memory 
       so_of_range (machine_in rules b) same_in (right_in rules b) (λ state. state.steps < b.limit) b.entries range
       few_at states
 
+  -- what is so of each state of the entries is so of one that is lent
+  module _ (i : ℕ) (state : State Machine Memory Place Form)
+      (at : (e : Entry (State Machine Memory Place Form)) × At b.entries i e × (e.state ≡ state)) where
+    pub state_fits : Fits (rules b.machine) b.program state
+    state_fits =
+        subst (λ (v : State Machine Memory Place Form). Fits (rules b.machine) b.program v) at.2
+        (book.law.law.fit i at.0 at.1)
+
+    pub state_few : state.steps < b.limit
+    state_few = subst (λ (v : State Machine Memory Place Form). v.steps < b.limit) at.2 (few_at i at.0 at.1)
+
   -- the layer of the next entry ends before the first entry of more steps
   module _ (now : Contents Machine (State Machine Memory Place Form)) (view : b ≡ now) (start end k : ℕ)
       (next : (e : Entry (State Machine Memory Place Form)) × IsNext (machine_in rules now).steps now.entries start e)
@@ -159,6 +170,15 @@ module _ {Machine Memory Place Form : Type 0} {rules : Machine → Rules Memory 
         let some : start < end = layer.some in
         takes_layer (machine_in rules b).steps b.entries new.entries start (end - start) range layer.range
         (omega arith) layer.entry layer.there layer.later numbers states
+        (ap (λ (kept : Kept (State Machine Memory Place Form)). kept.entries) after)
+
+    pub range_given : {labels : List (List ℕ)} (new : Kept (State Machine Memory Place Form))
+        → new ≡ record { entries = with_marks b.entries (range_with_len start (end - start)) Taken; labels = labels }
+        → TakesRange (machine_in rules b).steps b.entries new.entries start end
+    range_given new after =
+        let some : start < end = layer.some in
+        takes_range (machine_in rules b).steps b.entries new.entries start end (omega arith) layer.range
+        (omega arith) layer.entry layer.there layer.later
         (ap (λ (kept : Kept (State Machine Memory Place Form)). kept.entries) after)
 
   -- none is next where all are expanded, or none is open

@@ -10,7 +10,7 @@ use Rattle.book.specs.declared.finding.Finding.{Finding}
 use Rattle.book.specs.declared.entry.Mark.{Mark}
 use Rattle.book.specs.declared.entry.Mark.TheVariants.{Open, Taken, Expanded}
 use Rattle.book.specs.Schedule.{StepMachine, IsMachine, Merges}
-use Rattle.book.specs.Entries.{Entry, Contents, At, IsNext, TakesLayer, is_open, with_mark, with_marks}
+use Rattle.book.specs.Entries.{Entry, Contents, At, IsNext, TakesLayer, TakesRange, is_open, with_mark, with_marks}
 use Rattle.book.specs.Law.{IsLawfulBook}
 use Rattle.book.specs.Slots.{AllStates, AreCursors, AreStatesOf, IsOpenFrom}
 use Rattle.book.proofs.EntryLemmas.{at-with_mark, length-with_mark}
@@ -247,6 +247,29 @@ module _ {S : Type 0} (steps : S → ℕ) where
         let v : q.0 ≡ a + k = (number_is layer a n k q numbers at_k).0 in omega arith);
     after = marked ∙ ap (λ is. with_marks old is Taken) (sym numbers);
     none_next = (λ i e next. none_after old a n range some d at_a later i e (rw (← marked) next));
+  }
+
+  -- and the same where its states are not handed out
+  pub takes_range : (old new : List (Entry S)) (a z : ℕ) → a ≤ z → IsRange steps old a (z - a) → 0 < z - a
+      → (d : Entry S) → At old a d
+      → ((i : ℕ) (e : Entry S) → At old i e → a + (z - a) ≤ i → steps d.state < steps e.state)
+      → new ≡ with_marks old (range_with_len a (z - a)) Taken → TakesRange steps old new a z
+  takes_range old new a z row range some d at_a later marked = record {
+    each = (λ i ge less.
+        let e = get_at old i (let w : a + (z - a) ≤ length old = range.within in omega arith) in (
+          e.0.state,
+          record {
+            entry = e.0;
+            there = e.1;
+            is_open = range.are_open i e.0 e.1 ge (omega arith);
+            state = refl;
+            fewest = (λ j f there left. range.fewest i j e.0 f e.1 ge (omega arith) there left);
+          },
+        ));
+    within = (let w : a + (z - a) ≤ length old = range.within in omega arith);
+    row = row;
+    after = marked;
+    none_next = (λ i e next. none_after old a (z - a) range some d at_a later i e (rw (← marked) next));
   }
 
 -- the next layer: the entries from number a on to below `end`

@@ -1,7 +1,7 @@
 -- The entries of a book.
-use Rattle.std.specs.Prelude.{◌≡◌, ◌≢◌, ℕ, zero, suc, ◌+◌, ◌<◌, ◌≤◌, Bool, true, false, if◌then◌else◌, Option, Some}
+use Rattle.std.specs.Prelude.{◌≡◌, ◌≢◌, ℕ, zero, suc, ◌+◌, ◌-◌, ◌<◌, ◌≤◌, Bool, true, false, if◌then◌else◌, Option, Some}
 use Rattle.std.specs.Prelude.{List, [], ◌∷◌, ◌++◌, length, map, slice_get}
-use Rattle.std.specs.List.{list_any}
+use Rattle.std.specs.List.{list_any, range_with_len}
 use Rattle.std.specs.declared.sync.Arc.{Arc}
 use Rattle.book.specs.declared.finding.Finding.{Finding}
 use Rattle.book.specs.declared.entry.Mark.{Mark}
@@ -132,6 +132,15 @@ pub record TakesLayer {S A : Type 0} (steps : S → ℕ) (old new : List (Entry 
   pub ascending : (j k : ℕ) (p q : ℕ × Arc S A) → slice_get layer j ≡ Some p → slice_get layer k ≡ Some q → j < k
       → p.0 < q.0
   pub after : new ≡ with_marks old (map (λ p. p.0) layer) Taken
+  pub none_next : (i : ℕ) (e : Entry S) → IsNext steps new i e → ⊥
+
+-- The entries numbered from a to below z are taken, and no others: each was open, and of the fewest steps of those that
+-- are not expanded; then none is next
+pub record TakesRange {S : Type 0} (steps : S → ℕ) (old new : List (Entry S)) (a z : ℕ) : Type 0 where
+  pub each : (i : ℕ) → a ≤ i → i < z → (s : S) × IsInLayer steps old i s
+  pub within : z ≤ length old
+  pub row : a ≤ z
+  pub after : new ≡ with_marks old (range_with_len a (z - a)) Taken
   pub none_next : (i : ℕ) (e : Entry S) → IsNext steps new i e → ⊥
 
 -- entry i is taken

@@ -1,11 +1,11 @@
 -- Rows under keys.
-use Rattle.std.specs.Prelude.{◌≡◌, ◌≢◌, ℕ, ◌<◌, ◌≤◌, Bool, not, Option, Some, position, slice_get, List, [], ◌∷◌, ◌++◌}
-use Rattle.std.specs.Prelude.{drop, length, map, take, if◌then◌else◌}
+use Rattle.std.specs.Prelude.{◌≡◌, ◌≢◌, ℕ, ◌+◌, ◌-◌, ◌<◌, ◌≤◌, Bool, not, Option, Some, position, slice_get, List, [], ◌∷◌, ◌++◌}
+use Rattle.std.specs.Prelude.{length, map, take, if◌then◌else◌}
 use Rattle.std.specs.List.{list_any}
 use Rattle.std.specs.declared.sync.Arc.{Arc}
 use Rattle.book.specs.declared.entry.Row.{Row}
 use Rattle.book.specs.declared.entry.Mark.TheVariants.{Open, Expanded}
-use Rattle.book.specs.Entries.{Entry, At, states}
+use Rattle.book.specs.Entries.{Entry, At}
 use Rattle.book.specs.Findings.{is_sound}
 use Rattle.book.specs.Labels.{Labelled}
 
@@ -70,10 +70,13 @@ IsLeft {S} entries i = (e : Entry S) × At entries i e × (e.mark ≢ Expanded)
 abbrev pub IsGrown : {X : Type 0} → List X → List X → Type 0
 IsGrown old new = take (length old) new ≡ old
 
--- the states that are held are those of the entries from number `first` on
-abbrev pub AreHeld : {S : Type 0} → List (Entry S) → ℕ → List S → Type 0
-AreHeld entries first held = held ≡ drop first (states entries)
+-- a place for each entry from number `first` on, in which the state of each that is not expanded is held
+abbrev pub AreHeld : {S : Type 0} → List (Entry S) → ℕ → List (Option S) → Type 0
+AreHeld {S} entries first held =
+    (first + length held ≡ length entries)
+    × ((i : ℕ) (e : Entry S) → At entries i e → first ≤ i → e.mark ≢ Expanded
+    → slice_get held (i - first) ≡ Some (Some e.state))
 
 -- from whichever entry on the states were held, they are held still
-abbrev pub StayHeld : {S : Type 0} → (old new : List (Entry S)) → (held still : List S) → Type 0
+abbrev pub StayHeld : {S : Type 0} → (old new : List (Entry S)) → (held still : List (Option S)) → Type 0
 StayHeld old new held still = (first : ℕ) → first ≤ length old → AreHeld old first held → AreHeld new first still

@@ -1,33 +1,32 @@
-//! The book of states: what is put into it and taken.
+//! The book of states: how it is opened, and what is taken from it.
 
-ghost use Rattle.std.specs.Prelude.{◌≡◌, ℕ, ◌+◌, ◌-◌, ◌<◌, ◌≤◌, [], ◌∷◌, ◌⊎◌};
-ghost use Rattle.std.specs.Prelude.{length, IfOk, IfSome, IfNone, OnOk, OnErr, IfErr, Some, None, position, true};
+ghost use Rattle.std.specs.Prelude.{◌≡◌, ℕ, ◌+◌, ◌-◌, ◌<◌, ◌≤◌, [], ◌∷◌};
+ghost use Rattle.std.specs.Prelude.{length, IfOk, IfSome, IfNone, OnErr, Some, None, position, true};
 ghost use Rattle.sched_program.specs.Program.{IsWithinLimits};
 ghost use Rattle.tree_machine.specs.Step.{Fits, start};
 ghost use Rattle.tree_machine.specs.declared.state.State.{State};
-ghost use Rattle.book.specs.Entries.{Entry, At, Enters, IsNext, IsOwn, IsTaken, Refuses, Takes, TakesLayer, is_open};
-ghost use Rattle.book.specs.Entries.{states, unknown, with_successors};
+ghost use Rattle.book.specs.Entries.{Entry, At, IsNext, Takes, TakesLayer, is_open};
 ghost use Rattle.book.specs.Findings.{IsFindingOf, IsSound};
 ghost use Rattle.book.specs.declared.finding.Finding.{Finding};
 ghost use Rattle.book.specs.Slots.{AllStates, IsLeft, IsOpenFrom};
-ghost use Rattle.book.specs.Labels.{AreStepsKnownBy, bares, label_by};
+ghost use Rattle.book.specs.Labels.{label_by};
 ghost use Rattle.book.specs.Books.{machine_in, right_in, IsLawfulIn};
-ghost use Rattle.book.specs.Law.{FindsAlike, IsExpansion, StandsForReached};
-ghost use Rattle.book.specs.Leftovers.{Keeps};
+ghost use Rattle.book.specs.Law.{FindsAlike, StandsForReached};
 ghost use Rattle.book.specs.Schedule.{IsMachine, Merges};
 
 use crate::counting::Counting;
 use crate::entry::Mark;
-use crate::expansion::{Expansion, Stepped, label};
+use crate::expansion::label;
 use crate::finding::find;
-use crate::leftovers::Leftovers;
-use crate::table::{Table, TableFault};
+use crate::table::Table;
 use sched_program::{OutOfMemory, Program, same};
 use std::alloc::Global;
 use std::marker::Model;
 use std::sync::Arc;
 use tree_machine::{Machine, Room, State};
 
+mod entering;
+mod handing;
 mod reading;
 
 /// Which states a book counts as one.
@@ -260,107 +259,6 @@ impl<M: Machine> Book<M> {
         let layer = self.table.handed_out(start, end)?;
         self.table.mark_range_taken(start, end);
         Ok(layer)
-    }
-
-    /// Whether an expansion may be entered: its entry is taken, and it is that entry's.
-    fn admits(&self, id: usize, expansion: &Expansion<'_, M>) -> Result<(), EnterFault>
-        ensures admitted { OnOk result (IsTaken self.now.entries id
-            × IsOwn self.now id expansion.now.machine expansion.now.program expansion.now.source) }
-        ensures refused { IfErr result
-            (Refuses (⟦<M as Counting>⟧.counted self.now.machine self.now.merge) self.now id expansion.now) }
-    {
-        let Some(row) = self.table.row(id) else {
-            return Err(EnterFault::NotTaken);
-        };
-        if !row.is_taken() {
-            return Err(EnterFault::NotTaken);
-        }
-        if expansion.is_of(&self.machine, &self.program, &**self.table.state(id)) {
-            Ok(())
-        } else {
-            Err(EnterFault::Stranger)
-        }
-    }
-
-    /// Puts the new ones of a taken entry's steps at the end, and marks the entry expanded.
-    fn put(
-        &mut self,
-        id: usize,
-        successors: Vec<Stepped<State<M>>>,
-        leftovers: &mut Leftovers<State<M>>,
-    ) -> Result<Entered, EnterFault>
-        requires taken { (e : Entry (State M M.Mem M.Loc M.Form)) × At self.old.entries id e × (e.mark ≡ Mark.Taken)
-            × IsExpansion (machine_in M.rules self.old) (right_in M.rules self.old) e.state (bares successors.items) }
-        requires known { AreStepsKnownBy
-            (label_by M.whole_code M.form_code (M.form_of self.old.machine) self.old.merge) successors.items }
-        ensures entries { OnOk result (self.new.entries
-            ≡ with_successors (⟦<M as Counting>⟧.counted self.old.machine self.old.merge) self.old.entries id
-            (bares successors.items)) }
-        ensures counts { IfOk result
-            (λ r. (r.entered ≡ length (unknown (⟦<M as Counting>⟧.counted self.old.machine self.old.merge)
-            (states self.old.entries) (bares successors.items)))
-            × (r.entered + r.met ≡ length (bares successors.items)) × (self.new.met ≡ self.old.met + r.met)) }
-        ensures room { IfOk result (λ r. length self.old.entries + r.entered ≤ self.old.limit) }
-        ensures left { IfOk result (λ r. Keeps leftovers.old leftovers.new r.met) }
-        ensures same { (self.new.machine ≡ self.old.machine) × (self.new.program ≡ self.old.program)
-            × (self.new.merge ≡ self.old.merge) × (self.new.limit ≡ self.old.limit) }
-        ensures full { IfErr result (λ fault. (fault ≡ EnterFault.OutOfMemory)
-            ⊎ ((fault ≡ EnterFault.Full) × (self.old.limit < length self.old.entries
-            + length (unknown (⟦<M as Counting>⟧.counted self.old.machine self.old.merge)
-            (states self.old.entries) (bares successors.items))))) }
-        ensures err { OnErr result (self.new ≡ self.old) }
-    {
-        let was = self.table.len();
-        let steps = successors.len();
-        match self.table.append_new(self.limit, id, successors, leftovers) {
-            Err(TableFault::Full) => Err(EnterFault::Full),
-            Err(TableFault::OutOfMemory) => Err(EnterFault::OutOfMemory),
-            Ok(()) => {
-                let entered = self.table.len() - was;
-                let met = steps - entered;
-                self.table.mark_expanded(id);
-                self.met += met;
-                Ok(Entered { entered, met })
-            }
-        }
-    }
-
-    /// Enters the steps of a taken entry, and marks it expanded: appends, in thread order, each state that is not in
-    /// the book yet, as an open entry. After a refusal the book is unchanged.
-    pub fn enter(&mut self, id: usize, expansion: Expansion<'_, M>) -> Result<Entered, EnterFault>
-        ensures entered { IfOk result
-            (λ r. Enters (⟦<M as Counting>⟧.counted self.old.machine self.old.merge)
-            self.old self.new id expansion.entry r.entered r.met) }
-        ensures refused { IfErr result
-            (Refuses (⟦<M as Counting>⟧.counted self.old.machine self.old.merge) self.old id expansion.entry) }
-        ensures err { OnErr result (self.new ≡ self.old) }
-    {
-        let mut leftovers = self.table.no_leftovers();
-        self.enter_leaving(id, expansion, &mut leftovers)
-    }
-
-    /// Enters as `enter` does. The states that the book knew go to the leftovers, as far as these have room.
-    pub fn enter_leaving(
-        &mut self,
-        id: usize,
-        expansion: Expansion<'_, M>,
-        leftovers: &mut Leftovers<State<M>>,
-    ) -> Result<Entered, EnterFault>
-        ensures entered { IfOk result
-            (λ r. Enters (⟦<M as Counting>⟧.counted self.old.machine self.old.merge)
-            self.old self.new id expansion.entry r.entered r.met) }
-        ensures left { IfOk result (λ r. Keeps leftovers.old leftovers.new r.met) }
-        ensures refused { IfErr result
-            (Refuses (⟦<M as Counting>⟧.counted self.old.machine self.old.merge) self.old id expansion.entry) }
-        ensures err { OnErr result (self.new ≡ self.old) }
-    {
-        match self.admits(id, &expansion) {
-            Err(fault) => Err(fault),
-            Ok(()) => match expansion.into_steps(self.table.allocator(), self.merge) {
-                Err(OutOfMemory) => Err(EnterFault::OutOfMemory),
-                Ok(steps) => self.put(id, steps, leftovers),
-            },
-        }
     }
 
     /// How many steps lead to an entry, counted along its origin and those before it.

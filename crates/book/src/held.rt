@@ -1,27 +1,30 @@
 //! The states that a book holds.
-ghost use Rattle.std.specs.Prelude.{◌≡◌, ◌++◌, ◌∷◌, [], ◌<◌, drop, length, take, OnOk, OnErr, Some, slice_get};
+ghost use Rattle.std.specs.Prelude.{◌≡◌, ◌++◌, ◌∷◌, [], ◌<◌, drop, length, take, None, OnOk, OnErr, Some, slice_get};
+ghost use Rattle.std.specs.Prelude.{slice_set};
 
 use std::alloc::{AllocError, Global};
 use std::collections::VecDeque;
 use std::marker::Model;
 use std::sync::Arc;
 
-/// States in a row, which others may hold too. Those in front are given back first.
+/// Places in a row, in each of which a state is held that others may hold too, or none any more. Those in front are given
+/// back first.
 #[derive(Drop)]
 pub struct Held<S> {
-    states: VecDeque<Arc<S>>,
+    states: VecDeque<Option<Arc<S>>>,
 }
 
 impl<S> Model for Held<S> {
-    ghost use Rattle.std.specs.Prelude.{List, map};
+    ghost use Rattle.std.specs.Prelude.{List, Option, map};
+    ghost use Rattle.std.specs.Option.{option_map};
 
-    ghost Value = { List S };
+    ghost Value = { List (Option S) };
 
-    ghost view = { λ h. map (λ state. state.value) h.states.items };
+    ghost view = { λ h. map (option_map (λ state. state.value)) h.states.items };
 }
 
 impl<S> Held<S> {
-    /// No state.
+    /// No place.
     pub fn none(alloc: Global) -> Held<S>
         ensures { result ≡ [] }
     {
@@ -39,10 +42,10 @@ impl<S> Held<S> {
 
     /// The state at a place.
     pub fn at(&self, place: usize) -> &Arc<S>
-        requires { place < length self.now }
-        ensures { slice_get self.now place ≡ Some result.now.value }
+        requires { (s : S) × (slice_get self.now place ≡ Some (Some s)) }
+        ensures { slice_get self.now place ≡ Some (Some result.now.value) }
     {
-        let Some(state) = self.states.get(place) else {
+        let Some(Some(state)) = self.states.get(place) else {
             unreachable!();
         };
         state
@@ -50,23 +53,31 @@ impl<S> Held<S> {
 }
 
 impl<S: Drop> Held<S> {
-    /// Puts a state behind the others.
+    /// Puts a state behind all places.
     pub fn push(&mut self, state: Arc<S>) -> Result<(), AllocError>
-        ensures ok { OnOk result (self.new ≡ self.old ++ state.value ∷ []) }
+        ensures ok { OnOk result (self.new ≡ self.old ++ Some state.value ∷ []) }
         ensures err { OnErr result (self.new ≡ self.old) }
     {
-        self.states.push_back(state)?;
+        self.states.push_back(Some(state))?;
         Ok(())
     }
 
-    /// Gives back all but so many in front.
+    /// Gives back the state at a place.
+    pub fn release(&mut self, place: usize)
+        requires { place < length self.old }
+        ensures { self.new ≡ slice_set self.old place None }
+    {
+        self.states[place] = None;
+    }
+
+    /// Gives back all places but so many in front.
     pub fn truncate(&mut self, count: usize)
         ensures { self.new ≡ take count self.old }
     {
         self.states.truncate(count);
     }
 
-    /// Gives back so many in front.
+    /// Gives back so many places in front.
     pub fn give_back(&mut self, count: usize)
         ensures { self.new ≡ drop count self.old }
     {

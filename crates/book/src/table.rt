@@ -34,8 +34,8 @@ pub enum TableFault {
     OutOfMemory,
 }
 
-/// The entries of a book: states, each with its row. The key of a row is the state's label. The states from the first
-/// entry on that is not expanded are held; those of the entries before it are given back.
+/// The entries of a book: states, each with its row. The key of a row is the state's label. The states of the entries
+/// that are not expanded are held; those of the others are given back.
 #[derive(Drop)]
 pub struct Table<S> {
     slots: IndexMap<Hashed<Known<S>>, PackedRow>,
@@ -325,6 +325,7 @@ impl<S: Drop> Table<S> {
         ensures { self.new ≡ record self.old { entries = with_mark self.old.entries index Mark.Expanded } }
     {
         mark_at(&mut self.slots, index, Mark::Expanded);
+        self.held.release(index - self.first_left);
         let left = first_left_from(&self.slots, self.first_left);
         self.held.give_back(left - self.first_left);
         self.first_left = left;

@@ -30,9 +30,44 @@ fn takes_a_layer(book: &mut Book<Atomic>) -> Result<bool, Broken> {
     Ok(both && totals.fresh == 0 && totals.taken == 2 && totals.expanded == 1 && none_left)
 }
 
+/// Whether the entry of this number is handed out, with a state of one step in which nothing is wrong.
+fn is_handed_out(book: &Book<Atomic>, id: usize) -> Result<bool, Broken> {
+    Ok(match book.handed_out(id)? {
+        Some((state, finding)) => state.steps() == 1 && finding.is_sound(),
+        None => false,
+    })
+}
+
+/// Takes the steps of the start without their states, which are handed out then.
+fn hands_out_both(book: &mut Book<Atomic>) -> Result<bool, Broken> {
+    let (start, end) = book.take_range();
+    Ok(start == 1 && end == 3 && is_handed_out(book, 1)? && is_handed_out(book, 2)?)
+}
+
+/// Hands out neither the start, which is expanded, nor what there is not, and takes no more.
+fn hands_out_no_other(book: &mut Book<Atomic>) -> Result<bool, Broken> {
+    let (start, end) = book.take_range();
+    Ok(book.handed_out(0)?.is_none() && book.handed_out(3)?.is_none() && start == end)
+}
+
+/// Hands out the steps of the start, which are open and then taken, and nothing else.
+fn hands_out_a_layer(alloc: Global) -> Result<bool, Broken> {
+    let mut book = expanded(alloc, Merge::Exact, Merge::Exact, 1)?;
+    let too_early = book.handed_out(1)?.is_some();
+    Ok(!too_early && hands_out_both(&mut *book)? && hands_out_no_other(&mut *book)?)
+}
+
 fn takes_the_first_steps(alloc: Global) -> Result<bool, Broken> {
     let mut book = expanded(alloc, Merge::Exact, Merge::Exact, 1)?;
     takes_a_layer(&mut *book)
+}
+
+#[test]
+fn a_layer_is_handed_out_one_by_one(rt: HostRuntime) -> Result<(), Fail> {
+    let alloc = rt.alloc();
+    let is_handed_out = settled!(hands_out_a_layer(alloc))?;
+    assert!(rt; is_handed_out);
+    Ok(())
 }
 
 #[test]

@@ -10,7 +10,6 @@ pub mod Drives
 pub mod NextEntry
 pub mod Counted
 pub mod Layer
-mod Given
 pub mod Reports
 pub mod Room
 pub mod Shares
@@ -19,4 +18,6 @@ pub mod Reaching
 pub mod Verdicts
 pub mod Rest
 mod ReadOff
+mod Handed
+mod Ties
 mod Crossing

@@ -45,13 +45,14 @@ fn opened<M: Machine>(
 }
 
 /// Lets so many workers as the options say expand the layers. The entry for whose steps one of them found no room, what
-/// each did, and the pieces of all.
+/// each did, the pieces of all, and the desk.
 fn work_of_all<J: Ledgers + Send + Sync, M: Machine, G: Gate, R: Threads + Wait + Sync>(
     alloc: Global,
-    exploration: &Exploration<'_, J, M, G, R>,
+    exploration: &Exploration<'_, M, G, R>,
+    desk: Desk<J, M>,
     options: Options,
     pieces: Pieces<J>,
-) -> Result<(Option<usize>, Vec<Share>, Pieces<J>), OutOfMemory>
+) -> Result<(Option<usize>, Vec<Share>, Pieces<J>, Desk<J, M>), OutOfMemory>
     requires pieces { (pieces.expanded.parts ≡ options.workers) × (pieces.entered.parts ≡ options.workers)
         × (pieces.met.parts ≡ options.workers) }
     requires amounts { (pieces.expanded.amount ≡ 0) × (pieces.entered.amount ≡ 0) × (pieces.met.amount ≡ 0) }
@@ -65,10 +66,10 @@ fn work_of_all<J: Ledgers + Send + Sync, M: Machine, G: Gate, R: Threads + Wait 
     }) }
 {
     let mut workers = workers_of(alloc, options.workers(), pieces)?;
-    exploration.expand_layers(options.steps(), workers.as_mut_slice())?;
+    let desk = exploration.expand_layers(options.steps(), desk, workers.as_mut_slice())?;
     let cut = cut_of(workers.as_slice());
     let shares = shares_of(alloc, &workers)?;
-    Ok((cut, shares, merged(workers)))
+    Ok((cut, shares, merged(workers), desk))
 }
 
 /// Explores by all workers at once. None where the book that they leave under the lock does not tell the answer.
@@ -91,6 +92,7 @@ fn explore_together<J: Ledgers + Send + Sync, M: Machine, G: Gate, R: Threads + 
 {
     let book = opened(alloc, machine, program, options)?;
     let (desk, pieces) = Desk::<J, M>::new(book, blanks);
+    let stocks = Mutex::new(Vec::new(alloc));
     let exploration = Exploration {
         rt,
         alloc,
@@ -98,11 +100,10 @@ fn explore_together<J: Ledgers + Send + Sync, M: Machine, G: Gate, R: Threads + 
         program,
         merge: options.merge(),
         gate,
-        desk: Mutex::new(desk),
+        stocks: &stocks,
     };
-    let (cut, shares, whole) = work_of_all(alloc, &exploration, options, pieces)?;
-    let Exploration { desk, .. } = exploration;
-    let book = desk.into_inner().settle(whole);
+    let (cut, shares, whole, desk) = work_of_all(alloc, &exploration, desk, options, pieces)?;
+    let book = desk.settle(whole);
     report_of(alloc, machine, program, options, book, cut, shares)
 }
 

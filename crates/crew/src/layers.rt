@@ -1,18 +1,20 @@
 //! The work of all workers, layer by layer.
-ghost use Rattle.std.specs.Prelude.{◌≡◌, ◌^◌, ◌<◌, All, IfOk, IfSome, length, vec_len};
+ghost use Rattle.std.specs.Prelude.{◌≡◌, ◌^◌, ◌<◌, ◌≤◌, All, IfOk, IfSome, Some, length, vec_len};
 ghost use Rattle.claims.specs.Seats.{IsSeatOf};
+ghost use Rattle.crew.specs.Working.{HasEntries};
 
 use crate::gate::Gate;
-use crate::leads::slots_of;
 use crate::starting::call_at_once;
-use crate::tally::{Ledgers, Pieces, Tally};
+use crate::tally::{Desk, Ledgers, Pieces, Tally};
+use crate::tied::{Tie, Tied};
 use crate::working::{Exploration, Layer, Stop, Worker, round_of};
 use claims::{Claims, Seat};
 use sched_program::OutOfMemory;
 use std::alloc::Global;
-use std::sync::Wait;
+use std::marker::{Brand, PhantomData};
+use std::sync::{RwLock, Wait};
 use std::thread::Threads;
-use tree_machine::Machine;
+use tree_machine::{Machine, State};
 
 /// So many workers, each with a piece of each ledger.
 pub fn workers_of<J: Ledgers>(
@@ -60,86 +62,135 @@ fn have_stopped<J: Ledgers>(workers: &[Worker<J>]) -> Result<bool, OutOfMemory> 
     Ok(stopped)
 }
 
-/// What the workers of a layer share, as one value, since each function of a closure is proved over all that it holds.
+/// What the workers of a layer share, as one value that owns all of it, since each function of a closure is proved over
+/// all that it holds.
 #[derive(Drop)]
-struct Shift<'l, 'a, J: Ledgers, M: Machine, G: Gate, R: Wait> {
-    exploration: &'l Exploration<'a, J, M, G, R>,
-    layer: &'l Layer<'a, M>,
+struct Shift<'a, J: Ledgers, K: Tie<M, State<M>>, M: Machine, G: Gate, R: Wait> {
+    exploration: Exploration<'a, M, G, R>,
+    layer: Layer<'a, K, M>,
+    desk: RwLock<Tied<J, K, M>>,
 }
 
-impl<'l, 'a, J: Ledgers, M: Machine, G: Gate, R: Wait> Shift<'l, 'a, J, M, G, R> {
+impl<'a, J: Ledgers, K: Tie<M, State<M>>, M: Machine, G: Gate, R: Wait> Shift<'a, J, K, M, G, R> {
     /// Lets a worker do its part.
     fn work(&self, worker: &mut Worker<J>)
-        requires { IfSome worker.old.seat (IsSeatOf self.now.layer.now) }
+        requires { IfSome worker.old.seat (IsSeatOf self.now.layer) }
     {
-        self.exploration.work(self.layer, worker);
+        self.exploration.work(&self.desk, &self.layer, worker);
     }
 }
 
-impl<'a, J: Ledgers + Send + Sync, M: Machine, G: Gate, R: Threads + Wait + Sync> Exploration<
-    'a,
-    J,
-    M,
-    G,
-    R,
-> {
-    /// Lets each worker work in a thread of its own, until all have come to their ends.
-    fn work_at_once(&self, layer: &Layer<'a, M>, workers: &mut [Worker<J>])
-        requires { All (λ w. IfSome w.seat (IsSeatOf layer.now)) workers.old }
-        ensures { length workers.new ≡ length workers.old }
-    {
-        let shift = Shift {
-            exploration: self,
-            layer,
-        };
-        // What it did stands in its tally, and its clause says nothing of that.
-        let work = |worker: &mut Worker<J>|
-            requires { IfSome worker.old.seat (IsSeatOf shift.layer.now) }
-            ensures { Unit {0} }
-        { shift.work(worker) };
-        call_at_once(self.rt, &work, workers);
+/// Lets each worker work in a thread of its own, until all have come to their ends.
+fn work_at_once<
+    J: Ledgers + Send + Sync,
+    K: Tie<M, State<M>> + Send + Sync,
+    M: Machine,
+    G: Gate,
+    R: Threads + Wait + Sync,
+>(rt: &R, shift: &Shift<'_, J, K, M, G, R>, workers: &mut [Worker<J>])
+    requires { All (λ w. IfSome w.seat (IsSeatOf shift.now.layer)) workers.old }
+    ensures { length workers.new ≡ length workers.old }
+{
+    // What it did stands in its tally, and its clause says nothing of that.
+    let work = |worker: &mut Worker<J>|
+        requires { IfSome worker.old.seat (IsSeatOf shift.now.layer) }
+        ensures { Unit {0} }
+    { shift.work(worker) };
+    call_at_once(rt, &work, workers);
+}
+
+impl<'a, M: Machine, G: Gate, R: Threads + Wait + Sync> Exploration<'a, M, G, R> {
+    /// The same exploration, for a shift to own.
+    fn again(&self) -> Exploration<'a, M, G, R> {
+        Exploration {
+            rt: self.rt,
+            alloc: self.alloc,
+            machine: self.machine,
+            program: self.program,
+            merge: self.merge,
+            gate: self.gate,
+            stocks: self.stocks,
+        }
     }
 
-    /// Expands the next layer. Whether there was one to expand.
-    fn expand_layer(&self, number: u16, workers: &mut [Worker<J>]) -> Result<bool, OutOfMemory>
+    /// Expands entries that were taken from the desk's book. The desk comes back.
+    fn expand_taken<J: Ledgers + Send + Sync, K: Tie<M, State<M>> + Send + Sync>(
+        &self,
+        number: u16,
+        desk: Desk<J, M>,
+        start: usize,
+        end: usize,
+        workers: &mut [Worker<J>],
+    ) -> Result<Desk<J, M>, OutOfMemory>
+        requires some { 0 < length workers.old }
+        requires few { length workers.old < 2 ^ 8 }
+        requires tie { K.book ≡ Some desk.book }
+        requires row { start ≤ end }
+        requires taken { HasEntries K.book self.now.machine self.now.program.now end }
+        ensures { length workers.new ≡ length workers.old }
+    {
+        let places = end - start;
+        let (claims, seats) = Claims::new(self.alloc, places, workers.len())?;
+        seat_all(&claims, workers, seats);
+        let round = round_of(places, workers.len());
+        let shift = Shift {
+            exploration: self.again(),
+            layer: Layer {
+                alloc: self.alloc,
+                merge: self.merge,
+                machine: self.machine,
+                program: self.program,
+                number,
+                start,
+                end,
+                claims,
+                round,
+                tie: PhantomData,
+            },
+            desk: RwLock::new(Tied::<J, K, M>::new(desk)),
+        };
+        work_at_once(self.rt, &shift, workers);
+        let Shift { desk, .. } = shift;
+        Ok(desk.into_inner().into_desk())
+    }
+
+    /// Expands the next layer. Whether there was one to expand. The desk comes back.
+    fn expand_layer<J: Ledgers + Send + Sync>(
+        &self,
+        number: u16,
+        mut desk: Desk<J, M>,
+        workers: &mut [Worker<J>],
+    ) -> Result<(bool, Desk<J, M>), OutOfMemory>
         requires some { 0 < length workers.old }
         requires few { length workers.old < 2 ^ 8 }
         ensures { length workers.new ≡ length workers.old }
     {
-        let taken = self
-            .desk
-            .lock(self.rt)
-            .take_layer(self.alloc, self.machine, self.program);
-        let leads = taken?;
-        if leads.is_empty() {
-            return Ok(false);
+        let (start, end) = desk.take_layer(self.machine, self.program);
+        if start == end {
+            return Ok((false, desk));
         }
-        let (claims, seats) = Claims::new(self.alloc, leads.len(), workers.len())?;
-        seat_all(&claims, workers, seats);
-        let round = round_of(leads.len(), workers.len());
-        let layer = Layer {
-            alloc: self.alloc,
-            merge: self.merge,
-            number,
-            slots: slots_of(self.alloc, self.machine, self.program, leads)?,
-            claims,
-            round,
-        };
-        self.work_at_once(&layer, workers);
-        Ok(true)
+        let desk = self.expand_taken::<J, Brand>(number, desk, start, end, workers)?;
+        Ok((true, desk))
     }
 
-    /// Expands the layers below a number of steps, until one is empty or a worker had to stop.
-    pub fn expand_layers(&self, steps: u16, workers: &mut [Worker<J>]) -> Result<(), OutOfMemory>
+    /// Expands the layers below a number of steps, until one is empty or a worker had to stop. The desk comes back.
+    pub fn expand_layers<J: Ledgers + Send + Sync>(
+        &self,
+        steps: u16,
+        mut desk: Desk<J, M>,
+        workers: &mut [Worker<J>],
+    ) -> Result<Desk<J, M>, OutOfMemory>
         requires some { 0 < length workers.old }
         requires few { length workers.old < 2 ^ 8 }
     {
         for number in 0..steps {
-            if !self.expand_layer(number, workers)? || have_stopped(workers)? {
-                return Ok(());
+            let (expanded, left) = self.expand_layer(number, desk, workers)?;
+            desk = left;
+            if !expanded || have_stopped(workers)? {
+                return Ok(desk);
             }
         }
-        Ok(())
+        Ok(desk)
     }
 }
 

@@ -7,13 +7,14 @@ mod driving;
 mod explorer;
 mod gate;
 mod layers;
-mod leads;
 mod options;
 mod reading;
+mod ready;
 mod reporting;
 mod settling;
 mod starting;
 mod tally;
+mod tied;
 mod working;
 
 pub use crate::answer::{Answer, Report, Share};

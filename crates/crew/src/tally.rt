@@ -1,11 +1,10 @@
 //! The ledger of an exploration: what each worker did, and what lies under the lock, which counts it.
-ghost use Rattle.std.specs.Prelude.{◌≡◌, ℕ, ◌+◌, ◌<◌, ◌≤◌, ◌↔◌, IsTrue, IfOk, All, length, count_by};
-ghost use Rattle.book.specs.Entries.{is_expanded};
+ghost use Rattle.std.specs.Prelude.{◌≡◌, ℕ, ◌+◌, ◌<◌, ◌≤◌, ◌↔◌, IsTrue, IfOk, Some, length, count_by};
+ghost use Rattle.book.specs.Entries.{IsOwn, is_expanded};
 ghost use Rattle.crew.specs.Driving.{IsLedgerOf};
-ghost use Rattle.crew.specs.Working.{IsReady};
+ghost use Rattle.crew.specs.Working.{GoesOn, HasEntries};
 
 use crate::answer::Share;
-use crate::leads::{Leads, leads_of};
 use book::{Book, EnterFault, Expansion, Leftovers};
 use sched_program::{OutOfMemory, Program};
 use std::alloc::Global;
@@ -196,27 +195,20 @@ impl<J: Ledgers, M: Machine> Desk<J, M> {
         (desk, whole)
     }
 
-    /// Takes the next layer. It is empty where the book has an entry that is not sound, or is of another machine or
-    /// program.
-    pub fn take_layer(
-        &mut self,
-        alloc: Global,
-        machine: M,
-        program: &Program,
-    ) -> Result<Leads<M>, OutOfMemory>
-        ensures ready { IfOk result
-            (λ v. All (λ lead. IsReady (M.rules machine) program.now lead.state.value lead.finding) v.items) }
+    /// Takes the next layer: the number of its first entry and the number behind its last. They are the same where there
+    /// is none, the book has an entry that is not sound, or it is of another machine or program.
+    pub fn take_layer(&mut self, machine: M, program: &Program) -> (usize, usize)
+        ensures row { result.0 ≤ result.1 }
+        ensures taken { result.0 < result.1 → HasEntries (Some self.new.book) machine program.now result.1 }
     {
         let Desk { book, .. } = self;
         if !is_of(book, machine, program) || book.first_fault().is_some() {
-            return Ok(Vec::new(alloc));
+            return (0, 0);
         }
-        book.law();
-        let layer = book.take_layer()?;
-        leads_of(alloc, book, layer)
+        book.take_range()
     }
 
-    /// Enters an expansion, and counts it in the worker's tally. What the book knew goes to the leftovers.
+    /// Enters the expansion of an entry, and counts it in the worker's tally. What the book knew goes to the leftovers.
     pub fn enter(
         &mut self,
         tally: &mut Tally<J>,
@@ -224,10 +216,12 @@ impl<J: Ledgers, M: Machine> Desk<J, M> {
         expansion: Expansion<'_, M>,
         leftovers: &mut Leftovers<State<M>>,
     ) -> Result<(), EnterFault>
+        requires own { IsOwn self.old.book id expansion.machine expansion.program expansion.source }
         requires room { length expansion.successors ≤ leftovers.old.room }
         ensures room { IfOk result (λ _. leftovers.old.room ≤ leftovers.new.room + length expansion.entry.successors) }
         ensures kept { IfOk result (λ _. leftovers.new.kept + tally.old.share.met
             ≡ leftovers.old.kept + tally.new.share.met) }
+        ensures goes_on { GoesOn self.old.book self.new.book }
     {
         let Desk {
             book,
@@ -237,7 +231,7 @@ impl<J: Ledgers, M: Machine> Desk<J, M> {
         } = self;
         book.law();
         expansion.law();
-        let counts = book.enter_leaving(id, expansion, leftovers)?;
+        let counts = book.enter_own(id, expansion, leftovers)?;
         let pieces = &mut tally.pieces;
         expanded.audit(&mut pieces.expanded);
         entered.audit(&mut pieces.entered);

@@ -3,15 +3,15 @@ ghost use Rattle.std.specs.Prelude.{◌≡◌, ◌+◌, ◌<◌, ◌≤◌, ◌^
 ghost use Rattle.claims.specs.Seats.{IsSeatOf};
 
 use crate::gate::Gate;
-use crate::leads::{Ready, Slot};
-use crate::tally::{Desk, Ledgers, Tally};
-use book::{EnterFault, Expansion, Leftovers, Merge, Stock};
+use crate::ready::Ready;
+use crate::tally::{Ledgers, Tally};
+use crate::tied::{Made, Tie, Tied};
+use book::{EnterFault, Leftovers, Merge, Stock};
 use claims::{Claims, Seat};
 use sched_program::{OutOfMemory, Program};
 use std::alloc::Global;
-use std::marker::Model;
-use std::mem;
-use std::sync::{Mutex, MutexGuard, Wait};
+use std::marker::{Model, PhantomData};
+use std::sync::{Mutex, RwLock, RwLockWriteGuard, Wait};
 use tree_machine::{Machine, State};
 
 /// Why a worker draws no more.
@@ -60,15 +60,15 @@ pub fn round_of(places: usize, workers: usize) -> usize
 const STRIDE: usize = 8;
 
 /// Leftovers with room for all steps of expansions.
-fn room_for<M: Machine>(
+fn room_for<K: Tie<M, State<M>>, M: Machine>(
     alloc: Global,
-    made: &[(usize, Expansion<'_, M>)],
+    made: &[Made<'_, K, M>],
 ) -> Result<Leftovers<State<M>>, OutOfMemory>
-    ensures { IfOk result (λ l. sum_by (λ one. length one.1.successors) made.now ≤ l.room) }
+    ensures { IfOk result (λ l. sum_by (λ one. length one.successors) made.now ≤ l.room) }
 {
     let mut steps = 0usize;
-    for (_, expansion) in made {
-        let Some(sum) = steps.checked_add(expansion.len()) else {
+    for one in made {
+        let Some(sum) = steps.checked_add(one.len()) else {
             return Err(OutOfMemory);
         };
         steps = sum;
@@ -100,7 +100,9 @@ fn places_of(
 /// Looks at the states of entries. How many operations their threads have finished is of no use: each state was last
 /// touched a layer ago, by whichever worker made it, and looked at one right after the other they come into the processor's
 /// caches all at once, so that no expansion has to wait for its own.
-fn look_at<M: Machine>(drawn: &[(usize, Ready<'_, M>)]) -> Result<usize, OutOfMemory> {
+fn look_at<K: Tie<M, State<M>>, M: Machine>(
+    drawn: &[(usize, Ready<'_, K, M>)],
+) -> Result<usize, OutOfMemory> {
     let mut finished = 0usize;
     for (_, ready) in drawn {
         finished = finished.checked_add(ready.finished()).ok_or(OutOfMemory)?;
@@ -108,53 +110,72 @@ fn look_at<M: Machine>(drawn: &[(usize, Ready<'_, M>)]) -> Result<usize, OutOfMe
     Ok(finished)
 }
 
-/// Expansions that are made and not entered, each with the number of its entry.
-type Made<'d, M: Machine> = Vec<(usize, Expansion<'d, M>)>;
-
-/// The entries of a layer, which are taken and can be expanded, and the counter of their places. Contracts see the
-/// counter.
+/// The entries of a layer, which are taken, and the counter of their places. Contracts see the counter.
 #[derive(Drop)]
-pub struct Layer<'a, M: Machine> {
+pub struct Layer<'a, K: Tie<M, State<M>>, M: Machine> {
     pub alloc: Global,
     pub merge: Merge,
+    pub machine: M,
+    pub program: &'a Program,
     /// How many steps its states have.
     pub number: u16,
-    /// The entries, by their places.
-    pub slots: Vec<Slot<'a, M>>,
+    /// The number of its first entry. The others stand behind it in a row.
+    pub start: usize,
+    /// The number behind its last entry.
+    pub end: usize,
     pub claims: Claims,
     /// How many places a worker draws in one round.
     pub round: usize,
+    pub tie: PhantomData<K>,
 }
 
-impl<'a, M: Machine> Model for Layer<'a, M> {
-    ghost use Rattle.std.specs.Prelude.{◌≡◌, length};
+impl<'a, K: Tie<M, State<M>>, M: Machine> Model for Layer<'a, K, M> {
+    ghost use Rattle.std.specs.Prelude.{◌≡◌, ◌+◌, ◌^◌, ◌<◌};
     ghost use Rattle.claims.specs.Values.{Counter};
+    ghost use Rattle.crew.specs.Working.{HasEntries};
 
     ghost Value = { Counter };
 
     ghost view = { λ layer. layer.claims };
 
-    ghost invariant = { λ layer. layer.claims.size.len ≡ length layer.slots.items };
+    ghost invariant = { λ layer. (layer.start + layer.claims.size.len ≡ layer.end) × (layer.end < 2 ^ 64)
+        × HasEntries K.book layer.machine layer.program.now layer.end };
 }
 
-impl<'a, M: Machine> Layer<'a, M> {
-    /// Draws the places of one round, and takes out the entries there.
-    fn draw(
+impl<'a, K: Tie<M, State<M>>, M: Machine> Layer<'a, K, M> {
+    /// The entries at some places, each beside its place.
+    fn entries_at<J: Ledgers>(
+        &self,
+        desk: &Tied<J, K, M>,
+        places: &[usize],
+    ) -> Result<Vec<(usize, Ready<'a, K, M>)>, OutOfMemory>
+        requires { All (λ place. place < self.now.size.len) places.now }
+    {
+        let mut drawn = Vec::with_capacity(self.alloc, places.len())?;
+        for place in places {
+            if let Some(ready) = desk.ready(self.machine, self.program, self.start + *place)? {
+                drawn.push((*place, ready))?;
+            }
+        }
+        Ok(drawn)
+    }
+
+    /// Draws the places of one round. The answer is the entries there.
+    fn draw<J: Ledgers>(
         &self,
         rt: &impl Wait,
+        desk: &RwLock<Tied<J, K, M>>,
         seat: &mut Seat,
-    ) -> Result<Vec<(usize, Ready<'a, M>)>, OutOfMemory>
+    ) -> Result<Vec<(usize, Ready<'a, K, M>)>, OutOfMemory>
         requires seat { IsSeatOf self.now seat.old }
         ensures seat { IsSeatOf self.now seat.new }
     {
         let places = places_of(self.alloc, &self.claims, self.round, seat)?;
-        let mut drawn = Vec::with_capacity(self.alloc, places.len())?;
-        for place in places {
-            if let Some(ready) = self.slots[place].lock(rt).take() {
-                drawn.push((place, ready))?;
-            }
+        if places.is_empty() {
+            return Ok(Vec::new(self.alloc));
         }
-        Ok(drawn)
+        let desk = desk.read(rt);
+        self.entries_at(&*desk, places.as_slice())
     }
 
     /// Makes the expansions of some of the entries drawn.
@@ -162,8 +183,8 @@ impl<'a, M: Machine> Layer<'a, M> {
         &self,
         gate: &impl Gate,
         number: u8,
-        drawn: &'d [(usize, Ready<'a, M>)],
-        made: &mut Made<'d, M>,
+        drawn: &'d [(usize, Ready<'a, K, M>)],
+        made: &mut Vec<Made<'d, K, M>>,
         stock: &mut Stock<M>,
     ) -> Result<(), OutOfMemory> {
         let _finished = look_at(drawn)?;
@@ -177,18 +198,19 @@ impl<'a, M: Machine> Layer<'a, M> {
 }
 
 /// Enters expansions, all in one holding of the lock. What the book knew is left for after it.
-fn enter_all<J: Ledgers, M: Machine>(
-    desk: &mut Desk<J, M>,
-    made: Vec<(usize, Expansion<'_, M>)>,
+fn enter_all<J: Ledgers, K: Tie<M, State<M>>, M: Machine>(
+    desk: &mut Tied<J, K, M>,
+    made: Vec<Made<'_, K, M>>,
     tally: &mut Tally<J>,
     leftovers: &mut Leftovers<State<M>>,
 ) -> Result<(), Stop>
-    requires room { sum_by (λ one. length one.1.successors) made.items ≤ leftovers.old.room }
+    requires room { sum_by (λ one. length one.successors) made.items ≤ leftovers.old.room }
     ensures kept { IfOk result (λ _. leftovers.new.kept + tally.old.share.met
         ≡ leftovers.old.kept + tally.new.share.met) }
 {
-    for (id, expansion) in made {
-        match desk.enter(tally, id, expansion, leftovers) {
+    for one in made {
+        let id = one.id();
+        match desk.enter(tally, one, leftovers) {
             Ok(()) => {}
             Err(fault) => return Err(stop_of(fault, id)),
         }
@@ -196,40 +218,46 @@ fn enter_all<J: Ledgers, M: Machine>(
     Ok(())
 }
 
-/// What all workers of an exploration have in common.
+/// What all workers of an exploration have in common but for the desk.
 #[derive(Drop)]
-pub struct Exploration<'a, J: Ledgers, M: Machine, G: Gate, R: Wait> {
+pub struct Exploration<'a, M: Machine, G: Gate, R: Wait> {
     pub rt: &'a R,
     pub alloc: Global,
     pub machine: M,
     pub program: &'a Program,
     pub merge: Merge,
     pub gate: &'a G,
-    pub desk: Mutex<Desk<J, M>>,
+    /// What workers left of their stocks at the end of a layer, for those of the next.
+    pub stocks: &'a Mutex<Vec<Stock<M>>>,
 }
 
-impl<'a, J: Ledgers, M: Machine, G: Gate, R: Wait> Exploration<'a, J, M, G, R> {
-    /// The lock of the book. Where it need not be had at once, it is none where another worker has it.
-    fn desk_in(&self, at_once: bool) -> Option<MutexGuard<'_, Desk<J, M>>> {
+impl<'a, M: Machine, G: Gate, R: Wait> Exploration<'a, M, G, R> {
+    /// The lock of the desk. Where it need not be had at once, it is none where another worker has it.
+    fn locked<'l, J: Ledgers, K: Tie<M, State<M>>>(
+        &self,
+        desk: &'l RwLock<Tied<J, K, M>>,
+        at_once: bool,
+    ) -> Option<RwLockWriteGuard<'l, Tied<J, K, M>>> {
         if at_once {
-            Some(self.desk.lock(self.rt))
+            Some(desk.write(self.rt))
         } else {
-            self.desk.try_lock()
+            desk.try_write()
         }
     }
 
     /// Enters expansions, where they have to be entered or no other worker has the lock. Else they are given back.
-    fn enter<'d>(
+    fn enter<'d, J: Ledgers, K: Tie<M, State<M>>>(
         &self,
-        made: Made<'d, M>,
+        desk: &RwLock<Tied<J, K, M>>,
+        made: Vec<Made<'d, K, M>>,
         at_once: bool,
         tally: &mut Tally<J>,
         stock: &mut Stock<M>,
-    ) -> Result<Made<'d, M>, Stop> {
+    ) -> Result<Vec<Made<'d, K, M>>, Stop> {
         let Ok(mut leftovers) = room_for(self.alloc, made.as_slice()) else {
             return Err(Stop::OutOfMemory);
         };
-        let Some(mut desk) = self.desk_in(at_once) else {
+        let Some(mut desk) = self.locked(desk, at_once) else {
             return Ok(made);
         };
         let entered = enter_all(&mut *desk, made, tally, &mut leftovers);
@@ -241,11 +269,12 @@ impl<'a, J: Ledgers, M: Machine, G: Gate, R: Wait> Exploration<'a, J, M, G, R> {
 
     /// Expands the entries drawn, some at a time, and enters what is made whenever no other worker has the lock, the last
     /// of them in any case.
-    fn expand_all(
+    fn expand_all<J: Ledgers, K: Tie<M, State<M>>>(
         &self,
-        layer: &Layer<'a, M>,
+        desk: &RwLock<Tied<J, K, M>>,
+        layer: &Layer<'a, K, M>,
         number: u8,
-        drawn: &[(usize, Ready<'a, M>)],
+        drawn: &[(usize, Ready<'a, K, M>)],
         tally: &mut Tally<J>,
         stock: &mut Stock<M>,
     ) -> Result<(), Stop> {
@@ -259,43 +288,43 @@ impl<'a, J: Ledgers, M: Machine, G: Gate, R: Wait> Exploration<'a, J, M, G, R> {
                 return Err(Stop::OutOfMemory);
             }
             left = left.saturating_sub(some.len());
-            made = self.enter(made, left == 0, tally, stock)?;
+            made = self.enter(desk, made, left == 0, tally, stock)?;
         }
         Ok(())
     }
 
-    /// Expands the entries at the next places that the worker draws. Whether there were any. The states of those that it
-    /// drew before serve again: the book, which gives a state back once all entries before it are expanded, has had the
-    /// time of a turn for it.
-    fn turn(
+    /// Expands the entries at the next places that the worker draws. Whether there were any. Their states serve again: the
+    /// book gave them back when their entries were expanded.
+    fn turn<J: Ledgers, K: Tie<M, State<M>>>(
         &self,
-        layer: &Layer<'a, M>,
+        desk: &RwLock<Tied<J, K, M>>,
+        layer: &Layer<'a, K, M>,
         number: u8,
         seat: &mut Seat,
         tally: &mut Tally<J>,
         stock: &mut Stock<M>,
-        before: &mut Vec<(usize, Ready<'a, M>)>,
     ) -> Result<bool, Stop>
         requires seat { IsSeatOf layer.now seat.old }
         ensures seat { IsSeatOf layer.now seat.new }
     {
-        let Ok(drawn) = layer.draw(self.rt, seat) else {
+        let Ok(drawn) = layer.draw(self.rt, desk, seat) else {
             return Err(Stop::OutOfMemory);
         };
         if drawn.is_empty() {
             return Ok(false);
         }
-        self.expand_all(layer, number, drawn.as_slice(), tally, stock)?;
-        for (_, ready) in mem::replace(before, drawn) {
+        self.expand_all(desk, layer, number, drawn.as_slice(), tally, stock)?;
+        for (_, ready) in drawn {
             stock.take_in(ready.into_state());
         }
         Ok(true)
     }
 
     /// Expands the entries at the places that the worker draws, until none is left or it has to stop. Why, if so.
-    fn turns(
+    fn turns<J: Ledgers, K: Tie<M, State<M>>>(
         &self,
-        layer: &Layer<'a, M>,
+        desk: &RwLock<Tied<J, K, M>>,
+        layer: &Layer<'a, K, M>,
         number: u8,
         seat: &mut Seat,
         tally: &mut Tally<J>,
@@ -303,9 +332,8 @@ impl<'a, J: Ledgers, M: Machine, G: Gate, R: Wait> Exploration<'a, J, M, G, R> {
     ) -> Option<Stop>
         requires seat { IsSeatOf layer.now seat.old }
     {
-        let mut before = Vec::new(self.alloc);
-        for _turn in 0..=layer.slots.len() {
-            match self.turn(layer, number, seat, tally, stock, &mut before) {
+        for _turn in 0..layer.end {
+            match self.turn(desk, layer, number, seat, tally, stock) {
                 Ok(true) => {}
                 Ok(false) => return None,
                 Err(why) => return Some(why),
@@ -314,8 +342,21 @@ impl<'a, J: Ledgers, M: Machine, G: Gate, R: Wait> Exploration<'a, J, M, G, R> {
         None
     }
 
-    /// Lets a worker do its part of a layer.
-    pub fn work(&self, layer: &Layer<'a, M>, worker: &mut Worker<J>)
+    /// What some worker left of its stock, if there is such.
+    fn stock(&self) -> Stock<M> {
+        match self.stocks.lock(self.rt).pop() {
+            Some(stock) => stock,
+            None => Stock::new(self.alloc),
+        }
+    }
+
+    /// Lets a worker do its part of a layer. Its stock is left for the next layer, where there is room for it.
+    pub fn work<J: Ledgers, K: Tie<M, State<M>>>(
+        &self,
+        desk: &RwLock<Tied<J, K, M>>,
+        layer: &Layer<'a, K, M>,
+        worker: &mut Worker<J>,
+    )
         requires seat { IfSome worker.old.seat (IsSeatOf layer.now) }
     {
         let Worker {
@@ -327,7 +368,8 @@ impl<'a, J: Ledgers, M: Machine, G: Gate, R: Wait> Exploration<'a, J, M, G, R> {
         let Some(seat) = seat else {
             return;
         };
-        let mut stock = Stock::new(self.alloc);
-        *stop = self.turns(layer, *number, seat, tally, &mut stock);
+        let mut stock = self.stock();
+        *stop = self.turns(desk, layer, *number, seat, tally, &mut stock);
+        let _ = self.stocks.lock(self.rt).push(stock);
     }
 }

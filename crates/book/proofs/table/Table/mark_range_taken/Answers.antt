@@ -3,10 +3,8 @@ use Rattle.book.specs.Entries.{Entry, is_open}
 use Rattle.book.specs.Labels.{Kept}
 use Rattle.book.specs.Slots.{entries_of}
 use Rattle.book.proofs.Cursors.{cursor_is}
-use Rattle.book.proofs.Holding.{held_all_marked}
+use Rattle.book.proofs.Holding.{held_range, open_unexpanded}
 use Rattle.book.proofs.Ranges.{cursors_range}
-use Rattle.book.specs.declared.entry.Mark.TheVariants.{Taken}
-use Rattle.std.specs.List.{range_with_len}
 use Rattle.book.proofs.table.Table.mark_range_taken.Goals as goal
 
 pub invariant_of-self : goal.invariant_of-self
@@ -28,6 +26,6 @@ invariant_of-self g c =
     (cursors_range (c.args.end - s.next_open) (entries_of s.slots.entries) s.next_open s.first_left s.fault
     c.self.invariant.0 (omega arith)) in
     let held =
-    held_all_marked (entries_of s.slots.entries) (range_with_len s.next_open (c.args.end - s.next_open)) Taken
-    s.first_left s.held c.self.invariant.1 in
+    held_range (c.args.end - s.next_open) s.next_open (entries_of s.slots.entries)
+    (λ j e at ge. open_unexpanded e.mark (c.self.invariant.0.above j e at ge)) s.first_left s.held c.self.invariant.1 in
     rw (c.mark_range.ensures.entries, start) (cursors, held)

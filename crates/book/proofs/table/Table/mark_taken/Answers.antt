@@ -3,8 +3,7 @@ use Rattle.book.specs.Entries.{Entry, is_open}
 use Rattle.book.specs.Labels.{Kept}
 use Rattle.book.specs.Slots.{entries_of}
 use Rattle.book.proofs.Cursors.{cursors_taken}
-use Rattle.book.proofs.Holding.{held_marked}
-use Rattle.book.specs.declared.entry.Mark.TheVariants.{Taken}
+use Rattle.book.proofs.Holding.{held_taken, left_one, open_is_left}
 use Rattle.book.proofs.table.Table.mark_taken.Goals as goal
 
 pub invariant_of-self : goal.invariant_of-self
@@ -16,5 +15,7 @@ invariant_of-self g c =
     c.self.view_is ∙ c.requires.first in
     rw c.mark_at.ensures.entries (
       cursors_taken (entries_of s.slots.entries) s.next_open s.first_left s.fault c.self.invariant.0 c.args.index first,
-      held_marked (entries_of s.slots.entries) c.args.index Taken s.first_left s.held c.self.invariant.1,
+      held_taken (entries_of s.slots.entries) c.args.index
+          (left_one (entries_of s.slots.entries) c.args.index (open_is_left (entries_of s.slots.entries) c.args.index first))
+          s.first_left s.held c.self.invariant.1,
     )

@@ -12,8 +12,20 @@ returns g c =
     c.requires in
     let le : s.first_left ≤ c.args.index =
     left_from (entries_of s.slots.entries) s.first_left c.args.index c.self.invariant.0.left here in
-    let held : slice_get s.held (c.args.index - s.first_left) ≡ Some here.0.state =
-    held_at (entries_of s.slots.entries) s.first_left s.held c.self.invariant.1 c.args.index here.0 here.1 le in
-    let there : slice_get s.held (c.args.index - s.first_left) ≡ Some c.at.result.now.value = c.at.ensures in
+    let held : slice_get s.held (c.args.index - s.first_left) ≡ Some (Some here.0.state) =
+    held_at (entries_of s.slots.entries) s.first_left s.held c.self.invariant.1 c.args.index le here in
+    let there : slice_get s.held (c.args.index - s.first_left) ≡ Some (Some c.at.result.now.value) = c.at.ensures in
     let is : here.0.state ≡ c.at.result.now.value = cc in
     rw (← c.self.view_is) (here.0, here.1, is)
+
+pub at-requires : goal.at-requires
+at-requires g c =
+    let s = c.self.inside in
+    let here : IsLeft (entries_of s.slots.entries) c.args.index =
+    subst (λ (k : Kept g.row.S.Denot). IsLeft k.entries c.args.index) (sym c.self.view_is)
+    c.requires in
+    let le : s.first_left ≤ c.args.index =
+    left_from (entries_of s.slots.entries) s.first_left c.args.index c.self.invariant.0.left here in (
+      here.0.state,
+      held_at (entries_of s.slots.entries) s.first_left s.held c.self.invariant.1 c.args.index le here,
+    )

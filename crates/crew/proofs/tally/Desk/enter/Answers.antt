@@ -1,16 +1,18 @@
-use Rattle.std.proofs.Common.{◌≡◌, ◌+◌, ◌^◌, ◌<◌, ◌≤◌, ap, arith, length, count_by}
+use Rattle.std.proofs.Common.{◌≡◌, ◌+◌, ◌^◌, ◌<◌, ◌≤◌, ap, arith, length, count_by, subst, sym}
 use Rattle.tree_machine.specs.declared.state.State.{State}
-use Rattle.book.specs.Entries.{Entry, Enters, is_expanded}
+use Rattle.book.specs.Entries.{Contents, Entry, Enters, is_expanded}
 use Rattle.book.specs.Books.{counted_as_one, machine_in, right_in}
 use Rattle.crew.specs.declared.answer.Share.{Share}
 use Rattle.crew.proofs.Counted.{more_expanded, more_entries, small_met}
 use Rattle.crew.proofs.Expansions.{expansion_in}
+use Rattle.crew.proofs.Ties.{goes_on_as_it_is, goes_on_entered}
+use Rattle.crew.specs.Working.{GoesOn}
 use Rattle.crew.proofs.tally.Desk.enter.Goals as goal
 
 pub invariant_of-self-2-clause-expanded_is : goal.invariant_of-self-2-clause-expanded_is
 invariant_of-self-2-clause-expanded_is g c =
     let old = c.args.self.now.book in
-    let new = c.enter_leaving.new.self in
+    let new = c.enter_own.new.self in
     let same =
     counted_as_one {Machine = g.row.M.Denot} {Form = g.row.M-Form.Denot} g.M.Loc.PartialEq.eq g.M.Mem.PartialEq.eq
     g.M.Form.PartialEq.eq (g.M.Machine.form_of old.machine) old.merge in
@@ -31,7 +33,7 @@ invariant_of-self-2-clause-expanded_is g c =
 pub invariant_of-self-2-clause-entered_is : goal.invariant_of-self-2-clause-entered_is
 invariant_of-self-2-clause-entered_is g c =
     let old = c.args.self.now.book in
-    let new = c.enter_leaving.new.self in
+    let new = c.enter_own.new.self in
     let same =
     counted_as_one {Machine = g.row.M.Denot} {Form = g.row.M-Form.Denot} g.M.Loc.PartialEq.eq g.M.Mem.PartialEq.eq
     g.M.Form.PartialEq.eq (g.M.Machine.form_of old.machine) old.merge in
@@ -44,7 +46,7 @@ invariant_of-self-2-clause-entered_is g c =
 pub add-requires-4-clause-met : goal.add-requires-4-clause-met
 add-requires-4-clause-met g c =
     let old = c.args.self.now.book in
-    let new = c.enter_leaving.new.self in
+    let new = c.enter_own.new.self in
     let m = machine_in g.M.Machine.rules old in
     let same =
     counted_as_one {Machine = g.row.M.Denot} {Form = g.row.M-Form.Denot} g.M.Loc.PartialEq.eq g.M.Mem.PartialEq.eq
@@ -77,3 +79,19 @@ returns-clause-room g c =
     let each : c.in_ok-counts.counts.entered + c.in_ok-counts.counts.met ≡ length c.args.expansion.successors =
     c.in_ok-counts.ensures.entered.each in
     omega (arith, c.in_ok-counts.ensures.left)
+
+pub returns-in_err-counts-clause-goes_on : goal.returns-in_err-counts-clause-goes_on
+returns-in_err-counts-clause-goes_on g c =
+    let old = c.args.self.now.book in
+    subst
+    (λ (b : Contents g.row.M.Denot (State g.row.M.Denot g.row.M-Mem.Denot g.row.M-Loc.Denot g.row.M-Form.Denot)). GoesOn
+    old b) (sym c.in_err-counts.ensures.err) (goes_on_as_it_is old)
+
+pub returns-clause-goes_on : goal.returns-clause-goes_on
+returns-clause-goes_on g c =
+    let old = c.args.self.now.book in
+    let same =
+    counted_as_one {Machine = g.row.M.Denot} {Form = g.row.M-Form.Denot} g.M.Loc.PartialEq.eq g.M.Mem.PartialEq.eq
+    g.M.Form.PartialEq.eq (g.M.Machine.form_of old.machine) old.merge in
+    goes_on_entered same old c.enter_own.new.self c.args.id c.args.expansion c.in_ok-counts.counts.entered
+    c.in_ok-counts.counts.met c.in_ok-counts.ensures.entered
