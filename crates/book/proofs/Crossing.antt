@@ -1,5 +1,5 @@
--- A book may go to any thread and be shared by threads: each type that it is made of may. A search through all of them at once would not come to
--- its end.
+-- A book may go to any thread and be shared by threads, and a stock may go to any: each type that they are made of may.
+-- A search through all of them at once would not come to its end.
 use denote.RattleType.{RattleType}
 use denote.Param.Send.{IsSend, IsSync, sendable}
 use Rattle.std.proofs.Crossing.{crosses}
@@ -10,8 +10,11 @@ use Rattle.tree_machine.specs.contracts.state.State as State
 use Rattle.tree_machine.specs.declared.machine.Machine as machine
 use Rattle.book.specs.contracts.book.Book as Book
 use Rattle.book.specs.contracts.entry.PackedRow as PackedRow
+use Rattle.book.specs.contracts.expansion.Stepped as Stepped
 use Rattle.book.specs.contracts.hashed.Hashed as Hashed
 use Rattle.book.specs.contracts.known.Known as Known
+use Rattle.book.specs.contracts.leftovers.Leftovers as Leftovers
+use Rattle.book.specs.contracts.stock.Stock as Stock
 use Rattle.book.specs.contracts.table.Table as Table
 
 row_send : IsSend PackedRow.the_row
@@ -48,13 +51,23 @@ module _ (S : RattleType) (s : IsSend S) (s' : IsSync S) where
   table_sync : IsSync (Table.the_row S)
   table_sync = search (row_sync, hashed_sync, known_sync, sendable, crosses) depth 30
 
+module _ (S : RattleType) (s : IsSend S) (s' : IsSync S) where
+  stepped_send : IsSend (Stepped.the_row S)
+  stepped_send = search (hashed_send, known_send, sendable, crosses) depth 30
+
+  leftovers_send : IsSend (Leftovers.the_row S)
+  leftovers_send = search (row_send, hashed_send, known_send, stepped_send, sendable, crosses) depth 30
+
 module _ (M Mem Loc Form : RattleType) (m : IsSend M) (mem : IsSend Mem) (loc : IsSend Loc) (form : IsSend Form)
     (m' : IsSync M) (mem' : IsSync Mem) (loc' : IsSync Loc) (form' : IsSync Form) where
-  pub state_send : IsSend (State.the_row M Mem Loc Form)
+  state_send : IsSend (State.the_row M Mem Loc Form)
   state_send = search (sendable, crosses) depth 30
 
-  pub state_sync : IsSync (State.the_row M Mem Loc Form)
+  state_sync : IsSync (State.the_row M Mem Loc Form)
   state_sync = search (sendable, crosses) depth 30
+
+  pub stock_send : IsSend (Stock.the_row M Mem Loc Form)
+  stock_send = search (leftovers_send, stepped_send, state_send, state_sync, sendable, crosses) depth 30
 
 module _ (M Mem Loc Form : RattleType) (g : machine.Ghosts M.Denot Mem.Denot Loc.Denot Form.Denot)
     (mp : partial.Ghosts M.Denot) (ap : partial.Ghosts Mem.Denot) (ah : hash.Ghosts Mem.Denot)

@@ -18,6 +18,7 @@ mod SlotLemmas
 mod Labels
 mod Cursors
 mod Holding
+mod Draining
 pub mod Machines
 mod Loans
 mod Answered

@@ -295,7 +295,7 @@ impl<'a, M: Machine> Expansion<'a, M> {
         ensures source { IfOk result (λ x. x.source ≡ state.now) }
     {
         let threads = program.threads().len();
-        let mut successors = Vec::with_capacity(alloc, threads)?;
+        let mut successors = stock.list(alloc, threads)?;
         for thread in 0..threads as u8 {
             let step = step_of(
                 alloc, machine, program, state, thread, merge, &mut loan, stock,

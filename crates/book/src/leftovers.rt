@@ -3,6 +3,7 @@ ghost use Rattle.std.specs.Prelude.{◌≡◌, ◌≤◌, if◌then◌else◌, i
 ghost use Rattle.book.specs.Leftovers.{Keeps};
 
 use crate::entry::PackedRow;
+use crate::expansion::Stepped;
 use crate::hashed::Hashed;
 use crate::known::Known;
 use sched_program::OutOfMemory;
@@ -15,6 +16,8 @@ use std::sync::Arc;
 #[derive(Drop)]
 pub struct Leftovers<S> {
     known: Vec<(Hashed<Known<S>>, PackedRow, Arc<S>)>,
+    /// What steps lay in that were entered. Of these lists the memory alone is of use.
+    lists: Vec<Vec<Stepped<S>>>,
 }
 
 impl<S> Model for Leftovers<S> {
@@ -33,13 +36,17 @@ impl<S> Leftovers<S> {
         ensures room { IfOk result (λ l. room ≤ l.room) }
     {
         let known = Vec::with_capacity(alloc, room)?;
-        Ok(Leftovers { known })
+        Ok(Leftovers {
+            known,
+            lists: Vec::new(alloc),
+        })
     }
 
     /// Nothing, with no room.
     pub(crate) fn none(alloc: Global) -> Leftovers<S> {
         Leftovers {
             known: Vec::new(alloc),
+            lists: Vec::new(alloc),
         }
     }
 
@@ -52,11 +59,39 @@ impl<S> Leftovers<S> {
 }
 
 impl<S: Drop> Leftovers<S> {
-    /// Puts the states into shells, and the lists of their labels into spare lists. A refused growth lets one go.
-    pub(crate) fn return_to(self, shells: &mut Vec<Arc<S>>, labels: &mut Vec<Vec<u8>>) {
-        for (known, _row, state) in self.known {
+    /// The same with nothing kept, with room for so many states, and for as many lists if there is memory for these.
+    pub(crate) fn emptied(mut self, room: usize) -> Result<Leftovers<S>, OutOfMemory>
+        ensures kept { IfOk result (λ l. l.kept ≡ 0) }
+        ensures room { IfOk result (λ l. room ≤ l.room) }
+    {
+        self.known.clear();
+        self.known.reserve(room)?;
+        let _ = self.lists.reserve(room);
+        Ok(self)
+    }
+
+    /// Puts the states into shells, the lists of their labels into spare lists, and the lists of steps to their like. A
+    /// refused growth lets a state or a label go, and leaves the lists of steps here.
+    pub(crate) fn return_to(
+        &mut self,
+        shells: &mut Vec<Arc<S>>,
+        labels: &mut Vec<Vec<u8>>,
+        lists: &mut Vec<Vec<Stepped<S>>>,
+    ) {
+        for (known, _row, state) in self.known.drain(..) {
             let _ = shells.push(state);
             let _ = labels.push(known.into_value().into_label().into_vec());
+        }
+        let _ = lists.append(&mut self.lists);
+    }
+
+    /// Keeps a list of steps for its memory, where there is room, and else lets it go: nothing is asked for under a
+    /// lock.
+    pub(crate) fn keep_list(&mut self, list: Vec<Stepped<S>>)
+        ensures { self.new ≡ self.old }
+    {
+        if self.lists.len() < self.lists.capacity() {
+            self.lists.push_reserved(list);
         }
     }
 

@@ -49,12 +49,12 @@ fn put_step<S: Drop>(
 }
 
 /// Puts in, in their order, open rows for the steps that lead to new states, which are held. The others go to the
-/// leftovers.
+/// leftovers, and so does the list that the steps lay in.
 pub(crate) fn put_steps<S: Drop>(
     slots: &mut IndexMap<Hashed<Known<S>>, PackedRow>,
     held: &mut Held<S>,
     parent: usize,
-    successors: Vec<Stepped<S>>,
+    mut successors: Vec<Stepped<S>>,
     leftovers: &mut Leftovers<S>,
 ) -> Result<(), AllocError>
     ensures put { OnOk result (map keyed_of slots.new.entries ≡ map keyed_of slots.old.entries
@@ -67,8 +67,9 @@ pub(crate) fn put_steps<S: Drop>(
     ensures left { OnOk result (KeepsMet leftovers.old leftovers.new
         (length slots.old.entries) (length slots.new.entries) (length successors.items)) }
 {
-    for step in successors {
+    for step in successors.drain(..) {
         put_step(slots, held, parent, step, leftovers)?;
     }
+    leftovers.keep_list(successors);
     Ok(())
 }

@@ -20,7 +20,7 @@ use Rattle.std.specs.contracts.marker.PhantomData as Phantom
 use Rattle.sched_program.specs.contracts.program.Program as Program
 use Rattle.tree_machine.specs.declared.machine.Machine as machine
 use Rattle.tree_machine.specs.declared.state.State.{State}
-use Rattle.book.proofs.Crossing.{book_send, book_sync, state_send, state_sync}
+use Rattle.book.proofs.Crossing.{book_send, book_sync, stock_send}
 use Rattle.book.specs.contracts.stock.Stock as Stock
 use Rattle.claims.proofs.Crossing.{claims_sync}
 use Rattle.crew.specs.declared.tally.Ledgers as ledgers
@@ -115,12 +115,6 @@ module _ (J K M Mem Loc Form : RattleType)
       view_sync _ _ _ _ _
       (recorded_sync _ _ _ T.to_one
       (struct_sync (shape T) (desk, (struct_sync (shape (Phantom.the_type K)) tt, tt))))
-
-module _ (M Mem Loc Form : RattleType)
-    (m : IsSend M) (mem : IsSend Mem) (loc : IsSend Loc) (form : IsSend Form) (m' : IsSync M) (mem' : IsSync Mem)
-    (loc' : IsSync Loc) (form' : IsSync Form) where
-  stock_send : IsSend (Stock.the_row M Mem Loc Form)
-  stock_send = search (state_send, state_sync, sendable, crosses) depth 30 fits 10000
 
 module _ (a : NamedLft) (M G R Mem Loc Form : RattleType) (m : IsSync M) (gate : IsSync G) (threads : IsSync R)
     (stock : IsSend (Stock.the_row M Mem Loc Form)) where

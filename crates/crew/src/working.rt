@@ -62,6 +62,7 @@ const STRIDE: usize = 8;
 /// Leftovers with room for all steps of expansions.
 fn room_for<K: Tie<M, State<M>>, M: Machine>(
     alloc: Global,
+    stock: &mut Stock<M>,
     made: &[Made<'_, K, M>],
 ) -> Result<Leftovers<State<M>>, OutOfMemory>
     ensures { IfOk result (λ l. sum_by (λ one. length one.successors) made.now ≤ l.room) }
@@ -73,7 +74,7 @@ fn room_for<K: Tie<M, State<M>>, M: Machine>(
         };
         steps = sum;
     }
-    Leftovers::with_room(alloc, steps)
+    stock.leftovers(alloc, steps)
 }
 
 /// Draws the places of one round, fewer where no more are left.
@@ -178,7 +179,7 @@ impl<'a, K: Tie<M, State<M>>, M: Machine> Layer<'a, K, M> {
         self.entries_at(&*desk, places.as_slice())
     }
 
-    /// Makes the expansions of some of the entries drawn.
+    /// Makes the expansions of some of the entries drawn. Room for all of them is asked for at once.
     fn expand<'d>(
         &self,
         gate: &impl Gate,
@@ -188,6 +189,7 @@ impl<'a, K: Tie<M, State<M>>, M: Machine> Layer<'a, K, M> {
         stock: &mut Stock<M>,
     ) -> Result<(), OutOfMemory> {
         let _finished = look_at(drawn)?;
+        made.reserve(drawn.len())?;
         for (place, ready) in drawn {
             let one = ready.expand(self.alloc, self.merge, stock)?;
             gate.arrive(number, self.number, *place);
@@ -254,10 +256,11 @@ impl<'a, M: Machine, G: Gate, R: Wait> Exploration<'a, M, G, R> {
         tally: &mut Tally<J>,
         stock: &mut Stock<M>,
     ) -> Result<Vec<Made<'d, K, M>>, Stop> {
-        let Ok(mut leftovers) = room_for(self.alloc, made.as_slice()) else {
+        let Ok(mut leftovers) = room_for(self.alloc, stock, made.as_slice()) else {
             return Err(Stop::OutOfMemory);
         };
         let Some(mut desk) = self.locked(desk, at_once) else {
+            stock.take_leftovers(leftovers);
             return Ok(made);
         };
         let entered = enter_all(&mut *desk, made, tally, &mut leftovers);

@@ -54,6 +54,7 @@ fn word_record(word: UpdateWord) -> Option<usize>
 }
 
 /// Writes a node.
+#[inline(always)]
 fn write_node(node: Node, writer: &mut Writer) -> Result<(), OutOfMemory>
     requires { IsPartBelow writer.old.nodes writer.old.records (node_part node) }
     ensures { OnOk result (writer.new ≡ with_part writer.old (node_part node)) }
@@ -148,6 +149,7 @@ fn write_delete_flag(
 }
 
 /// Writes a place of a search.
+#[inline(always)]
 fn write_search(at: SearchLoc, writer: &mut Writer) -> Result<(), OutOfMemory>
     requires { IsPartBelow writer.old.nodes writer.old.records (search_part at) }
     ensures { OnOk result (writer.new ≡ with_part writer.old (search_part at)) }
@@ -262,6 +264,7 @@ pub(crate) fn base_number(base: Base) -> u64
 }
 
 /// Writes a place.
+#[inline(always)]
 fn write_place(place: &EllenLoc, writer: &mut Writer) -> Result<(), OutOfMemory>
     requires { IsPartBelow writer.old.nodes writer.old.records (place_part place.now) }
     ensures { OnOk result (writer.new ≡ with_part writer.old (place_part place.now)) }
@@ -302,10 +305,12 @@ impl Parts for Snapshot<'_> {
         self.threads.len()
     }
 
+    #[inline(always)]
     fn write_node(&self, index: usize, writer: &mut Writer) -> Result<(), OutOfMemory> {
         write_node(self.memory.nodes.as_slice()[index], writer)
     }
 
+    #[inline(always)]
     fn write_record(&self, index: usize, writer: &mut Writer) -> Result<(), OutOfMemory> {
         match self.memory.records.get(index) {
             Some(kept) => write_record(*kept, writer),
@@ -332,6 +337,7 @@ impl Parts for Snapshot<'_> {
         }
     }
 
+    #[inline(always)]
     fn write_held(&self, index: usize, writer: &mut Writer) -> Result<(), OutOfMemory> {
         match &self.threads[index].place {
             Some(place) => write_place(place, writer),

@@ -50,6 +50,7 @@ pub(crate) fn mark_number(word: Word) -> u64
 }
 
 /// Writes a node: its key, and of an internal one its children with their flags and tags.
+#[inline(always)]
 fn write_node(node: Node, writer: &mut Writer) -> Result<(), OutOfMemory>
     requires { IsPartBelow writer.old.nodes writer.old.records (node_part node) }
     ensures { OnOk result (writer.new ≡ with_part writer.old (node_part node)) }
@@ -150,6 +151,7 @@ fn write_helping(place: NatMitLoc, writer: &mut Writer) -> Result<(), OutOfMemor
 }
 
 /// Writes which place it is, and its locals.
+#[inline(always)]
 fn write_place(place: NatMitLoc, writer: &mut Writer) -> Result<(), OutOfMemory>
     requires { IsPartBelow writer.old.nodes writer.old.records (place_part place) }
     ensures { OnOk result (writer.new ≡ with_part writer.old (place_part place)) }
@@ -214,10 +216,12 @@ impl Parts for Snapshot<'_> {
         self.threads.len()
     }
 
+    #[inline(always)]
     fn write_node(&self, index: usize, writer: &mut Writer) -> Result<(), OutOfMemory> {
         write_node(self.mem.nodes.as_slice()[index], writer)
     }
 
+    #[inline(always)]
     fn write_record(&self, _index: usize, writer: &mut Writer) -> Result<(), OutOfMemory> {
         writer.put(&[], &[], &[])
     }
@@ -241,6 +245,7 @@ impl Parts for Snapshot<'_> {
         }
     }
 
+    #[inline(always)]
     fn write_held(&self, index: usize, writer: &mut Writer) -> Result<(), OutOfMemory> {
         match self.threads[index].place {
             Some(place) => write_place(place, writer),

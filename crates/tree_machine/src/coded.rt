@@ -42,7 +42,8 @@ fn put_all_replies<L>(bytes: &mut [u8], start: usize, threads: &[Thread<L>]) -> 
     at
 }
 
-/// The same for a note. It has a few counts: each is put by itself, since a copy of so few bytes at once takes longer.
+/// The same for a note. It has four counts at most, one for each thread: the loop goes by that number, so that it can be
+/// unrolled, since one by the note's length, or a copy, takes longer for so few.
 #[inline(always)]
 fn put_note(bytes: &mut [u8], start: usize, note: &Note) -> usize
     requires { start + 5 ≤ length bytes.old }
@@ -51,8 +52,11 @@ fn put_note(bytes: &mut [u8], start: usize, note: &Note) -> usize
     ensures length { length bytes.new ≡ length bytes.old }
 {
     let mut at = put_byte(bytes, start, note.len() as u8);
-    for count in note.as_slice() {
-        at = put_byte(bytes, at, *count);
+    for index in 0..4 {
+        match note.get(index) {
+            Some(count) => at = put_byte(bytes, at, count),
+            None => break,
+        }
     }
     at
 }

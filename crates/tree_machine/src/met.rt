@@ -4,6 +4,7 @@ ghost use Rattle.tree_machine.specs.Cells.{met, place_in};
 ghost use Rattle.tree_machine.specs.CellsMet.{order_met, cells_to_meet};
 
 use crate::cells::Numbering;
+use crate::few::FewMet;
 use sched_program::OutOfMemory;
 use std::alloc::Global;
 
@@ -12,6 +13,8 @@ use std::alloc::Global;
 pub(crate) enum Met {
     /// All of so many, in the order of their numbers.
     All(usize),
+    /// Those that were met one after the other, of so few that one byte tells the place of each.
+    Few(FewMet),
     /// Those that were met one after the other.
     These(Numbering),
 }
@@ -22,11 +25,16 @@ impl Met {
         ensures order { IfOk result (λ m. order_met m ≡ []) }
         ensures cells { IfOk result (λ m. cells_to_meet m ≡ cells) }
     {
-        let numbering = match self {
-            Met::All(_) => Numbering::new(alloc, cells)?,
+        if cells < 254 {
+            return Ok(Met::Few(match self {
+                Met::Few(few) => few.restarted(cells)?,
+                _ => FewMet::new(alloc, cells)?,
+            }));
+        }
+        Ok(Met::These(match self {
             Met::These(numbering) => numbering.restarted(cells)?,
-        };
-        Ok(Met::These(numbering))
+            _ => Numbering::new(alloc, cells)?,
+        }))
     }
 
     /// Meets a cell, and tells its place.
@@ -41,6 +49,10 @@ impl Met {
     {
         match self {
             Met::All(_) => Ok(cell),
+            Met::Few(few) => {
+                let number = few.meet(cell)?;
+                Ok(usize::from(number - 1))
+            }
             Met::These(numbering) => {
                 let place = numbering.meet(cell)?;
                 Ok(place)
@@ -55,6 +67,7 @@ impl Met {
     {
         match self {
             Met::All(cells) => { if place < *cells { Some(place) } else { None } }
+            Met::Few(few) => few.cell_at(place),
             Met::These(numbering) => numbering.cell_at(place),
         }
     }

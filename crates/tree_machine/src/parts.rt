@@ -7,8 +7,9 @@ ghost use Rattle.tree_machine.specs.Flat.{flat, flat_form, parts_code};
 ghost use Rattle.tree_machine.specs.Written.{with_cell, with_part};
 
 use crate::bytes::Bytes;
+use crate::pass::Pass;
 use crate::room::Room;
-use crate::writer::{Pass, Writer, put_number};
+use crate::writer::Writer;
 use sched_program::OutOfMemory;
 use std::alloc::Global;
 use std::mem;
@@ -151,18 +152,24 @@ fn write_all<P: Parts>(pass: Pass, parts: &P, graph: usize) -> Result<Pass, OutO
     Ok(writer.into_pass())
 }
 
-/// Writes the nodes and the records behind the bytes, in the order of their numbers, by the shortest way that is known.
-fn write_graph<P: Parts>(mut pass: Pass, parts: &P, graph: usize) -> Result<Pass, OutOfMemory>
+/// Writes the nodes and the records behind the bytes in a room, in the order of their numbers, by the shortest way that is
+/// known.
+fn write_graph<P: Parts>(
+    alloc: Global,
+    parts: &P,
+    graph: usize,
+    room: &mut Room,
+) -> Result<(), OutOfMemory>
     requires in_range { (fixed : ℕ) × ArePartsInRange fixed (P.parts parts.now) }
     requires graph { graph ≡ length (parts_graph (P.parts parts.now)) }
     requires fits { graph < 2 ^ 64 }
-    ensures { IfOk result (λ after. after.bytes.items ≡ pass.bytes.items ++ flat (parts_graph (P.parts parts.now))) }
+    ensures { OnOk result (room.new ≡ room.old ++ flat (parts_graph (P.parts parts.now))) }
 {
-    if parts.write_few(&mut pass.bytes)? {
-        Ok(pass)
-    } else {
-        write_all(pass, parts, graph)
+    if !parts.write_few(&mut room.pass.bytes)? {
+        let pass = mem::replace(&mut room.pass, Pass::none(alloc));
+        room.pass = write_all(pass, parts, graph)?;
     }
+    Ok(())
 }
 
 /// Writes what each thread holds behind the bytes, in the order of the threads.
@@ -181,18 +188,23 @@ fn write_all_held<P: Parts>(pass: Pass, parts: &P, held: usize) -> Result<Pass, 
     Ok(writer.into_pass())
 }
 
-/// Writes what the threads hold behind the bytes, in the order of the threads, by the shortest way that is known.
-fn write_held_parts<P: Parts>(mut pass: Pass, parts: &P, held: usize) -> Result<Pass, OutOfMemory>
+/// Writes what the threads hold behind the bytes in a room, in the order of the threads, by the shortest way that is known.
+fn write_held_parts<P: Parts>(
+    alloc: Global,
+    parts: &P,
+    held: usize,
+    room: &mut Room,
+) -> Result<(), OutOfMemory>
     requires in_range { (fixed : ℕ) × ArePartsInRange fixed (P.parts parts.now) }
     requires held { held ≡ length (P.parts parts.now).held }
     requires fits { length (parts_graph (P.parts parts.now)) < 2 ^ 64 }
-    ensures { IfOk result (λ after. after.bytes.items ≡ pass.bytes.items ++ flat (parts_held (P.parts parts.now))) }
+    ensures { OnOk result (room.new ≡ room.old ++ flat (parts_held (P.parts parts.now))) }
 {
-    if parts.write_few_held(&mut pass.bytes)? {
-        Ok(pass)
-    } else {
-        write_all_held(pass, parts, held)
+    if !parts.write_few_held(&mut room.pass.bytes)? {
+        let pass = mem::replace(&mut room.pass, Pass::none(alloc));
+        room.pass = write_all_held(pass, parts, held)?;
     }
+    Ok(())
 }
 
 /// Writes nodes, records and what the threads hold behind the bytes in a room, all by their numbers, so that the bytes
@@ -208,11 +220,10 @@ pub fn write_whole<P: Parts>(alloc: Global, parts: &P, room: &mut Room) -> Resul
     let nodes = parts.node_count();
     let records = parts.record_count();
     let graph = nodes.checked_add(records).ok_or(OutOfMemory)?;
-    let mut pass = mem::replace(&mut room.pass, Pass::none(alloc));
-    put_number(&mut pass.bytes, nodes as u64)?;
-    put_number(&mut pass.bytes, records as u64)?;
-    let pass = write_graph(pass, parts, graph)?;
-    room.pass = write_held_parts(pass, parts, parts.held_count())?;
+    room.put_number(nodes as u64)?;
+    room.put_number(records as u64)?;
+    write_graph(alloc, parts, graph, room)?;
+    write_held_parts(alloc, parts, parts.held_count(), room)?;
     Ok(())
 }
 

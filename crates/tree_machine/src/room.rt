@@ -6,8 +6,8 @@ ghost use Rattle.tree_machine.specs.FormCode.{deeds_code};
 
 use crate::bytes::Bytes;
 use crate::coded::put_deeds;
+use crate::pass::{Pass, put_number};
 use crate::state::Thread;
-use crate::writer::{Pass, put_number};
 use sched_program::OutOfMemory;
 use std::alloc::Global;
 use std::marker::Model;

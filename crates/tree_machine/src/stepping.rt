@@ -7,7 +7,7 @@ ghost use Rattle.tree_machine.specs.Step.{IsEnabled, step, notes_at_step, after_
 
 use crate::list::emptied;
 use crate::machine::{Machine, Outcome};
-use crate::state::{State, StepFault, Thread, copy_behind, place_or};
+use crate::state::{State, StepFault, Thread, copy_reserved, place_or};
 use sched_program::{Op, OutOfMemory, Program, Sequence};
 use std::alloc::Global;
 
@@ -18,23 +18,26 @@ struct Base<M: Machine> {
     threads: Sequence<Thread<M::Loc>>,
 }
 
-/// The threads with another one in the place of thread `t`, which is not copied, put into the empty list `others`.
+/// The threads with another one in the place of thread `t`, which is not copied, put into the empty list `others`. The
+/// room for all of them is asked for at once, so that none of them has to be moved later.
 fn with_thread<M: Machine>(
     alloc: Global,
     machine: M,
     threads: &[Thread<M::Loc>],
     t: usize,
     thread: Thread<M::Loc>,
-    mut others: Sequence<Thread<M::Loc>>,
+    others: Sequence<Thread<M::Loc>>,
 ) -> Result<Sequence<Thread<M::Loc>>, OutOfMemory>
     requires thread_exists { t < length threads.now }
     requires empty { others ≡ [] }
     ensures { IfOk result (λ all. all ≡ slice_set threads.now t thread) }
 {
-    copy_behind(alloc, machine, &threads[..t], &mut others)?;
-    others.push(thread)?;
-    copy_behind(alloc, machine, &threads[t + 1..], &mut others)?;
-    Ok(others)
+    let mut items = others.into_vec();
+    items.reserve(threads.len())?;
+    copy_reserved(alloc, machine, &threads[..t], &mut items)?;
+    items.push_reserved(thread);
+    copy_reserved(alloc, machine, &threads[t + 1..], &mut items)?;
+    Ok(Sequence::from_vec(items))
 }
 
 impl<M: Machine> State<M> {

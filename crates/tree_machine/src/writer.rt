@@ -1,246 +1,64 @@
 //! Parts in bytes, each written as it is visited.
-ghost use Rattle.std.specs.Prelude.{◌≡◌, ◌<◌, ◌≤◌, ◌+◌, ◌^◌, ◌++◌, ◌∷◌, [], Some};
-ghost use Rattle.std.specs.Prelude.{length, map, slice_get, IfOk, OnOk, IfSome};
-ghost use Rattle.std.specs.List.{All, flat_map};
-ghost use Rattle.std.specs.Option.{option_map, option_and_then};
-ghost use Rattle.tree_machine.specs.CellsMet.{order_met, cells_to_meet};
-ghost use Rattle.tree_machine.specs.Cells.{met_all, place_in, renamed};
+ghost use Rattle.std.specs.Prelude.{◌≡◌, ◌<◌, ◌≤◌, ◌+◌, ◌^◌, ◌++◌, Some};
+ghost use Rattle.std.specs.Prelude.{length, map, take, slice_get, IfOk, OnOk};
+ghost use Rattle.tree_machine.specs.CellsMet.{cells_to_meet};
 ghost use Rattle.tree_machine.specs.Graphs.{numbers_from};
-ghost use Rattle.tree_machine.specs.Parts.{IsPartBelow, part_cell};
-ghost use Rattle.tree_machine.specs.Flat.{number_code, long_code, short_head, facts_code, reference_number, cell_code};
+ghost use Rattle.tree_machine.specs.Parts.{IsPartBelow};
 ghost use Rattle.tree_machine.specs.Written.{with_part};
 
+use crate::few::are_small;
 use crate::met::Met;
+use crate::pass::{Pass, put_facts, short_head};
 use sched_program::OutOfMemory;
-use std::alloc::Global;
 use std::marker::Model;
 
-/// Puts a number behind bytes: 255 for each 255 in it, and then the rest. Nearly all numbers of a form are small.
-#[inline(always)]
-pub(crate) fn put_number(bytes: &mut Vec<u8>, number: u64) -> Result<(), OutOfMemory>
-    ensures { OnOk result (bytes.new.items ≡ bytes.old.items ++ number_code number) }
-{
-    if number < 255 {
-        bytes.push(number as u8)?;
-        Ok(())
-    } else {
-        put_large(bytes, number)
-    }
-}
+/// As many zeros as bytes are lengthened by at once. A part with a head of one byte takes 12 bytes at most.
+static ZEROS: [u8; 256] = [0; 256];
 
-/// The same where the number may be large.
+/// Lengthens bytes.
 #[cold]
 #[inline(never)]
-fn put_large(bytes: &mut Vec<u8>, number: u64) -> Result<(), OutOfMemory>
-    ensures { OnOk result (bytes.new.items ≡ bytes.old.items ++ number_code number) }
+fn lengthen(bytes: &mut Vec<u8>, at: usize) -> Result<(), OutOfMemory>
+    requires { at ≤ length bytes.old.items }
+    ensures room { OnOk result (at + 12 ≤ length bytes.new.items) }
+    ensures kept { take at bytes.new.items ≡ take at bytes.old.items }
+    ensures longer { length bytes.old.items ≤ length bytes.new.items }
 {
-    for _whole in 0..number / 255 {
-        bytes.push(255)?;
-    }
-    bytes.push((number % 255) as u8)?;
+    bytes.extend_from_slice(&ZEROS)?;
     Ok(())
 }
 
-/// Puts numbers behind bytes.
+/// Makes the bytes so long that a part with a head of one byte can be put in from a place on.
 #[inline(always)]
-fn put_numbers(bytes: &mut Vec<u8>, numbers: &[u64]) -> Result<(), OutOfMemory>
-    ensures { OnOk result (bytes.new.items ≡ bytes.old.items ++ flat_map number_code numbers.now) }
+fn make_room(bytes: &mut Vec<u8>, at: usize) -> Result<(), OutOfMemory>
+    requires { at ≤ length bytes.old.items }
+    ensures room { OnOk result (at + 12 ≤ length bytes.new.items) }
+    ensures kept { take at bytes.new.items ≡ take at bytes.old.items }
+    ensures longer { length bytes.old.items ≤ length bytes.new.items }
 {
-    for number in numbers {
-        put_number(bytes, *number)?;
-    }
-    Ok(())
-}
-
-/// What one byte tells of a part: how many nodes it names, how many facts it has, and how many nodes and records it
-/// names. None where they are more than that.
-#[inline(always)]
-fn short_head(nodes: usize, facts: usize, named: usize) -> Option<u8>
-    ensures { result ≡ short_head nodes facts named }
-{
-    if nodes < 6 && facts < 5 && named < 8 {
-        Some((facts + 5 * nodes + 30 * named) as u8)
+    if bytes.len() - at < 12 {
+        lengthen(bytes, at)
     } else {
-        None
-    }
-}
-
-/// Puts facts behind bytes where no byte tells what stands before them.
-#[cold]
-#[inline(never)]
-fn put_many(
-    bytes: &mut Vec<u8>,
-    nodes: usize,
-    named: usize,
-    facts: &[u64],
-) -> Result<(), OutOfMemory>
-    ensures { OnOk result (bytes.new.items ≡ bytes.old.items ++ long_code (nodes ∷ facts.now) named) }
-{
-    bytes.push(255)?;
-    put_number(bytes, facts.len() as u64 + 1)?;
-    put_number(bytes, named as u64)?;
-    put_number(bytes, nodes as u64)?;
-    put_numbers(bytes, facts)?;
-    Ok(())
-}
-
-/// Puts facts behind bytes, as a part has them that names so many nodes, and so many nodes and records.
-#[inline(always)]
-fn put_facts(
-    bytes: &mut Vec<u8>,
-    nodes: usize,
-    named: usize,
-    facts: &[u64],
-) -> Result<(), OutOfMemory>
-    ensures { OnOk result (bytes.new.items ≡ bytes.old.items ++ facts_code (nodes ∷ facts.now) named) }
-{
-    match short_head(nodes, facts.len(), named) {
-        Some(head) => {
-            bytes.push(head)?;
-            put_numbers(bytes, facts)
-        }
-        None => put_many(bytes, nodes, named, facts),
-    }
-}
-
-/// The cells met, and the cells visited, in bytes.
-#[derive(Drop)]
-pub(crate) struct Pass {
-    met: Met,
-    pub(crate) bytes: Vec<u8>,
-    ghost fits: { cells_to_meet met < 2 ^ 64 },
-}
-
-impl Pass {
-    /// Nothing is met or visited. It takes no memory.
-    pub(crate) fn none(alloc: Global) -> Self
-        ensures { result.bytes.items ≡ [] }
-    {
-        Pass {
-            met: Met::All(0),
-            bytes: Vec::new(alloc),
-        }
-    }
-
-    /// Nothing of so many cells is met yet. The bytes stay, and the memory serves again.
-    fn restarted(self, cells: usize) -> Result<Self, OutOfMemory>
-        ensures nothing { IfOk result (λ pass. order_met pass.met ≡ []) }
-        ensures bytes { IfOk result (λ pass. pass.bytes.items ≡ self.bytes.items) }
-        ensures range { IfOk result (λ pass. cells_to_meet pass.met ≡ cells) }
-    {
-        let Pass { met, bytes } = self;
-        let alloc = *bytes.allocator();
-        Ok(Pass {
-            met: met.restarted(alloc, cells)?,
-            bytes,
-        })
-    }
-
-    /// All of so many cells are met, in the order of their numbers. It takes no memory.
-    fn of_all(self, cells: usize) -> Self
-        ensures order { order_met result.met ≡ numbers_from 0 cells }
-        ensures bytes { result.bytes.items ≡ self.bytes.items }
-        ensures range { cells_to_meet result.met ≡ cells }
-    {
-        Pass {
-            met: Met::All(cells),
-            bytes: self.bytes,
-        }
-    }
-
-    /// Meets so many cells from one on, all behind those met before.
-    fn meet_range(&mut self, first: usize, count: usize) -> Result<(), OutOfMemory>
-        requires in_range { first + count ≤ cells_to_meet self.old.met }
-        requires behind { All (λ x. x < first) (order_met self.old.met) }
-        ensures order { OnOk result (order_met self.new.met
-            ≡ order_met self.old.met ++ numbers_from first count) }
-        ensures bytes { self.new.bytes.items ≡ self.old.bytes.items }
-        ensures range { cells_to_meet self.new.met ≡ cells_to_meet self.old.met }
-    {
-        for i in 0..count {
-            let _place = self.met.meet(first + i)?;
-        }
-        Ok(())
-    }
-
-    /// Meets what is referred to, and puts its place behind the bytes.
-    #[inline(always)]
-    fn put_reference(&mut self, reference: Option<usize>) -> Result<(), OutOfMemory>
-        requires { IfSome reference (λ x. x < cells_to_meet self.old.met) }
-        ensures order { OnOk result (order_met self.new.met
-            ≡ met_all (order_met self.old.met) (reference ∷ [])) }
-        ensures bytes { OnOk result (self.new.bytes.items
-            ≡ self.old.bytes.items
-            ++ number_code (reference_number (option_and_then (place_in (order_met self.new.met)) reference))) }
-        ensures range { cells_to_meet self.new.met ≡ cells_to_meet self.old.met }
-    {
-        match reference {
-            Some(cell) => {
-                let place = self.met.meet(cell)?;
-                put_number(&mut self.bytes, place as u64 + 1)
-            }
-            None => put_number(&mut self.bytes, 0),
-        }
-    }
-
-    /// The same for references one after the other, that name cells from one on.
-    #[inline(always)]
-    fn put_references(
-        &mut self,
-        first: usize,
-        references: &[Option<usize>],
-    ) -> Result<(), OutOfMemory>
-        requires { All (λ r. IfSome r (λ x. first + x < cells_to_meet self.old.met)) references.now }
-        ensures order { OnOk result (order_met self.new.met
-            ≡ met_all (order_met self.old.met) (map (option_map (λ x. first + x)) references.now)) }
-        ensures bytes { OnOk result (self.new.bytes.items
-            ≡ self.old.bytes.items
-            ++ flat_map number_code (map reference_number
-            (map (option_and_then (place_in (order_met self.new.met)))
-            (map (option_map (λ x. first + x)) references.now)))) }
-        ensures range { cells_to_meet self.new.met ≡ cells_to_meet self.old.met }
-    {
-        for reference in references {
-            self.put_reference(match reference {
-                Some(place) => Some(first + *place),
-                None => None,
-            })?;
-        }
-        Ok(())
-    }
-
-    /// The same for cells that are told by their numbers.
-    #[inline(always)]
-    fn put_cells(&mut self, first: usize, cells: &[u16]) -> Result<(), OutOfMemory>
-        requires { All (λ x. first + x < cells_to_meet self.old.met) cells.now }
-        ensures order { OnOk result (order_met self.new.met
-            ≡ met_all (order_met self.old.met) (map (option_map (λ x. first + x)) (map Some cells.now))) }
-        ensures bytes { OnOk result (self.new.bytes.items
-            ≡ self.old.bytes.items
-            ++ flat_map number_code (map reference_number
-            (map (option_and_then (place_in (order_met self.new.met)))
-            (map (option_map (λ x. first + x)) (map Some cells.now))))) }
-        ensures range { cells_to_meet self.new.met ≡ cells_to_meet self.old.met }
-    {
-        for cell in cells {
-            self.put_reference(Some(first + *cell as usize))?;
-        }
         Ok(())
     }
 }
 
 /// What parts are written to: the cells met so far, and the parts written so far, in bytes.
 ///
-/// Contracts see it as these two lists, with how many nodes and records there are.
+/// Contracts see it as these two lists, with how many nodes and records there are. What is written ends at a place in the
+/// bytes: behind it some of these are of no use yet, so that most parts find room.
 #[derive(Drop)]
 pub struct Writer {
     pass: Pass,
+    at: usize,
     nodes: usize,
     records: usize,
     ghost room: { nodes + records ≤ cells_to_meet pass.met },
+    ghost within: { at ≤ length pass.bytes.items },
 }
 
 impl Model for Writer {
+    ghost use Rattle.std.specs.Prelude.{take};
     ghost use Rattle.tree_machine.specs.CellsMet.{order_met};
     ghost use Rattle.tree_machine.specs.Written.{Written};
 
@@ -250,13 +68,14 @@ impl Model for Writer {
       nodes = w.nodes;
       records = w.records;
       order = order_met w.pass.met;
-      bytes = w.pass.bytes.items;
+      bytes = take w.at w.pass.bytes.items;
     } };
 }
 
 impl Writer {
     /// Nothing is written behind these bytes, and the roots are met: the first nodes and records, as many as are fixed,
     /// and what the threads hold.
+    #[inline(always)]
     pub(crate) fn behind(
         pass: Pass,
         fixed: usize,
@@ -276,8 +95,10 @@ impl Writer {
         let mut pass = pass.restarted(graph + held)?;
         pass.meet_range(0, fixed)?;
         pass.meet_range(graph, held)?;
+        let at = pass.bytes.len();
         Ok(Writer {
             pass,
+            at,
             nodes,
             records,
         })
@@ -291,14 +112,17 @@ impl Writer {
         ensures order { result.order ≡ numbers_from 0 (nodes + records) }
         ensures bytes { result.bytes ≡ pass.bytes.items }
     {
+        let at = pass.bytes.len();
         Writer {
             pass: pass.of_all(nodes + records),
+            at,
             nodes,
             records,
         }
     }
 
     /// The cell that was met after so many others, if so many were met.
+    #[inline(always)]
     pub(crate) fn cell_at(&self, place: usize) -> Option<usize>
         ensures { result ≡ slice_get self.now.order place }
     {
@@ -306,10 +130,13 @@ impl Writer {
     }
 
     /// The cells met and the bytes.
+    #[inline(always)]
     pub(crate) fn into_pass(self) -> Pass
         ensures { result.bytes.items ≡ self.bytes }
     {
-        self.pass
+        let Writer { mut pass, at, .. } = self;
+        pass.bytes.truncate(at);
+        pass
     }
 
     /// Writes the part of these facts, nodes and records.
@@ -351,10 +178,45 @@ impl Writer {
     {
         let behind = self.nodes;
         let named = nodes.len() + records.len() + stack.len();
+        if let Some(head) = short_head(nodes.len(), facts.len(), named)
+            && are_small(facts)
+            && let Met::Few(few) = &mut self.pass.met
+        {
+            make_room(&mut self.pass.bytes, self.at)?;
+            let bytes = self.pass.bytes.as_mut_slice();
+            self.at = few.put_part(bytes, self.at, head, facts, nodes, behind, records, stack)?;
+            Ok(())
+        } else {
+            self.put_long(facts, nodes, records, stack)
+        }
+    }
+
+    /// Does the same where some number may be more than one byte, or no byte tells what is in the part.
+    #[cold]
+    #[inline(never)]
+    fn put_long(
+        &mut self,
+        facts: &[u64],
+        nodes: &[Option<usize>],
+        records: &[Option<usize>],
+        stack: &[u16],
+    ) -> Result<(), OutOfMemory>
+        requires { IsPartBelow self.old.nodes self.old.records
+            (record { facts = facts.now; nodes = nodes.now; records = records.now ++ map Some stack.now }) }
+        ensures { OnOk result (self.new
+            ≡ with_part self.old
+            (record { facts = facts.now; nodes = nodes.now; records = records.now ++ map Some stack.now })) }
+    {
+        let behind = self.nodes;
+        let named = nodes.len() + records.len() + stack.len();
+        self.pass.bytes.truncate(self.at);
+        // Whatever is refused below, what is written ends within the bytes.
+        self.at = 0;
         put_facts(&mut self.pass.bytes, nodes.len(), named, facts)?;
         self.pass.put_references(0, nodes)?;
         self.pass.put_references(behind, records)?;
         self.pass.put_cells(behind, stack)?;
+        self.at = self.pass.bytes.len();
         Ok(())
     }
 }

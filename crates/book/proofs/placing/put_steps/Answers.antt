@@ -1,9 +1,9 @@
-use Rattle.std.proofs.Common.{◌≡◌, ◌≤◌, Bool, map, length, refl, sym, append-nil, arith, ◌∙◌}
-use Rattle.std.proofs.lemmas.Iterator.Adapters.{YieldsList-from_vec}
-use Rattle.std.proofs.lemmas.Iterator.Consumers.{YieldsList-end}
-use Rattle.std.proofs.lemmas.List.{length_push, map-id}
+use Rattle.std.proofs.Common.{◌≡◌, ◌≤◌, Bool, map, length, refl, sym, ap, append-nil, arith, ◌∙◌}
+use Rattle.std.proofs.lemmas.List.{length_push}
+use Rattle.std.specs.Vec.Iter.{drain_items}
 use Rattle.book.specs.Labels.{Labelled, same_label}
 use Rattle.book.specs.Slots.{entries_of, keyed_of}
+use Rattle.book.proofs.Draining.{all_drained}
 use Rattle.book.proofs.Holding.{grown_itself, grown_on, stay_on, stay_same}
 use Rattle.book.proofs.Leaving.{keeps_more, keeps_none}
 use Rattle.book.proofs.SlotLemmas.{length-entries, put_turn}
@@ -47,21 +47,21 @@ loop-step-preserved g c =
 
 pub returns-clause-put : goal.returns-clause-put
 returns-clause-put g c =
-    let gives = c.into_iter-step-iterator.ensures.into_iter_gives in
     let all =
-    YieldsList-end (YieldsList-from_vec c.args.successors.items gives.0 (gives.1 ∙ c.args.successors.ok.0))
-    c.loop-step.yielded c.loop-step.step-iterator c.loop-step.yielded_by c.next.result c.next.new.self c.in-None.is
-    c.next.ensures.steps in
-    rw (sym (map-id c.loop-step.yielded) ∙ all.0) at c.loop-step.invariant.put
+    all_drained c.args.successors.items c.loop-step.yielded c.args.successors.len c.next.result
+    c.into_iter-step-iterator.result c.loop-step.step-iterator c.next.new.self c.args.successors.ok.0
+    (ap drain_items c.into_iter-step-iterator.ensures.into_iter_gives ∙ c.drain-step-items.ensures.rest)
+    c.loop-step.yielded_by c.in-None.is c.next.ensures.steps in
+    rw all at c.loop-step.invariant.put
 
 pub returns-clause-left : goal.returns-clause-left
 returns-clause-left g c =
-    let gives = c.into_iter-step-iterator.ensures.into_iter_gives in
     let all =
-    YieldsList-end (YieldsList-from_vec c.args.successors.items gives.0 (gives.1 ∙ c.args.successors.ok.0))
-    c.loop-step.yielded c.loop-step.step-iterator c.loop-step.yielded_by c.next.result c.next.new.self c.in-None.is
-    c.next.ensures.steps in
-    rw (sym (map-id c.loop-step.yielded) ∙ all.0) at c.loop-step.invariant.left
+    all_drained c.args.successors.items c.loop-step.yielded c.args.successors.len c.next.result
+    c.into_iter-step-iterator.result c.loop-step.step-iterator c.next.new.self c.args.successors.ok.0
+    (ap drain_items c.into_iter-step-iterator.ensures.into_iter_gives ∙ c.drain-step-items.ensures.rest)
+    c.loop-step.yielded_by c.in-None.is c.next.ensures.steps in
+    rw c.keep_list.ensures (rw all at c.loop-step.invariant.left)
 
 pub returns-clause-kept : goal.returns-clause-kept
 returns-clause-kept g c = c.loop-step.invariant.kept

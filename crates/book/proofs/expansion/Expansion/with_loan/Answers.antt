@@ -11,9 +11,9 @@ loop-thread-init g c =
     let rules = g.M.Machine.rules c.args.machine in
     record {
       loan = c.requires.loan;
-      front = rw c.in_ok-successors.ensures.items
+      front = rw c.in_ok-successors.ensures
           (front_none (machine_of rules c.args.program.now) (IsFindingOf rules c.args.program.now) c.args.state.now);
-      known = rw c.in_ok-successors.ensures.items refl;
+      known = rw c.in_ok-successors.ensures refl;
     }
 
 -- a thread that is enabled adds its step, and another adds none

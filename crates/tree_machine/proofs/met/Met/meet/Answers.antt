@@ -21,6 +21,6 @@ returns-in_ok-place-in-These-clause-fits c =
       arith,
       place_below _ c.args.cell c.in_ok-place-in-These.place c.in_ok-place-in-These.ensures.place,
       ap length c.in_ok-place-in-These.ensures.order,
-      c.meet.new.self.order.ok.0,
-      c.meet.new.self.order.small,
+      c.meet-in-These.new.self.order.ok.0,
+      c.meet-in-These.new.self.order.small,
     )

@@ -1,57 +1,61 @@
-use Rattle.std.proofs.Common.{◌≡◌, ◌+◌, ◌<◌, ◌++◌, length, map, Some, ap, sym, subst, arith}
+use Rattle.std.proofs.Common.{◌≡◌, ◌+◌, ◌<◌, ◌++◌, length, map, take, Some, ap, sym, ◌∙◌, subst, arith}
 use Rattle.std.specs.Prelude.{IfSome}
+use Rattle.std.specs.Vec.{with_items}
+use Rattle.std.proofs.lemmas.List.{with_items_is}
 use Rattle.std.specs.List.{All}
-use Rattle.std.proofs.lemmas.List.{length-map}
-use Rattle.tree_machine.specs.Written.{Written}
-use Rattle.tree_machine.proofs.Passes.{part_written}
-use Rattle.tree_machine.proofs.CodedWalks.{below_behind, stack_below, before_stack, is_written}
+use Rattle.std.specs.Result.{OnOk}
+use Rattle.tree_machine.specs.Cells.{met_all, renamed}
 use Rattle.tree_machine.specs.CellsMet.{order_met, cells_to_meet}
+use Rattle.tree_machine.specs.Flat.{cell_code}
+use Rattle.tree_machine.specs.Parts.{Part, part_cell}
+use Rattle.tree_machine.specs.Written.{Written, with_part}
+use Rattle.tree_machine.proofs.CodedWalks.{stack_below, is_written}
 use Rattle.tree_machine.proofs.writer.Writer.put_with_stack.Goals as goal
+use Rattle.tree_machine.proofs.writer.Writer.put_with_stack.Goals.{in_default-via-in-None-1, in_default-via-in-Some+else-are_small, in_default-via-in-Some+then-are_small+in-All-1}
 
-pub put_references-requires-2 : goal.put_references-requires-2
-put_references-requires-2 c =
+pub put_part-requires-clause-stack : goal.put_part-requires-clause-stack
+put_part-requires-clause-stack c =
     let records = c.self.inside.records in
     let same : c.args.self.now.records ≡ records = sym (ap (λ (w : Written). w.records) c.self.view_is) in
     let below =
     subst (λ b. All (λ x. IfSome x (λ y. y < b)) (c.args.records.now ++ map Some c.args.stack.now)) same
     c.requires.records in
-    below_behind c.self.inside.nodes records (cells_to_meet c.put_references.new.self.met)
-    c.args.records.now
-    (omega (arith, c.self.inside.room, c.in_ok-put_references.ensures.range))
-    (before_stack records c.args.records.now (map Some c.args.stack.now) below)
-
-pub put_cells-requires : goal.put_cells-requires
-put_cells-requires c =
-    let records = c.self.inside.records in
-    let same : c.args.self.now.records ≡ records = sym (ap (λ (w : Written). w.records) c.self.view_is) in
-    let below =
-    subst (λ b. All (λ x. IfSome x (λ y. y < b)) (c.args.records.now ++ map Some c.args.stack.now)) same
-    c.requires.records in
-    stack_below c.self.inside.nodes records (cells_to_meet c.put_references-2.new.self.met)
+    stack_below c.self.inside.nodes records (length c.in-Few.few.numbers.items)
     c.args.records.now c.args.stack.now
-    (omega (arith, c.self.inside.room, c.in_ok-put_references.ensures.range, c.in_ok-put_references-2.ensures.range))
+    (omega (arith, c.self.inside.room, ap cells_to_meet c.in-Few.is))
     below
 
-pub returns : goal.returns
-returns c =
+pub returns-in_ok-self-inside : goal.returns-in_ok-self-inside
+returns-in_ok-self-inside c =
     let inside = c.self.inside in
-    let stack = map Some c.args.stack.now in
-    let named : length c.args.nodes.now + length c.args.records.now + length c.args.stack.now
-    ≡ length c.args.nodes.now + length c.args.records.now + length stack =
-    omega (arith, length-map c.args.stack.now (λ x. Some x)) in
-    let both =
-    part_written inside.nodes
-    (length c.args.nodes.now + length c.args.records.now + length c.args.stack.now) c.args.facts.now
-    c.args.nodes.now c.args.records.now stack
-    (order_met inside.pass.met) (order_met c.put_references.new.self.met)
-    (order_met c.put_references-2.new.self.met) (order_met c.put_cells.new.self.met)
-    inside.pass.bytes.items c.put_facts.new.bytes.items
-    c.put_references.new.self.bytes.items c.put_references-2.new.self.bytes.items c.put_cells.new.self.bytes.items
-    named
-    c.in_ok-put_references.ensures.order c.in_ok-put_references-2.ensures.order c.in_ok-put_cells.ensures.order
-    c.in_ok-put_facts.ensures c.in_ok-put_references.ensures.bytes
-    c.in_ok-put_references-2.ensures.bytes c.in_ok-put_cells.ensures.bytes in
+    let part : Part = record {
+      facts = c.args.facts.now;
+      nodes = c.args.nodes.now;
+      records = c.args.records.now ++ map Some c.args.stack.now;
+    } in
+    let cell = part_cell inside.nodes part in
+    let order : order_met inside.pass.met ≡ c.in-Few.few.order.items = ap order_met c.in-Few.is in
     is_written c.args.self.now inside.nodes inside.records (order_met inside.pass.met)
-    inside.pass.bytes.items (order_met c.put_cells.new.self.met) c.put_cells.new.self.bytes.items
-    (record { facts = c.args.facts.now; nodes = c.args.nodes.now; records = c.args.records.now ++ stack })
-    c.self.view_is both.0 both.1
+    (take inside.at inside.pass.bytes.items) c.put_part.new.self.order.items
+    (take c.in_ok-self-inside.field-0 (with_items c.make_room.new.bytes c.put_part.new.bytes).items) part
+    c.self.view_is
+    (c.in_ok-self-inside.ensures.order ∙ ap (λ o. met_all o cell.refs) (sym order))
+    (ap (take c.in_ok-self-inside.field-0)
+    (with_items_is c.make_room.new.bytes c.put_part.new.bytes
+    (c.put_part.ensures.length ∙ c.as_mut_slice-bytes.ensures.len))
+    ∙ c.in_ok-self-inside.ensures.bytes
+    ∙ (ap (λ l. take inside.at l ++ cell_code (renamed c.put_part.new.self.order.items cell))
+    c.as_mut_slice-bytes.ensures.value
+    ∙ ap (λ l. l ++ cell_code (renamed c.put_part.new.self.order.items cell)) c.make_room.ensures.kept))
+
+pub returns-in_default : goal.returns-in_default
+returns-in_default c =
+    let part : Part = record {
+      facts = c.args.facts.now;
+      nodes = c.args.nodes.now;
+      records = c.args.records.now ++ map Some c.args.stack.now;
+    } in
+    let whole : c.in_default.self ≡ c.args.self.now → OnOk c.put_long.result
+    (c.put_long.new.self ≡ with_part c.args.self.now part) =
+    λ same. subst (λ s. OnOk c.put_long.result (c.put_long.new.self ≡ with_part s part)) same c.put_long.ensures in
+    elim c.in_default.branch [ in_default-via-in-None-1 w ↦ whole w.self-is | in_default-via-in-Some+else-are_small w ↦ whole w.self-is | in_default-via-in-Some+then-are_small+in-All-1 w ↦ whole (w.self-is ∙ c.self.view_is) ]
