@@ -138,11 +138,13 @@ fn step_of<M: Machine>(
     source: &State<M>,
     thread: u8,
     merge: Merge,
+    is_ordered: bool,
     loan: &mut Loan,
     stock: &mut Stock<M>,
 ) -> Result<Option<Stepped<State<M>>>, OutOfMemory>
     requires fits { Fits (M.rules machine) program.now source.now }
     requires room { source.now.steps + 1 < 2 ^ 64 }
+    requires ordered { IsTrue is_ordered → (M.rules machine).IsOrdered source.now.memory }
     requires loan { IsLoan program.now (history_of source.now) loan.old }
     ensures loan { IfOk result (λ _. IsLoan program.now (history_of source.now) loan.new) }
     ensures thread { IfOk result (λ o. IfSome o (λ x. x.thread ≡ thread)) }
@@ -155,25 +157,20 @@ fn step_of<M: Machine>(
         (λ x. x.state.label ≡ label_by M.whole_code M.form_code (M.form_of machine) merge x.state.state)) }
     ensures none { IfOk result (λ o. IfNone o (step (M.rules machine) program.now source.now thread ≡ None)) }
 {
-    let next = match source.step_in(alloc, machine, program, thread, &mut stock.spares) {
+    let state = match stock.step(alloc, machine, program, source, thread) {
         Ok(next) => next,
         Err(StepFault::NotEnabled) => return Ok(None),
         Err(StepFault::OutOfMemory) => return Err(OutOfMemory),
     };
-    let finding = find_after(alloc, machine, program, source, &next, thread, loan)?;
-    let spare = stock.spare_label(alloc);
-    let known = label(
-        alloc,
-        machine,
-        program,
-        &next,
-        merge,
-        &mut stock.room,
-        spare,
+    let next = &*state;
+    let finding = find_after(
+        alloc, machine, program, source, next, thread, is_ordered, loan,
     )?;
+    let spare = stock.spare_label(alloc);
+    let known = label(alloc, machine, program, next, merge, &mut stock.room, spare)?;
     Ok(Some(Stepped {
         thread,
-        state: stock.share(alloc, next)?,
+        state,
         known,
         finding,
     }))
@@ -255,7 +252,11 @@ impl<'a, M: Machine> Expansion<'a, M> {
             Finding::Sound(order) => Some(Some(*order)),
             _ => None,
         };
-        Expansion::with_loan(alloc, machine, program, state, merge, loan, stock)
+        // Of a state that is sound it is known that its memory keeps search order.
+        let is_ordered = finding.is_sound();
+        Expansion::with_loan(
+            alloc, machine, program, state, merge, is_ordered, loan, stock,
+        )
     }
 
     /// Takes each enabled step of a state, judges where it leads, and makes the labels by which a book that merges so
@@ -274,21 +275,26 @@ impl<'a, M: Machine> Expansion<'a, M> {
         ensures source { IfOk result (λ x. x.source ≡ state.now) }
     {
         let mut stock = Stock::new(alloc);
-        Expansion::with_loan(alloc, machine, program, state, merge, None, &mut stock)
+        Expansion::with_loan(
+            alloc, machine, program, state, merge, false, None, &mut stock,
+        )
     }
 
-    /// The same, where this is what was sought of the state's history.
+    /// The same, where this is what was sought of the state's history, and whether its memory is known to keep search
+    /// order.
     fn with_loan(
         alloc: Global,
         machine: M,
         program: &'a Program,
         state: &'a State<M>,
         merge: Merge,
+        is_ordered: bool,
         mut loan: Loan,
         stock: &mut Stock<M>,
     ) -> Result<Expansion<'a, M>, OutOfMemory>
         requires fits { Fits (M.rules machine) program.now state.now }
         requires room { state.now.steps + 1 < 2 ^ 64 }
+        requires ordered { IsTrue is_ordered → (M.rules machine).IsOrdered state.now.memory }
         requires loan { IsLoan program.now (history_of state.now) loan }
         ensures machine { IfOk result (λ x. x.machine ≡ machine) }
         ensures program { IfOk result (λ x. x.program ≡ program.now) }
@@ -298,7 +304,7 @@ impl<'a, M: Machine> Expansion<'a, M> {
         let mut successors = stock.list(alloc, threads)?;
         for thread in 0..threads as u8 {
             let step = step_of(
-                alloc, machine, program, state, thread, merge, &mut loan, stock,
+                alloc, machine, program, state, thread, merge, is_ordered, &mut loan, stock,
             )?;
             if let Some(next) = step {
                 successors.push(next)?;

@@ -30,18 +30,6 @@ impl<S> Model for Leftovers<S> {
 }
 
 impl<S> Leftovers<S> {
-    /// Nothing, with room for so many states. A refused growth is answered by `OutOfMemory`.
-    pub fn with_room(alloc: Global, room: usize) -> Result<Leftovers<S>, OutOfMemory>
-        ensures kept { IfOk result (λ l. l.kept ≡ 0) }
-        ensures room { IfOk result (λ l. room ≤ l.room) }
-    {
-        let known = Vec::with_capacity(alloc, room)?;
-        Ok(Leftovers {
-            known,
-            lists: Vec::new(alloc),
-        })
-    }
-
     /// Nothing, with no room.
     pub(crate) fn none(alloc: Global) -> Leftovers<S> {
         Leftovers {

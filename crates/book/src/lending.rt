@@ -1,9 +1,11 @@
 //! Orders that a state lends to its steps.
 ghost use Rattle.std.specs.Prelude.{◌≡◌, ◌≤◌, ◌↔◌, All, IsTrue, length, IfOk, IfSome, IfNone, MatchOption, Some, None};
 ghost use Rattle.std.specs.Prelude.{slice_get, slice_index};
+ghost use Rattle.sched_program.specs.Program.{Program};
 ghost use Rattle.lin.specs.Linearization.{IsLinearization, IsLinearizable};
 ghost use Rattle.tree_machine.specs.History.{history_of};
 ghost use Rattle.tree_machine.specs.Step.{Fits, step};
+ghost use Rattle.tree_machine.specs.declared.state.State.{State};
 ghost use Rattle.tree_machine.specs.declared.state.Thread.{Thread};
 ghost use Rattle.book.specs.Findings.{IsFindingOf, IsLoan};
 
@@ -113,7 +115,47 @@ fn order_after<M: Machine>(
     judge_anew(alloc, program, next)
 }
 
-/// The finding of a thread's step, for which its source lends an order.
+/// Whether a thread holds a place at which its step leaves the memory as it is. Where it answers no, the step may write.
+fn only_reads<M: Machine>(machine: M, source: &State<M>, thread: u8) -> bool
+    ensures { IsTrue result → (program : Program) (next : State M M.Mem M.Loc M.Form)
+        → step (M.rules machine) program source.now thread ≡ Some next → next.memory ≡ source.now.memory }
+{
+    match source.threads.get(usize::from(thread)) {
+        Some(was) => match &was.place {
+            Some(place) => machine.only_reads(place),
+            None => false,
+        },
+        None => false,
+    }
+}
+
+/// The fault that a thread's step shows without its history, if it shows one. The order of a memory that is known to
+/// keep it is not tested once more where the step only read.
+fn fault_after<M: Machine>(
+    machine: M,
+    source: &State<M>,
+    next: &State<M>,
+    thread: u8,
+    is_ordered: bool,
+) -> Option<Finding>
+    requires range { (M.rules machine).IsInRange next.now.memory }
+    requires step { (program : Program) × (step (M.rules machine) program source.now thread ≡ Some next.now) }
+    requires ordered { IsTrue is_ordered → (M.rules machine).IsOrdered source.now.memory }
+    ensures some { IfSome result (λ fault. (program : Program)
+        → IsFindingOf (M.rules machine) program next.now fault) }
+    ensures none { IfNone result ((next.now.astray ≡ None) × (M.rules machine).IsOrdered next.now.memory) }
+{
+    if !is_ordered || !only_reads(machine, source, thread) {
+        return fault_in(machine, next);
+    }
+    if next.astray().is_some() {
+        return Some(Finding::Astray);
+    }
+    None
+}
+
+/// The finding of a thread's step, for which its source lends an order, and of whose source it may be known that its
+/// memory keeps search order.
 pub(crate) fn find_after<M: Machine>(
     alloc: Global,
     machine: M,
@@ -121,16 +163,18 @@ pub(crate) fn find_after<M: Machine>(
     source: &State<M>,
     next: &State<M>,
     thread: u8,
+    is_ordered: bool,
     loan: &mut Loan,
 ) -> Result<Finding, OutOfMemory>
     requires source { Fits (M.rules machine) program.now source.now }
     requires next { Fits (M.rules machine) program.now next.now }
     requires step { step (M.rules machine) program.now source.now thread ≡ Some next.now }
+    requires ordered { IsTrue is_ordered → (M.rules machine).IsOrdered source.now.memory }
     requires loan { IsLoan program.now (history_of source.now) loan.old }
     ensures finding { IfOk result (IsFindingOf (M.rules machine) program.now next.now) }
     ensures loan { IfOk result (λ _. IsLoan program.now (history_of source.now) loan.new) }
 {
-    if let Some(fault) = fault_in(machine, next) {
+    if let Some(fault) = fault_after(machine, source, next, thread, is_ordered) {
         return Ok(fault);
     }
     seek(alloc, program, source, loan)?;

@@ -1,13 +1,13 @@
 //! What expansions are made in and of, used again from one to the next.
-ghost use Rattle.std.specs.Prelude.{◌≡◌, ◌≤◌, [], IfOk};
+ghost use Rattle.std.specs.Prelude.{◌≡◌, ◌+◌, ◌^◌, ◌<◌, ◌≤◌, ◌↔◌, [], IfOk, IsErrOf, None, Some};
+ghost use Rattle.tree_machine.specs.Step.{Fits, step};
 
 use crate::expansion::Stepped;
 use crate::leftovers::Leftovers;
-use sched_program::OutOfMemory;
+use sched_program::{OutOfMemory, Program};
 use std::alloc::Global;
-use std::mem;
 use std::sync::Arc;
-use tree_machine::{Bytes, Machine, Room, State};
+use tree_machine::{Bytes, Machine, Room, State, StepFault};
 
 /// How many shared states a stock takes in for their memory: as many as the steps of the entries that a worker expands
 /// before it hands these in, so that where layers shrink what is over can serve for labels.
@@ -18,8 +18,7 @@ const MOST: usize = 256;
 #[derive(Drop)]
 pub struct Stock<M: Machine> {
     pub(crate) room: Room,
-    pub(crate) spares: Vec<State<M>>,
-    /// States that were shared, each in the memory that shared it.
+    /// States that were shared, each in the memory that shared it. Steps are made in their place.
     shells: Vec<Arc<State<M>>>,
     labels: Vec<Vec<u8>>,
     /// Lists that steps lay in.
@@ -33,17 +32,11 @@ impl<M: Machine> Stock<M> {
     pub fn new(alloc: Global) -> Stock<M> {
         Stock {
             room: Room::new(alloc),
-            spares: Vec::new(alloc),
             shells: Vec::new(alloc),
             labels: Vec::new(alloc),
             lists: Vec::new(alloc),
             left: None,
         }
-    }
-
-    /// Takes a state in. A refused growth lets it go.
-    pub(crate) fn keep(&mut self, state: State<M>) {
-        let _ = self.spares.push(state);
     }
 
     /// A list for a label, of no use otherwise.
@@ -67,9 +60,8 @@ impl<M: Machine> Stock<M> {
     ) -> Result<Vec<Stepped<State<M>>>, OutOfMemory>
         ensures { IfOk result (λ list. list.items ≡ []) }
     {
-        if let Some(list) = self.lists.pop()
-            && list.is_empty()
-        {
+        if let Some(mut list) = self.lists.pop() {
+            list.clear();
             return Ok(list);
         }
         Ok(Vec::with_capacity(alloc, steps)?)
@@ -92,23 +84,41 @@ impl<M: Machine> Stock<M> {
         left.emptied(room)
     }
 
-    /// A state to be shared. It lies where one lay that nobody shares any more, if there is such a place: that one is
-    /// the next spare.
-    pub(crate) fn share(
+    /// The state after a step of a thread, to be shared. Where there is a state that nobody shares any more, it is made
+    /// in the place of that one, which goes back into the stock where the thread has no step.
+    #[inline(always)]
+    pub(crate) fn step(
         &mut self,
         alloc: Global,
-        state: State<M>,
-    ) -> Result<Arc<State<M>>, OutOfMemory>
-        ensures { IfOk result (λ shared. shared.value ≡ state) }
+        machine: M,
+        program: &Program,
+        source: &State<M>,
+        thread: u8,
+    ) -> Result<Arc<State<M>>, StepFault>
+        requires fits { Fits (M.rules machine) program.now source.now }
+        requires room { source.now.steps + 1 < 2 ^ 64 }
+        ensures step { IfOk result
+            (λ next. step (M.rules machine) program.now source.now thread ≡ Some next.value) }
+        ensures fits { IfOk result (λ next. Fits (M.rules machine) program.now next.value) }
+        ensures no_step { IsErrOf result StepFault.NotEnabled
+            ↔ (step (M.rules machine) program.now source.now thread ≡ None) }
     {
         if let Some(mut shell) = self.shells.pop()
-            && let Some(place) = Arc::get_mut(&mut shell)
+            && let Some(next) = Arc::get_mut(&mut shell)
         {
-            let spare = mem::replace(place, state);
-            self.keep(spare);
-            return Ok(shell);
+            match source.step_into(alloc, machine, program, thread, next) {
+                Ok(()) => return Ok(shell),
+                Err(fault) => {
+                    let _ = self.shells.push(shell);
+                    return Err(fault);
+                }
+            }
         }
-        Ok(Arc::new(alloc, state)?)
+        let next = source.step(alloc, machine, program, thread)?;
+        match Arc::new(alloc, next) {
+            Ok(shared) => Ok(shared),
+            Err(_) => Err(StepFault::OutOfMemory),
+        }
     }
 
     /// Takes a state in, unless somebody else holds it or there are enough. A refused growth lets it go.

@@ -43,12 +43,22 @@ impl Machine for Straying {
         Ok(*mem)
     }
 
-    fn copy_mem_in(&self, mem: &bool, _spare: bool) -> Result<bool, OutOfMemory> {
-        Ok(*mem)
+    fn copy_mem_into(
+        &self,
+        _alloc: Global,
+        mem: &bool,
+        copy: &mut bool,
+    ) -> Result<(), OutOfMemory> {
+        *copy = *mem;
+        Ok(())
     }
 
     fn copy_loc(&self, _alloc: Global, loc: &bool) -> Result<bool, OutOfMemory> {
         Ok(*loc)
+    }
+
+    fn look_at(&self, _mem: &bool) -> u8 {
+        0
     }
 
     fn build(&self, _alloc: Global, _initial: &[u8]) -> Result<bool, OutOfMemory> {
@@ -71,6 +81,10 @@ impl Machine for Straying {
         } else {
             Ok(Outcome::Goes(true))
         }
+    }
+
+    fn only_reads(&self, _loc: &bool) -> bool {
+        true
     }
 
     fn ordered(&self, mem: &bool) -> bool {

@@ -6,7 +6,7 @@ ghost use Rattle.tree_machine.specs.Step.{Fits};
 use crate::fixtures::{
     Broken, TWO_FINDS, boxed, expand_next, is_way, open, program_of, replayed, settled, take_next,
 };
-use book::{Book, Entered, Expansion, Leftovers, Merge, Replay, Totals};
+use book::{Book, Entered, Expansion, Leftovers, Merge, Replay, Stock, Totals};
 use ellen::Ellen;
 use sched_program::{OutOfMemory, Program};
 use std::alloc::Global;
@@ -89,7 +89,7 @@ const THREE_EXPANDED: Totals = Totals {
 
 /// Room for as many known states as four threads' steps lead to.
 fn room_for_four(alloc: Global) -> Result<Box<Leftovers<State<Ellen>>>, OutOfMemory> {
-    boxed(alloc, Leftovers::with_room(alloc, 4)?)
+    boxed(alloc, Stock::new(alloc).leftovers(alloc, 4)?)
 }
 
 /// Enters the steps of a state of this program under the number of an entry. Known states are left.

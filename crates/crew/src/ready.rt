@@ -83,9 +83,10 @@ impl<'a, K: Tie<M, State<M>>, M: Machine> Ready<'a, K, M> {
         Ok(Made::new(self.id, expansion))
     }
 
-    /// How many operations the threads of its state have finished.
-    pub fn finished(&self) -> usize {
-        finished_in(&*self.state)
+    /// Looks at its state. What it answers is of no use.
+    pub fn look_at(&self) -> usize {
+        let seen = self.machine.look_at(&self.state.memory);
+        finished_in(&*self.state).wrapping_add(usize::from(seen))
     }
 
     /// Its state.

@@ -98,17 +98,17 @@ fn places_of(
     Ok(places)
 }
 
-/// Looks at the states of entries. How many operations their threads have finished is of no use: each state was last
-/// touched a layer ago, by whichever worker made it, and looked at one right after the other they come into the processor's
-/// caches all at once, so that no expansion has to wait for its own.
+/// Looks at the states of entries. The sum of what it sees is of no use: each state was last touched a layer ago, by whichever
+/// worker made it, and looked at one right after the other they come into the processor's caches all at once, so that no
+/// expansion has to wait for its own.
 fn look_at<K: Tie<M, State<M>>, M: Machine>(
     drawn: &[(usize, Ready<'_, K, M>)],
 ) -> Result<usize, OutOfMemory> {
-    let mut finished = 0usize;
+    let mut seen = 0usize;
     for (_, ready) in drawn {
-        finished = finished.checked_add(ready.finished()).ok_or(OutOfMemory)?;
+        seen = seen.checked_add(ready.look_at()).ok_or(OutOfMemory)?;
     }
-    Ok(finished)
+    Ok(seen)
 }
 
 /// The entries of a layer, which are taken, and the counter of their places. Contracts see the counter.
@@ -188,7 +188,7 @@ impl<'a, K: Tie<M, State<M>>, M: Machine> Layer<'a, K, M> {
         made: &mut Vec<Made<'d, K, M>>,
         stock: &mut Stock<M>,
     ) -> Result<(), OutOfMemory> {
-        let _finished = look_at(drawn)?;
+        let _seen = look_at(drawn)?;
         made.reserve(drawn.len())?;
         for (place, ready) in drawn {
             let one = ready.expand(self.alloc, self.merge, stock)?;

@@ -44,12 +44,22 @@ impl Machine for Faulty {
         Ok(*mem)
     }
 
-    fn copy_mem_in(&self, mem: &bool, _spare: bool) -> Result<bool, OutOfMemory> {
-        Ok(*mem)
+    fn copy_mem_into(
+        &self,
+        _alloc: Global,
+        mem: &bool,
+        copy: &mut bool,
+    ) -> Result<(), OutOfMemory> {
+        *copy = *mem;
+        Ok(())
     }
 
     fn copy_loc(&self, _alloc: Global, loc: &bool) -> Result<bool, OutOfMemory> {
         Ok(*loc)
+    }
+
+    fn look_at(&self, _mem: &bool) -> u8 {
+        0
     }
 
     fn build(&self, _alloc: Global, _initial: &[u8]) -> Result<bool, OutOfMemory> {
@@ -81,6 +91,10 @@ impl Machine for Faulty {
                 Ok(Outcome::Replies(false))
             }
         }
+    }
+
+    fn only_reads(&self, _loc: &bool) -> bool {
+        false
     }
 
     fn ordered(&self, mem: &bool) -> bool {

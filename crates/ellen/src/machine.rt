@@ -3,8 +3,8 @@
 use crate::form::{form, write_all, write_form};
 use crate::helping::{first_place, help_act};
 use crate::initial::build;
-use crate::memory::EllenMem;
-use crate::place::EllenLoc;
+use crate::memory::{EllenMem, key_in};
+use crate::place::{EllenLoc, HelpLoc, SearchLoc};
 use crate::searching::search_act;
 use sched_program::{Op, OutOfMemory};
 use std::alloc::Global;
@@ -47,8 +47,14 @@ impl Machine for Ellen {
         mem.copy(alloc)
     }
 
-    fn copy_mem_in(&self, mem: &EllenMem, spare: EllenMem) -> Result<EllenMem, OutOfMemory> {
-        mem.copy_in(spare)
+    #[inline(always)]
+    fn copy_mem_into(
+        &self,
+        alloc: Global,
+        mem: &EllenMem,
+        copy: &mut EllenMem,
+    ) -> Result<(), OutOfMemory> {
+        mem.copy_into(alloc, copy)
     }
 
     fn copy_loc(&self, alloc: Global, loc: &EllenLoc) -> Result<EllenLoc, OutOfMemory> {
@@ -74,6 +80,25 @@ impl Machine for Ellen {
             EllenLoc::Search(at) => search_act(alloc, *self, op, *at, mem),
             EllenLoc::Help(at, resume) => help_act(alloc, *self, *at, resume, mem),
         }
+    }
+
+    #[inline(always)]
+    fn only_reads(&self, loc: &EllenLoc) -> bool {
+        match loc {
+            EllenLoc::Search(at) => {
+                matches!(at, SearchLoc::Update { .. } | SearchLoc::Child { .. })
+            }
+            EllenLoc::Help(at, _) => matches!(at, HelpLoc::Right(_) | HelpLoc::Other { .. }),
+        }
+    }
+
+    #[inline(always)]
+    fn look_at(&self, mem: &EllenMem) -> u8 {
+        let mut keys = 0u8;
+        for node in mem.nodes.as_slice() {
+            keys = keys.wrapping_add(key_in(*node));
+        }
+        keys
     }
 
     fn ordered(&self, mem: &EllenMem) -> bool {

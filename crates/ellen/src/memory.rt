@@ -1,5 +1,5 @@
 //! The nodes and the records of the shared memory.
-ghost use Rattle.std.specs.Prelude.{◌≡◌, ◌+◌, ◌<◌, length, IfOk, OnErr, Some};
+ghost use Rattle.std.specs.Prelude.{◌≡◌, ◌+◌, ◌<◌, length, IfOk, OnOk, OnErr, Some};
 ghost use Rattle.ellen.specs.declared.memory.Record.TheVariants.{Ins};
 ghost use Rattle.tree_machine.specs.SearchOrder.{side_of};
 ghost use Rattle.ellen.specs.Memory.{node_at, record_at, key_at, update_of, child_on};
@@ -8,7 +8,7 @@ ghost use Rattle.ellen.specs.Memory.{with_internal, new_internal, internal_over,
 
 use sched_program::{OutOfMemory, Sequence};
 use std::alloc::Global;
-use tree_machine::{Shape, Shapes, Side, copied_in, extended, short_number_of, side_of};
+use tree_machine::{Shape, Shapes, Side, copy_into, extended, short_number_of, side_of};
 
 /// An update word: its state, with the number of the record that was written there last.
 #[derive(Clone, Copy, PartialEq, Eq, Hash)]
@@ -331,15 +331,13 @@ impl EllenMem {
         Ok(EllenMem { nodes, records })
     }
 
-    /// An equal memory, made of another one.
-    pub(crate) fn copy_in(&self, spare: EllenMem) -> Result<EllenMem, OutOfMemory>
-        ensures { IfOk result (λ copy. copy ≡ self.now) }
+    /// Makes another memory equal to this one, in the room that it has as far as that is enough.
+    #[inline(always)]
+    pub(crate) fn copy_into(&self, alloc: Global, copy: &mut EllenMem) -> Result<(), OutOfMemory>
+        ensures { OnOk result (copy.new ≡ self.now) }
     {
-        let EllenMem { nodes, records } = spare;
-        Ok(EllenMem {
-            nodes: copied_in(self.nodes.as_slice(), nodes)?,
-            records: copied_in(self.records.as_slice(), records)?,
-        })
+        copy_into(alloc, self.nodes.as_slice(), &mut copy.nodes)?;
+        copy_into(alloc, self.records.as_slice(), &mut copy.records)
     }
 }
 

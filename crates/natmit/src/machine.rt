@@ -9,7 +9,7 @@ ghost use Rattle.natmit.specs.Parts.{natmit_code, natmit_form};
 
 use crate::form::Snapshot;
 use crate::initial::build;
-use crate::memory::NatMitMem;
+use crate::memory::{NatMitMem, key_in};
 use crate::place::{Mode, NatMitLoc};
 use sched_program::{Op, OutOfMemory};
 use std::alloc::Global;
@@ -43,8 +43,14 @@ impl Machine for NatMit {
         mem.copy(alloc)
     }
 
-    fn copy_mem_in(&self, mem: &NatMitMem, spare: NatMitMem) -> Result<NatMitMem, OutOfMemory> {
-        mem.copy_in(spare)
+    #[inline(always)]
+    fn copy_mem_into(
+        &self,
+        alloc: Global,
+        mem: &NatMitMem,
+        copy: &mut NatMitMem,
+    ) -> Result<(), OutOfMemory> {
+        mem.copy_into(alloc, copy)
     }
 
     fn copy_loc(&self, _alloc: Global, loc: &NatMitLoc) -> Result<NatMitLoc, OutOfMemory> {
@@ -67,6 +73,27 @@ impl Machine for NatMit {
         mem: &mut NatMitMem,
     ) -> Result<Outcome<NatMitLoc>, OutOfMemory> {
         self.access(alloc, op, *loc, mem)
+    }
+
+    #[inline(always)]
+    fn only_reads(&self, loc: &NatMitLoc) -> bool {
+        matches!(
+            loc,
+            NatMitLoc::Begin { .. }
+                | NatMitLoc::Down { .. }
+                | NatMitLoc::Look { .. }
+                | NatMitLoc::CleanRead { .. }
+                | NatMitLoc::Sibling { .. }
+        )
+    }
+
+    #[inline(always)]
+    fn look_at(&self, mem: &NatMitMem) -> u8 {
+        let mut keys = 0u8;
+        for node in mem.nodes.as_slice() {
+            keys = keys.wrapping_add(key_in(*node));
+        }
+        keys
     }
 
     fn ordered(&self, mem: &NatMitMem) -> bool {

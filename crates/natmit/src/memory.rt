@@ -1,11 +1,11 @@
 //! The nodes of the shared memory.
-ghost use Rattle.std.specs.Prelude.{◌≡◌, ◌+◌, ◌<◌, length, IfOk, OnErr};
+ghost use Rattle.std.specs.Prelude.{◌≡◌, ◌+◌, ◌<◌, length, IfOk, OnOk, OnErr};
 ghost use Rattle.natmit.specs.Memory.{plain, is_plain, key_in, shape_in, shapes, word_on, with_word, node_at};
 ghost use Rattle.natmit.specs.Memory.{key_at, set_word, internal_over, with_internal, new_internal, put_at};
 
 use sched_program::{OutOfMemory, Sequence};
 use std::alloc::Global;
-use tree_machine::{Shape, Shapes, Side, copied_in, extended, short_number_of, side_of};
+use tree_machine::{Shape, Shapes, Side, copy_into, extended, short_number_of, side_of};
 
 /// A child word.
 #[derive(Clone, Copy, PartialEq, Eq, Hash)]
@@ -194,14 +194,12 @@ impl NatMitMem {
         Ok(NatMitMem { nodes })
     }
 
-    /// An equal memory, made of another one.
-    pub(crate) fn copy_in(&self, spare: NatMitMem) -> Result<NatMitMem, OutOfMemory>
-        ensures { IfOk result (λ copy. copy ≡ self.now) }
+    /// Makes another memory equal to this one, in the room that it has as far as that is enough.
+    #[inline(always)]
+    pub(crate) fn copy_into(&self, alloc: Global, copy: &mut NatMitMem) -> Result<(), OutOfMemory>
+        ensures { OnOk result (copy.new ≡ self.now) }
     {
-        let NatMitMem { nodes } = spare;
-        Ok(NatMitMem {
-            nodes: copied_in(self.nodes.as_slice(), nodes)?,
-        })
+        copy_into(alloc, self.nodes.as_slice(), &mut copy.nodes)
     }
 }
 

@@ -13,6 +13,8 @@ mod lone;
 #[cfg(test)]
 mod memories;
 #[cfg(test)]
+mod reading;
+#[cfg(test)]
 mod variant;
 #[cfg(test)]
 mod words;

@@ -1,14 +1,14 @@
 -- Few cells met, by the numbers that refer to them.
 use Rattle.std.proofs.Common.{◌≡◌, ℕ, zero, suc, ◌+◌, ◌-◌, ◌<◌, List, [], ◌∷◌, ◌++◌, map, length, refl, sym, ◌∙◌}
 use Rattle.std.proofs.Common.{ap, subst, arith, get_or, set, take, append_assoc}
-use Rattle.std.specs.Prelude.{slice_get, replicate, Option, Some, None}
+use Rattle.std.specs.Prelude.{slice_get, replicate, Some, None}
 use Rattle.std.specs.List.{flat_map}
 use Rattle.std.specs.Option.{option_map}
 use Rattle.std.proofs.lemmas.List.{length-map}
 use Rattle.tree_machine.specs.Cells.{met, place_in, HasPlaces}
 use Rattle.tree_machine.specs.FewMet.{referred_to, HasNumbers}
 use Rattle.tree_machine.specs.Flat.{number_code, facts_code, short_head, headed}
-use Rattle.tree_machine.proofs.Numbers.{met_new, met_present, place_new, place_seen, places_push}
+use Rattle.tree_machine.proofs.Numbers.{met_present, place_new, place_seen, places_push}
 use Rattle.tree_machine.proofs.Passes.{place_below}
 
 none_at : (n x : ℕ) → x < length (map referred_to (replicate n 0))
@@ -18,7 +18,7 @@ none_at (suc n) zero l = refl
 none_at (suc n) (suc x) l = none_at n x (omega arith)
 
 -- none is met
-pub none_met : (n : ℕ) → HasNumbers [] (replicate n 0)
+none_met : (n : ℕ) → HasNumbers [] (replicate n 0)
 none_met n x l = none_at n x l
 
 get_map : (numbers : List ℕ) (x r : ℕ) → get_or (map referred_to numbers) x (referred_to r)

@@ -1,5 +1,5 @@
 -- The counts of a note, put one after the other.
-use Rattle.std.proofs.Common.{◌≡◌, ℕ, zero, suc, ◌+◌, ◌≤◌, List, [], ◌∷◌, ◌++◌, length, take, refl, sym, ◌∙◌, ap, arith}
+use Rattle.std.proofs.Common.{◌≡◌, ℕ, zero, suc, ◌+◌, ◌≤◌, List, [], ◌∷◌, ◌++◌, length, take, sym, ◌∙◌, ap, arith}
 use Rattle.std.proofs.Common.{append_assoc}
 use Rattle.std.specs.Prelude.{slice_get, Option, Some, None}
 use Rattle.tree_machine.proofs.Lists.{take_whole}
@@ -33,7 +33,7 @@ one_more before bytes more note k x s e m =
     ∙ ap (λ l. before ++ length note ∷ l) (next_of note k x e ∙ ap (λ n. take n note) next)))
 
 -- all are put
-pub no_more : (before bytes note : List ℕ) (k : ℕ) → Stands before bytes note k → length note ≤ k
+no_more : (before bytes note : List ℕ) (k : ℕ) → Stands before bytes note k → length note ≤ k
     → bytes ≡ before ++ length note ∷ note
 no_more before bytes note k s l = s ∙ ap (λ rest. before ++ length note ∷ rest) (take_whole note k l)
 

@@ -1,12 +1,8 @@
 -- What was put behind other values piece by piece.
-use Rattle.std.proofs.Common.{◌≡◌, ℕ, List, [], ◌++◌, length, Option, ap, ◌∙◌, append_assoc}
+use Rattle.std.proofs.Common.{◌≡◌, ℕ, List, [], ◌++◌, Option, ap, ◌∙◌, append_assoc}
 use Rattle.tree_machine.specs.Alike.{places_of, replies_of, notes_of}
-use Rattle.std.proofs.Common.{sym}
-use Rattle.std.proofs.lemmas.Grind.{flat_map-append}
-use Rattle.tree_machine.specs.Cells.{Content}
-use Rattle.tree_machine.specs.Flat.{number_code, cell_code, flat, parts_code}
+use Rattle.tree_machine.specs.Flat.{number_code}
 use Rattle.tree_machine.specs.FormCode.{deeds_code, state_code}
-use Rattle.tree_machine.specs.Parts.{Parts, parts_graph, parts_held}
 use Rattle.tree_machine.specs.declared.state.Thread.{Thread}
 use Rattle.tree_machine.specs.declared.state.State.{State}
 
@@ -38,20 +34,3 @@ state_coded code state threads none steps deeds whole lent copy same n s d w l c
     (code state.memory (places_of threads)) [] none steps deeds whole n s d w
     ∙ ap (λ ts. number_code state.steps
     ++ (deeds_code (replies_of ts) (notes_of ts) state.astray ++ code state.memory (places_of ts))) same))
-
-pub parts_coded : (s : Parts) (nodes records : ℕ) (old inside first second all : List ℕ) → nodes ≡ length s.nodes
-    → records ≡ length s.records → inside ≡ old → first ≡ inside ++ number_code nodes
-    → second ≡ first ++ number_code records → all ≡ second ++ flat (parts_graph s ++ parts_held s)
-    → all ≡ old ++ parts_code s
-parts_coded s nodes records old inside first second all n r i f e a =
-    put_three (number_code nodes) (number_code records) (flat (parts_graph s ++ parts_held s)) old inside first second
-    all i f e a
-    ∙ (ap (λ x. old ++ (number_code x ++ (number_code records ++ flat (parts_graph s ++ parts_held s)))) n
-    ∙ ap (λ x. old ++ (number_code (length s.nodes) ++ (number_code x ++ flat (parts_graph s ++ parts_held s)))) r)
-
--- the nodes and the records, and behind them what the threads hold
-pub graph_and_held : (graph held : List Content) (before between after : List ℕ) → between ≡ before ++ flat graph
-    → after ≡ between ++ flat held → after ≡ before ++ flat (graph ++ held)
-graph_and_held graph held before between after b a =
-    a ∙ (ap (λ l. l ++ flat held) b ∙ (append_assoc before (flat graph) (flat held)
-    ∙ ap (λ l. before ++ l) (sym (flat_map-append cell_code graph held))))

@@ -1,5 +1,5 @@
 -- What each clause of a step asks, where the thread has no step and where it has one; and what an access makes.
-use Rattle.std.proofs.Common.{◌≡◌, ℕ, ◌+◌, Bool, List, [], ◌∷◌, ◌++◌, Option, Some, None, true, false, is_some, sym}
+use Rattle.std.proofs.Common.{◌≡◌, ℕ, ◌+◌, List, Option, Some, None, true, false, is_some, sym}
 use Rattle.std.proofs.Common.{ap, ◌∙◌, refl, slice_set, slice_get, length, if◌then◌else◌}
 use Rattle.std.specs.Option.{option_map, option_map_or, option_and_then}
 use Rattle.std.specs.Prelude.{IsErrOf, ◌↔◌, Ok, nat_le}
@@ -7,7 +7,7 @@ use Rattle.sched_program.specs.Program.{Program, op_at, after_at}
 use Rattle.sched_program.specs.declared.operation.Op.{Op}
 use Rattle.tree_machine.specs.Rules.{Rules}
 use Rattle.tree_machine.specs.Step.{ready, step, stepped, after_access, IsEnabled, is_met, is_due, next_op}
-use Rattle.tree_machine.specs.Step.{finished_counts}
+use Rattle.tree_machine.specs.Step.{finished_counts, place_or, notes_at_step, after_outcome, astray_by}
 use Rattle.tree_machine.specs.declared.machine.Outcome.{Outcome}
 use Rattle.tree_machine.specs.declared.machine.Outcome.TheVariants.{Goes, Replies, Astray}
 use Rattle.tree_machine.specs.declared.state.Thread.{Thread}
@@ -42,65 +42,62 @@ module _ {Machine Memory Place Form : Type 0} (rules : Rules Memory Place) (prog
     one_not_none next fault =
         ((λ h. absurd cc), (λ none. let e = one_stepped (stepped rules state t op thread) refl in absurd cc))
 
--- the state that an access makes, by what comes of it
-module _ {Machine Memory Place Form : Type 0} (state : State Machine Memory Place Form) (t : ℕ) (replies : List Bool)
-    (notes : List (List ℕ)) (place : Place) (memory : Memory) (acted : Memory × Outcome Place) (outcome : Outcome Place)
-    (after : Thread Place) (astray : Option ℕ) (is : acted ≡ (memory, outcome)) where
-  abbrev pub Made : Type 0
-  Made =
-      ◌≡◌ {A = State Machine Memory Place Form}
+module _ {Machine Memory Place Form : Type 0} (state : State Machine Memory Place Form) (t : ℕ) where
+  -- the state that an access makes, by what comes of it
+  accessed : (at : Thread Place) (memory : Memory) (outcome : Outcome Place)
+      → (outcome ≡ Astray → memory ≡ state.memory)
+      → ◌≡◌ {A = State Machine Memory Place Form}
       (record {
         memory = memory;
-        threads = slice_set state.threads t after;
+        threads = slice_set state.threads t (after_outcome at outcome);
         steps = state.steps + 1;
-        astray = astray;
-      }) (after_access state t (record { replies = replies; place = Some place; notes = notes }) acted)
+        astray = astray_by t outcome;
+      }) (after_access state t at (memory, outcome))
+  accessed at memory (Goes goal) h = refl
+  accessed at memory (Replies reply) h = refl
+  accessed at memory Astray h =
+      λ i. record {
+        memory = h refl i;
+        threads = slice_set state.threads t at;
+        steps = state.steps + 1;
+        astray = Some t;
+      }
 
-  made_by : (known : Outcome Place) → outcome ≡ known → ◌≡◌ {A = State Machine Memory Place Form}
+  -- what an access leaves, with the thread moved on by its outcome, is the state one step on
+  pub step_made : (rules : Rules Memory Place) (op : Op) (thread after : Thread Place) (place : Place) (memory : Memory)
+      (outcome : Outcome Place) (threads : List (Thread Place)) (astray : Option ℕ)
+      → place ≡ place_or thread.place (rules.first op) → rules.act op place state.memory ≡ (memory, outcome)
+      → ((rules.act op place state.memory).1 ≡ Astray → (rules.act op place state.memory).0 ≡ state.memory)
+      → after ≡ after_outcome (record {
+        replies = thread.replies;
+        place = Some place;
+        notes = notes_at_step thread.place thread.notes (finished_counts state.threads);
+      }) outcome
+      → threads ≡ slice_set state.threads t after → astray ≡ astray_by t outcome
+      → ◌≡◌ {A = State Machine Memory Place Form}
+      (record { memory = memory; threads = threads; steps = state.steps + 1; astray = astray })
+      (stepped rules state t op thread)
+  step_made rules op thread after place memory outcome threads astray is acted unchanged a ts s =
+      let notes = notes_at_step thread.place thread.notes (finished_counts state.threads) in
+      let at : Place → Thread Place = λ p. record { replies = thread.replies; place = Some p; notes = notes } in
+      let told : ◌≡◌ {A = State Machine Memory Place Form}
+      (record { memory = memory; threads = threads; steps = state.steps + 1; astray = astray })
       (record {
         memory = memory;
-        threads = slice_set state.threads t after;
+        threads = slice_set state.threads t (after_outcome (at place) outcome);
         steps = state.steps + 1;
-        astray = astray;
-      })
-      (after_access state t (record { replies = replies; place = Some place; notes = notes }) (memory, known)) → Made
-  made_by known o made =
-      made ∙ ap (after_access state t (record { replies = replies; place = Some place; notes = notes }))
-      (sym (is ∙ ap (λ x. (memory, x)) o))
-
-  pub goes_made : (goal : Place) → outcome ≡ Goes goal
-      → after ≡ record { replies = replies; place = Some goal; notes = notes } → astray ≡ None → Made
-  goes_made goal o a s =
-      made_by (Goes goal) o
-      (λ i. record {
+        astray = astray_by t outcome;
+      }) =
+      λ i. record {
         memory = memory;
-        threads = slice_set state.threads t (a i);
+        threads = (ts ∙ ap (slice_set state.threads t) a) i;
         steps = state.steps + 1;
         astray = s i;
-      })
-
-  pub replies_made : (reply : Bool) → outcome ≡ Replies reply
-      → after ≡ record { replies = replies ++ reply ∷ []; place = None; notes = notes } → astray ≡ None → Made
-  replies_made reply o a s =
-      made_by (Replies reply) o
-      (λ i. record {
-        memory = memory;
-        threads = slice_set state.threads t (a i);
-        steps = state.steps + 1;
-        astray = s i;
-      })
-
-  pub astray_made : outcome ≡ Astray → (acted.1 ≡ Astray → acted.0 ≡ state.memory)
-      → after ≡ record { replies = replies; place = Some place; notes = notes } → astray ≡ Some t → Made
-  astray_made o unchanged a s =
-      let same = sym (ap (λ x. x.0) is) ∙ unchanged (ap (λ x. x.1) is ∙ o) in
-      made_by Astray o
-      (λ i. record {
-        memory = same i;
-        threads = slice_set state.threads t (a i);
-        steps = state.steps + 1;
-        astray = s i;
-      })
+      } in
+      told
+      ∙ (accessed (at place) memory outcome (λ o. sym (ap (λ x. x.0) acted) ∙ unchanged (ap (λ x. x.1) acted ∙ o))
+      ∙ (ap (after_access state t (at place)) (sym acted)
+      ∙ ap (λ p. after_access state t (at p) (rules.act op p state.memory)) is))
 
 -- an operation that waits for another is due where enough of that one's thread are finished
 pub due_by : {Place : Type 0} (program : Program) (threads : List (Thread Place)) (t : ℕ) (thread found : Thread Place)

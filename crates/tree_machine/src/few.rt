@@ -4,12 +4,17 @@ ghost use Rattle.std.specs.Prelude.{slice_get, vec_capacity, IfOk, OnOk, IfSome,
 ghost use Rattle.std.specs.List.{All, flat_map};
 ghost use Rattle.std.specs.Option.{option_map, option_and_then};
 ghost use Rattle.tree_machine.specs.Cells.{met, met_all, place_in, renamed};
+ghost use Rattle.tree_machine.specs.declared.few.TheConstants.{FEW_BELOW};
 ghost use Rattle.tree_machine.specs.FewMet.{HasNumbers};
 ghost use Rattle.tree_machine.specs.Flat.{number_code, reference_number, short_head, cell_code};
 
 use crate::fixed::{put_byte, put_small};
 use sched_program::OutOfMemory;
 use std::alloc::Global;
+
+/// Cells are few where they are fewer than this: the number that refers to one, one more than its place, is then below
+/// 255.
+pub(crate) const FEW_BELOW: usize = 254;
 
 /// The cells met so far, in the order met, and for each cell the number that refers to it: one more than its place in
 /// that order, or 0 where it is not met. There is room for the whole order from the beginning.
@@ -18,19 +23,19 @@ pub(crate) struct FewMet {
     order: Vec<u8>,
     numbers: Vec<u8>,
     ghost has_numbers: { HasNumbers order.items numbers.items },
-    ghost few: { length numbers.items < 254 },
+    ghost few: { length numbers.items < FEW_BELOW },
     ghost short: { length order.items < 255 },
-    ghost room: { 254 ≤ vec_capacity order },
+    ghost room: { FEW_BELOW ≤ vec_capacity order },
 }
 
 impl FewMet {
     /// No cell of so many is met yet.
     pub(crate) fn new(alloc: Global, cells: usize) -> Result<Self, OutOfMemory>
-        requires { cells < 254 }
+        requires { cells < FEW_BELOW }
         ensures nothing { IfOk result (λ few. few.order.items ≡ []) }
         ensures range { IfOk result (λ few. length few.numbers.items ≡ cells) }
     {
-        let order = Vec::with_capacity(alloc, 254)?;
+        let order = Vec::with_capacity(alloc, FEW_BELOW)?;
         let mut numbers = Vec::new(alloc);
         numbers.resize(cells, 0)?;
         Ok(FewMet { order, numbers })
@@ -38,7 +43,7 @@ impl FewMet {
 
     /// No cell of so many is met yet, in the same memory as far as that is enough.
     pub(crate) fn restarted(self, cells: usize) -> Result<Self, OutOfMemory>
-        requires { cells < 254 }
+        requires { cells < FEW_BELOW }
         ensures nothing { IfOk result (λ few. few.order.items ≡ []) }
         ensures range { IfOk result (λ few. length few.numbers.items ≡ cells) }
     {
@@ -82,7 +87,7 @@ impl FewMet {
         ensures range { length self.new.numbers.items ≡ length self.old.numbers.items }
     {
         let place = self.order.len();
-        if place < 254 {
+        if place < FEW_BELOW {
             self.order.push_reserved(cell as u8);
             let number = place as u8 + 1;
             self.numbers[cell] = number;

@@ -1,8 +1,9 @@
 //! Lists in other lists' memory, and with more values.
-ghost use Rattle.std.specs.Prelude.{◌≡◌, ◌++◌, [], IfOk};
+ghost use Rattle.std.specs.Prelude.{◌≡◌, ◌++◌, [], IfOk, OnOk};
 
 use sched_program::{OutOfMemory, Sequence};
 use std::alloc::Global;
+use std::mem::replace;
 
 /// A new list: the values of another, and more of them behind.
 pub fn extended<T: Copy>(
@@ -27,14 +28,18 @@ pub(crate) fn emptied<T: Drop>(list: Sequence<T>) -> Sequence<T>
     Sequence::from_vec(items)
 }
 
-/// A list of these values, in the memory of another one as far as that is enough.
-pub fn copied_in<T: Copy + Drop>(
+/// Makes a list one of these values, in the memory that it has as far as that is enough. After a refusal it is of no
+/// use.
+#[inline(always)]
+pub fn copy_into<T: Copy + Drop>(
+    alloc: Global,
     values: &[T],
-    list: Sequence<T>,
-) -> Result<Sequence<T>, OutOfMemory>
-    ensures { IfOk result (λ copy. copy ≡ values.now) }
+    list: &mut Sequence<T>,
+) -> Result<(), OutOfMemory>
+    ensures { OnOk result (list.new ≡ values.now) }
 {
-    let mut items = emptied(list).into_vec();
+    let mut items = emptied(replace(list, Sequence::new(alloc))).into_vec();
     items.extend_from_slice(values)?;
-    Ok(Sequence::from_vec(items))
+    *list = Sequence::from_vec(items);
+    Ok(())
 }

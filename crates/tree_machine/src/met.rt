@@ -4,7 +4,7 @@ ghost use Rattle.tree_machine.specs.Cells.{met, place_in};
 ghost use Rattle.tree_machine.specs.CellsMet.{order_met, cells_to_meet};
 
 use crate::cells::Numbering;
-use crate::few::FewMet;
+use crate::few::{FEW_BELOW, FewMet};
 use sched_program::OutOfMemory;
 use std::alloc::Global;
 
@@ -25,7 +25,7 @@ impl Met {
         ensures order { IfOk result (λ m. order_met m ≡ []) }
         ensures cells { IfOk result (λ m. cells_to_meet m ≡ cells) }
     {
-        if cells < 254 {
+        if cells < FEW_BELOW {
             return Ok(Met::Few(match self {
                 Met::Few(few) => few.restarted(cells)?,
                 _ => FewMet::new(alloc, cells)?,

@@ -1,147 +1,107 @@
 //! Steps of states.
-ghost use Rattle.std.specs.Prelude.{◌≡◌, ◌+◌, ◌^◌, ◌<◌, ◌≤◌, ◌↔◌, [], length};
-ghost use Rattle.std.specs.Prelude.{IsSomeAnd, Some, None, slice_set, IfOk, IsErrOf};
+ghost use Rattle.std.specs.Prelude.{◌≡◌, ◌+◌, ◌^◌, ◌<◌, ◌≤◌, ◌↔◌, length};
+ghost use Rattle.std.specs.Prelude.{IsSomeAnd, Some, None, IfOk, OnOk, IsErrOf};
+ghost use Rattle.sched_program.specs.Program.{Program, IsWithinLimits};
 ghost use Rattle.tree_machine.specs.Alike.{AreStatesAlike};
 ghost use Rattle.tree_machine.specs.declared.state.State.{State};
-ghost use Rattle.tree_machine.specs.Step.{IsEnabled, step, notes_at_step, after_access, finished_counts, Fits};
+ghost use Rattle.tree_machine.specs.Step.{IsEnabled, ready, step, stepped, notes_at_step, after_outcome, astray_by};
+ghost use Rattle.tree_machine.specs.Step.{finished_counts, Fits};
 
 use crate::list::emptied;
 use crate::machine::{Machine, Outcome};
-use crate::state::{State, StepFault, Thread, copy_reserved, place_or};
+use crate::state::{State, StepFault, Thread, copy_reserved, finished_counts, place_or};
 use sched_program::{Op, OutOfMemory, Program, Sequence};
 use std::alloc::Global;
+use std::mem::replace;
 
-/// What a step is made in: a copy of the memory, and room for the threads.
-#[derive(Drop)]
-struct Base<M: Machine> {
-    memory: M::Mem,
-    threads: Sequence<Thread<M::Loc>>,
-}
-
-/// The threads with another one in the place of thread `t`, which is not copied, put into the empty list `others`. The
-/// room for all of them is asked for at once, so that none of them has to be moved later.
-fn with_thread<M: Machine>(
+/// Copies of threads, in the memory of a list of others. The room for all of them is asked for at once, so that none of
+/// them has to be moved later.
+#[inline(always)]
+fn copied_threads<M: Machine>(
     alloc: Global,
     machine: M,
     threads: &[Thread<M::Loc>],
-    t: usize,
-    thread: Thread<M::Loc>,
     others: Sequence<Thread<M::Loc>>,
-) -> Result<Sequence<Thread<M::Loc>>, OutOfMemory>
-    requires thread_exists { t < length threads.now }
-    requires empty { others ≡ [] }
-    ensures { IfOk result (λ all. all ≡ slice_set threads.now t thread) }
+) -> Result<Vec<Thread<M::Loc>>, OutOfMemory>
+    ensures { IfOk result (λ copies. copies.items ≡ threads.now) }
 {
-    let mut items = others.into_vec();
-    items.reserve(threads.len())?;
-    copy_reserved(alloc, machine, &threads[..t], &mut items)?;
-    items.push_reserved(thread);
-    copy_reserved(alloc, machine, &threads[t + 1..], &mut items)?;
-    Ok(Sequence::from_vec(items))
+    let mut copies = emptied(others).into_vec();
+    copies.reserve(threads.len())?;
+    copy_reserved(alloc, machine, threads, &mut copies)?;
+    Ok(copies)
+}
+
+/// Moves a thread on, where it stands, by what came of its access at a place: with a note more, if its operation began
+/// with that access. Tells who went astray, if that came of it; only then the place is copied.
+#[inline(always)]
+fn advance<M: Machine>(
+    alloc: Global,
+    machine: M,
+    threads: &[Thread<M::Loc>],
+    t: u8,
+    place: &M::Loc,
+    outcome: Outcome<M::Loc>,
+    thread: &mut Thread<M::Loc>,
+) -> Result<Option<u8>, OutOfMemory>
+    requires thread_count { length threads.now ≤ 4 }
+    requires reply_room { length thread.old.replies < 6 }
+    requires note_room { thread.old.place ≡ None → length thread.old.notes < 6 }
+    ensures thread { OnOk result (thread.new ≡ after_outcome (record {
+      replies = thread.old.replies;
+      place = Some place.now;
+      notes = notes_at_step thread.old.place thread.old.notes (finished_counts threads.now);
+    }) outcome) }
+    ensures astray { IfOk result (λ astray. astray ≡ astray_by t outcome) }
+{
+    if thread.place.is_none() {
+        thread.notes.push(finished_counts(threads));
+    }
+    match outcome {
+        Outcome::Goes(goal) => {
+            thread.place = Some(goal);
+            Ok(None)
+        }
+        Outcome::Replies(reply) => {
+            thread.place = None;
+            thread.replies.push(reply);
+            Ok(None)
+        }
+        Outcome::Astray => {
+            thread.place = Some(machine.copy_loc(alloc, place)?);
+            Ok(Some(t))
+        }
+    }
 }
 
 impl<M: Machine> State<M> {
-    /// What a step is made in, of the memory of one of the spare states where there is one.
-    fn base(
-        &self,
-        alloc: Global,
-        machine: M,
-        spares: &mut Vec<State<M>>,
-    ) -> Result<Base<M>, OutOfMemory>
-        ensures memory { IfOk result (λ base. base.memory ≡ self.now.memory) }
-        ensures threads { IfOk result (λ base. base.threads ≡ []) }
-    {
-        match spares.pop() {
-            Some(
-                State {
-                    memory,
-                    threads,
-                    ..
-                },
-            ) => Ok(Base {
-                memory: machine.copy_mem_in(&self.memory, memory)?,
-                threads: emptied(threads),
-            }),
-            None => Ok(Base {
-                memory: machine.copy_mem(alloc, &self.memory)?,
-                threads: Sequence::with_capacity(alloc, self.threads.len())?,
-            }),
-        }
-    }
-
-    /// The state with this memory one step on, where thread `t` is this one, and astray is who is told.
-    fn one_step_on(
-        &self,
-        alloc: Global,
-        machine: M,
-        t: u8,
-        base: Base<M>,
-        thread: Thread<M::Loc>,
-        astray: Option<u8>,
-    ) -> Result<State<M>, OutOfMemory>
-        requires thread_exists { t < length self.now.threads }
-        requires room { self.now.steps + 1 < 2 ^ 64 }
-        requires empty { base.threads ≡ [] }
-        ensures { IfOk result (λ next. next ≡ record {
-          memory = base.memory;
-          threads = slice_set self.now.threads t thread;
-          steps = self.now.steps + 1;
-          astray = astray;
-        }) }
-    {
-        let Base { memory, threads } = base;
-        let own = self.threads.as_slice();
-        Ok(State {
-            memory,
-            threads: with_thread(alloc, machine, own, usize::from(t), thread, threads)?,
-            steps: self.steps + 1,
-            astray,
-        })
-    }
-
-    /// The state after an access by thread `t` at a place that is lent: its own, or the first of its operation. A place
-    /// is copied only where the access goes astray.
+    /// Makes the step of a thread that is ready for an operation, in a state that has this one's memory.
+    #[inline(always)]
     fn access(
         &self,
         alloc: Global,
         machine: M,
-        op: Op,
         t: u8,
         thread: &Thread<M::Loc>,
-        place: &M::Loc,
-        mut base: Base<M>,
-    ) -> Result<State<M>, OutOfMemory>
-        requires thread_exists { t < length self.now.threads }
-        requires thread_count { length self.now.threads ≤ 4 }
-        requires memory_in_range { (M.rules machine).IsInRange self.now.memory }
-        requires place_in_range { (M.rules machine).IsPlaceInRange self.now.memory place.now }
-        requires reply_room { length thread.now.replies < 6 }
-        requires note_room { thread.now.place ≡ None → length thread.now.notes < 6 }
+        op: Op,
+        next: &mut State<M>,
+    ) -> Result<(), OutOfMemory>
+        requires ready { (program : Program) × (IsWithinLimits program × (Fits (M.rules machine) program self.now
+            × (ready program self.now t ≡ Some (thread.now, op)))) }
         requires room { self.now.steps + 1 < 2 ^ 64 }
-        requires well { self.now.astray ≡ None }
-        requires memory { base.memory ≡ self.now.memory }
-        requires threads { base.threads ≡ [] }
-        ensures { IfOk result (λ next. next ≡ after_access self.now t (record {
-          replies = thread.now.replies;
-          place = Some place.now;
-          notes = notes_at_step thread.now.place thread.now.notes (finished_counts self.now.threads);
-        }) ((M.rules machine).act op place.now self.now.memory)) }
+        requires memory { next.old.memory ≡ self.now.memory }
+        ensures { OnOk result (next.new ≡ stepped (M.rules machine) self.now t op thread.now) }
     {
-        let mut after = Thread {
-            replies: thread.replies,
-            place: None,
-            notes: self.notes_at_step(thread),
-        };
-        let mut astray = None;
-        match machine.act(alloc, op, place, &mut base.memory)? {
-            Outcome::Goes(goal) => after.place = Some(goal),
-            Outcome::Replies(reply) => after.replies.push(reply),
-            Outcome::Astray => {
-                astray = Some(t);
-                after.place = Some(machine.copy_loc(alloc, place)?);
-            }
-        }
-        self.one_step_on(alloc, machine, t, base, after, astray)
+        let first = machine.begin(op);
+        let place = place_or(&thread.place, &first);
+        let outcome = machine.act(alloc, op, place, &mut next.memory)?;
+        let own = self.threads.as_slice();
+        let others = replace(&mut next.threads, Sequence::new(alloc));
+        let mut threads = copied_threads(alloc, machine, own, others)?;
+        let moved = &mut threads.as_mut_slice()[usize::from(t)];
+        next.astray = advance(alloc, machine, own, t, place, outcome, moved)?;
+        next.threads = Sequence::from_vec(threads);
+        next.steps = self.steps + 1;
+        Ok(())
     }
 
     /// The state after a step of a thread, which begins its next operation if it is in none. This state is unchanged.
@@ -163,35 +123,48 @@ impl<M: Machine> State<M> {
             → AreStatesAlike (M.rules machine) self.now twin
             → IsSomeAnd (step (M.rules machine) program.now twin t) (AreStatesAlike (M.rules machine) next)) }
     {
-        self.step_in(alloc, machine, program, t, &mut Vec::new(alloc))
+        match self.ready(program, t) {
+            None => Err(StepFault::NotEnabled),
+            Some((thread, op)) => {
+                let mut next = State {
+                    memory: machine.copy_mem(alloc, &self.memory)?,
+                    threads: Sequence::new(alloc),
+                    steps: self.steps,
+                    astray: None,
+                };
+                self.access(alloc, machine, t, thread, op, &mut next)?;
+                Ok(next)
+            }
+        }
     }
 
-    /// The same, made in the memory of one of the spare states, where there is one: it is used up, and of memory the
-    /// step asks for no more than what that one lacks.
-    pub fn step_in(
+    /// The same, made in the place of another state, in the room that this one has: of memory the step asks for no more
+    /// than what that lacks. Where the thread has no step the other state is unchanged; after a refusal of memory it is
+    /// of no use.
+    pub fn step_into(
         &self,
         alloc: Global,
         machine: M,
         program: &Program,
         t: u8,
-        spares: &mut Vec<State<M>>,
-    ) -> Result<State<M>, StepFault>
+        next: &mut State<M>,
+    ) -> Result<(), StepFault>
         requires fits { Fits (M.rules machine) program.now self.now }
         requires room { self.now.steps + 1 < 2 ^ 64 }
-        ensures step { IfOk result (λ next. step (M.rules machine) program.now self.now t ≡ Some next) }
-        ensures fits { IfOk result (Fits (M.rules machine) program.now) }
+        ensures step { OnOk result (step (M.rules machine) program.now self.now t ≡ Some next.new) }
+        ensures fits { OnOk result (Fits (M.rules machine) program.now next.new) }
         ensures not_enabled { IsErrOf result StepFault.NotEnabled ↔ ¬ IsEnabled program.now self.now t }
         ensures no_step { IsErrOf result StepFault.NotEnabled ↔ (step (M.rules machine) program.now self.now t ≡ None) }
-        ensures alike { IfOk result (λ next. (twin : State M M.Mem M.Loc M.Form)
+        ensures alike { OnOk result ((twin : State M M.Mem M.Loc M.Form)
             → AreStatesAlike (M.rules machine) self.now twin
-            → IsSomeAnd (step (M.rules machine) program.now twin t) (AreStatesAlike (M.rules machine) next)) }
+            → IsSomeAnd (step (M.rules machine) program.now twin t) (AreStatesAlike (M.rules machine) next.new)) }
+        ensures kept { IsErrOf result StepFault.NotEnabled → next.new ≡ next.old }
     {
         let Some((thread, op)) = self.ready(program, t) else {
             return Err(StepFault::NotEnabled);
         };
-        let first = machine.begin(op);
-        let place = place_or(&thread.place, &first);
-        let base = self.base(alloc, machine, spares)?;
-        Ok(self.access(alloc, machine, op, t, thread, place, base)?)
+        machine.copy_mem_into(alloc, &self.memory, &mut next.memory)?;
+        self.access(alloc, machine, t, thread, op, next)?;
+        Ok(())
     }
 }

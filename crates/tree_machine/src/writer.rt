@@ -12,7 +12,10 @@ use crate::pass::{Pass, put_facts, short_head};
 use sched_program::OutOfMemory;
 use std::marker::Model;
 
-/// As many zeros as bytes are lengthened by at once. A part with a head of one byte takes 12 bytes at most.
+/// The most bytes that a part with a head of one byte takes.
+const SHORT_PART: usize = 12;
+
+/// As many zeros as bytes are lengthened by at once.
 static ZEROS: [u8; 256] = [0; 256];
 
 /// Lengthens bytes.
@@ -20,7 +23,7 @@ static ZEROS: [u8; 256] = [0; 256];
 #[inline(never)]
 fn lengthen(bytes: &mut Vec<u8>, at: usize) -> Result<(), OutOfMemory>
     requires { at ≤ length bytes.old.items }
-    ensures room { OnOk result (at + 12 ≤ length bytes.new.items) }
+    ensures room { OnOk result (at + SHORT_PART ≤ length bytes.new.items) }
     ensures kept { take at bytes.new.items ≡ take at bytes.old.items }
     ensures longer { length bytes.old.items ≤ length bytes.new.items }
 {
@@ -32,11 +35,11 @@ fn lengthen(bytes: &mut Vec<u8>, at: usize) -> Result<(), OutOfMemory>
 #[inline(always)]
 fn make_room(bytes: &mut Vec<u8>, at: usize) -> Result<(), OutOfMemory>
     requires { at ≤ length bytes.old.items }
-    ensures room { OnOk result (at + 12 ≤ length bytes.new.items) }
+    ensures room { OnOk result (at + SHORT_PART ≤ length bytes.new.items) }
     ensures kept { take at bytes.new.items ≡ take at bytes.old.items }
     ensures longer { length bytes.old.items ≤ length bytes.new.items }
 {
-    if bytes.len() - at < 12 {
+    if bytes.len() - at < SHORT_PART {
         lengthen(bytes, at)
     } else {
         Ok(())

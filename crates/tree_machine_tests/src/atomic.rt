@@ -3,6 +3,7 @@
 use crate::broken::{Broken, Case, ensure};
 use sched_program::{Op, OutOfMemory, Sequence, ShortList};
 use std::alloc::Global;
+use std::test::Fail;
 use tree_machine::{Atomic, AtomicForm, AtomicLoc, Machine, Outcome, Thread};
 
 /// An operation, the keys before and after it, and its reply.
@@ -137,6 +138,12 @@ fn builds_and_copies(rt: HostRuntime) -> Result<(), Broken> {
         Ok(()) => Ok(()),
         Err(_) => built_and_copied(rt.alloc()),
     }
+}
+
+#[test]
+fn a_place_may_write(rt: HostRuntime) -> Result<(), Fail> {
+    assert!(rt; !Atomic.only_reads(&AtomicLoc::Do));
+    Ok(())
 }
 
 /// Keys and the places that threads hold.

@@ -63,12 +63,12 @@ fn knows_step<M: Machine>(
 {
     // Whoever reads a program knows that it meets the limits.
     let _ = program.initial();
-    match state.step_in(alloc, machine, program, thread, &mut stock.spares) {
+    match stock.step(alloc, machine, program, state, thread) {
         Ok(next) => {
             let spare = stock.spare_label(alloc);
             let form = next.form_code_in(alloc, machine, &mut stock.room, spare)?;
             let is_known = forms.contains(&form);
-            stock.keep(next);
+            stock.take_in(next);
             stock.keep_label(form);
             Ok(is_known)
         }

@@ -10,11 +10,14 @@ use Rattle.book.proofs.file.closing.knows_step.Goals as goal
 pub returns-in-Err-NotEnabled-clause-known : goal.returns-in-Err-NotEnabled-clause-known
 returns-in-Err-NotEnabled-clause-known g c =
     let stuck : step (g.M.Machine.rules c.args.machine) c.args.program.now c.args.state.now c.args.thread ≡ None =
-    c.step_in.ensures.no_step.0 (c.in-Err-NotEnabled.is ∙ ap Err c.in-Err-NotEnabled.field-0-is) in
+    c.step.ensures.no_step.0 (c.in-Err-NotEnabled.is ∙ ap Err c.in-Err-NotEnabled.field-0-is) in
     λ _ next leads. absurd (let q : None ≡ Some next = sym stuck ∙ leads in cc)
 
 pub returns-in_ok-form-in-Ok-clause-known : goal.returns-in_ok-form-in-Ok-clause-known
 returns-in_ok-form-in-Ok-clause-known g c =
+    let stepped : step (g.M.Machine.rules c.args.machine) c.args.program.now c.args.state.now c.args.thread
+    ≡ Some c.deref.result.now =
+    rw c.deref.ensures c.in-Ok.ensures.step in
     let known =
     λ (f : List ℕ). contains (pointwise nat_eq) c.args.forms.now f in
     let key =
@@ -23,14 +26,17 @@ returns-in_ok-form-in-Ok-clause-known g c =
     λ yes next leads. subst
     (λ (s : State g.row.M.Denot g.row.M-Mem.Denot g.row.M-Loc.Denot g.row.M-Form.Denot). known
     (named_by g.M.Machine.form_code (g.M.Machine.form_of c.args.machine) s) ≡ true)
-    (same_Some c.in-Ok.next next (sym c.in-Ok.ensures.step ∙ leads)) (key yes)
+    (same_Some c.deref.result.now next (sym stepped ∙ leads)) (key yes)
 
 pub returns-in_ok-form-in-Ok-clause-new : goal.returns-in_ok-form-in-Ok-clause-new
 returns-in_ok-form-in-Ok-clause-new g c =
+    let stepped : step (g.M.Machine.rules c.args.machine) c.args.program.now c.args.state.now c.args.thread
+    ≡ Some c.deref.result.now =
+    rw c.deref.ensures c.in-Ok.ensures.step in
     let known =
     λ (f : List ℕ). contains (pointwise nat_eq) c.args.forms.now f in
     λ no. (
-      c.in-Ok.next,
-      c.in-Ok.ensures.step,
+      c.deref.result.now,
+      stepped,
       subst (λ f. known f ≡ false) c.in_ok-form-in-Ok.ensures (sym c.contains-is_known.ensures ∙ no),
     )

@@ -19,15 +19,15 @@ invariant_of-self-clause-few c =
       c.args.self.now.few,
     )
 
-pub returns-then-place-lt254-clause-order : goal.returns-then-place-lt254-clause-order
-returns-then-place-lt254-clause-order c =
+pub returns-then-place-lt-FEW_BELOW-clause-order : goal.returns-then-place-lt-FEW_BELOW-clause-order
+returns-then-place-lt-FEW_BELOW-clause-order c =
     c.push_reserved.ensures.items
     ∙ met_new c.args.self.now.order.items c.args.cell
     (unmet c.args.self.now.order.items c.args.self.now.numbers.items c.args.cell c.args.self.now.has_numbers
     c.requires.known c.requires.absent)
 
-pub returns-then-place-lt254-clause-place : goal.returns-then-place-lt254-clause-place
-returns-then-place-lt254-clause-place c =
+pub returns-then-place-lt-FEW_BELOW-clause-place : goal.returns-then-place-lt-FEW_BELOW-clause-place
+returns-then-place-lt-FEW_BELOW-clause-place c =
     first_placed c.args.self.now.order.items c.args.cell c.len-place.result (c.len-place.result + 1)
     (unmet c.args.self.now.order.items c.args.self.now.numbers.items c.args.cell c.args.self.now.has_numbers
     c.requires.known c.requires.absent)

@@ -1,4 +1,3 @@
-use Rattle.std.proofs.Common.{refl}
 use Rattle.tree_machine.proofs.FewMet.{made_anew}
 use Rattle.tree_machine.proofs.few.FewMet.new.Goals as goal
 

@@ -1,62 +1,87 @@
--- Each outcome of the access makes the state that the place table says.
-use Rattle.std.proofs.Common.{◌≡◌, Some, None, ap, sym, ◌∙◌}
-use Rattle.std.proofs.lemmas.Result.{IfOk-weaker}
-use Rattle.tree_machine.specs.Step.{notes_at_step, finished_counts}
-use Rattle.tree_machine.proofs.Steps.{Made, goes_made, replies_made, astray_made}
-use Rattle.tree_machine.proofs.state.State.access.Goals.{in-Goes+in-Some-1, in-Goes+in-None-1, in-Replies}
-use Rattle.tree_machine.proofs.state.State.access.Goals.{in-Astray+in_ok-copy_loc-in-Astray+in-Some-1}
-use Rattle.tree_machine.proofs.state.State.access.Goals.{in-Astray+in_ok-copy_loc-in-Astray+in-None-1}
+-- The thread is moved on in a copy of the threads, by what came of the access.
+use Rattle.std.proofs.Common.{◌≡◌, ◌<◌, length, ◌∙◌, ap, sym, arith, rules, subst, Some, None, slice_set}
+use Rattle.std.proofs.lemmas.Option.{slice_get_within}
+use Rattle.tree_machine.specs.Step.{place_or, notes_at_step, after_outcome, finished_counts}
+use Rattle.tree_machine.proofs.Lists.{put_back}
+use Rattle.tree_machine.proofs.States.{ready_pieces, thread_read, next_place_in_range, reply_room, note_room}
+use Rattle.tree_machine.proofs.Steps.{step_made}
 use Rattle.tree_machine.proofs.state.State.access.Goals as goal
+
+pub act-requires-clause-place_in_range : goal.act-requires-clause-place_in_range
+act-requires-clause-place_in_range g c =
+    let bound = g.met.M.Machine g.world.𝓛 g.world.𝓜 g.world.𝓡 ((λ s x. x), (λ x. x), (λ x. x), λ x. x) in
+    let program = c.requires.ready.0 in
+    let thread = c.args.thread.now in
+    let pieces = ready_pieces program c.args.self.now c.args.t thread c.args.op c.requires.ready.1.1.1 in
+    let is = c.place_or-place.ensures ∙ ap (place_or thread.place) c.begin-first.ensures in
+    rw (c.requires.memory, is) (next_place_in_range (g.M.Machine.rules c.args.machine) program c.args.self.now
+    c.requires.ready.1.1.0 (bound.lawful c.args.machine) c.args.t c.args.op thread pieces.0 pieces.1)
+
+pub bounds-as_mut_slice-from : goal.bounds-as_mut_slice-from
+bounds-as_mut_slice-from g c =
+    let pieces =
+    ready_pieces c.requires.ready.0 c.args.self.now c.args.t c.args.thread.now c.args.op c.requires.ready.1.1.1 in
+    let within = slice_get_within c.args.self.now.threads c.args.t c.args.thread.now pieces.0 in
+    let same = ap length (c.as_mut_slice.ensures.value ∙ (c.in_ok-threads.ensures ∙ c.as_slice-own.ensures)) in
+    omega (arith, within, same, c.from.ensures)
+
+pub offset_bounds-as_mut_slice-from : goal.offset_bounds-as_mut_slice-from
+offset_bounds-as_mut_slice-from g c =
+    let pieces =
+    ready_pieces c.requires.ready.0 c.args.self.now c.args.t c.args.thread.now c.args.op c.requires.ready.1.1.1 in
+    let within = slice_get_within c.args.self.now.threads c.args.t c.args.thread.now pieces.0 in
+    let same = ap length (c.as_mut_slice.ensures.value ∙ (c.in_ok-threads.ensures ∙ c.as_slice-own.ensures)) in
+    let below : c.from.result < length c.as_mut_slice.result.now = omega (arith, within, same, c.from.ensures) in
+    search rules
+
+pub advance-requires-clause-reply_room : goal.advance-requires-clause-reply_room
+advance-requires-clause-reply_room g c κs within =
+    let program = c.requires.ready.0 in
+    let thread = c.args.thread.now in
+    let ready = c.requires.ready.1.1.1 in
+    let pieces = ready_pieces program c.args.self.now c.args.t thread c.args.op ready in
+    let there = thread_read program c.args.self.now c.args.t thread c.args.op ready c.as_mut_slice.result.now
+    c.from.result c.index-as_mut_slice-from.result
+    (c.as_mut_slice.ensures.value ∙ (c.in_ok-threads.ensures ∙ c.as_slice-own.ensures)) c.from.ensures in
+    subst (λ x. length x.replies < 6) (sym there) (reply_room (g.M.Machine.rules c.args.machine) program c.args.self.now
+    c.requires.ready.1.1.0 c.requires.ready.1.0 c.args.t c.args.op thread pieces.1)
+
+pub advance-requires-clause-note_room : goal.advance-requires-clause-note_room
+advance-requires-clause-note_room g c κs within =
+    let program = c.requires.ready.0 in
+    let thread = c.args.thread.now in
+    let ready = c.requires.ready.1.1.1 in
+    let pieces = ready_pieces program c.args.self.now c.args.t thread c.args.op ready in
+    let there = thread_read program c.args.self.now c.args.t thread c.args.op ready c.as_mut_slice.result.now
+    c.from.result c.index-as_mut_slice-from.result
+    (c.as_mut_slice.ensures.value ∙ (c.in_ok-threads.ensures ∙ c.as_slice-own.ensures)) c.from.ensures in
+    subst (λ x. x.place ≡ None → length x.notes < 6) (sym there) (note_room (g.M.Machine.rules c.args.machine) program
+    c.args.self.now c.requires.ready.1.1.0 c.requires.ready.1.0 c.args.t c.args.op thread pieces.0 pieces.1)
 
 pub returns : goal.returns
 returns g c =
     let bound = g.met.M.Machine g.world.𝓛 g.world.𝓜 g.world.𝓡 ((λ s x. x), (λ x. x), (λ x. x), λ x. x) in
     let rules = g.M.Machine.rules c.args.machine in
     let state = c.args.self.now in
-    let replies = c.args.thread.now.replies in
-    let place = c.args.place.now in
-    let notes = notes_at_step c.args.thread.now.place c.args.thread.now.notes (finished_counts state.threads) in
-    let acted = rules.act c.args.op place state.memory in
-    let after = c.match-branch-2.after in
-    let astray = c.match-branch-2.astray in
-    let is : acted ≡ (c.act.new.mem, c.in_ok-goal.field-0) =
-    ap (rules.act c.args.op place) (sym c.requires.memory) ∙ c.in_ok-goal.ensures.ok in
-    let unchanged = (bound.lawful c.args.machine).astray_unchanged c.args.op place state.memory in
-    let made : Made state c.args.t replies notes place c.act.new.mem acted c.in_ok-goal.field-0 after astray is =
-    elim c.match-branch-2.branch [
-      | in-Goes+in-Some-1 w ↦ goes_made state c.args.t replies notes place c.act.new.mem acted c.in_ok-goal.field-0
-          after astray is w.in-Goes.goal w.in-Goes.is
-          (w.after-is ∙ (λ i. record {
-            replies = replies;
-            place = Some w.in-Goes.goal;
-            notes = c.notes_at_step.ensures i;
-          }))
-          w.astray-is
-      | in-Goes+in-None-1 w ↦ goes_made state c.args.t replies notes place c.act.new.mem acted c.in_ok-goal.field-0
-          after astray is w.in-Goes.goal w.in-Goes.is
-          (w.after-is ∙ (λ i. record {
-            replies = replies;
-            place = Some w.in-Goes.goal;
-            notes = c.notes_at_step.ensures i;
-          }))
-          w.astray-is
-      | in-Replies w ↦ replies_made state c.args.t replies notes place c.act.new.mem acted c.in_ok-goal.field-0
-          after astray is w.in-Replies.reply w.in-Replies.is
-          (w.after-is ∙ (λ i. record { replies = w.push.ensures i; place = None; notes = c.notes_at_step.ensures i }))
-          w.astray-is
-      | in-Astray+in_ok-copy_loc-in-Astray+in-Some-1 w ↦ astray_made state c.args.t replies notes place c.act.new.mem
-          acted c.in_ok-goal.field-0 after astray is w.in-Astray.is unchanged
-          (w.after-is ∙ (λ i. record {
-            replies = replies;
-            place = Some (w.in_ok-copy_loc-in-Astray.ensures i);
-            notes = c.notes_at_step.ensures i;
-          })) w.astray-is
-      | in-Astray+in_ok-copy_loc-in-Astray+in-None-1 w ↦ astray_made state c.args.t replies notes place c.act.new.mem
-          acted c.in_ok-goal.field-0 after astray is w.in-Astray.is unchanged
-          (w.after-is ∙ (λ i. record {
-            replies = replies;
-            place = Some (w.in_ok-copy_loc-in-Astray.ensures i);
-            notes = c.notes_at_step.ensures i;
-          })) w.astray-is
-    ] in
-    IfOk-weaker c.one_step_on.result _ _ (λ next e. e ∙ made) c.one_step_on.ensures
+    let thread = c.args.thread.now in
+    let place = c.place_or-place.result.now in
+    let outcome = c.in_ok-outcome.outcome in
+    let after = c.advance.new.thread in
+    let same = c.as_mut_slice.ensures.value ∙ (c.in_ok-threads.ensures ∙ c.as_slice-own.ensures) in
+    let there = thread_read c.requires.ready.0 state c.args.t thread c.args.op c.requires.ready.1.1.1
+    c.as_mut_slice.result.now c.from.result c.index-as_mut_slice-from.result same c.from.ensures in
+    let counts = c.as_slice-own.ensures in
+    let set : c.from_vec.result ≡ slice_set c.as_mut_slice.result.now c.from.result after =
+    c.from_vec.ensures
+    ∙ put_back c.as_mut_slice.result.now c.in_ok-threads.threads.items c.in_ok-threads.threads.len c.from.result after
+    c.as_mut_slice.ensures.len in
+    step_made state c.args.t rules c.args.op thread after place c.act.new.mem outcome c.from_vec.result
+    c.in_ok-next.field-0 (c.place_or-place.ensures ∙ ap (place_or thread.place) c.begin-first.ensures)
+    (ap (rules.act c.args.op place) (sym c.requires.memory) ∙ c.in_ok-outcome.ensures.ok)
+    ((bound.lawful c.args.machine).astray_unchanged c.args.op place state.memory)
+    (c.in_ok-next.ensures.thread ∙ (λ i. after_outcome (record {
+      replies = (there i).replies;
+      place = Some place;
+      notes = notes_at_step (there i).place (there i).notes (finished_counts (counts i));
+    }) outcome))
+    (set ∙ (λ i. slice_set (same i) (c.from.ensures i) after)) c.in_ok-next.ensures.astray
