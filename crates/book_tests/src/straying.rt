@@ -123,6 +123,17 @@ impl Machine for Straying {
         room.put(self.form(alloc, mem, threads)?.as_slice())
     }
 
+    /// It answers no, as a machine may to any bytes.
+    fn read_whole(
+        &self,
+        _alloc: Global,
+        _bytes: &[u8],
+        _mem: &mut bool,
+        _threads: &mut [Thread<bool>],
+    ) -> Result<bool, OutOfMemory> {
+        Ok(false)
+    }
+
     ghost lawful = { λ _. straying_lawful };
 
     ghost forms = { λ _ memory other held twins _ _ _ _ _. straying_forms memory other held twins };

@@ -133,6 +133,17 @@ impl Machine for Faulty {
         room.put(self.form(alloc, mem, threads)?.as_slice())
     }
 
+    /// It answers no, as a machine may to any bytes.
+    fn read_whole(
+        &self,
+        _alloc: Global,
+        _bytes: &[u8],
+        _mem: &mut bool,
+        _threads: &mut [Thread<bool>],
+    ) -> Result<bool, OutOfMemory> {
+        Ok(false)
+    }
+
     ghost lawful = { λ _. faulty_lawful };
 
     ghost forms = { λ _ memory other held twins _ _ _ _ _. faulty_forms memory other held twins };

@@ -92,13 +92,14 @@ joined : (before kind side base other stack : List ℕ) (head own : ℕ)
 joined before kind side base other stack head own = simp (append_assoc, append-nil)
 
 -- a help place in bytes
-help_coded : (n : ℕ) (at : HelpLoc) (resume : Resume) → IsPartBelow n (254 - n) (place_part (Help at resume))
-    → length resume.stack < 6 → cell_code (part_cell n (place_part (Help at resume)))
+pub help_coded : (n : ℕ) (at : HelpLoc) (resume : Resume) → n + help_record at < 254
+    → All (λ number. n + number < 254) resume.stack → length resume.stack < 6
+    → cell_code (part_cell n (place_part (Help at resume)))
     ≡ ((69 + 30 * length resume.stack) ∷ 5 ∷ (number_code (help_number at) ++ (number_code (help_side at)
     ++ (number_code (base_number resume.base) ++ []))))
     ++ (number_code (reference_number (help_node at))
     ++ (n + help_record at + 1) ∷ map (λ number. n + number + 1) resume.stack)
-help_coded n at resume below short =
+help_coded n at resume few below short =
     let kept = resume.stack in
     let own = help_record at in
     let facts = 5 ∷ help_number at ∷ help_side at ∷ base_number resume.base ∷ [] in
@@ -107,11 +108,10 @@ help_coded n at resume below short =
     let refs = number_code (reference_number (help_node at)) ++ (number_code (suc (n + own)) ++ others) in
     let count : length shifted ≡ length kept =
     length-map (map Some kept) (option_map (λ r. n + r)) ∙ length-map kept Some in
-    let less : own < 254 - n = All-head (Below n) (Some own) (map Some kept) below.records in
     let names : number_code (suc (n + own)) ++ others ≡ (n + own + 1) ∷ map (λ number. n + number + 1) kept =
     ap (λ l. l ++ others) (small_code (suc (n + own)) (omega arith))
     ∙ (ap (λ x. x ∷ others) (sym (add-one (n + own)))
-    ∙ ap (λ l. (n + own + 1) ∷ l) (stack_coded n kept (stack_below n own kept kept refl below.records))) in
+    ∙ ap (λ l. (n + own + 1) ∷ l) (stack_coded n kept below)) in
     ap (λ k. facts_code (1 ∷ facts) (suc (suc k)) ++ refs) count
     ∙ (ap (λ h. headed h 1 facts (suc (suc (length kept))) ++ refs) (head_is (length kept) short)
     ∙ ap (λ l. ((69 + 30 * length kept) ∷ flat_map number_code facts)
@@ -128,7 +128,10 @@ pub help_put : (n : ℕ) (at : HelpLoc) (resume : Resume) (stack : List ℕ) (ki
     → g ≡ f ++ map (λ number. n + number + 1) stack
     → g ≡ before ++ cell_code (part_cell n (place_part (Help at resume)))
 help_put n at resume stack kind side base own other before a b c d e f g below short same k i l w o p q r s t u v =
-    let coded = help_coded n at resume below short in
+    let kept = resume.stack in
+    let mine : help_record at < 254 - n = All-head (Below n) (Some (help_record at)) (map Some kept) below.records in
+    let others = stack_below n (help_record at) kept kept refl below.records in
+    let coded = help_coded n at resume (omega arith) others short in
     rw (coded, v, u, t, s, r, q, p, same, k, i, l, w, o)
     (joined before (number_code (help_number at)) (number_code (help_side at)) (number_code (base_number resume.base))
     (number_code (reference_number (help_node at))) (map (λ number. n + number + 1) resume.stack)

@@ -9,6 +9,7 @@ mod initial;
 mod machine;
 mod memory;
 mod place;
+mod reading;
 mod searching;
 
 pub use crate::machine::Ellen;

@@ -5,6 +5,7 @@ use crate::helping::{first_place, help_act};
 use crate::initial::build;
 use crate::memory::{EllenMem, key_in};
 use crate::place::{EllenLoc, HelpLoc, SearchLoc};
+use crate::reading::read_few;
 use crate::searching::search_act;
 use sched_program::{Op, OutOfMemory};
 use std::alloc::Global;
@@ -132,6 +133,17 @@ impl Machine for Ellen {
         room: &mut Room,
     ) -> Result<(), OutOfMemory> {
         write_all(alloc, mem, threads, room)
+    }
+
+    #[inline(always)]
+    fn read_whole(
+        &self,
+        alloc: Global,
+        bytes: &[u8],
+        mem: &mut EllenMem,
+        threads: &mut [Thread<EllenLoc>],
+    ) -> Result<bool, OutOfMemory> {
+        read_few(alloc, bytes, mem, threads)
     }
 
     ghost lawful = { ellen_lawful };

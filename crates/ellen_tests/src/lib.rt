@@ -6,6 +6,8 @@ mod forms;
 #[cfg(test)]
 mod memories;
 #[cfg(test)]
+mod read_back;
+#[cfg(test)]
 mod reading;
 #[cfg(test)]
 mod schedules;

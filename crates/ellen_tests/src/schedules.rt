@@ -3,6 +3,7 @@ mod deletes;
 mod inserts;
 mod without_step;
 
+use crate::read_back::first_lost;
 use crate::schedules::deletes::{
     BACKTRACK, DELETE_HELPS_DELETE, DELETE_HELPS_INSERT, HELPER_BACKTRACKS, LATE_DELETE,
     LATE_DELETE_HELPER, LATE_SPLICE, NESTED_DELETES,
@@ -97,5 +98,29 @@ fn variants(rt: HostRuntime) -> Result<(), Fail> {
         WITHOUT_FLAG_STEP,
         OF_WITHOUT_FLAG.as_slice(),
     );
+    Ok(())
+}
+
+/// Fails unless each state along the lines is read back from its bytes, in each program.
+fn reads_all(rt: &impl Abort, alloc: Global, machine: Ellen, cases: &[(&str, &str)]) {
+    for (program, lines) in cases {
+        let mut answer = first_lost(alloc, machine, program, lines);
+        if answer.is_err() {
+            answer = first_lost(alloc, machine, program, lines);
+        }
+        match answer {
+            Ok(None) => {}
+            Ok(Some(steps)) => assert!(rt; false, "not read back after {steps} steps: {program}"),
+            Err(fault) => assert!(rt; false, "{fault:?}"),
+        }
+    }
+}
+
+#[test]
+fn states_are_read_back(rt: HostRuntime) -> Result<(), Fail> {
+    let alloc = rt.alloc();
+    reads_all(&rt, alloc, WHOLE, OF_WHOLE.as_slice());
+    reads_all(&rt, alloc, WITHOUT_MARK_STEP, OF_WITHOUT_MARK.as_slice());
+    reads_all(&rt, alloc, WITHOUT_FLAG_STEP, OF_WITHOUT_FLAG.as_slice());
     Ok(())
 }

@@ -291,7 +291,7 @@ fn other_line(
 }
 
 /// The thread of a line's step.
-fn thread_of(line: &str) -> Result<u8, StepFault> {
+pub fn thread_of(line: &str) -> Result<u8, StepFault> {
     match line.as_bytes().first() {
         Some(digit) => Ok(digit.wrapping_sub(b'0')),
         None => Err(StepFault::NotEnabled),

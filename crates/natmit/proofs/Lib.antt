@@ -1,3 +1,4 @@
 pub mod HeldBytes
 pub mod NodeBytes
 pub mod Present
+pub mod ReadBytes

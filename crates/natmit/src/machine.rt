@@ -11,6 +11,7 @@ use crate::form::Snapshot;
 use crate::initial::build;
 use crate::memory::{NatMitMem, key_in};
 use crate::place::{Mode, NatMitLoc};
+use crate::reading::read_few;
 use sched_program::{Op, OutOfMemory};
 use std::alloc::Global;
 use tree_machine::{
@@ -128,6 +129,16 @@ impl Machine for NatMit {
         room: &mut Room,
     ) -> Result<(), OutOfMemory> {
         write_whole(alloc, &Snapshot { mem, threads }, room)
+    }
+
+    fn read_whole(
+        &self,
+        alloc: Global,
+        bytes: &[u8],
+        mem: &mut NatMitMem,
+        threads: &mut [Thread<NatMitLoc>],
+    ) -> Result<bool, OutOfMemory> {
+        read_few(alloc, bytes, mem, threads)
     }
 
     ghost lawful = { natmit_lawful };

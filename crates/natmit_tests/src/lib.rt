@@ -13,6 +13,8 @@ mod lone;
 #[cfg(test)]
 mod memories;
 #[cfg(test)]
+mod read_back;
+#[cfg(test)]
 mod reading;
 #[cfg(test)]
 mod variant;

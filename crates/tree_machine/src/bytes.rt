@@ -36,7 +36,7 @@ impl Bytes {
 
     /// Equal bytes, in the memory of a list that is of no further use, as far as that is enough: only where it is not, and
     /// then no more than they have, is memory asked for.
-    pub(crate) fn copied_in(bytes: &[u8], mut spare: Vec<u8>) -> Result<Self, OutOfMemory>
+    pub fn copied_in(bytes: &[u8], mut spare: Vec<u8>) -> Result<Self, OutOfMemory>
         ensures { IfOk result (λ copy. copy ≡ bytes.now) }
     {
         spare.clear();

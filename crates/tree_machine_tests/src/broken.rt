@@ -50,6 +50,21 @@ pub enum Case {
     AStepOfTheSecond,
     TheSecondBeforeTheFirst,
     TheFirstBeforeTheSecond,
+    NoThread,
+    ManySteps,
+    TheSecondAstray,
+    FourThreads,
+    NoByte,
+    FiveThreads,
+    SevenReplies,
+    AReplyOfNeither,
+    NotesOfMoreThreads,
+    SevenNotes,
+    FiveCounts,
+    AstrayOfNeither,
+    AnUnknownPlace,
+    APlaceTooFew,
+    BytesCutShort,
 }
 
 /// Why a test fails.

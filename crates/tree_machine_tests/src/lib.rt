@@ -17,6 +17,8 @@ mod forms;
 mod parts;
 pub mod ranges;
 #[cfg(test)]
+mod reading;
+#[cfg(test)]
 mod rings;
 #[cfg(test)]
 mod seen;

@@ -186,6 +186,24 @@ fn has_code(
     ensure(bytes.as_slice() == row.code, row.case)
 }
 
+/// A state is read from its bytes into the state of each row.
+fn is_read(alloc: Global, program: &Program, state: &State<Atomic>, row: &Row) -> Result<(), Broken>
+    requires { Fits atomic_rules program.now state.now }
+{
+    // Whoever reads a program knows that it meets the limits.
+    let _ = program.initial();
+    let bytes = state.code_in(alloc, Atomic, &mut Room::new(alloc), Vec::new(alloc))?;
+    for other in ROWS {
+        let mut shell = after(alloc, program, other.schedule)?;
+        let read = shell.read_in(alloc, Atomic, bytes.as_slice())?;
+        ensure(
+            read && *shell == *state && is_state(program, &shell, row),
+            row.case,
+        )?;
+    }
+    Ok(())
+}
+
 /// A copy of a state has its form.
 fn keeps_form(
     alloc: Global,
@@ -207,6 +225,7 @@ pub enum Look {
     Copy,
     Replies,
     Code,
+    Read,
     FormOfCopy,
 }
 
@@ -218,6 +237,7 @@ fn is_seen(alloc: Global, program: &Program, row: &Row, look: Look) -> Result<()
         Look::Copy => is_copied(alloc, program, &state, row),
         Look::Replies => has_replies(alloc, program, &state, row),
         Look::Code => has_code(alloc, program, &state, row),
+        Look::Read => is_read(alloc, program, &state, row),
         Look::FormOfCopy => keeps_form(alloc, program, &state, row),
     }
 }
@@ -260,5 +280,13 @@ fn bytes_are_of_the_whole_state(rt: HostRuntime) -> Result<(), Broken> {
     match are_seen(rt.alloc(), Look::Code) {
         Ok(()) => Ok(()),
         Err(_) => are_seen(rt.alloc(), Look::Code),
+    }
+}
+
+#[test]
+fn states_are_read_from_their_bytes(rt: HostRuntime) -> Result<(), Broken> {
+    match are_seen(rt.alloc(), Look::Read) {
+        Ok(()) => Ok(()),
+        Err(_) => are_seen(rt.alloc(), Look::Read),
     }
 }

@@ -1,0 +1,63 @@
+//! What the threads hold read back from its bytes, where each number is one byte.
+ghost use Rattle.std.specs.Prelude.{◌≡◌, ◌++◌, IfSome, IfOk, IsTrue};
+ghost use Rattle.std.specs.List.{flat_map};
+ghost use Rattle.tree_machine.specs.Alike.{replies_of, notes_of};
+ghost use Rattle.tree_machine.specs.Flat.{cell_code};
+ghost use Rattle.tree_machine.specs.Parts.{part_cell};
+ghost use Rattle.ellen.specs.Parts.{held_part};
+
+use crate::place::EllenLoc;
+use crate::reading::help::read_help;
+use crate::reading::search::read_search;
+use sched_program::OutOfMemory;
+use std::alloc::Global;
+use tree_machine::Thread;
+
+/// Reads what a thread holds, a place or nothing between operations, and tells the bytes behind it.
+#[inline(always)]
+fn read_held<'a>(
+    alloc: Global,
+    bytes: &'a [u8],
+    nodes: u8,
+    held: &mut Option<EllenLoc>,
+) -> Result<Option<&'a [u8]>, OutOfMemory>
+    ensures { IfOk result (λ read. IfSome read (λ rest.
+        bytes.now ≡ cell_code (part_cell nodes (held_part held.new)) ++ rest.now)) }
+{
+    match bytes {
+        [0, rest @ ..] => {
+            *held = None;
+            Ok(Some(rest))
+        }
+        [head, 5, rest @ ..] => read_help(alloc, *head, rest, nodes, held),
+        _ => match read_search(bytes, nodes) {
+            Some((at, rest)) => {
+                *held = Some(EllenLoc::Search(at));
+                Ok(Some(rest))
+            }
+            None => Ok(None),
+        },
+    }
+}
+
+/// Reads what each thread holds, one behind the other. It answers no where bytes are left over.
+pub(crate) fn read_each(
+    alloc: Global,
+    bytes: &[u8],
+    nodes: u8,
+    threads: &mut [Thread<EllenLoc>],
+) -> Result<bool, OutOfMemory>
+    ensures read { IfOk result (λ read. IsTrue read
+        → bytes.now ≡ flat_map (λ thread. cell_code (part_cell nodes (held_part thread.place))) threads.new) }
+    ensures replies { replies_of threads.new ≡ replies_of threads.old }
+    ensures notes { notes_of threads.new ≡ notes_of threads.old }
+{
+    let mut rest = bytes;
+    for thread in threads.iter_mut() {
+        match read_held(alloc, rest, nodes, &mut thread.place)? {
+            Some(behind) => rest = behind,
+            None => return Ok(false),
+        }
+    }
+    Ok(rest.is_empty())
+}

@@ -1,0 +1,146 @@
+//! Help places read back from their bytes, where each number is one byte.
+ghost use Rattle.std.specs.Prelude.{◌≡◌, ◌<◌, ◌+◌, ◌*◌, ◌++◌, ◌∷◌, [], map, length, IfSome, IfOk, All};
+ghost use Rattle.tree_machine.specs.Flat.{reference_number, cell_code};
+ghost use Rattle.tree_machine.specs.Parts.{part_cell};
+ghost use Rattle.ellen.specs.Parts.{held_part, help_number, help_side, help_node, help_record, base_number};
+
+use crate::place::{Base, EllenLoc, HelpLoc, Resume};
+use crate::reading::words::record_of;
+use sched_program::{OutOfMemory, Sequence};
+use std::alloc::Global;
+use std::mem::replace;
+use tree_machine::{Side, copy_into};
+
+/// How many delete records are awaited, by the first byte of a help place.
+#[inline(always)]
+fn awaited(head: u8) -> Option<u8>
+    ensures head { IfSome result (λ count. head ≡ 69 + 30 * count) }
+    ensures few { IfSome result (λ count. count < 6) }
+{
+    match head {
+        69 => Some(0),
+        99 => Some(1),
+        129 => Some(2),
+        159 => Some(3),
+        189 => Some(4),
+        219 => Some(5),
+        _ => None,
+    }
+}
+
+/// The help place of a kind, by its side, its other node and its own record behind so many nodes.
+#[inline(always)]
+fn help_of(kind: u8, side: u8, other: u8, own: u8, nodes: u8) -> Option<HelpLoc>
+    ensures kind { IfSome result (λ at. kind ≡ help_number at) }
+    ensures side { IfSome result (λ at. side ≡ help_side at) }
+    ensures other { IfSome result (λ at. other ≡ reference_number (help_node at)) }
+    ensures small_other { IfSome result (λ _. other < 255) }
+    ensures own { IfSome result (λ at. own ≡ nodes + help_record at + 1) }
+    ensures small_own { IfSome result (λ at. nodes + help_record at < 254) }
+{
+    let number = record_of(own, nodes)?;
+    match (kind, side, other) {
+        (0, 0, 0) => Some(HelpLoc::InsChild(number)),
+        (1, 0, 0) => Some(HelpLoc::InsClean(number)),
+        (2, 0, 0) => Some(HelpLoc::Mark(number)),
+        (3, 0, 0) => Some(HelpLoc::Right(number)),
+        (4, 1, 0) => Some(HelpLoc::Other {
+            record: number,
+            side: Side::Left,
+        }),
+        (4, 2, 0) => Some(HelpLoc::Other {
+            record: number,
+            side: Side::Right,
+        }),
+        (5, 0, 1..=254) => Some(HelpLoc::Splice {
+            record: number,
+            other: u16::from(other) - 1,
+        }),
+        (6, 0, 0) => Some(HelpLoc::DelClean(number)),
+        (7, 0, 0) => Some(HelpLoc::Back(number)),
+        _ => None,
+    }
+}
+
+/// What is done behind the backtracks.
+#[inline(always)]
+fn base_of(number: u8) -> Option<Base>
+    ensures { IfSome result (λ base. number ≡ base_number base) }
+{
+    match number {
+        0 => Some(Base::Again),
+        1 => Some(Base::Insert),
+        2 => Some(Base::Delete),
+        _ => None,
+    }
+}
+
+/// The list of the stack that a place holds, or a new one.
+#[inline(always)]
+fn stack_of(alloc: Global, held: Option<EllenLoc>) -> Sequence<u16> {
+    match held {
+        Some(EllenLoc::Help(_, resume)) => resume.stack,
+        _ => Sequence::new(alloc),
+    }
+}
+
+/// Reads so many records of a stack behind so many nodes, in the room that the list has as far as that is enough, and
+/// tells the bytes behind them.
+fn read_stack<'a>(
+    alloc: Global,
+    bytes: &'a [u8],
+    count: u8,
+    nodes: u8,
+    stack: &mut Sequence<u16>,
+) -> Result<Option<&'a [u8]>, OutOfMemory>
+    ensures stack { IfOk result (λ read. IfSome read (λ rest.
+        bytes.now ≡ map (λ number. nodes + number + 1) stack.new ++ rest.now)) }
+    ensures small { IfOk result (λ read. IfSome read (λ _. All (λ number. nodes + number < 254) stack.new)) }
+    ensures count { IfOk result (λ read. IfSome read (λ _. length stack.new ≡ count)) }
+{
+    copy_into(alloc, &[], stack)?;
+    let mut rest = bytes;
+    for _i in 0..count {
+        let [byte, behind @ ..] = rest else {
+            return Ok(None);
+        };
+        let Some(number) = record_of(*byte, nodes) else {
+            return Ok(None);
+        };
+        stack.push(number)?;
+        rest = behind;
+    }
+    Ok(Some(rest))
+}
+
+/// Reads the rest of a help place into a place that holds another, and tells the bytes behind it. The stack takes the
+/// room of the other one's.
+pub(crate) fn read_help<'a>(
+    alloc: Global,
+    head: u8,
+    bytes: &'a [u8],
+    nodes: u8,
+    held: &mut Option<EllenLoc>,
+) -> Result<Option<&'a [u8]>, OutOfMemory>
+    ensures { IfOk result (λ read. IfSome read (λ rest.
+        head ∷ 5 ∷ bytes.now ≡ cell_code (part_cell nodes (held_part held.new)) ++ rest.now)) }
+{
+    let [kind, side, base, other, own, rest @ ..] = bytes else {
+        return Ok(None);
+    };
+    let Some(count) = awaited(head) else {
+        return Ok(None);
+    };
+    let Some(at) = help_of(*kind, *side, *other, *own, nodes) else {
+        return Ok(None);
+    };
+    let Some(base) = base_of(*base) else {
+        return Ok(None);
+    };
+    let mut stack = stack_of(alloc, replace(held, None));
+    let Some(behind) = read_stack(alloc, rest, count, nodes, &mut stack)? else {
+        return Ok(None);
+    };
+    *held = Some(EllenLoc::Help(at, Resume { stack, base }));
+    Ok(Some(behind))
+}

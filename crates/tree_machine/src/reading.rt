@@ -1,0 +1,80 @@
+//! Values read from the front of bytes, each with the bytes behind it. Where there is none, as behind the last byte, or
+//! where a value would be too large, a reader tells that by `None`.
+ghost use Rattle.std.specs.Prelude.{◌≡◌, ◌<◌, ◌++◌, ◌∷◌, IfSome};
+ghost use Rattle.tree_machine.specs.Flat.{number_code, reference_number};
+
+/// Reads a byte.
+#[inline(always)]
+pub fn read_byte(bytes: &[u8]) -> Option<(u8, &[u8])>
+    ensures { IfSome result (λ (byte, rest). bytes.now ≡ byte ∷ rest.now) }
+{
+    let (byte, rest) = bytes.split_first()?;
+    Some((*byte, rest))
+}
+
+/// Reads a number that is one byte, as nearly all are: one below 255.
+#[inline(always)]
+pub fn read_number(bytes: &[u8]) -> Option<(u64, &[u8])>
+    ensures number { IfSome result (λ (number, rest). bytes.now ≡ number_code number ++ rest.now) }
+    ensures small { IfSome result (λ (number, rest). number < 255) }
+{
+    let (byte, rest) = read_byte(bytes)?;
+    if byte < 255 {
+        Some((u64::from(byte), rest))
+    } else {
+        None
+    }
+}
+
+/// Reads a key as a number, if it is below 255.
+#[inline(always)]
+pub fn read_key(bytes: &[u8]) -> Option<(u8, &[u8])>
+    ensures key { IfSome result (λ (key, rest). bytes.now ≡ number_code key ++ rest.now) }
+    ensures small { IfSome result (λ (key, rest). key < 255) }
+{
+    let (byte, rest) = read_byte(bytes)?;
+    if byte < 255 { Some((byte, rest)) } else { None }
+}
+
+/// Reads a reference to a node or a record, or none, as a number that is one byte.
+#[inline(always)]
+pub fn read_reference(bytes: &[u8]) -> Option<(Option<u16>, &[u8])>
+    ensures reference { IfSome result
+        (λ (reference, rest). bytes.now ≡ number_code (reference_number reference) ++ rest.now) }
+    ensures small { IfSome result (λ (reference, rest). IfSome reference (λ cell. cell < 254)) }
+{
+    let (byte, rest) = read_key(bytes)?;
+    if byte == 0 {
+        Some((None, rest))
+    } else {
+        Some((Some(u16::from(byte) - 1), rest))
+    }
+}
+
+/// Reads a number of any size that takes fewer than 65536 bytes.
+#[inline(always)]
+pub fn read_any_number(bytes: &[u8]) -> Option<(u64, &[u8])>
+    ensures { IfSome result (λ (number, rest). bytes.now ≡ number_code number ++ rest.now) }
+{
+    match read_number(bytes) {
+        Some(read) => Some(read),
+        None => read_long_number(bytes),
+    }
+}
+
+/// The same where the number may be large, which is so of no number but that of steps.
+#[cold]
+#[inline(never)]
+fn read_long_number(bytes: &[u8]) -> Option<(u64, &[u8])>
+    ensures { IfSome result (λ (number, rest). bytes.now ≡ number_code number ++ rest.now) }
+{
+    let mut rest = bytes;
+    for whole in 0u16..u16::MAX {
+        let (byte, behind) = read_byte(rest)?;
+        rest = behind;
+        if byte < 255 {
+            return Some((u64::from(whole) * 255 + u64::from(byte), rest));
+        }
+    }
+    None
+}

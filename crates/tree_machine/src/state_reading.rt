@@ -1,0 +1,113 @@
+//! Whole states read back from bytes.
+ghost use Rattle.std.specs.Prelude.{◌≡◌, ◌≤◌, ◌++◌, ◌∷◌, length, IsTrue, IfOk, IfSome, OnOk};
+ghost use Rattle.std.specs.List.{flat_map};
+ghost use Rattle.tree_machine.specs.Alike.{notes_of, places_of, replies_of};
+ghost use Rattle.tree_machine.specs.Flat.{number_code};
+ghost use Rattle.tree_machine.specs.FormCode.{astray_code, list_code, note_code, reply_code, state_code};
+
+use crate::deeds_reading::{read_all_notes, read_all_replies, read_astray};
+use crate::machine::Machine;
+use crate::reading::{read_any_number, read_byte};
+use crate::state::{State, Thread};
+use sched_program::{OutOfMemory, Sequence, ShortList};
+use std::alloc::Global;
+use std::mem::replace;
+
+/// Makes threads so many: what is too many goes, and what lacks are threads that began nothing.
+#[inline(always)]
+fn make_count<L: Drop>(threads: &mut Vec<Thread<L>>, count: usize) -> Result<(), OutOfMemory>
+    ensures { OnOk result (length threads.new.items ≡ count) }
+{
+    threads.truncate(count);
+    for _i in threads.len()..count {
+        threads.push(Thread {
+            replies: ShortList::new(),
+            place: None,
+            notes: ShortList::new(),
+        })?;
+    }
+    Ok(())
+}
+
+/// Reads what so many threads did and who went astray, behind the byte that tells how many there are, and the bytes behind
+/// that.
+#[inline(always)]
+fn read_deeds<'a, L>(bytes: &'a [u8], threads: &mut [Thread<L>]) -> Option<(Option<u8>, &'a [u8])>
+    ensures read { IfSome result (λ (astray, rest). bytes.now
+        ≡ flat_map (list_code reply_code) (replies_of threads.new)
+        ++ (list_code (list_code note_code) (notes_of threads.new) ++ (astray_code astray ++ rest.now))) }
+    ensures length { length threads.new ≡ length threads.old }
+{
+    let rest = read_all_replies(bytes, threads)?;
+    let (count, rest) = read_byte(rest)?;
+    if usize::from(count) != threads.len() {
+        return None;
+    }
+    let rest = read_all_notes(rest, threads)?;
+    read_astray(rest)
+}
+
+/// Reads the number of steps, and how many threads there are, which are four at most.
+#[inline(always)]
+fn read_head(bytes: &[u8]) -> Option<(u64, u8, &[u8])>
+    ensures read { IfSome result (λ (steps, count, rest). bytes.now ≡ number_code steps ++ count ∷ rest.now) }
+    ensures few { IfSome result (λ (steps, count, rest). count ≤ 4) }
+{
+    let (steps, rest) = read_any_number(bytes)?;
+    let (count, rest) = read_byte(rest)?;
+    if count <= 4 {
+        Some((steps, count, rest))
+    } else {
+        None
+    }
+}
+
+/// Reads all that stands behind the number of threads.
+#[inline(always)]
+fn read_body<M: Machine>(
+    alloc: Global,
+    machine: M,
+    bytes: &[u8],
+    memory: &mut M::Mem,
+    threads: &mut [Thread<M::Loc>],
+    astray: &mut Option<u8>,
+) -> Result<bool, OutOfMemory>
+    ensures read { IfOk result (λ read. IsTrue read → bytes.now
+        ≡ flat_map (list_code reply_code) (replies_of threads.new)
+        ++ (list_code (list_code note_code) (notes_of threads.new)
+        ++ (astray_code astray.new ++ M.whole_code memory.new (places_of threads.new)))) }
+    ensures length { length threads.new ≡ length threads.old }
+{
+    let Some((thread, rest)) = read_deeds(bytes, threads) else {
+        return Ok(false);
+    };
+    *astray = thread;
+    machine.read_whole(alloc, rest, memory, threads)
+}
+
+impl<M: Machine> State<M> {
+    /// Reads a state from its bytes into this one, in the room that this one has: of memory it asks for no more than what
+    /// that lacks. Where it answers yes, the bytes are those of the state that it then is. It may answer no to any bytes,
+    /// and does to those of no state; then, and after a refusal of memory, the state is of no use but to be read into.
+    pub fn read_in(&mut self, alloc: Global, machine: M, bytes: &[u8]) -> Result<bool, OutOfMemory>
+        ensures { IfOk result (λ read. IsTrue read → bytes.now ≡ state_code M.whole_code self.new) }
+    {
+        let Some((steps, count, rest)) = read_head(bytes) else {
+            return Ok(false);
+        };
+        let mut threads = replace(&mut self.threads, Sequence::new(alloc)).into_vec();
+        make_count(&mut threads, usize::from(count))?;
+        let lent = threads.as_mut_slice();
+        let read = read_body(
+            alloc,
+            machine,
+            rest,
+            &mut self.memory,
+            lent,
+            &mut self.astray,
+        );
+        self.threads = Sequence::from_vec(threads);
+        self.steps = steps;
+        read
+    }
+}
