@@ -15,6 +15,7 @@ mod settling;
 mod starting;
 mod tally;
 mod tied;
+mod waiting;
 mod working;
 
 pub use crate::answer::{Answer, Report, Share};

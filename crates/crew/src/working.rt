@@ -6,6 +6,7 @@ use crate::gate::Gate;
 use crate::ready::Ready;
 use crate::tally::{Ledgers, Tally};
 use crate::tied::{Made, Tie, Tied};
+use crate::waiting::{read_soon, write_soon};
 use book::{EnterFault, Leftovers, Merge, Stock};
 use claims::{Claims, Seat};
 use sched_program::{OutOfMemory, Program};
@@ -175,7 +176,7 @@ impl<'a, K: Tie<M, State<M>>, M: Machine> Layer<'a, K, M> {
         if places.is_empty() {
             return Ok(Vec::new(self.alloc));
         }
-        let desk = desk.read(rt);
+        let desk = read_soon(rt, desk);
         self.entries_at(&*desk, places.as_slice())
     }
 
@@ -241,7 +242,7 @@ impl<'a, M: Machine, G: Gate, R: Wait> Exploration<'a, M, G, R> {
         at_once: bool,
     ) -> Option<RwLockWriteGuard<'l, Tied<J, K, M>>> {
         if at_once {
-            Some(desk.write(self.rt))
+            Some(write_soon(self.rt, desk))
         } else {
             desk.try_write()
         }
