@@ -1,11 +1,12 @@
 //! The nodes of the shared memory.
-ghost use Rattle.std.specs.Prelude.{◌≡◌, ◌+◌, ◌<◌, length, IfOk, OnOk, OnErr};
+ghost use Rattle.std.specs.Prelude.{◌≡◌, ◌+◌, ◌<◌, ◌++◌, length, IfOk, OnOk, OnErr};
 ghost use Rattle.natmit.specs.Memory.{plain, is_plain, key_in, shape_in, shapes, word_on, with_word, node_at};
 ghost use Rattle.natmit.specs.Memory.{key_at, set_word, internal_over, with_internal, new_internal, put_at};
 
 use sched_program::{OutOfMemory, Sequence};
 use std::alloc::Global;
-use tree_machine::{Shape, Shapes, Side, copy_into, extended, short_number_of, side_of};
+use std::mem::replace;
+use tree_machine::{Shape, Shapes, Side, copy_into, short_number_of, side_of};
 
 /// A child word.
 #[derive(Clone, Copy, PartialEq, Eq, Hash)]
@@ -126,6 +127,19 @@ fn internal_over(key: u8, other: u8, new: u16, leaf: u16) -> Node
     }
 }
 
+/// Puts nodes behind those of a list, in the room that it has as far as that is enough. Where memory is refused the list is
+/// as it was.
+fn lengthen(alloc: Global, nodes: &mut Sequence<Node>, more: &[Node]) -> Result<(), OutOfMemory>
+    ensures ok { OnOk result (nodes.new ≡ nodes.old ++ more.now) }
+    ensures err { OnErr result (nodes.new ≡ nodes.old) }
+{
+    let mut items = replace(nodes, Sequence::new(alloc)).into_vec();
+    let longer = items.extend_from_slice(more);
+    *nodes = Sequence::from_vec(items);
+    longer?;
+    Ok(())
+}
+
 impl NatMitMem {
     /// A node by its number; a leaf of key 0 where there is no such node.
     pub fn node(&self, x: u16) -> Node
@@ -161,7 +175,7 @@ impl NatMitMem {
             Node::Leaf { key },
             internal_over(key, other, new_leaf, leaf),
         ];
-        self.nodes = extended(alloc, &self.nodes, &more)?;
+        lengthen(alloc, &mut self.nodes, &more)?;
         Ok(new)
     }
 
