@@ -39,7 +39,7 @@ pub struct Row {
 /// The number of a parent that stands for none.
 const NO_PARENT: u32 = u32::MAX;
 
-/// A row in 32 bytes, since a book has one for each state. Contracts see the row itself.
+/// A row in 20 bytes, since a book has one for each state. Contracts see the row itself.
 #[derive(Drop)]
 pub struct PackedRow {
     parent: u32,

@@ -30,3 +30,4 @@ pub use crate::leftovers::Leftovers;
 pub use crate::replayed::{Replay, ReplayFault};
 pub use crate::replaying::replay;
 pub use crate::stock::Stock;
+pub use lin::{Order, ShortName};

@@ -1,8 +1,8 @@
 //! Replays of schedules.
 
 use crate::fixtures::{Broken, TWO_INSERTS, program_of, replayed, settled};
-use book::{Finding, Replay};
-use sched_program::OpId;
+use book::{Finding, Order, Replay};
+use sched_program::{OpId, ShortList};
 use std::alloc::Global;
 use std::test::Fail;
 use tree_machine::Atomic;
@@ -27,10 +27,21 @@ const ENDS: [(&[u8], End); 4] = [
     (&[7], Err(1)),
 ];
 
+/// Whether an order has these names.
+fn has_names(order: &Order, names: &[OpId]) -> bool {
+    let mut found = ShortList::<OpId, 12>::new();
+    for name in order.as_slice() {
+        if found.len() < 12 {
+            found.push(name.name());
+        }
+    }
+    found.as_slice() == names
+}
+
 /// Whether a finding is this linearization.
 pub fn is_order(finding: &Finding, order: &[OpId]) -> bool {
     match finding {
-        Finding::Sound(found) => found.as_slice() == order,
+        Finding::Sound(found) => has_names(found, order),
         _ => false,
     }
 }

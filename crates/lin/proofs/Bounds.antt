@@ -1,6 +1,6 @@
 -- A linearization has no more operations than its program, and so twelve at most.
 use Rattle.std.proofs.Common.{◌≡◌, ◌≢◌, ℕ, zero, suc, ◌+◌, ◌<◌, ◌≤◌, inl, inr, true, false, true≢false, List, [], ◌∷◌}
-use Rattle.std.proofs.Common.{length, map, IsSome, IfSome, All, AllPairs, Contains, slice_get, refl, sym, ◌∙◌, ap, ap₂}
+use Rattle.std.proofs.Common.{length, map, IsSome, IfSome, All, AllPairs, Contains, slice_get, refl, sym, ap, ap₂}
 use Rattle.std.proofs.Common.{arith, subst, eqb, eqb-true}
 use Rattle.std.specs.Prelude.{option_and_then, sum_by}
 use Rattle.std.specs.List.{list_any, AllByRecursion, IsDistinct}

@@ -9,3 +9,4 @@ pub mod Timelines
 pub mod Steps
 pub mod Bounds
 pub mod Replies
+mod Places

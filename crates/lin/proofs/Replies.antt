@@ -1,6 +1,6 @@
 -- A linearization before a reply is one after it exactly if running it gives that reply.
-use Rattle.std.proofs.Common.{◌≡◌, ◌≢◌, ℕ, zero, suc, ◌+◌, ◌<◌, ◌≤◌, ◌⊎◌, inl, inr, Bool, true, false, true≢false, cond}
-use Rattle.std.proofs.Common.{◌||◌, List, [], ◌∷◌, ◌++◌, length, get_or, Option, Some, None, IsSome, IfSome, All}
+use Rattle.std.proofs.Common.{◌≡◌, ◌≢◌, ℕ, zero, suc, ◌<◌, ◌≤◌, ◌⊎◌, inl, inr, Bool, true, false, true≢false, cond}
+use Rattle.std.proofs.Common.{◌||◌, List, [], ◌∷◌, ◌++◌, length, get_or, Option, Some, None, IsSome, IfSome}
 use Rattle.std.proofs.Common.{AllPairs, Contains, slice_get, refl, sym, ◌∙◌, ap, arith, subst}
 use Rattle.std.specs.Prelude.{option_and_then, IsSomeAnd, MatchOption, slice_index}
 use mathlib.Core.Bool.{beq}
@@ -57,7 +57,7 @@ push_cases (x ∷ order) a (suc i) b h =
     ]
 
 -- ---- what an operation replies
-told_by : (o : Option Op) (keys : Keys) (r : Bool) → option_map (λ op. reply_on op keys) o ≡ Some r
+pub told_by : (o : Option Op) (keys : Keys) (r : Bool) → option_map (λ op. reply_on op keys) o ≡ Some r
     → (op : Op) × (o ≡ Some op) × (r ≡ reply_on op keys)
 told_by None keys r h = absurd (let q : None ≡ Some r = h in cc)
 told_by (Some op) keys r h = (op, refl, (let q : Some (reply_on op keys) ≡ Some r = h in cc))

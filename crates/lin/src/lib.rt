@@ -12,10 +12,12 @@ mod order;
 mod progress;
 mod reply;
 mod searcher;
+mod short_name;
 mod short_order;
 mod timeline;
 
 pub use order::check_order;
 pub use reply::order_with_reply;
 pub use searcher::{judge, judge_counted};
+pub use short_name::ShortName;
 pub use short_order::{Order, judge_order};

@@ -10,6 +10,7 @@ ghost use Rattle.lin.specs.Linearization.{IsLinearization};
 ghost use Rattle.lin.specs.Reply.{ending_with, reply_in, HasReplied};
 
 use crate::key_set::KeySet;
+use crate::short_name::ShortName;
 use crate::short_order::{Order, ending_with};
 use sched_program::{OpId, Program};
 
@@ -36,15 +37,16 @@ pub fn order_with_reply(program: &Program, order: &Order, name: OpId, reply: boo
 
 /// What the operation replies where those of the order are run one after the other: at its own place, or after the last
 /// if it has none.
-fn reply_in(program: &Program, order: &[OpId], name: OpId) -> Option<bool>
+fn reply_in(program: &Program, order: &[ShortName], name: OpId) -> Option<bool>
     ensures { result ≡ reply_in program.now (keys_of program.now.initial) order.now name }
 {
     let mut keys = KeySet::of(program.initial());
     for other in order {
-        if *other == name {
+        let other = other.name();
+        if other == name {
             return told(program, keys, name);
         }
-        keys = keys.after(program.op(*other)?);
+        keys = keys.after(program.op(other)?);
     }
     told(program, keys, name)
 }

@@ -1,16 +1,19 @@
 //! Orders that lie in the value itself.
 
-ghost use Rattle.std.specs.Prelude.{◌≡◌, ◌≤◌, ◌+◌, length, IfOk, IfSome, IfNone, MatchOption};
+ghost use Rattle.std.specs.Prelude.{◌≡◌, ◌≤◌, ◌+◌, length, All, IfOk, IfSome, IfNone, MatchOption};
 ghost use Rattle.lin.specs.Linearization.{IsLinearization, IsLinearizable};
+ghost use Rattle.lin.specs.Completion.{listed_in};
 ghost use Rattle.lin.specs.Reply.{ending_with};
+ghost use Rattle.lin.specs.Timeline.{HasPlace};
 
 use crate::searcher::judge;
+use crate::short_name::ShortName;
 use sched_program::{History, OpId, OutOfMemory, Program, ShortList};
 use std::alloc::Global;
 
 /// Operations of a program in some order, each once: there are twelve at most. It takes no memory, and a copy is a
-/// plain copy.
-pub type Order = ShortList<OpId, 12>;
+/// plain copy of thirteen bytes.
+pub type Order = ShortList<ShortName, 12>;
 
 /// The answer of `judge` as such an order.
 pub fn judge_order(
@@ -31,28 +34,42 @@ pub fn judge_order(
 
 /// The same names.
 fn order_of(names: &[OpId]) -> Order
-    requires { length names.now ≤ 12 }
+    requires few { length names.now ≤ 12 }
+    requires places { All HasPlace names.now }
     ensures { result ≡ names.now }
 {
     let mut order = Order::new();
     for name in names {
-        order.push(*name);
+        order.push(ShortName::of(*name));
     }
     order
 }
 
+/// Whether an order has an operation.
+fn lists(order: &Order, name: OpId) -> bool
+    ensures { result ≡ listed_in order.now name }
+{
+    for other in order.as_slice() {
+        if other.name() == name {
+            return true;
+        }
+    }
+    false
+}
+
 /// The order with an operation at its end, unless it stands there already. None where there is no room.
 pub(crate) fn ending_with(order: &Order, name: OpId) -> Option<Order>
+    requires { HasPlace name }
     ensures { MatchOption result (13 ≤ length (ending_with order.now name))
         (λ longer. longer ≡ ending_with order.now name) }
 {
-    if order.as_slice().contains(&name) {
+    if lists(order, name) {
         return Some(*order);
     }
     if order.len() == 12 {
         return None;
     }
     let mut longer = *order;
-    longer.push(name);
+    longer.push(ShortName::of(name));
     Some(longer)
 }

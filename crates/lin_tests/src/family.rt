@@ -1,7 +1,7 @@
 //! The judge beside the two plainer searchers, on the histories of many interleavings.
 
 use crate::broken::{Broken, Case, ensure};
-use crate::fixtures::{history_of, is_order, note, program_of};
+use crate::fixtures::{history_of, is_order, names_of, note, program_of, push_name};
 use crate::searchers::agree;
 use lin::{Order, check_order, judge_order, order_with_reply};
 use sched_program::{History, Note, OpId, OutOfMemory, Program};
@@ -159,8 +159,8 @@ fn finished_last(events: &[Event; 6]) -> Option<(OpId, bool)> {
 /// An order of at most eleven names with one more at its end, unless it has that name.
 fn with_name(order: &Order, name: OpId) -> Order {
     let mut longer = *order;
-    if !order.as_slice().contains(&name) && order.len() < 12 {
-        longer.push(name);
+    if !names_of(order).as_slice().contains(&name) {
+        push_name(&mut longer, name);
     }
     longer
 }
@@ -174,7 +174,7 @@ fn gives_reply(
     name: OpId,
     reply: bool,
 ) -> Result<(), Broken> {
-    let longer = with_name(order, name);
+    let longer = names_of(&with_name(order, name));
     let told = order_with_reply(program, order, name, reply);
     if check_order(program, after, longer.as_slice()) {
         ensure(

@@ -3,8 +3,8 @@
 //! A program and a history come in a box each: whoever lets one go makes one call, and not one for each of its lists.
 
 use crate::broken::Broken;
-use lin::Order;
-use sched_program::{History, Note, OpId, Program};
+use lin::{Order, ShortName};
+use sched_program::{History, Note, OpId, Program, ShortList};
 use std::alloc::Global;
 
 /// The program of a text that is one.
@@ -55,21 +55,37 @@ pub fn is_answer(answer: &Option<Vec<OpId>>, expected: Option<&[OpId]>) -> bool 
     }
 }
 
+/// Puts a name at the end of an order, where there is room and the name has a place.
+pub fn push_name(order: &mut Order, name: OpId) {
+    if order.len() < 12 && name.thread < 4 && name.index < 8 {
+        order.push(ShortName::of(name));
+    }
+}
+
 /// An order of these names, which are at most twelve.
 pub fn order_of(names: &[OpId]) -> Order {
     let mut order = Order::new();
     for name in names {
-        if order.len() < 12 {
-            order.push(*name);
-        }
+        push_name(&mut order, *name);
     }
     order
+}
+
+/// The names of an order.
+pub fn names_of(order: &Order) -> ShortList<OpId, 12> {
+    let mut names = ShortList::new();
+    for name in order.as_slice() {
+        if names.len() < 12 {
+            names.push(name.name());
+        }
+    }
+    names
 }
 
 /// Whether it is this order, or none.
 pub fn is_order(answer: &Option<Order>, expected: Option<&[OpId]>) -> bool {
     match (answer, expected) {
-        (Some(order), Some(names)) => order.as_slice() == names,
+        (Some(order), Some(names)) => names_of(order).as_slice() == names,
         (None, None) => true,
         _ => false,
     }

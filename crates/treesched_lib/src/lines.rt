@@ -4,7 +4,7 @@ ghost use Rattle.std.specs.String.{string_bytes};
 ghost use Rattle.sched_program.specs.Name.{value_at};
 ghost use Rattle.treesched_lib.specs.Lines as lines;
 
-use book::{Finding, Totals};
+use book::{Finding, ShortName, Totals};
 use crew::{Answer, Report, Share};
 use sched_program::{History, Op, OpId, OutOfMemory, Program};
 use std::fmt::Write;
@@ -111,7 +111,7 @@ fn put_list(page: &mut String, numbers: &[u8]) -> Result<(), OutOfMemory>
 }
 
 /// The line of a linearization.
-fn put_order(page: &mut String, order: &[OpId]) -> Result<(), OutOfMemory>
+fn put_order(page: &mut String, order: &[ShortName]) -> Result<(), OutOfMemory>
     ensures { IfOk result (λ _. string_bytes page.new ≡ string_bytes page.old ++ lines.order_text order.now) }
 {
     if order.is_empty() {
@@ -120,7 +120,7 @@ fn put_order(page: &mut String, order: &[OpId]) -> Result<(), OutOfMemory>
     page.push_str("order")?;
     for id in order {
         page.push(' ')?;
-        put_name(page, *id)?;
+        put_name(page, id.name())?;
     }
     page.push('\n')
 }

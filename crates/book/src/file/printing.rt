@@ -5,7 +5,8 @@ ghost use Rattle.book.specs.Text.Files.{ended, IsName, name_text, order_text, st
 ghost use Rattle.book.specs.Text.Written.{head_text, line_text, book_text, AreProper};
 
 use itoa::Buffer;
-use sched_program::{OpId, OutOfMemory};
+use lin::ShortName;
+use sched_program::OutOfMemory;
 
 /// Writes a number in decimal.
 fn push_number(text: &mut Vec<u8>, number: usize) -> Result<(), OutOfMemory>
@@ -16,15 +17,16 @@ fn push_number(text: &mut Vec<u8>, number: usize) -> Result<(), OutOfMemory>
 }
 
 /// Writes the name of an operation.
-fn push_name(text: &mut Vec<u8>, id: OpId) -> Result<(), OutOfMemory>
-    requires { IsName id }
-    ensures { OnOk result (text.new.items ≡ text.old.items ++ name_text id) }
+fn push_name(text: &mut Vec<u8>, name: ShortName) -> Result<(), OutOfMemory>
+    requires { IsName name }
+    ensures { OnOk result (text.new.items ≡ text.old.items ++ name_text name) }
 {
+    let id = name.name();
     text.extend_from_slice(&[b'0' + id.thread, b'.', b'0' + id.index])
 }
 
 /// Writes the names of an order.
-fn push_order(text: &mut Vec<u8>, order: &[OpId]) -> Result<(), OutOfMemory>
+fn push_order(text: &mut Vec<u8>, order: &[ShortName]) -> Result<(), OutOfMemory>
     requires { All IsName order.now }
     ensures { OnOk result (text.new.items ≡ text.old.items ++ order_text order.now) }
 {
@@ -62,7 +64,7 @@ pub fn push_line(
     text: &mut Vec<u8>,
     parent: usize,
     thread: u8,
-    order: &[OpId],
+    order: &[ShortName],
 ) -> Result<(), OutOfMemory>
     requires thread { thread < 10 }
     requires names { All IsName order.now }

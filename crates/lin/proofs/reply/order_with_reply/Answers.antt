@@ -1,10 +1,19 @@
-use Rattle.std.proofs.Common.{◌≡◌, Some, Bool, List, sym, ap, ◌∙◌}
+use Rattle.std.proofs.Common.{◌≡◌, Some, List, sym, ap, ◌∙◌}
 use Rattle.sched_program.specs.declared.operation.OpId.{OpId}
 use Rattle.lin.specs.Keys.{keys_of}
 use Rattle.lin.specs.Reply.{reply_in}
+use Rattle.lin.proofs.Places.{reply_placed}
 use Rattle.lin.proofs.Replies.{answer_told, kept_reply, not_same, same_answer}
 use Rattle.lin.proofs.reply.order_with_reply.Goals as goal
 use Rattle.lin.proofs.reply.order_with_reply.Goals.{in_default-via-in-Some+else-told-reply, in_default-via-in_default}
+
+pub ending_with-requires : goal.ending_with-requires
+ending_with-requires c =
+    let program = c.args.program.now in
+    let is : reply_in program (keys_of program.initial) c.as_slice.result.now c.args.name ≡ Some c.in-Some.told =
+    sym c.reply_in.ensures ∙ c.in-Some.is in
+    reply_placed program c.initial.ensures.limits (keys_of program.initial) c.as_slice.result.now c.args.name
+    c.in-Some.told is
 
 pub returns-in-Some : goal.returns-in-Some
 returns-in-Some c =

@@ -8,8 +8,9 @@ use Rattle.book.proofs.file.printing.push_order.Goals as goal
 
 pub push_name-requires-in-loop-id : goal.push_name-requires-in-loop-id
 push_name-requires-in-loop-id c =
-    All-get_or IsName c.in-Some.rest.now c.loop-id.id-index _ c.loop-id-test.true
-    (All-rest IsName c.in-Some.first.now c.in-Some.rest.now c.args.order.now c.in-Some.ensures.cases.0 c.requires)
+    rw c.id-item.is
+    (All-get_or IsName c.in-Some.rest.now c.loop-id.id-index c.id-item.result c.loop-id-test.true
+    (All-rest IsName c.in-Some.first.now c.in-Some.rest.now c.args.order.now c.in-Some.ensures.cases.0 c.requires))
 
 pub returns : goal.returns
 returns c =

@@ -1,0 +1,73 @@
+-- Each operation of a program has a place, and so has each of a linearization, and each of which it is known what it
+-- replies.
+use Rattle.std.proofs.Common.{◌≡◌, ◌<◌, ◌≤◌, inl, inr, Bool, true, false, cond, List, [], ◌∷◌, Option, Some, None}
+use Rattle.std.proofs.Common.{length, IfSome, All, slice_get, sym, ◌∙◌, ap, arith, subst}
+use Rattle.std.specs.Option.{option_map}
+use Rattle.std.specs.Prelude.{option_and_then}
+use Rattle.std.proofs.lemmas.List.Elements.{All-nil, All-cons, All-get_or}
+use Rattle.std.proofs.lemmas.Option.{slice_get_cases, slice_get_within}
+use Rattle.sched_program.specs.declared.operation.OpId.{OpId}
+use Rattle.sched_program.specs.declared.operation.Op.{Op}
+use Rattle.sched_program.specs.Name.{same_name}
+use Rattle.sched_program.specs.Program.{Program, IsWithinLimits, op_at}
+use Rattle.sched_program.specs.History.{History, reply}
+use Rattle.lin.specs.Keys.{Keys, keys_of, keys_after, reply_on}
+use Rattle.lin.specs.Linearization.{GivesReplies, IsLinearization}
+use Rattle.lin.specs.Timeline.{HasPlace}
+use Rattle.lin.specs.Reply.{reply_in}
+use Rattle.lin.proofs.Lists.{IsSomeAnd-value}
+use Rattle.lin.proofs.Replies.{told_by}
+
+module _ (program : Program) (limits : IsWithinLimits program) where
+  pub named_placed : (a : OpId) (o : Op) → op_at program a.thread a.index ≡ Some o → HasPlace a
+  named_placed a o is =
+      elim (slice_get_cases program.threads a.thread).1 [
+        | inl found ↦
+            let there : slice_get found.0 a.index ≡ Some o =
+            sym (ap (option_and_then (λ ops. slice_get ops a.index)) found.2) ∙ is in
+            let index : a.index < length found.0 = slice_get_within found.0 a.index o there in
+            let counts : (1 ≤ length found.0) × (length found.0 ≤ 6) =
+            subst (λ ops. (1 ≤ length ops) × (length ops ≤ 6)) found.3
+            (All-get_or (λ ops. (1 ≤ length ops) × (length ops ≤ 6)) program.threads a.thread found.0 found.1
+            limits.op_counts) in
+            let few : length program.threads ≤ 4 = limits.thread_count in
+            let thread : a.thread < length program.threads = found.1 in
+            let most : length found.0 ≤ 6 = counts.1 in
+            (omega arith, omega arith)
+        | inr past ↦
+            let none = sym (ap (option_and_then (λ ops. slice_get ops a.index)) past.1) ∙ is in cc
+      ]
+
+  all_placed : (history : History) (keys : Keys) (order : List OpId) → GivesReplies program history keys order
+      → All HasPlace order
+  all_placed history keys [] given = All-nil HasPlace
+  all_placed history keys (a ∷ rest) given =
+      let op =
+      IsSomeAnd-value (op_at program a.thread a.index)
+      (λ (o : Op). IfSome (reply history a) (λ r. r ≡ reply_on o keys)
+      × GivesReplies program history (keys_after o keys) rest) given in
+      All-cons HasPlace a rest (named_placed a op.0 op.1) (all_placed history (keys_after op.0 keys) rest op.2.1)
+
+  pub linearization_placed : (history : History) (order : List OpId) → IsLinearization program history order
+      → All HasPlace order
+  linearization_placed history order is = all_placed history (keys_of program.initial) order is.replies
+
+  -- it replies at its own place, or in what comes behind
+  replies_placed : (keys : Keys) (rest : List OpId) (a : OpId) (r : Bool) (is_here : Bool) (next : Option Op)
+      → ((o : Op) → reply_in program (keys_after o keys) rest a ≡ Some r → HasPlace a)
+      → cond is_here (option_map (λ o. reply_on o keys) (op_at program a.thread a.index))
+      (option_and_then (λ o. reply_in program (keys_after o keys) rest a) next) ≡ Some r → HasPlace a
+  replies_placed keys rest a r true next later is =
+      let op = told_by (op_at program a.thread a.index) keys r is in
+      named_placed a op.0 op.1
+  replies_placed keys rest a r false None later is = absurd (let none : None ≡ Some r = is in cc)
+  replies_placed keys rest a r false (Some o) later is = later o is
+
+  pub reply_placed : (keys : Keys) (order : List OpId) (a : OpId) (r : Bool) → reply_in program keys order a ≡ Some r
+      → HasPlace a
+  reply_placed keys [] a r is =
+      let op = told_by (op_at program a.thread a.index) keys r is in
+      named_placed a op.0 op.1
+  reply_placed keys (b ∷ rest) a r is =
+      replies_placed keys rest a r (same_name b a) (op_at program b.thread b.index)
+      (λ o. reply_placed (keys_after o keys) rest a r) is
