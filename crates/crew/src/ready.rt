@@ -83,10 +83,13 @@ impl<'a, K: Tie<M, State<M>>, M: Machine> Ready<'a, K, M> {
         Ok(Made::new(self.id, expansion))
     }
 
-    /// Looks at its state. What it answers is of no use.
+    /// Looks at its state: at its threads, at its memory, and at what stands behind both in the state itself. What it
+    /// answers is of no use.
     pub fn look_at(&self) -> usize {
-        let seen = self.machine.look_at(&self.state.memory);
-        finished_in(&*self.state).wrapping_add(usize::from(seen))
+        let state = &*self.state;
+        let seen = self.machine.look_at(&state.memory);
+        let astray = usize::from(state.astray.is_some());
+        finished_in(state).wrapping_add(usize::from(seen) + astray)
     }
 
     /// Its state.

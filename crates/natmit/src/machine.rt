@@ -90,9 +90,13 @@ impl Machine for NatMit {
 
     #[inline(always)]
     fn look_at(&self, mem: &NatMitMem) -> u8 {
+        // Nodes that lie six apart, ten bytes each, are in all pieces that the processor fetches of the first twenty.
+        let nodes = mem.nodes.as_slice();
         let mut keys = 0u8;
-        for node in mem.nodes.as_slice() {
-            keys = keys.wrapping_add(key_in(*node));
+        for piece in 0..4 {
+            if let Some(node) = nodes.get(6 * piece) {
+                keys = keys.wrapping_add(key_in(*node));
+            }
         }
         keys
     }

@@ -7,15 +7,51 @@ ghost use Rattle.tree_machine.specs.declared.state.State.{State};
 ghost use Rattle.tree_machine.specs.Step.{IsEnabled, ready, step, stepped, notes_at_step, after_outcome, astray_by};
 ghost use Rattle.tree_machine.specs.Step.{finished_counts, Fits};
 
-use crate::list::emptied;
 use crate::machine::{Machine, Outcome};
 use crate::state::{State, StepFault, Thread, copy_reserved, finished_counts, place_or};
 use sched_program::{Op, OutOfMemory, Program, Sequence};
 use std::alloc::Global;
 use std::mem::replace;
 
-/// Copies of threads, in the memory of a list of others. The room for all of them is asked for at once, so that none of
-/// them has to be moved later.
+/// Makes a thread equal to another one where it stands: field by field from where the other lies, so that nothing is put
+/// together apart and moved.
+#[inline(always)]
+fn copy_thread_into<M: Machine>(
+    alloc: Global,
+    machine: M,
+    thread: &Thread<M::Loc>,
+    copy: &mut Thread<M::Loc>,
+) -> Result<(), OutOfMemory>
+    ensures { OnOk result (copy.new ≡ thread.now) }
+{
+    copy.replies = thread.replies;
+    copy.notes = thread.notes;
+    copy.place = match &thread.place {
+        Some(place) => Some(machine.copy_loc(alloc, place)?),
+        None => None,
+    };
+    Ok(())
+}
+
+/// The same for as many threads as others.
+#[inline(always)]
+fn copy_each<M: Machine>(
+    alloc: Global,
+    machine: M,
+    threads: &[Thread<M::Loc>],
+    copies: &mut [Thread<M::Loc>],
+) -> Result<(), OutOfMemory>
+    requires { length copies.old ≡ length threads.now }
+    ensures { OnOk result (copies.new ≡ threads.now) }
+{
+    for index in 0..threads.len() {
+        copy_thread_into(alloc, machine, &threads[index], &mut copies[index])?;
+    }
+    Ok(())
+}
+
+/// Copies of threads, in the memory of a list of others: where these stand, if they are as many, as those of another state
+/// of the program are. Else the room for all is asked for at once, so that none has to be moved later.
 #[inline(always)]
 fn copied_threads<M: Machine>(
     alloc: Global,
@@ -25,7 +61,12 @@ fn copied_threads<M: Machine>(
 ) -> Result<Vec<Thread<M::Loc>>, OutOfMemory>
     ensures { IfOk result (λ copies. copies.items ≡ threads.now) }
 {
-    let mut copies = emptied(others).into_vec();
+    let mut copies = others.into_vec();
+    if copies.len() == threads.len() {
+        copy_each(alloc, machine, threads, copies.as_mut_slice())?;
+        return Ok(copies);
+    }
+    copies.clear();
     copies.reserve(threads.len())?;
     copy_reserved(alloc, machine, threads, &mut copies)?;
     Ok(copies)
