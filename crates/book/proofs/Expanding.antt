@@ -1,5 +1,5 @@
 -- The steps of a state are taken thread by thread.
-use Rattle.std.proofs.Common.{◌≡◌, ℕ, zero, suc, ◌+◌, inl, inr, cond, Some, None, is_some, List, [], ◌∷◌, ◌++◌, map}
+use Rattle.std.proofs.Common.{◌≡◌, ℕ, zero, suc, ◌+◌, inl, inr, cond, Option, Some, None, is_some, List, [], ◌∷◌, ◌++◌, map}
 use Rattle.std.proofs.Common.{filter, refl, sym, ap, ◌∙◌, arith, slice_get, subst, append-nil}
 use Rattle.std.specs.List.{range_with_len}
 use Rattle.std.proofs.lemmas.List.{map_push}
@@ -9,6 +9,9 @@ use Rattle.book.specs.declared.finding.Finding.{Finding}
 use Rattle.book.specs.Schedule.{StepMachine}
 use Rattle.book.specs.Entries.{Successor}
 use Rattle.book.specs.Law.{IsExpansion}
+use Rattle.book.specs.Labels.{Labelled, bare, bares, AreStepsKnownBy}
+use Rattle.book.specs.Expanding.{Puts, PutsStep}
+use Rattle.book.proofs.Labels.{bares_more, steps_known_more}
 
 get-single : {X : Type 0} (x : X) (k : ℕ) (y : X) → slice_get (x ∷ []) k ≡ Some y → x ≡ y
 get-single x zero y h = cc
@@ -95,6 +98,38 @@ module _ {S : Type 0} (m : StepMachine S) (right : S → Finding → Type 0) (s 
   front_turn n xs ys x front is_thread leads is fits pushed =
       rw (pushed, ← is_thread)
       (front_more x.thread xs x.state x.finding (rw is_thread front) (rw is_thread leads) is fits)
+
+  pub puts_next : (label_of : S → List ℕ) (t : ℕ) (old new : List (Successor (Labelled S)))
+      (x : Successor (Labelled S)) (next : S) → m.step s t ≡ Some next → new ≡ old ++ x ∷ [] → x.thread ≡ t
+      → x.state.state ≡ next → right next x.finding → m.Fits next → x.state.label ≡ label_of next
+      → PutsStep m right label_of s t old new
+  puts_next label_of t old new x next leads pushed is_thread is_state is fits label =
+      rw leads (x, pushed, is_thread, is_state, is, fits, label)
+
+  -- the step of the next thread, as far as it has one
+  front_puts : (label_of : S → List ℕ) (n : ℕ) (old new : List (Successor (Labelled S))) (o : Option S)
+      → m.step s n ≡ o → IsFront m right s n (bares old) → Puts m right label_of n old new o
+      → IsFront m right s (n + 1) (bares new)
+  front_puts label_of n old new None none front same = rw same (front_same n (bares old) front none)
+  front_puts label_of n old new (Some next) leads front (x, pushed, is_thread, is_state, is, fits, label) =
+      front_turn n (bares old) (bares new) (bare x) front is_thread (leads ∙ ap Some (sym is_state))
+      (subst (λ r. right r x.finding) (sym is_state) is) (subst m.Fits (sym is_state) fits)
+      (ap bares pushed ∙ bares_more old x)
+
+  pub front_put : (label_of : S → List ℕ) (n : ℕ) (old new : List (Successor (Labelled S)))
+      → IsFront m right s n (bares old) → PutsStep m right label_of s n old new
+      → IsFront m right s (n + 1) (bares new)
+  front_put label_of n old new front put = front_puts label_of n old new (m.step s n) refl front put
+
+  known_puts : (label_of : S → List ℕ) (n : ℕ) (old new : List (Successor (Labelled S))) (o : Option S)
+      → AreStepsKnownBy label_of old → Puts m right label_of n old new o → AreStepsKnownBy label_of new
+  known_puts label_of n old new None known same = rw same known
+  known_puts label_of n old new (Some next) known (x, pushed, is_thread, is_state, is, fits, label) =
+      rw pushed (steps_known_more label_of old x known (label ∙ ap label_of (sym is_state)))
+
+  pub known_put : (label_of : S → List ℕ) (n : ℕ) (old new : List (Successor (Labelled S)))
+      → AreStepsKnownBy label_of old → PutsStep m right label_of s n old new → AreStepsKnownBy label_of new
+  known_put label_of n old new known put = known_puts label_of n old new (m.step s n) known put
 
   pub expansion_from_front : (xs : List (Successor S)) → IsFront m right s m.threads xs → IsExpansion m right s xs
   expansion_from_front xs front =

@@ -3,6 +3,7 @@ pub mod Findings
 pub mod Entries
 pub mod Ways
 pub mod Labels
+pub mod Expanding
 pub mod Laws
 pub mod Leftovers
 pub mod Law

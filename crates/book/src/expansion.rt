@@ -1,13 +1,14 @@
 //! All enabled steps of a state.
 ghost use Rattle.std.specs.Prelude.{◌≡◌, ℕ, ◌+◌, ◌^◌, ◌<◌, ◌↔◌};
-ghost use Rattle.std.specs.Prelude.{length, IsTrue, IfOk, IfSome, IfNone, Some, None, slice_get};
-ghost use Rattle.tree_machine.specs.Step.{Fits, step};
+ghost use Rattle.std.specs.Prelude.{◌≤◌, length, IsTrue, IfOk, Some, slice_get, vec_len, vec_capacity};
+ghost use Rattle.tree_machine.specs.Step.{Fits};
 ghost use Rattle.book.specs.Books.{HoldsSteps};
 ghost use Rattle.book.specs.Entries.{Successor};
 ghost use Rattle.book.specs.Labels.{AreStepsKnownBy, Labelled, bare, bares, label_by};
 ghost use Rattle.tree_machine.specs.declared.state.State.{State};
 ghost use Rattle.tree_machine.specs.History.{history_of};
-ghost use Rattle.book.specs.Findings.{IsFindingOf, IsLoan};
+ghost use Rattle.book.specs.Expanding.{PutsStep};
+ghost use Rattle.book.specs.Findings.{machine_of, IsFindingOf, IsLoan};
 
 use crate::book::Merge;
 use crate::finding::Finding;
@@ -130,8 +131,9 @@ fn labelled<M: Machine>(
     Ok(made)
 }
 
-/// The step of a thread, if it is enabled, with its finding. It is made in and of what is in stock.
-fn step_of<M: Machine>(
+/// Puts the step of a thread, if it is enabled, behind those in a list, with its finding. It is made in and of what is in
+/// stock, and put straight to where it stays: a step that is given back is moved several times.
+fn put_step_of<M: Machine>(
     alloc: Global,
     machine: M,
     program: &Program,
@@ -141,25 +143,24 @@ fn step_of<M: Machine>(
     is_ordered: bool,
     loan: &mut Loan,
     stock: &mut Stock<M>,
-) -> Result<Option<Stepped<State<M>>>, OutOfMemory>
+    steps: &mut Vec<Stepped<State<M>>>,
+) -> Result<(), OutOfMemory>
     requires fits { Fits (M.rules machine) program.now source.now }
     requires room { source.now.steps + 1 < 2 ^ 64 }
     requires ordered { IsTrue is_ordered → (M.rules machine).IsOrdered source.now.memory }
     requires loan { IsLoan program.now (history_of source.now) loan.old }
+    requires place { vec_len steps.old < vec_capacity steps.old }
     ensures loan { IfOk result (λ _. IsLoan program.now (history_of source.now) loan.new) }
-    ensures thread { IfOk result (λ o. IfSome o (λ x. x.thread ≡ thread)) }
-    ensures step { IfOk result
-        (λ o. IfSome o (λ x. step (M.rules machine) program.now source.now thread ≡ Some x.state.state)) }
-    ensures finding { IfOk result
-        (λ o. IfSome o (λ x. IsFindingOf (M.rules machine) program.now x.state.state x.finding)) }
-    ensures fits { IfOk result (λ o. IfSome o (λ x. Fits (M.rules machine) program.now x.state.state)) }
-    ensures label { IfOk result (λ o. IfSome o
-        (λ x. x.state.label ≡ label_by M.whole_code M.form_code (M.form_of machine) merge x.state.state)) }
-    ensures none { IfOk result (λ o. IfNone o (step (M.rules machine) program.now source.now thread ≡ None)) }
+    ensures put { IfOk result (λ _. PutsStep (machine_of (M.rules machine) program.now)
+        (IsFindingOf (M.rules machine) program.now)
+        (label_by M.whole_code M.form_code (M.form_of machine) merge) source.now thread
+        steps.old.items steps.new.items) }
+    ensures len { vec_len steps.new ≤ vec_len steps.old + 1 }
+    ensures capacity { vec_capacity steps.new ≡ vec_capacity steps.old }
 {
     let state = match stock.step(alloc, machine, program, source, thread) {
         Ok(next) => next,
-        Err(StepFault::NotEnabled) => return Ok(None),
+        Err(StepFault::NotEnabled) => return Ok(()),
         Err(StepFault::OutOfMemory) => return Err(OutOfMemory),
     };
     let next = &*state;
@@ -168,12 +169,13 @@ fn step_of<M: Machine>(
     )?;
     let spare = stock.spare_label(alloc);
     let known = label(alloc, machine, program, next, merge, &mut stock.room, spare)?;
-    Ok(Some(Stepped {
+    steps.push_reserved(Stepped {
         thread,
         state,
         known,
         finding,
-    }))
+    });
+    Ok(())
 }
 
 /// A state with the step of each enabled thread, in the order of the threads, each with its finding and with its label
@@ -303,12 +305,18 @@ impl<'a, M: Machine> Expansion<'a, M> {
         let threads = program.threads().len();
         let mut successors = stock.list(alloc, threads)?;
         for thread in 0..threads as u8 {
-            let step = step_of(
-                alloc, machine, program, state, thread, merge, is_ordered, &mut loan, stock,
+            put_step_of(
+                alloc,
+                machine,
+                program,
+                state,
+                thread,
+                merge,
+                is_ordered,
+                &mut loan,
+                stock,
+                &mut successors,
             )?;
-            if let Some(next) = step {
-                successors.push(next)?;
-            }
         }
         Ok(Expansion {
             machine,

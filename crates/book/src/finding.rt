@@ -64,6 +64,25 @@ pub(crate) fn judge_anew<M: Machine>(
     judge_order(alloc, program, &history)
 }
 
+/// The finding of a state that shows no fault without its history, which is judged from nothing.
+pub(crate) fn judged<M: Machine>(
+    alloc: Global,
+    machine: M,
+    program: &Program,
+    state: &State<M>,
+) -> Result<Finding, OutOfMemory>
+    requires fits { Fits (M.rules machine) program.now state.now }
+    requires shown { (state.now.astray ≡ None) × (M.rules machine).IsOrdered state.now.memory }
+    ensures { IfOk result (IsFindingOf (M.rules machine) program.now state.now) }
+{
+    // The machine is of use to contracts alone.
+    let _ = machine;
+    match judge_anew(alloc, program, state)? {
+        None => Ok(Finding::History),
+        Some(order) => Ok(Finding::Sound(order)),
+    }
+}
+
 /// The finding of a state, judged from nothing.
 pub(crate) fn find<M: Machine>(
     alloc: Global,
@@ -77,8 +96,5 @@ pub(crate) fn find<M: Machine>(
     if let Some(fault) = fault_in(machine, state) {
         return Ok(fault);
     }
-    match judge_anew(alloc, program, state)? {
-        None => Ok(Finding::History),
-        Some(order) => Ok(Finding::Sound(order)),
-    }
+    judged(alloc, machine, program, state)
 }

@@ -2,7 +2,6 @@
 ghost use Rattle.std.specs.Prelude.{◌≡◌, ◌≤◌, if◌then◌else◌, is_some, IfOk};
 ghost use Rattle.book.specs.Leftovers.{Keeps};
 
-use crate::entry::PackedRow;
 use crate::expansion::Stepped;
 use crate::hashed::Hashed;
 use crate::known::Known;
@@ -15,7 +14,7 @@ use std::sync::Arc;
 /// a lock can drop these after it.
 #[derive(Drop)]
 pub struct Leftovers<S> {
-    known: Vec<(Hashed<Known<S>>, PackedRow, Arc<S>)>,
+    known: Vec<(Hashed<Known<S>>, Arc<S>)>,
     /// What steps lay in that were entered. Of these lists the memory alone is of use.
     lists: Vec<Vec<Stepped<S>>>,
 }
@@ -66,7 +65,7 @@ impl<S: Drop> Leftovers<S> {
         labels: &mut Vec<Vec<u8>>,
         lists: &mut Vec<Vec<Stepped<S>>>,
     ) {
-        for (known, _row, state) in self.known.drain(..) {
+        for (known, state) in self.known.drain(..) {
             let _ = shells.push(state);
             let _ = labels.push(known.into_value().into_label().into_vec());
         }
@@ -84,7 +83,7 @@ impl<S: Drop> Leftovers<S> {
     }
 
     /// Keeps a state, if there is one, where there is room, and else drops it.
-    pub(crate) fn keep(&mut self, state: Option<(Hashed<Known<S>>, PackedRow, Arc<S>)>)
+    pub(crate) fn keep(&mut self, state: Option<(Hashed<Known<S>>, Arc<S>)>)
         ensures { Keeps self.old self.new (if is_some state then 1 else 0) }
     {
         if let Some(state) = state {

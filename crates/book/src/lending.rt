@@ -2,14 +2,14 @@
 ghost use Rattle.std.specs.Prelude.{◌≡◌, ◌≤◌, ◌↔◌, All, IsTrue, length, IfOk, IfSome, IfNone, MatchOption, Some, None};
 ghost use Rattle.std.specs.Prelude.{slice_get, slice_index};
 ghost use Rattle.sched_program.specs.Program.{Program};
-ghost use Rattle.lin.specs.Linearization.{IsLinearization, IsLinearizable};
+ghost use Rattle.lin.specs.Linearization.{IsLinearization};
 ghost use Rattle.tree_machine.specs.History.{history_of};
 ghost use Rattle.tree_machine.specs.Step.{Fits, step};
 ghost use Rattle.tree_machine.specs.declared.state.State.{State};
 ghost use Rattle.tree_machine.specs.declared.state.Thread.{Thread};
 ghost use Rattle.book.specs.Findings.{IsFindingOf, IsLoan};
 
-use crate::finding::{Finding, fault_in, judge_anew};
+use crate::finding::{Finding, fault_in, judge_anew, judged};
 use lin::{Order, order_with_reply};
 use sched_program::{Note, OpId, OutOfMemory, Program};
 use std::alloc::Global;
@@ -85,34 +85,34 @@ fn seek<M: Machine>(
     }
 }
 
-/// A linearization of the history of a thread's step, if there is one. A step that ended no operation takes the order
+/// The finding of a thread's step that shows no fault without its history. A step that ended no operation takes the order
 /// that is lent as it is: its history is its source's, or has one pending operation more. One that did takes it with
 /// that operation, if the operation replied what it replies there. Only where it did not is the history made and judged
 /// anew.
-fn order_after<M: Machine>(
+fn finding_by<M: Machine>(
     alloc: Global,
+    machine: M,
     program: &Program,
     source: &State<M>,
     next: &State<M>,
     thread: u8,
     order: &Order,
-) -> Result<Option<Order>, OutOfMemory>
-    requires step { (machine : M) × Fits (M.rules machine) program.now next.now
-        × (step (M.rules machine) program.now source.now thread ≡ Some next.now) }
+) -> Result<Finding, OutOfMemory>
+    requires fits { Fits (M.rules machine) program.now next.now }
+    requires step { step (M.rules machine) program.now source.now thread ≡ Some next.now }
+    requires shown { (next.now.astray ≡ None) × (M.rules machine).IsOrdered next.now.memory }
     requires order { IsLinearization program.now (history_of source.now) order.now }
-    ensures found { IfOk result
-        (λ answer. IfSome answer (λ order. IsLinearization program.now (history_of next.now) order)) }
-    ensures none { IfOk result (λ answer. IfNone answer (IsLinearizable program.now (history_of next.now) → ⊥)) }
+    ensures { IfOk result (IsFindingOf (M.rules machine) program.now next.now) }
 {
     let Some((name, reply)) = reply_after(source, next, thread) else {
-        return Ok(Some(*order));
+        return Ok(Finding::Sound(*order));
     };
     if is_last(next, name)
         && let Some(longer) = order_with_reply(program, order, name, reply)
     {
-        return Ok(Some(longer));
+        return Ok(Finding::Sound(longer));
     }
-    judge_anew(alloc, program, next)
+    judged(alloc, machine, program, next)
 }
 
 /// Whether a thread holds a place at which its step leaves the memory as it is. Where it answers no, the step may write.
@@ -178,12 +178,8 @@ pub(crate) fn find_after<M: Machine>(
         return Ok(fault);
     }
     seek(alloc, program, source, loan)?;
-    let order = match loan {
-        Some(Some(order)) => order_after(alloc, program, source, next, thread, order)?,
-        _ => judge_anew(alloc, program, next)?,
-    };
-    match order {
-        None => Ok(Finding::History),
-        Some(order) => Ok(Finding::Sound(order)),
+    match loan {
+        Some(Some(order)) => finding_by(alloc, machine, program, source, next, thread, order),
+        _ => judged(alloc, machine, program, next),
     }
 }

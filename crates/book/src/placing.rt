@@ -43,7 +43,7 @@ fn put_step<S: Drop>(
             held.push(state)?;
             leftovers.keep(None);
         }
-        Some((known, row)) => leftovers.keep(Some((known, row, state))),
+        Some(known) => leftovers.keep(Some((known, state))),
     }
     Ok(())
 }

@@ -7,12 +7,12 @@ use indexmap::IndexMap;
 use std::alloc::AllocError;
 use std::hash::Hash;
 
-/// Puts a value in if its key is new. Else it is given back with its key.
+/// Puts a value in if its key is new. Else the key is given back.
 pub fn put_new<K: Eq + Hash + Drop, V: Drop>(
     slots: &mut IndexMap<K, V>,
     key: K,
     value: V,
-) -> Result<Option<(K, V)>, AllocError>
+) -> Result<Option<K>, AllocError>
     ensures put { OnOk result (slots.new.entries
         ≡ slots.old.entries ++ unlisted K.eq (keys slots.old) ((key, value) ∷ [])) }
     ensures len { IfOk result (λ known. length slots.new.entries
@@ -20,7 +20,7 @@ pub fn put_new<K: Eq + Hash + Drop, V: Drop>(
     ensures err { OnErr result (slots.new.entries ≡ slots.old.entries) }
 {
     if slots.contains_key(&key) {
-        return Ok(Some((key, value)));
+        return Ok(Some(key));
     }
     slots.insert(key, value)?;
     Ok(None)

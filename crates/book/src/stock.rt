@@ -1,5 +1,6 @@
 //! What expansions are made in and of, used again from one to the next.
 ghost use Rattle.std.specs.Prelude.{◌≡◌, ◌+◌, ◌^◌, ◌<◌, ◌≤◌, ◌↔◌, [], IfOk, IsErrOf, None, Some};
+ghost use Rattle.std.specs.Prelude.{vec_capacity};
 ghost use Rattle.tree_machine.specs.Step.{Fits, step};
 
 use crate::expansion::Stepped;
@@ -52,16 +53,18 @@ impl<M: Machine> Stock<M> {
         let _ = self.labels.push(label.into_vec());
     }
 
-    /// A list for steps, with nothing in it. Where no other serves again, it is a new one with room for so many.
+    /// A list for steps, with nothing in it and room for so many: one that serves again, or a new one.
     pub(crate) fn list(
         &mut self,
         alloc: Global,
         steps: usize,
     ) -> Result<Vec<Stepped<State<M>>>, OutOfMemory>
-        ensures { IfOk result (λ list. list.items ≡ []) }
+        ensures list { IfOk result (λ list. list.items ≡ []) }
+        ensures room { IfOk result (λ list. steps ≤ vec_capacity list) }
     {
         if let Some(mut list) = self.lists.pop() {
             list.clear();
+            list.reserve(steps)?;
             return Ok(list);
         }
         Ok(Vec::with_capacity(alloc, steps)?)

@@ -1,19 +1,20 @@
-use Rattle.std.proofs.Common.{◌≡◌, ◌≤◌, length, ap, ◌∙◌, refl, subst, arith}
+use Rattle.std.proofs.Common.{◌≡◌, ◌≤◌, length, ap, refl, subst, arith}
 use Rattle.book.specs.Findings.{machine_of, IsFindingOf}
-use Rattle.book.specs.Labels.{bare, bares, label_by}
-use Rattle.book.proofs.Expanding.{IsFront, front_none, front_same, front_turn, expansion_from_front}
-use Rattle.book.proofs.Labels.{bares_more, steps_known_more}
+use Rattle.book.specs.Labels.{bares, label_by}
+use Rattle.book.proofs.Expanding.{IsFront, front_none, front_put, known_put, expansion_from_front}
 use Rattle.book.proofs.expansion.Expansion.with_loan.Goals as goal
-use Rattle.book.proofs.expansion.Expansion.with_loan.Goals.{in-Some+in_ok-push, in_default}
 
 pub loop-thread-init : goal.loop-thread-init
 loop-thread-init g c =
     let rules = g.M.Machine.rules c.args.machine in
     record {
       loan = c.requires.loan;
-      front = rw c.in_ok-successors.ensures
+      front = rw c.in_ok-successors.ensures.list
           (front_none (machine_of rules c.args.program.now) (IsFindingOf rules c.args.program.now) c.args.state.now);
-      known = rw c.in_ok-successors.ensures refl;
+      known = rw c.in_ok-successors.ensures.list refl;
+      len = (let none = ap length c.in_ok-successors.ensures.list in
+          let all = c.in_ok-successors.successors.ok.0 in omega (arith, none, all));
+      room = c.in_ok-successors.ensures.room;
     }
 
 -- a thread that is enabled adds its step, and another adds none
@@ -23,29 +24,18 @@ loop-thread-preserved g c =
     let m = machine_of {Machine = g.row.M.Denot} {Form = g.row.M-Form.Denot} rules c.args.program.now in
     let right = IsFindingOf {Machine = g.row.M.Denot} {Form = g.row.M-Form.Denot} rules c.args.program.now in
     let was = c.loop-thread.successors.items in
+    let label_of =
+    label_by g.M.Machine.whole_code g.M.Machine.form_code (g.M.Machine.form_of c.args.machine) c.args.merge in
     record {
-      loan = c.in_ok-step.ensures.loan;
-      front = elim c.match-step.branch [
-        | in-Some+in_ok-push w ↦
-            front_turn m right c.args.state.now c.loop-thread.thread (bares was) (bares c.match-step.successors.items)
-            (bare w.in-Some.next) c.loop-thread.invariant.front
-            (rw w.in-Some.is at c.in_ok-step.ensures.thread) (rw w.in-Some.is at c.in_ok-step.ensures.step)
-            (rw w.in-Some.is at c.in_ok-step.ensures.finding) (rw w.in-Some.is at c.in_ok-step.ensures.fits)
-            (ap bares (rw w.successors-is w.in_ok-push.ensures.items) ∙ bares_more was w.in-Some.next)
-        | in_default w
-            ↦ rw w.successors-is
-            (front_same m right c.args.state.now c.loop-thread.thread (bares was) c.loop-thread.invariant.front
-            (rw w.in_default.is at c.in_ok-step.ensures.none))
-      ];
-      known = elim c.match-step.branch [
-        | in-Some+in_ok-push w ↦
-            rw (w.successors-is, w.in_ok-push.ensures.items)
-            (steps_known_more (label_by g.M.Machine.whole_code g.M.Machine.form_code
-            (g.M.Machine.form_of c.args.machine) c.args.merge) was
-            w.in-Some.next c.loop-thread.invariant.known
-            (rw w.in-Some.is at c.in_ok-step.ensures.label))
-        | in_default w ↦ rw w.successors-is c.loop-thread.invariant.known
-      ];
+      loan = c.in_ok-put_step_of.ensures.loan;
+      front = front_put m right c.args.state.now label_of c.loop-thread.thread was c.put_step_of.new.steps.items
+          c.loop-thread.invariant.front c.in_ok-put_step_of.ensures.put;
+      known = known_put m right c.args.state.now label_of c.loop-thread.thread was c.put_step_of.new.steps.items
+          c.loop-thread.invariant.known c.in_ok-put_step_of.ensures.put;
+      len = (let one = c.in_ok-put_step_of.ensures.len in
+          let so_far = c.loop-thread.invariant.len in omega (arith, one, so_far));
+      room = (let same = c.in_ok-put_step_of.ensures.capacity in
+          let enough = c.loop-thread.invariant.room in omega (arith, same, enough));
     }
 
 pub invariant_of-result : goal.invariant_of-result

@@ -1,3 +1,5 @@
+use Rattle.std.proofs.Common.{◌≤◌}
+use Rattle.std.specs.Prelude.{vec_len, vec_capacity}
 use Rattle.tree_machine.specs.History.{history_of}
 use Rattle.book.specs.Findings.{machine_of, IsFindingOf, IsLoan}
 use Rattle.book.specs.Labels.{AreStepsKnownBy, bares, label_by}
@@ -13,4 +15,6 @@ invariant-loop-thread g l =
           (IsFindingOf (g.M.Machine.rules l.machine) l.program) l.state l.thread (bares l.successors.items);
       known : AreStepsKnownBy (label_by g.M.Machine.whole_code g.M.Machine.form_code
           (g.M.Machine.form_of l.machine) l.merge) l.successors.items;
+      len : vec_len l.successors ≤ l.thread;
+      room : l.threads ≤ vec_capacity l.successors;
     }
