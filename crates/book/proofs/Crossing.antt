@@ -10,7 +10,7 @@ use Rattle.tree_machine.specs.contracts.state.State as State
 use Rattle.tree_machine.specs.declared.machine.Machine as machine
 use Rattle.book.specs.contracts.book.Book as Book
 use Rattle.book.specs.contracts.entry.PackedRow as PackedRow
-use Rattle.book.specs.contracts.expansion.Stepped as Stepped
+use Rattle.book.specs.contracts.stepped.Stepped as Stepped
 use Rattle.book.specs.contracts.hashed.Hashed as Hashed
 use Rattle.book.specs.contracts.known.Known as Known
 use Rattle.book.specs.contracts.leftovers.Leftovers as Leftovers

@@ -28,3 +28,5 @@ pub mod Crossing
 mod Putting
 pub mod Text
 pub mod BookFile
+mod Stopping
+mod ToldStates

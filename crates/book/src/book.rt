@@ -1,6 +1,6 @@
 //! The book of states: how it is opened, and what is taken from it.
 
-ghost use Rattle.std.specs.Prelude.{◌≡◌, ℕ, ◌+◌, ◌-◌, ◌<◌, ◌≤◌, [], ◌∷◌};
+ghost use Rattle.std.specs.Prelude.{◌≡◌, ℕ, ◌+◌, ◌-◌, ◌<◌, ◌≤◌, ◌↔◌, [], ◌∷◌, IsTrue};
 ghost use Rattle.std.specs.Prelude.{length, IfOk, IfSome, IfNone, OnErr, Some, None, position, true};
 ghost use Rattle.sched_program.specs.Program.{IsWithinLimits};
 ghost use Rattle.tree_machine.specs.Step.{Fits, start};
@@ -16,8 +16,8 @@ ghost use Rattle.book.specs.Schedule.{IsMachine, Merges};
 
 use crate::counting::Counting;
 use crate::entry::Mark;
-use crate::expansion::label;
 use crate::finding::find;
+use crate::stepped::label;
 use crate::table::Table;
 use sched_program::{OutOfMemory, Program, same};
 use std::alloc::Global;
@@ -27,6 +27,10 @@ use tree_machine::{Machine, Room, State};
 
 mod entering;
 mod handing;
+mod states;
+
+pub use crate::book::handing::Told;
+
 mod reading;
 
 /// Which states a book counts as one.
@@ -36,6 +40,19 @@ pub enum Merge {
     Exact,
     /// States that differ in nothing but the numbers of their nodes and records, and in their step counts.
     Names,
+}
+
+impl Merge {
+    /// Whether a book that merges so holds the states of its entries that are not expanded: the labels of exact merging
+    /// tell them, and those of merging by names do not.
+    fn holds(self) -> bool
+        ensures { IsTrue result ↔ (self ≡ Merge.Names) }
+    {
+        match self {
+            Merge::Exact => false,
+            Merge::Names => true,
+        }
+    }
 }
 
 /// How many entries a book has, and what became of the steps that were entered.
@@ -89,7 +106,8 @@ pub struct Book<M: Machine> {
 impl<M: Machine> Model for Book<M> {
     ghost use Rattle.tree_machine.specs.declared.state.State.{State};
     ghost use Rattle.book.specs.Entries.{Contents};
-    ghost use Rattle.std.specs.Prelude.{◌≡◌};
+    ghost use Rattle.std.specs.Prelude.{◌≡◌, true};
+    ghost use Rattle.book.specs.declared.book.Merge.{Merge};
     ghost use Rattle.book.specs.Books.{IsBook, counted_as_one};
     ghost use Rattle.book.specs.Labels.{AreKnownBy, label_by, same_as};
 
@@ -115,15 +133,8 @@ impl<M: Machine> Model for Book<M> {
         })
         × AreKnownBy (label_by M.whole_code M.form_code (M.form_of b.machine) b.merge) b.table
         × (same_as {S = State M M.Mem M.Loc M.Form} (label_by M.whole_code M.form_code (M.form_of b.machine) b.merge)
-        ≡ counted_as_one M.Loc.PartialEq.eq M.Mem.PartialEq.eq M.Form.PartialEq.eq (M.form_of b.machine) b.merge) };
-}
-
-/// How many steps the state of an entry that is not expanded has behind it.
-fn steps_at<M: Machine>(table: &Table<State<M>>, index: usize) -> u64
-    requires { IsLeft table.now.entries index }
-    ensures { (e : Entry (State M M.Mem M.Loc M.Form)) × At table.now.entries index e × (e.state.steps ≡ result) }
-{
-    table.state(index).steps()
+        ≡ counted_as_one M.Loc.PartialEq.eq M.Mem.PartialEq.eq M.Form.PartialEq.eq (M.form_of b.machine) b.merge)
+        × (b.merge ≡ Merge.Names → b.table.holds ≡ true) };
 }
 
 /// The table with the start of a program alone, which is open.
@@ -137,7 +148,8 @@ fn first_table<M: Machine>(
         × (state ≡ start (M.rules machine) program.now)
         × (t.entries ≡ record { state = state; finding = finding; origin = None; mark = Mark.Open } ∷ [])
         × (t.labels ≡ label_by M.whole_code M.form_code (M.form_of machine) merge state ∷ [])
-        × Fits (M.rules machine) program.now state × IsFindingOf (M.rules machine) program.now state finding) }
+        × Fits (M.rules machine) program.now state × IsFindingOf (M.rules machine) program.now state finding
+        × (merge ≡ Merge.Names → t.holds ≡ true)) }
 {
     let state = State::start(alloc, machine, program)?;
     let finding = find(alloc, machine, program, &state)?;
@@ -151,7 +163,7 @@ fn first_table<M: Machine>(
         &mut room,
         Vec::new(alloc),
     )?;
-    Ok(Table::new(alloc, state, known, finding)?)
+    Ok(Table::new(alloc, state, known, finding, merge.holds())?)
 }
 
 impl<M: Machine> Book<M> {
@@ -215,7 +227,7 @@ impl<M: Machine> Book<M> {
     {
         let first = self.table.first_left()?;
         let open = self.table.first_open()?;
-        if steps_at(&self.table, open) == steps_at(&self.table, first) {
+        if self.steps_to(open) == self.steps_to(first) {
             Some(open)
         } else {
             None
@@ -237,7 +249,7 @@ impl<M: Machine> Book<M> {
         let Some(id) = self.next_open() else {
             return Ok(None);
         };
-        let state = Arc::try_clone(self.table.state(id))?;
+        let state = self.state_of(id)?;
         self.table.mark_taken(id);
         Ok(Some((id, state)))
     }
@@ -255,8 +267,8 @@ impl<M: Machine> Book<M> {
         let Some(start) = self.next_open() else {
             return Ok(Vec::new(self.table.allocator()));
         };
-        let end = self.first_above(steps_at(&self.table, start));
-        let layer = self.table.handed_out(start, end)?;
+        let end = self.first_above(self.steps_to(start));
+        let layer = self.states_of(start, end)?;
         self.table.mark_range_taken(start, end);
         Ok(layer)
     }

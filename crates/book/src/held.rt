@@ -1,5 +1,5 @@
 //! The states that a book holds.
-ghost use Rattle.std.specs.Prelude.{◌≡◌, ◌++◌, ◌∷◌, [], ◌<◌, drop, length, take, None, OnOk, OnErr, Some, slice_get};
+ghost use Rattle.std.specs.Prelude.{◌≡◌, ◌++◌, ◌∷◌, [], ◌<◌, drop, length, take, true, None, IfOk, OnOk, OnErr, Some, slice_get};
 ghost use Rattle.std.specs.Prelude.{slice_set};
 
 use std::alloc::{AllocError, Global};
@@ -53,6 +53,17 @@ impl<S> Held<S> {
 }
 
 impl<S: Drop> Held<S> {
+    /// The state of a first entry, where states are held, and else no place.
+    pub fn first(alloc: Global, state: S, holds: bool) -> Result<Held<S>, AllocError>
+        ensures { IfOk result (λ held. holds ≡ true → held ≡ Some state ∷ []) }
+    {
+        let mut held = Held::none(alloc);
+        if holds {
+            held.push(Arc::new(alloc, state)?)?;
+        }
+        Ok(held)
+    }
+
     /// Puts a state behind all places.
     pub fn push(&mut self, state: Arc<S>) -> Result<(), AllocError>
         ensures ok { OnOk result (self.new ≡ self.old ++ Some state.value ∷ []) }

@@ -37,6 +37,13 @@ impl<S> Known<S> {
         }
     }
 
+    /// The bytes of its label.
+    pub fn label(&self) -> &[u8]
+        ensures { result.now ≡ self.now.label }
+    {
+        self.label.as_slice()
+    }
+
     /// Its label.
     pub fn into_label(self) -> Bytes
         ensures { result ≡ self.label }

@@ -2,9 +2,9 @@
 ghost use Rattle.std.specs.Prelude.{◌≡◌, ◌≤◌, if◌then◌else◌, is_some, IfOk};
 ghost use Rattle.book.specs.Leftovers.{Keeps};
 
-use crate::expansion::Stepped;
 use crate::hashed::Hashed;
 use crate::known::Known;
+use crate::stepped::Stepped;
 use sched_program::OutOfMemory;
 use std::alloc::Global;
 use std::marker::Model;
@@ -15,6 +15,8 @@ use std::sync::Arc;
 #[derive(Drop)]
 pub struct Leftovers<S> {
     known: Vec<(Hashed<Known<S>>, Arc<S>)>,
+    /// States that were entered, and that the book does not hold. Of these the memory alone is of use.
+    states: Vec<Arc<S>>,
     /// What steps lay in that were entered. Of these lists the memory alone is of use.
     lists: Vec<Vec<Stepped<S>>>,
 }
@@ -33,6 +35,7 @@ impl<S> Leftovers<S> {
     pub(crate) fn none(alloc: Global) -> Leftovers<S> {
         Leftovers {
             known: Vec::new(alloc),
+            states: Vec::new(alloc),
             lists: Vec::new(alloc),
         }
     }
@@ -46,19 +49,21 @@ impl<S> Leftovers<S> {
 }
 
 impl<S: Drop> Leftovers<S> {
-    /// The same with nothing kept, with room for so many states, and for as many lists if there is memory for these.
+    /// The same with nothing kept, with room for so many known states, and for as many others and lists if there is
+    /// memory for these.
     pub(crate) fn emptied(mut self, room: usize) -> Result<Leftovers<S>, OutOfMemory>
         ensures kept { IfOk result (λ l. l.kept ≡ 0) }
         ensures room { IfOk result (λ l. room ≤ l.room) }
     {
         self.known.clear();
         self.known.reserve(room)?;
+        let _ = self.states.reserve(room);
         let _ = self.lists.reserve(room);
         Ok(self)
     }
 
     /// Puts the states into shells, the lists of their labels into spare lists, and the lists of steps to their like. A
-    /// refused growth lets a state or a label go, and leaves the lists of steps here.
+    /// refused growth lets a state or a label go, and leaves what else there is here.
     pub(crate) fn return_to(
         &mut self,
         shells: &mut Vec<Arc<S>>,
@@ -69,6 +74,7 @@ impl<S: Drop> Leftovers<S> {
             let _ = shells.push(state);
             let _ = labels.push(known.into_value().into_label().into_vec());
         }
+        let _ = shells.append(&mut self.states);
         let _ = lists.append(&mut self.lists);
     }
 
@@ -79,6 +85,15 @@ impl<S: Drop> Leftovers<S> {
     {
         if self.lists.len() < self.lists.capacity() {
             self.lists.push_reserved(list);
+        }
+    }
+
+    /// Keeps a state that the book does not hold for its memory, where there is room, and else lets it go.
+    pub(crate) fn keep_state(&mut self, state: Arc<S>)
+        ensures { self.new ≡ self.old }
+    {
+        if self.states.len() < self.states.capacity() {
+            self.states.push_reserved(state);
         }
     }
 

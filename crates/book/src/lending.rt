@@ -116,7 +116,7 @@ fn finding_by<M: Machine>(
 }
 
 /// Whether a thread holds a place at which its step leaves the memory as it is. Where it answers no, the step may write.
-fn only_reads<M: Machine>(machine: M, source: &State<M>, thread: u8) -> bool
+pub(crate) fn only_reads<M: Machine>(machine: M, source: &State<M>, thread: u8) -> bool
     ensures { IsTrue result → (program : Program) (next : State M M.Mem M.Loc M.Form)
         → step (M.rules machine) program source.now thread ≡ Some next → next.memory ≡ source.now.memory }
 {

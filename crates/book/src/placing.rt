@@ -1,24 +1,46 @@
 //! Steps put into the entries of a book.
-ghost use Rattle.std.specs.Prelude.{◌≡◌, ◌++◌, ◌∷◌, [], length, map, OnOk};
+ghost use Rattle.std.specs.Prelude.{◌≡◌, ◌++◌, ◌∷◌, [], length, map, true, OnOk, Some};
 ghost use Rattle.book.specs.Entries.{opened, states, unknown};
 ghost use Rattle.book.specs.Labels.{same_label};
-ghost use Rattle.book.specs.Leftovers.{KeepsMet};
+ghost use Rattle.book.specs.Leftovers.{Keeps, KeepsMet};
 ghost use Rattle.book.specs.Slots.{entries_of, keyed_of, IsGrown, StayHeld};
 
 use crate::entry::{Mark, Origin, PackedRow, Row};
-use crate::expansion::Stepped;
 use crate::hashed::Hashed;
 use crate::held::Held;
 use crate::known::Known;
 use crate::leftovers::Leftovers;
 use crate::slots::put_new;
+use crate::stepped::Stepped;
 use indexmap::IndexMap;
 use std::alloc::AllocError;
+use std::sync::Arc;
 
-/// Puts in an open row for a step that leads to a new state, which is held. Else the step goes to the leftovers.
+/// Holds the state of a new entry behind all others, where states are held. Else it is left for its memory.
+fn hold<S: Drop>(
+    held: &mut Held<S>,
+    holds: bool,
+    state: Arc<S>,
+    leftovers: &mut Leftovers<S>,
+) -> Result<(), AllocError>
+    ensures held { OnOk result (holds ≡ true → held.new ≡ held.old ++ Some state.value ∷ []) }
+    ensures kept { IsGrown held.old held.new }
+    ensures left { Keeps leftovers.old leftovers.new 0 }
+{
+    if holds {
+        held.push(state)?;
+    } else {
+        leftovers.keep_state(state);
+    }
+    Ok(())
+}
+
+/// Puts in an open row for a step that leads to a new state, which is held where states are. Else the step goes to the
+/// leftovers.
 fn put_step<S: Drop>(
     slots: &mut IndexMap<Hashed<Known<S>>, PackedRow>,
     held: &mut Held<S>,
+    holds: bool,
     parent: usize,
     step: Stepped<S>,
     leftovers: &mut Leftovers<S>,
@@ -26,7 +48,7 @@ fn put_step<S: Drop>(
     ensures put { OnOk result (map keyed_of slots.new.entries ≡ map keyed_of slots.old.entries
         ++ map (opened parent) (unknown same_label (states (map keyed_of slots.old.entries)) (step ∷ []))) }
     ensures kept { IsGrown slots.old.entries slots.new.entries }
-    ensures held { OnOk result (StayHeld (entries_of slots.old.entries) (entries_of slots.new.entries)
+    ensures held { OnOk result (holds ≡ true → StayHeld (entries_of slots.old.entries) (entries_of slots.new.entries)
         held.old held.new) }
     ensures held_kept { IsGrown held.old held.new }
     ensures left { OnOk result (KeepsMet leftovers.old leftovers.new
@@ -40,19 +62,19 @@ fn put_step<S: Drop>(
     })?;
     match put_new(slots, known, row)? {
         None => {
-            held.push(state)?;
-            leftovers.keep(None);
+            hold(held, holds, state, leftovers)?;
         }
         Some(known) => leftovers.keep(Some((known, state))),
     }
     Ok(())
 }
 
-/// Puts in, in their order, open rows for the steps that lead to new states, which are held. The others go to the
-/// leftovers, and so does the list that the steps lay in.
+/// Puts in, in their order, open rows for the steps that lead to new states, which are held where states are. The others
+/// go to the leftovers, and so does the list that the steps lay in.
 pub(crate) fn put_steps<S: Drop>(
     slots: &mut IndexMap<Hashed<Known<S>>, PackedRow>,
     held: &mut Held<S>,
+    holds: bool,
     parent: usize,
     mut successors: Vec<Stepped<S>>,
     leftovers: &mut Leftovers<S>,
@@ -61,14 +83,14 @@ pub(crate) fn put_steps<S: Drop>(
         ++ map (opened parent)
         (unknown same_label (states (map keyed_of slots.old.entries)) successors.items)) }
     ensures kept { IsGrown slots.old.entries slots.new.entries }
-    ensures held { OnOk result (StayHeld (entries_of slots.old.entries) (entries_of slots.new.entries)
+    ensures held { OnOk result (holds ≡ true → StayHeld (entries_of slots.old.entries) (entries_of slots.new.entries)
         held.old held.new) }
     ensures held_kept { IsGrown held.old held.new }
     ensures left { OnOk result (KeepsMet leftovers.old leftovers.new
         (length slots.old.entries) (length slots.new.entries) (length successors.items)) }
 {
     for step in successors.drain(..) {
-        put_step(slots, held, parent, step, leftovers)?;
+        put_step(slots, held, holds, parent, step, leftovers)?;
     }
     leftovers.keep_list(successors);
     Ok(())

@@ -1,14 +1,15 @@
 //! What expansions are made in and of, used again from one to the next.
 ghost use Rattle.std.specs.Prelude.{◌≡◌, ◌+◌, ◌^◌, ◌<◌, ◌≤◌, ◌↔◌, [], IfOk, IsErrOf, None, Some};
-ghost use Rattle.std.specs.Prelude.{vec_capacity};
+ghost use Rattle.std.specs.Prelude.{vec_capacity, IfSome};
+ghost use Rattle.tree_machine.specs.Cuts.{AreCutsOf};
 ghost use Rattle.tree_machine.specs.Step.{Fits, step};
 
-use crate::expansion::Stepped;
 use crate::leftovers::Leftovers;
+use crate::stepped::Stepped;
 use sched_program::{OutOfMemory, Program};
 use std::alloc::Global;
 use std::sync::Arc;
-use tree_machine::{Bytes, Machine, Room, State, StepFault};
+use tree_machine::{Bytes, Cuts, Machine, Room, State, StepFault};
 
 /// How many shared states a stock takes in for their memory: as many as the steps of the entries that a worker expands
 /// before it hands these in, so that where layers shrink what is over can serve for labels.
@@ -41,7 +42,7 @@ impl<M: Machine> Stock<M> {
     }
 
     /// A list for a label, of no use otherwise.
-    pub(crate) fn spare_label(&mut self, alloc: Global) -> Vec<u8> {
+    pub fn spare_label(&mut self, alloc: Global) -> Vec<u8> {
         match self.labels.pop() {
             Some(label) => label,
             None => Vec::new(alloc),
@@ -49,7 +50,7 @@ impl<M: Machine> Stock<M> {
     }
 
     /// Takes the list of a label in. A refused growth lets it go.
-    pub(crate) fn keep_label(&mut self, label: Bytes) {
+    pub fn keep_label(&mut self, label: Bytes) {
         let _ = self.labels.push(label.into_vec());
     }
 
@@ -121,6 +122,41 @@ impl<M: Machine> Stock<M> {
         match Arc::new(alloc, next) {
             Ok(shared) => Ok(shared),
             Err(_) => Err(StepFault::OutOfMemory),
+        }
+    }
+
+    /// A state to write over, in the memory that shares it: one that nobody shares any more, or the start of a program.
+    fn shell(
+        &mut self,
+        alloc: Global,
+        machine: M,
+        program: &Program,
+    ) -> Result<Arc<State<M>>, OutOfMemory> {
+        if let Some(shell) = self.shells.pop() {
+            return Ok(shell);
+        }
+        Ok(Arc::new(alloc, State::start(alloc, machine, program)?)?)
+    }
+
+    /// The state of these bytes, read in the place of one that nobody shares any more, with the places where the parts of
+    /// the bytes begin. None where they can't be read.
+    pub fn read(
+        &mut self,
+        alloc: Global,
+        machine: M,
+        program: &Program,
+        code: &[u8],
+    ) -> Result<Option<(Arc<State<M>>, Cuts)>, OutOfMemory>
+        ensures { IfOk result
+            (λ o. IfSome o (λ p. AreCutsOf M.whole_code M.memory_code code.now p.1 p.0.value)) }
+    {
+        let mut shell = self.shell(alloc, machine, program)?;
+        let Some(state) = Arc::get_mut(&mut shell) else {
+            return Ok(None);
+        };
+        match state.read_cut(alloc, machine, code)? {
+            Some(cuts) => Ok(Some((shell, cuts))),
+            None => Ok(None),
         }
     }
 

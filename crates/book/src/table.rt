@@ -1,9 +1,8 @@
 //! The entries by number and by state, and the places among them that are looked for again and again.
 ghost use Rattle.std.specs.Prelude.{◌≡◌, ℕ, ◌+◌, ◌-◌, ◌^◌, ◌<◌, ◌≤◌, ◌++◌, ◌∷◌, [], count_by, length, map, not};
-ghost use Rattle.std.specs.Prelude.{position, true, OnOk, OnErr, IfOk, IfErr, IfSome, IfNone, Some, None};
+ghost use Rattle.std.specs.Prelude.{position, true, false, OnOk, OnErr, IfOk, IfErr, IfSome, IfNone, Some, None};
 ghost use Rattle.std.specs.Prelude.{List, slice_get, take};
 ghost use Rattle.std.specs.List.{range_with_len};
-ghost use Rattle.indexmap.specs.IndexMap.{values};
 ghost use Rattle.book.specs.Entries.{Entry, At, IsTaken, is_open, is_taken, is_expanded, opened, states, unknown};
 ghost use Rattle.book.specs.Entries.{with_mark, with_marks};
 ghost use Rattle.book.specs.Findings.{is_sound};
@@ -14,14 +13,15 @@ ghost use Rattle.book.specs.Slots.{IsOpenFrom, StayHeld};
 
 use crate::book::Totals;
 use crate::entry::{Mark, Origin, PackedRow, Row};
-use crate::expansion::Stepped;
 use crate::finding::Finding;
 use crate::hashed::Hashed;
 use crate::held::Held;
 use crate::known::Known;
 use crate::leftovers::Leftovers;
 use crate::placing::put_steps;
+use crate::rows::{expanded_rows, open_rows, taken_rows};
 use crate::slots::put_new;
+use crate::stepped::Stepped;
 use indexmap::IndexMap;
 use std::alloc::{AllocError, Global};
 use std::marker::Model;
@@ -34,11 +34,12 @@ pub enum TableFault {
     OutOfMemory,
 }
 
-/// The entries of a book: states, each with its row. The key of a row is the state's label. The states of the entries
-/// that are not expanded are held; those of the others are given back.
+/// The entries of a book: states, each with its row. The key of a row is the state's label. Where states are held, they
+/// are those of the entries that are not expanded; those of the others are given back.
 #[derive(Drop)]
 pub struct Table<S> {
     slots: IndexMap<Hashed<Known<S>>, PackedRow>,
+    holds: bool,
     held: Held<S>,
     next_open: usize,
     first_left: usize,
@@ -46,15 +47,20 @@ pub struct Table<S> {
 }
 
 impl<S> Model for Table<S> {
+    ghost use Rattle.std.specs.Prelude.{◌≡◌, true};
     ghost use Rattle.book.specs.Labels.{Kept};
     ghost use Rattle.book.specs.Slots.{entries_of, labels_of, AreCursors, AreHeld};
 
     ghost Value = { Kept S };
 
-    ghost view = { λ t. record { entries = entries_of t.slots.entries; labels = labels_of t.slots.entries } };
+    ghost view = { λ t. record {
+      entries = entries_of t.slots.entries;
+      labels = labels_of t.slots.entries;
+      holds = t.holds;
+    } };
 
     ghost invariant = { λ t. AreCursors (entries_of t.slots.entries) t.next_open t.first_left t.fault
-        × AreHeld (entries_of t.slots.entries) t.first_left t.held };
+        × (t.holds ≡ true → AreHeld (entries_of t.slots.entries) t.first_left t.held) };
 }
 
 /// Marks the row at an index.
@@ -96,6 +102,17 @@ fn row_at<S>(slots: &IndexMap<Hashed<Known<S>>, PackedRow>, index: usize) -> &Pa
     row
 }
 
+/// The label of the row at an index.
+fn label_at<S>(slots: &IndexMap<Hashed<Known<S>>, PackedRow>, index: usize) -> &[u8]
+    requires { index < length slots.now.entries }
+    ensures { slice_get (labels_of slots.now.entries) index ≡ Some result.now }
+{
+    let Some((known, _)) = slots.get_index(index) else {
+        unreachable!();
+    };
+    known.value().label()
+}
+
 /// The first row that is not sound, where all before `start` are.
 fn first_fault_from<S>(slots: &IndexMap<Hashed<Known<S>>, PackedRow>, start: usize) -> Option<usize>
     requires { (i : ℕ) (e : Entry S) → At (entries_of slots.now.entries) i e → i < start → is_sound e.finding ≡ true }
@@ -122,27 +139,6 @@ fn first_left_from<S>(slots: &IndexMap<Hashed<Known<S>>, PackedRow>, start: usiz
         }
     }
     slots.len()
-}
-
-/// The number of open rows.
-fn open_rows<S>(slots: &IndexMap<Hashed<Known<S>>, PackedRow>) -> usize
-    ensures { result ≡ count_by (λ row. is_open row.mark) (values slots.now) }
-{
-    slots.values().filter(|row| row.is_open()).count()
-}
-
-/// The number of taken rows.
-fn taken_rows<S>(slots: &IndexMap<Hashed<Known<S>>, PackedRow>) -> usize
-    ensures { result ≡ count_by (λ row. is_taken row.mark) (values slots.now) }
-{
-    slots.values().filter(|row| row.is_taken()).count()
-}
-
-/// The number of expanded rows.
-fn expanded_rows<S>(slots: &IndexMap<Hashed<Known<S>>, PackedRow>) -> usize
-    ensures { result ≡ count_by (λ row. is_expanded row.mark) (values slots.now) }
-{
-    slots.values().filter(|row| row.is_expanded()).count()
 }
 
 impl<S> Table<S> {
@@ -176,12 +172,25 @@ impl<S> Table<S> {
         }
     }
 
-    /// The state of an entry that is not expanded, which others may hold too.
-    pub fn state(&self, index: usize) -> &Arc<S>
+    /// The state of an entry that is not expanded, which others may hold too; none where states are not held.
+    pub fn state(&self, index: usize) -> Option<&Arc<S>>
         requires { IsLeft self.now.entries index }
-        ensures { (e : Entry S) × At self.now.entries index e × (e.state ≡ result.now.value) }
+        ensures some { IfSome result (λ state. (e : Entry S) × At self.now.entries index e × (e.state ≡ state.now.value)) }
+        ensures none { IfNone result (self.now.holds ≡ false) }
     {
-        self.held.at(index - self.first_left)
+        if self.holds {
+            Some(self.held.at(index - self.first_left))
+        } else {
+            None
+        }
+    }
+
+    /// The label of an entry.
+    pub fn label(&self, index: usize) -> &[u8]
+        requires { index < length self.now.entries }
+        ensures { slice_get self.now.labels index ≡ Some result.now }
+    {
+        label_at(&self.slots, index)
     }
 
     /// The first open entry. All entries from it on are open.
@@ -271,17 +280,19 @@ impl<S> Table<S> {
 }
 
 impl<S: Drop> Table<S> {
-    /// A table with one open entry, which has no parent.
+    /// A table with one open entry, which has no parent, and whether it holds states.
     pub fn new(
         alloc: Global,
         state: S,
         known: Hashed<Known<S>>,
         finding: Finding,
+        holds: bool,
     ) -> Result<Table<S>, AllocError>
         requires { known.state ≡ state }
         ensures entries { IfOk result (λ t. t.entries
             ≡ record { state = known.state; finding = finding; origin = None; mark = Mark.Open } ∷ []) }
         ensures labels { IfOk result (λ t. t.labels ≡ known.label ∷ []) }
+        ensures holds { IfOk result (λ t. t.holds ≡ holds) }
     {
         let fault = if finding.is_sound() { None } else { Some(0) };
         let row = PackedRow::new(Row {
@@ -291,32 +302,15 @@ impl<S: Drop> Table<S> {
         })?;
         let mut slots = IndexMap::new(alloc);
         put_new(&mut slots, known, row)?;
-        let mut held = Held::none(alloc);
-        held.push(Arc::new(alloc, state)?)?;
+        let held = Held::first(alloc, state, holds)?;
         Ok(Table {
             slots,
+            holds,
             held,
             next_open: 0,
             first_left: 0,
             fault,
         })
-    }
-
-    /// The entries from `start` to below `end`, which are open, each by its number and its state, which the table holds
-    /// too.
-    pub fn handed_out(&self, start: usize, end: usize) -> Result<Vec<(usize, Arc<S>)>, AllocError>
-        requires some { start ≤ end }
-        requires within { end ≤ length self.now.entries }
-        requires open { IsOpenFrom self.now.entries start }
-        ensures numbers { IfOk result (λ range. map (λ p. p.0) range.items ≡ range_with_len start (end - start)) }
-        ensures states { IfOk result (λ range. AreStatesOf self.now.entries range.items) }
-    {
-        let mut range = Vec::with_capacity(self.allocator(), end - start)?;
-        for index in start..end {
-            let state = Arc::try_clone(self.state(index))?;
-            range.push((index, state))?;
-        }
-        Ok(range)
     }
 
     /// Marks a taken entry expanded.
@@ -325,9 +319,11 @@ impl<S: Drop> Table<S> {
         ensures { self.new ≡ record self.old { entries = with_mark self.old.entries index Mark.Expanded } }
     {
         mark_at(&mut self.slots, index, Mark::Expanded);
-        self.held.release(index - self.first_left);
         let left = first_left_from(&self.slots, self.first_left);
-        self.held.give_back(left - self.first_left);
+        if self.holds {
+            self.held.release(index - self.first_left);
+            self.held.give_back(left - self.first_left);
+        }
         self.first_left = left;
     }
 
@@ -352,6 +348,7 @@ impl<S: Drop> Table<S> {
             → limit < length self.old.entries
             + length (unknown (same_as label_of) (states self.old.entries) (bares successors.items))) }
         ensures room { OnOk result (length self.new.entries ≤ limit) }
+        ensures holds { OnOk result (self.new.holds ≡ self.old.holds) }
         ensures left { OnOk result (KeepsMet leftovers.old leftovers.new (length self.old.entries)
             (length self.new.entries) (length successors.items)) }
         ensures err { OnErr result (self.new ≡ self.old) }
@@ -361,6 +358,7 @@ impl<S: Drop> Table<S> {
         let Ok(()) = put_steps(
             &mut self.slots,
             &mut self.held,
+            self.holds,
             parent,
             successors,
             leftovers,

@@ -1,5 +1,5 @@
 //! A machine that goes astray.
-ghost use Rattle.std.specs.Prelude.{◌≡◌, ◌++◌, map, refl, OnOk};
+ghost use Rattle.std.specs.Prelude.{◌≡◌, ◌++◌, [], map, refl, OnOk};
 ghost use Rattle.sched_program.specs.Laws.Exact.{bool_exact, list_exact, nat_exact};
 ghost use Rattle.tree_machine.specs.Alike.{places_of};
 ghost use Rattle.book_tests.specs.Straying.{straying_rules, straying_lawful, straying_form, straying_forms};
@@ -38,6 +38,10 @@ impl Machine for Straying {
     ghost form_code = { λ bytes. bytes };
 
     ghost whole_code = { straying_form };
+
+    ghost memory_code = { λ _. [] };
+
+    ghost held_code = { straying_form };
 
     fn copy_mem(&self, _alloc: Global, mem: &bool) -> Result<bool, OutOfMemory> {
         Ok(*mem)
@@ -123,15 +127,25 @@ impl Machine for Straying {
         room.put(self.form(alloc, mem, threads)?.as_slice())
     }
 
-    /// It answers no, as a machine may to any bytes.
+    fn write_held(
+        &self,
+        alloc: Global,
+        mem: &bool,
+        threads: &[Thread<bool>],
+        room: &mut Room,
+    ) -> Result<(), OutOfMemory> {
+        self.write_whole(alloc, mem, threads, room)
+    }
+
+    /// It answers none, as a machine may to any bytes.
     fn read_whole(
         &self,
         _alloc: Global,
         _bytes: &[u8],
         _mem: &mut bool,
         _threads: &mut [Thread<bool>],
-    ) -> Result<bool, OutOfMemory> {
-        Ok(false)
+    ) -> Result<Option<usize>, OutOfMemory> {
+        Ok(None)
     }
 
     ghost lawful = { λ _. straying_lawful };
@@ -139,6 +153,8 @@ impl Machine for Straying {
     ghost forms = { λ _ memory other held twins _ _ _ _ _. straying_forms memory other held twins };
 
     ghost form_tells = { λ a b same. same };
+
+    ghost parted = { λ _ _. refl };
 
     ghost tells = { straying_tells };
 

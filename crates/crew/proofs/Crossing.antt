@@ -30,7 +30,7 @@ use Rattle.crew.specs.contracts.tally.Desk as Desk
 use Rattle.crew.specs.contracts.tied.Tied as Tied
 use Rattle.crew.specs.contracts.tied.Tied.TheInside as inside
 use Rattle.crew.specs.contracts.working.Exploration as Exploration
-use Rattle.crew.specs.contracts.working.Layer as Layer
+use Rattle.crew.specs.contracts.drawing.Layer as Layer
 
 -- a reference, as a closure holds it
 pub one_lent : (long : Lft) (A : RattleType) → IsSync A

@@ -1,11 +1,11 @@
 -- What types of one tie hold is of entries of the tie's book, and these stay as the book goes on.
-use Rattle.std.proofs.Common.{◌≡◌, ℕ, ◌+◌, ◌≤◌, Bool, Option, Some, List, ap, arith, length, map, refl, slice_get, sym, ◌∙◌}
+use Rattle.std.proofs.Common.{◌≡◌, ℕ, ◌+◌, ◌<◌, ◌≤◌, Bool, Option, Some, List, ap, arith, length, map, refl, slice_get, sym, ◌∙◌}
 use Rattle.std.proofs.Common.{subst}
 use Rattle.sched_program.specs.Program.{Program}
 use Rattle.tree_machine.proofs.Lists.{get-append_left, get_at}
 use Rattle.book.specs.declared.entry.Mark.TheVariants.{Expanded}
 use Rattle.book.specs.Entries.{Entry, Contents, Steps, At, Enters, IsOwn, with_mark, opened, unknown, states}
-use Rattle.book.proofs.EntryLemmas.{with_mark-at}
+use Rattle.book.proofs.EntryLemmas.{get_within, with_mark-at}
 use Rattle.book.proofs.Entering.{own_from}
 use Rattle.crew.specs.Working.{GoesOn, GoesOnFrom, HasEntries, IsIn, IsTiedTo}
 
@@ -72,6 +72,29 @@ module _ {X S : Type 0} (tie : Option (Contents X S)) where
       let is : IsIn tied.0 x p id s = tied.2 in
       let entry = is.2 in
       (tied.0, tied.1, (machine ∙ is.0, program ∙ is.1, (entry.0, entry.1, entry.2 ∙ sym state)))
+
+  -- an entry has one state
+  pub tied_states : (x y : X) (p q : Program) (id : ℕ) (s r : S) → IsTiedTo tie x p id s → IsTiedTo tie y q id r → r ≡ s
+  tied_states x y p q id s r tied other =
+      let here : IsIn tied.0 x p id s = tied.2 in
+      let there : IsIn other.0 y q id r = other.2 in
+      let one = here.2 in
+      let two = there.2 in
+      let books : other.0 ≡ tied.0 = (let u : tie ≡ Some tied.0 = tied.1 in
+      let v : tie ≡ Some other.0 = other.1 in cc) in
+      let at : slice_get tied.0.entries id ≡ Some two.0 =
+      ap (λ (b : Contents X S). slice_get b.entries id) (sym books) ∙ two.1 in
+      let same : two.0 ≡ one.0 = (let u : slice_get tied.0.entries id ≡ Some one.0 = one.1 in
+      let v : slice_get tied.0.entries id ≡ Some two.0 = at in cc) in
+      sym two.2 ∙ ap (λ (e : Entry S). e.state) same ∙ one.2
+
+  -- where there is an entry of a number, there are as many entries
+  pub entries_to : (x : X) (p : Program) (id : ℕ) (s : S) → IsTiedTo tie x p id s → HasEntries tie x p (id + 1)
+  entries_to x p id s tied =
+      let is : IsIn tied.0 x p id s = tied.2 in
+      let entry = is.2 in
+      let within : id < length tied.0.entries = get_within tied.0.entries id entry.0 entry.1 in
+      (tied.0, tied.1, is.0, is.1, omega arith)
 
   pub fewer_entries : (x : X) (p : Program) (n m : ℕ) → HasEntries tie x p n → m ≤ n → HasEntries tie x p m
   fewer_entries x p n m has le =

@@ -3,11 +3,12 @@ ghost use Rattle.std.specs.Prelude.{◌≡◌, ◌^◌, ◌<◌, ◌≤◌, All,
 ghost use Rattle.claims.specs.Seats.{IsSeatOf};
 ghost use Rattle.crew.specs.Working.{HasEntries};
 
+use crate::drawing::{Layer, round_of};
 use crate::gate::Gate;
 use crate::starting::call_at_once;
 use crate::tally::{Desk, Ledgers, Pieces, Tally};
 use crate::tied::{Tie, Tied};
-use crate::working::{Exploration, Layer, Stop, Worker, round_of};
+use crate::working::{Exploration, Stop, Worker};
 use claims::{Claims, Seat};
 use sched_program::OutOfMemory;
 use std::alloc::Global;

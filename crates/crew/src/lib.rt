@@ -3,6 +3,7 @@
 #![tactic(auto)]
 
 mod answer;
+mod drawing;
 mod driving;
 mod explorer;
 mod gate;

@@ -1,13 +1,17 @@
 //! An entry of a layer, as a worker is given it.
+ghost use Rattle.std.specs.Prelude.{◌≡◌, IfOk, IfSome};
+ghost use Rattle.tree_machine.specs.Cuts.{AreCutsOf};
+ghost use Rattle.tree_machine.specs.FormCode.{state_code};
+ghost use Rattle.tree_machine.specs.declared.state.State.{State};
 ghost use Rattle.crew.specs.Working.{IsReady, IsTiedTo};
 
 use crate::tied::{Made, Tie};
-use book::{Expansion, Finding, Merge, Stock};
+use book::{Finding, Merge, Stock, Successors, Told};
 use sched_program::{OutOfMemory, Program};
 use std::alloc::Global;
 use std::marker::{Model, PhantomData};
 use std::sync::Arc;
-use tree_machine::{Machine, State};
+use tree_machine::{Bytes, Cuts, Machine, State};
 
 /// How many operations the threads of a state have finished.
 fn finished_in<M: Machine>(state: &State<M>) -> usize {
@@ -18,90 +22,140 @@ fn finished_in<M: Machine>(state: &State<M>) -> usize {
     finished
 }
 
-/// An entry of the tie's book that can be expanded: its number, the machine and the program that it is of, its state, and
-/// what was found of it. Contracts see its number.
+/// An entry of the tie's book that can be expanded once its state is at hand: its number, the machine and the program that
+/// it is of, what was found of it, and its state, which the book shares or tells by its bytes. Contracts see its number.
 #[derive(Drop)]
 pub struct Ready<'a, K: Tie<M, State<M>>, M: Machine> {
-    id: usize,
+    pub(crate) id: usize,
     machine: M,
     program: &'a Program,
-    state: Arc<State<M>>,
+    state: Option<Arc<State<M>>>,
+    code: Option<Bytes>,
+    /// Where the parts of the bytes begin, once the state was read from them.
+    cuts: Option<Cuts>,
     finding: Finding,
     tie: PhantomData<K>,
 }
 
 impl<'a, K: Tie<M, State<M>>, M: Machine> Model for Ready<'a, K, M> {
-    ghost use Rattle.std.specs.Prelude.{ℕ};
+    ghost use Rattle.std.specs.Prelude.{◌≡◌, ℕ, IfSome};
+    ghost use Rattle.tree_machine.specs.Cuts.{AreCutsOf};
+    ghost use Rattle.tree_machine.specs.FormCode.{state_code};
+    ghost use Rattle.tree_machine.specs.declared.state.State.{State};
     ghost use Rattle.crew.specs.Working.{IsReady, IsTiedTo};
 
     ghost Value = { ℕ };
 
     ghost view = { λ r. r.id };
 
-    ghost invariant = { λ r. IsReady (M.rules r.machine) r.program.now r.state.value r.finding
-        × IsTiedTo K.book r.machine r.program.now r.id r.state.value };
+    ghost invariant = { λ r. (state : State M M.Mem M.Loc M.Form)
+        × IsReady (M.rules r.machine) r.program.now state r.finding
+        × IsTiedTo K.book r.machine r.program.now r.id state
+        × IfSome r.state (λ shared. shared.value ≡ state)
+        × IfSome r.code (λ code. code ≡ state_code M.whole_code state)
+        × IfSome r.cuts (λ cuts. IfSome r.code (λ code. AreCutsOf M.whole_code M.memory_code code cuts state)) };
 }
 
 impl<'a, K: Tie<M, State<M>>, M: Machine> Ready<'a, K, M> {
-    /// The entry of the tie's book of this number.
-    pub fn new(
-        id: usize,
-        machine: M,
-        program: &'a Program,
-        state: Arc<State<M>>,
-        finding: Finding,
-    ) -> Ready<'a, K, M>
-        requires ready { IsReady (M.rules machine) program.now state.value finding }
-        requires tied { IsTiedTo K.book machine program.now id state.value }
+    /// The entry of the tie's book of this number, as the book has it.
+    pub fn new(id: usize, machine: M, program: &'a Program, told: Told<M>) -> Ready<'a, K, M>
+        requires { (state : State M M.Mem M.Loc M.Form)
+            × IsReady (M.rules machine) program.now state told.finding
+            × IsTiedTo K.book machine program.now id state
+            × IfSome told.state (λ shared. shared.value ≡ state)
+            × IfSome told.code (λ code. code ≡ state_code M.whole_code state) }
     {
+        let Told {
+            state,
+            code,
+            finding,
+        } = told;
         Ready {
             id,
             machine,
             program,
             state,
+            code,
+            cuts: None,
             finding,
             tie: PhantomData,
         }
     }
 
-    /// Makes its expansion.
+    /// Whether its state is at hand, which is read from its bytes where the book has not shared it.
+    pub fn open(&mut self, alloc: Global, stock: &mut Stock<M>) -> Result<bool, OutOfMemory> {
+        if self.state.is_some() {
+            return Ok(true);
+        }
+        let Some(code) = &self.code else {
+            return Ok(false);
+        };
+        match stock.read(alloc, self.machine, self.program, code.as_slice())? {
+            Some((state, cuts)) => {
+                self.state = Some(state);
+                self.cuts = Some(cuts);
+                Ok(true)
+            }
+            None => Ok(false),
+        }
+    }
+
+    /// Takes its state, which the book made by its schedule.
+    pub fn fill(&mut self, state: Arc<State<M>>)
+        requires { (machine : M) × (program : Program) × IsTiedTo K.book machine program self.old state.value }
+    {
+        self.state = Some(state);
+    }
+
+    /// Makes its steps, where its state is at hand.
     pub fn expand(
         &self,
         alloc: Global,
         merge: Merge,
         stock: &mut Stock<M>,
-    ) -> Result<Made<'_, K, M>, OutOfMemory> {
-        let expansion = Expansion::of_found(
+    ) -> Result<Option<Made<'_, K, M>>, OutOfMemory> {
+        let Some(state) = &self.state else {
+            return Ok(None);
+        };
+        let told = match (&self.code, &self.cuts) {
+            (Some(code), Some(cuts)) => Some((code.as_slice(), *cuts)),
+            _ => None,
+        };
+        let steps = Successors::of_found(
             alloc,
             self.machine,
             self.program,
-            &*self.state,
+            &**state,
+            told,
             &self.finding,
             merge,
             stock,
         )?;
-        Ok(Made::new(self.id, expansion))
+        Ok(Some(Made::new(self.id, steps)))
     }
 
-    /// Looks at its state: at its threads, at its memory, and at what stands behind both in the state itself. What it
-    /// answers is of no use.
+    /// Looks at its state, where it was not just read: at its threads, at its memory, and at what stands behind both in the
+    /// state itself. What it answers is of no use.
     pub fn look_at(&self) -> usize {
-        let state = &*self.state;
-        let seen = self.machine.look_at(&state.memory);
-        let astray = usize::from(state.astray.is_some());
-        finished_in(state).wrapping_add(usize::from(seen) + astray)
+        match (&self.state, &self.cuts) {
+            (Some(shared), None) => {
+                let state = &**shared;
+                let seen = self.machine.look_at(&state.memory);
+                let astray = usize::from(state.astray.is_some());
+                finished_in(state).wrapping_add(usize::from(seen) + astray)
+            }
+            _ => 0,
+        }
     }
 
-    /// Its state.
-    pub fn into_state(self) -> Arc<State<M>> {
-        let Ready {
-            id: _,
-            machine: _,
-            program: _,
-            state,
-            finding: _,
-            tie: _,
-        } = self;
-        state
+    /// Leaves its state, and the list of its bytes, in stock.
+    pub fn leave_in(self, stock: &mut Stock<M>) {
+        let Ready { state, code, .. } = self;
+        if let Some(state) = state {
+            stock.take_in(state);
+        }
+        if let Some(code) = code {
+            stock.keep_label(code);
+        }
     }
 }

@@ -5,7 +5,7 @@ ghost use Rattle.crew.specs.Driving.{IsLedgerOf};
 ghost use Rattle.crew.specs.Working.{GoesOn, HasEntries};
 
 use crate::answer::Share;
-use book::{Book, EnterFault, Expansion, Leftovers};
+use book::{Book, EnterFault, Leftovers, Successors};
 use sched_program::{OutOfMemory, Program};
 use std::alloc::Global;
 use std::marker::{Brand, PhantomData};
@@ -213,7 +213,7 @@ impl<J: Ledgers, M: Machine> Desk<J, M> {
         &mut self,
         tally: &mut Tally<J>,
         id: usize,
-        expansion: Expansion<'_, M>,
+        expansion: Successors<'_, M>,
         leftovers: &mut Leftovers<State<M>>,
     ) -> Result<(), EnterFault>
         requires own { IsOwn self.old.book id expansion.machine expansion.program expansion.source }

@@ -7,7 +7,7 @@ ghost use Rattle.crew.specs.Working.{HasEntries, IsTiedTo};
 
 use crate::ready::Ready;
 use crate::tally::{Desk, Ledgers, Tally};
-use book::{EnterFault, Expansion, Leftovers};
+use book::{EnterFault, Leftovers, Stock, Successors};
 use sched_program::{OutOfMemory, Program};
 use std::marker::{Brand, Model, PhantomData};
 use tree_machine::{Machine, State};
@@ -26,7 +26,7 @@ impl<X, S> Tie<X, S> for Brand {
 #[derive(Drop)]
 pub struct Made<'d, K: Tie<M, State<M>>, M: Machine> {
     id: usize,
-    expansion: Expansion<'d, M>,
+    expansion: Successors<'d, M>,
     tie: PhantomData<K>,
 }
 
@@ -44,7 +44,7 @@ impl<'d, K: Tie<M, State<M>>, M: Machine> Model for Made<'d, K, M> {
 
 impl<'d, K: Tie<M, State<M>>, M: Machine> Made<'d, K, M> {
     /// The expansion of an entry of the tie's book.
-    pub fn new(id: usize, expansion: Expansion<'d, M>) -> Made<'d, K, M>
+    pub fn new(id: usize, expansion: Successors<'d, M>) -> Made<'d, K, M>
         requires tied { IsTiedTo K.book expansion.machine expansion.program id expansion.source }
     {
         Made {
@@ -97,21 +97,30 @@ impl<J: Ledgers, K: Tie<M, State<M>>, M: Machine> Tied<J, K, M> {
         }
     }
 
-    /// An entry of the tie's book, where it is taken still.
+    /// An entry of the tie's book, where it is taken still, as the book has it.
     pub fn ready<'a>(
         &self,
         machine: M,
         program: &'a Program,
         id: usize,
+        stock: &mut Stock<M>,
     ) -> Result<Option<Ready<'a, K, M>>, OutOfMemory>
         requires within { HasEntries K.book machine program.now (id + 1) }
     {
         let book = &self.desk.book;
         book.law();
-        let Some((state, finding)) = book.handed_out(id)? else {
+        let Some(told) = book.told(id, stock)? else {
             return Ok(None);
         };
-        Ok(Some(Ready::new(id, machine, program, state, finding)))
+        Ok(Some(Ready::new(id, machine, program, told)))
+    }
+
+    /// Gives an entry its state, whatever it takes the book to have it.
+    pub fn fill(&self, ready: &mut Ready<'_, K, M>) -> Result<(), OutOfMemory> {
+        if let Some((state, _)) = self.desk.book.handed_out(ready.id)? {
+            ready.fill(state);
+        }
+        Ok(())
     }
 
     /// Enters an expansion as the desk does.

@@ -1,5 +1,5 @@
 //! A machine with a fault for each kind of operation.
-ghost use Rattle.std.specs.Prelude.{◌≡◌, ◌++◌, map, refl, OnOk};
+ghost use Rattle.std.specs.Prelude.{◌≡◌, ◌++◌, [], map, refl, OnOk};
 ghost use Rattle.sched_program.specs.Laws.Exact.{bool_exact, list_exact, nat_exact};
 ghost use Rattle.tree_machine.specs.Alike.{places_of};
 ghost use Rattle.crew_tests.specs.Faulty.{faulty_rules, faulty_lawful, faulty_form, faulty_forms, faulty_tells};
@@ -39,6 +39,10 @@ impl Machine for Faulty {
     ghost form_code = { λ bytes. bytes };
 
     ghost whole_code = { faulty_form };
+
+    ghost memory_code = { λ _. [] };
+
+    ghost held_code = { faulty_form };
 
     fn copy_mem(&self, _alloc: Global, mem: &bool) -> Result<bool, OutOfMemory> {
         Ok(*mem)
@@ -133,15 +137,25 @@ impl Machine for Faulty {
         room.put(self.form(alloc, mem, threads)?.as_slice())
     }
 
-    /// It answers no, as a machine may to any bytes.
+    fn write_held(
+        &self,
+        alloc: Global,
+        mem: &bool,
+        threads: &[Thread<bool>],
+        room: &mut Room,
+    ) -> Result<(), OutOfMemory> {
+        self.write_whole(alloc, mem, threads, room)
+    }
+
+    /// It answers none, as a machine may to any bytes.
     fn read_whole(
         &self,
         _alloc: Global,
         _bytes: &[u8],
         _mem: &mut bool,
         _threads: &mut [Thread<bool>],
-    ) -> Result<bool, OutOfMemory> {
-        Ok(false)
+    ) -> Result<Option<usize>, OutOfMemory> {
+        Ok(None)
     }
 
     ghost lawful = { λ _. faulty_lawful };
@@ -149,6 +163,8 @@ impl Machine for Faulty {
     ghost forms = { λ _ memory other held twins _ _ _ _ _. faulty_forms memory other held twins };
 
     ghost form_tells = { λ a b same. same };
+
+    ghost parted = { λ _ _. refl };
 
     ghost tells = { faulty_tells };
 

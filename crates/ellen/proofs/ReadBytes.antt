@@ -1,9 +1,9 @@
 -- Bytes that were read are those of what was read.
-use Rattle.std.proofs.Common.{◌≡◌, ℕ, suc, ◌+◌, ◌-◌, ◌<◌, ◌≤◌, List, [], ◌∷◌, length, take, drop, get_or}
+use Rattle.std.proofs.Common.{◌≡◌, ℕ, suc, ◌+◌, ◌-◌, ◌<◌, ◌≤◌, List, [], ◌∷◌, ◌++◌, length, take, drop, get_or}
 use Rattle.std.proofs.Common.{ap, sym, ◌∙◌, subst, arith, add-one, drop-cons, length-drop}
 use Rattle.std.specs.Prelude.{Option, Some, None}
 use Rattle.std.specs.Option.{option_map}
-use Rattle.std.proofs.lemmas.List.{take_all}
+use Rattle.std.proofs.lemmas.List.{take_all, take-append-le}
 use Rattle.tree_machine.specs.Flat.{number_code, reference_number}
 use Rattle.tree_machine.specs.Laws.SmallCodes.{small_code}
 use Rattle.ellen.specs.declared.memory.UpdateWord.{UpdateWord}
@@ -70,6 +70,14 @@ pub first_seven : (xs : List ℕ) → 7 ≤ length xs
 first_seven xs h =
     step xs 0 _ (omega arith) (step xs 1 _ (omega arith) (step xs 2 _ (omega arith) (step xs 3 _ (omega arith)
     (step xs 4 _ (omega arith) (step xs 5 _ (omega arith) (step xs 6 _ (omega arith) (behind xs 7)))))))
+
+-- ---- a list
+
+-- a list whose every place was written
+pub filled : {A : Type 0} (n : ℕ) (new old result : List A) → result ≡ take n (new ++ drop (length new) old)
+    → length new ≡ n → result ≡ new
+filled n new old result e l =
+    e ∙ (take-append-le n new (drop (length new) old) (omega arith) ∙ take_all n new (omega arith))
 
 -- ---- numbers that are one byte
 

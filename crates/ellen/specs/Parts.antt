@@ -1,8 +1,8 @@
 -- Nodes, records and what the threads hold as parts: what is told of them, and the nodes and the records that they
 -- name.
 use Rattle.std.specs.Prelude.{ℕ, suc, List, [], ◌∷◌, map, Option, Some, None}
-use Rattle.tree_machine.specs.Flat.{flat_form, parts_code}
-use Rattle.tree_machine.specs.Parts.{Part, Parts, no_part}
+use Rattle.tree_machine.specs.Flat.{flat, flat_form, parts_code, graph_code}
+use Rattle.tree_machine.specs.Parts.{Part, Parts, no_part, parts_held}
 use Rattle.tree_machine.specs.declared.search_order.Side.{Side}
 use Rattle.tree_machine.specs.declared.search_order.Side.TheVariants as side
 use Rattle.ellen.specs.declared.memory.UpdateWord.{UpdateWord}
@@ -168,3 +168,11 @@ ellen_form memory held = flat_form 1 (ellen_parts memory held)
 -- all of a memory and what the threads hold, by the numbers of nodes and records
 abbrev pub ellen_code : EllenMem → List (Option EllenLoc) → List ℕ
 ellen_code memory held = parts_code (ellen_parts memory held)
+
+-- the memory alone, which stands first in that
+abbrev pub ellen_memory_code : EllenMem → List ℕ
+ellen_memory_code memory = graph_code (ellen_parts memory [])
+
+-- what the threads hold, which stands behind it; records are counted behind the nodes
+abbrev pub ellen_held_code : EllenMem → List (Option EllenLoc) → List ℕ
+ellen_held_code memory held = flat (parts_held (ellen_parts memory held))

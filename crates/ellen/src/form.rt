@@ -7,7 +7,7 @@ ghost use Rattle.ellen.specs.Range.{IsInRange, IsPlaceInRange};
 ghost use Rattle.ellen.specs.Parts.{word_number, word_record, node_part, record_part, above_number};
 ghost use Rattle.ellen.specs.Parts.{above_node, above_record, search_part, help_number, help_side};
 ghost use Rattle.ellen.specs.Parts.{help_record, help_node, base_number, place_part};
-ghost use Rattle.ellen.specs.Parts.{ellen_parts, ellen_form, ellen_code};
+ghost use Rattle.ellen.specs.Parts.{ellen_parts, ellen_form, ellen_code, ellen_held_code};
 
 use crate::graph::{are_few, put_few};
 use crate::held::{are_short, put_few_held};
@@ -16,7 +16,8 @@ use crate::place::{Above, Base, EllenLoc, HelpLoc, SearchLoc};
 use sched_program::OutOfMemory;
 use std::alloc::Global;
 use tree_machine::{
-    Bytes, Parts, Room, Side, Thread, Writer, form_parts, write_parts, write_whole,
+    Bytes, Parts, Room, Side, Thread, Writer, form_parts, write_held_whole, write_parts,
+    write_whole,
 };
 
 /// The number that tells the kind of an update word.
@@ -396,4 +397,21 @@ pub fn write_all(
     ensures { OnOk result (room.new ≡ room.old ++ ellen_code memory.now (places_of threads.now)) }
 {
     write_whole(alloc, &Snapshot { memory, threads }, room)
+}
+
+/// Puts what the threads hold, by the numbers of nodes and records, behind the bytes in a room.
+///
+/// # Errors
+/// `OutOfMemory` where a growth was refused.
+pub fn write_held(
+    alloc: Global,
+    memory: &EllenMem,
+    threads: &[Thread<EllenLoc>],
+    room: &mut Room,
+) -> Result<(), OutOfMemory>
+    requires memory_in_range { IsInRange memory.now }
+    requires places_in_range { All (λ place. IfSome place (IsPlaceInRange memory.now)) (places_of threads.now) }
+    ensures { OnOk result (room.new ≡ room.old ++ ellen_held_code memory.now (places_of threads.now)) }
+{
+    write_held_whole(alloc, &Snapshot { memory, threads }, room)
 }

@@ -1,6 +1,6 @@
 //! The machine and its variants.
 
-use crate::form::{form, write_all, write_form};
+use crate::form::{form, write_all, write_form, write_held};
 use crate::helping::{first_place, help_act};
 use crate::initial::build;
 use crate::memory::{EllenMem, key_in};
@@ -26,9 +26,9 @@ impl Machine for Ellen {
     ghost use Rattle.ellen.specs.Laws.Rules.{ellen_lawful};
     ghost use Rattle.ellen.specs.Laws.Forms.{ellen_forms};
     ghost use Rattle.sched_program.specs.Laws.Exact.{nat_exact, list_exact};
-    ghost use Rattle.ellen.specs.Laws.Codes.{ellen_tells};
+    ghost use Rattle.ellen.specs.Laws.Codes.{ellen_tells, ellen_parted};
     ghost use Rattle.ellen.specs.Laws.Exact.{machine_exact, memory_exact, place_exact};
-    ghost use Rattle.ellen.specs.Parts.{ellen_code, ellen_form};
+    ghost use Rattle.ellen.specs.Parts.{ellen_code, ellen_form, ellen_memory_code, ellen_held_code};
 
     type Mem = EllenMem;
 
@@ -43,6 +43,10 @@ impl Machine for Ellen {
     ghost form_code = { λ bytes. bytes };
 
     ghost whole_code = { ellen_code };
+
+    ghost memory_code = { ellen_memory_code };
+
+    ghost held_code = { ellen_held_code };
 
     fn copy_mem(&self, alloc: Global, mem: &EllenMem) -> Result<EllenMem, OutOfMemory> {
         mem.copy(alloc)
@@ -139,6 +143,16 @@ impl Machine for Ellen {
         write_all(alloc, mem, threads, room)
     }
 
+    fn write_held(
+        &self,
+        alloc: Global,
+        mem: &EllenMem,
+        threads: &[Thread<EllenLoc>],
+        room: &mut Room,
+    ) -> Result<(), OutOfMemory> {
+        write_held(alloc, mem, threads, room)
+    }
+
     #[inline(always)]
     fn read_whole(
         &self,
@@ -146,7 +160,7 @@ impl Machine for Ellen {
         bytes: &[u8],
         mem: &mut EllenMem,
         threads: &mut [Thread<EllenLoc>],
-    ) -> Result<bool, OutOfMemory> {
+    ) -> Result<Option<usize>, OutOfMemory> {
         read_few(alloc, bytes, mem, threads)
     }
 
@@ -155,6 +169,8 @@ impl Machine for Ellen {
     ghost forms = { ellen_forms };
 
     ghost form_tells = { λ a b same. same };
+
+    ghost parted = { ellen_parted };
 
     ghost tells = { ellen_tells };
 

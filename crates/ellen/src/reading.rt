@@ -1,7 +1,7 @@
 //! A memory and the places that threads hold, read back from their bytes where each number is one byte.
-ghost use Rattle.std.specs.Prelude.{◌≡◌, IfOk, IsTrue};
+ghost use Rattle.std.specs.Prelude.{◌≡◌, ◌≤◌, length, take, IfOk, IfSome};
 ghost use Rattle.tree_machine.specs.Alike.{places_of, replies_of, notes_of};
-ghost use Rattle.ellen.specs.Parts.{ellen_code};
+ghost use Rattle.ellen.specs.Parts.{ellen_code, ellen_memory_code};
 
 mod graph;
 mod held;
@@ -17,21 +17,29 @@ use sched_program::OutOfMemory;
 use std::alloc::Global;
 use tree_machine::Thread;
 
-/// Reads a memory, and the place that each thread holds, in the room that these have as far as that is enough. It answers
-/// no where bytes are left over or missing, or a number takes more than one byte.
+/// Reads a memory, and the place that each thread holds, in the room that these have as far as that is enough, and tells
+/// how many of the bytes are those of the memory. It answers none where bytes are left over or missing, or a number takes
+/// more than one byte.
 #[inline(always)]
 pub(crate) fn read_few(
     alloc: Global,
     bytes: &[u8],
     memory: &mut EllenMem,
     threads: &mut [Thread<EllenLoc>],
-) -> Result<bool, OutOfMemory>
-    ensures read { IfOk result (λ read. IsTrue read → bytes.now ≡ ellen_code memory.new (places_of threads.new)) }
+) -> Result<Option<usize>, OutOfMemory>
+    ensures read { IfOk result (λ read. IfSome read
+        (λ front. bytes.now ≡ ellen_code memory.new (places_of threads.new))) }
+    ensures within { IfOk result (λ read. IfSome read (λ front. front ≤ length bytes.now)) }
+    ensures memory { IfOk result (λ read. IfSome read (λ front. take front bytes.now ≡ ellen_memory_code memory.new)) }
     ensures replies { replies_of threads.new ≡ replies_of threads.old }
     ensures notes { notes_of threads.new ≡ notes_of threads.old }
 {
-    match read_memory(alloc, bytes, memory)? {
-        Some((nodes, rest)) => read_each(alloc, rest, nodes, threads),
-        None => Ok(false),
+    let Some((nodes, rest)) = read_memory(alloc, bytes, memory)? else {
+        return Ok(None);
+    };
+    if read_each(alloc, rest, nodes, threads)? {
+        Ok(Some(bytes.len() - rest.len()))
+    } else {
+        Ok(None)
     }
 }

@@ -4,6 +4,8 @@
 #[cfg(test)]
 mod forms;
 #[cfg(test)]
+mod fronts;
+#[cfg(test)]
 mod memories;
 #[cfg(test)]
 mod read_back;

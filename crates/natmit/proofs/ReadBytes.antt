@@ -1,6 +1,7 @@
 -- What is read from bytes, thread by thread.
-use Rattle.std.proofs.Common.{◌≡◌, ℕ, zero, suc, ◌+◌, ◌<◌, List, [], ◌∷◌, ◌++◌, length, map, take, refl, sym, ◌∙◌, ap}
-use Rattle.std.proofs.Common.{append_assoc}
+use Rattle.std.proofs.Common.{◌≡◌, ℕ, zero, suc, ◌+◌, ◌-◌, ◌<◌, List, [], ◌∷◌, ◌++◌, length, map, take, refl, sym, ◌∙◌, ap}
+use Rattle.std.proofs.Common.{append_assoc, length-append, arith}
+use Rattle.std.proofs.Math.Seq.{take-append_seam}
 use Rattle.std.specs.Prelude.{slice_index_or, slice_set}
 use Rattle.std.specs.List.{flat_map}
 use Rattle.std.proofs.lemmas.List.{flat_map_more, take_more_set}
@@ -21,3 +22,10 @@ pub kept_at : {X A : Type 0} (f : X → A) (xs : List X) (i : ℕ) (x d : X) →
 kept_at f [] i x d same = refl
 kept_at f (y ∷ ys) zero x d same = ap (λ z. z ∷ map f ys) same
 kept_at f (y ∷ ys) (suc i) x d same = ap (λ l. f y ∷ l) (kept_at f ys i x d same)
+
+-- as many bytes as stand before the last ones
+pub front_taken : (bytes front rest : List ℕ) → bytes ≡ front ++ rest → take (length bytes - length rest) bytes ≡ front
+front_taken bytes front rest e =
+    let lengths = ap length e ∙ length-append front rest in
+    let count : length bytes - length rest ≡ length front = omega (arith, lengths) in
+    ap (λ n. take n bytes) count ∙ ap (λ l. take (length front) l) e ∙ take-append_seam front rest

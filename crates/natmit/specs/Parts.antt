@@ -2,8 +2,8 @@
 use Rattle.std.specs.Prelude.{ℕ, ◌+◌, ◌*◌, Bool, if◌then◌else◌, List, [], ◌∷◌, map, Option, Some, None}
 use Rattle.tree_machine.specs.declared.search_order.Side.{Side}
 use Rattle.tree_machine.specs.declared.search_order.Side.TheVariants.{Left, Right}
-use Rattle.tree_machine.specs.Flat.{flat_form, parts_code}
-use Rattle.tree_machine.specs.Parts.{Part, Parts}
+use Rattle.tree_machine.specs.Flat.{flat, flat_form, graph_code, parts_code}
+use Rattle.tree_machine.specs.Parts.{Part, Parts, parts_held}
 use Rattle.natmit.specs.declared.memory.Word.{Word}
 use Rattle.natmit.specs.declared.memory.Node.{Node}
 use Rattle.natmit.specs.declared.memory.Node.TheVariants.{Leaf, Internal}
@@ -67,3 +67,11 @@ natmit_form memory held = flat_form 2 (natmit_parts memory held)
 -- all of a memory and what the threads hold, by the numbers of the nodes
 abbrev pub natmit_code : NatMitMem → List (Option NatMitLoc) → List ℕ
 natmit_code memory held = parts_code (natmit_parts memory held)
+
+-- the memory alone, which stands first in that
+abbrev pub natmit_memory_code : NatMitMem → List ℕ
+natmit_memory_code memory = graph_code (natmit_parts memory [])
+
+-- what the threads hold, which stands behind it
+abbrev pub natmit_held_code : NatMitMem → List (Option NatMitLoc) → List ℕ
+natmit_held_code memory held = flat (parts_held (natmit_parts memory held))

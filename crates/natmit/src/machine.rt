@@ -1,11 +1,11 @@
 //! The machine and its variant.
 ghost use Rattle.sched_program.specs.Laws.Exact.{nat_exact, list_exact};
-ghost use Rattle.natmit.specs.Laws.Codes.{natmit_tells};
+ghost use Rattle.natmit.specs.Laws.Codes.{natmit_tells, natmit_parted};
 ghost use Rattle.natmit.specs.Laws.Exact.{machine_exact, memory_exact, place_exact};
 ghost use Rattle.natmit.specs.Laws.Forms.{natmit_forms};
 ghost use Rattle.natmit.specs.Laws.Rules.{natmit_lawful};
 ghost use Rattle.natmit.specs.NatMitRules.{natmit_rules};
-ghost use Rattle.natmit.specs.Parts.{natmit_code, natmit_form};
+ghost use Rattle.natmit.specs.Parts.{natmit_code, natmit_form, natmit_memory_code, natmit_held_code};
 
 use crate::form::Snapshot;
 use crate::initial::build;
@@ -15,7 +15,8 @@ use crate::reading::read_few;
 use sched_program::{Op, OutOfMemory};
 use std::alloc::Global;
 use tree_machine::{
-    Bytes, Machine, Outcome, Room, Thread, form_parts, keeps_search_order, write_parts, write_whole,
+    Bytes, Machine, Outcome, Room, Thread, form_parts, keeps_search_order, write_held_whole,
+    write_parts, write_whole,
 };
 
 /// The machine of Natarajan and Mittal (PPoPP 2014), whole where `tag` is true.
@@ -39,6 +40,10 @@ impl Machine for NatMit {
     ghost form_code = { λ bytes. bytes };
 
     ghost whole_code = { natmit_code };
+
+    ghost memory_code = { natmit_memory_code };
+
+    ghost held_code = { natmit_held_code };
 
     fn copy_mem(&self, alloc: Global, mem: &NatMitMem) -> Result<NatMitMem, OutOfMemory> {
         mem.copy(alloc)
@@ -135,13 +140,23 @@ impl Machine for NatMit {
         write_whole(alloc, &Snapshot { mem, threads }, room)
     }
 
+    fn write_held(
+        &self,
+        alloc: Global,
+        mem: &NatMitMem,
+        threads: &[Thread<NatMitLoc>],
+        room: &mut Room,
+    ) -> Result<(), OutOfMemory> {
+        write_held_whole(alloc, &Snapshot { mem, threads }, room)
+    }
+
     fn read_whole(
         &self,
         alloc: Global,
         bytes: &[u8],
         mem: &mut NatMitMem,
         threads: &mut [Thread<NatMitLoc>],
-    ) -> Result<bool, OutOfMemory> {
+    ) -> Result<Option<usize>, OutOfMemory> {
         read_few(alloc, bytes, mem, threads)
     }
 
@@ -150,6 +165,8 @@ impl Machine for NatMit {
     ghost forms = { natmit_forms };
 
     ghost form_tells = { λ a b same. same };
+
+    ghost parted = { natmit_parted };
 
     ghost tells = { natmit_tells };
 

@@ -1,41 +1,54 @@
 //! Memories, and the places that threads hold, read back from their bytes, where the nodes are so few that each number is
 //! one byte. Where a reader answers, the bytes are those of what it read, and what it gives back behind them.
-ghost use Rattle.std.specs.Prelude.{◌≡◌, ◌<◌, ◌++◌, ◌∷◌, [], Some, map, length, IsTrue, IfSome, IfOk};
+ghost use Rattle.std.specs.Prelude.{◌≡◌, ◌<◌, ◌≤◌, ◌++◌, ◌∷◌, [], Some, map, length, take, IsTrue, IfSome, IfOk};
 ghost use Rattle.std.specs.List.{flat_map};
 ghost use Rattle.tree_machine.specs.Alike.{places_of, replies_of, notes_of};
 ghost use Rattle.tree_machine.specs.Flat.{number_code, reference_number, cell_code};
 ghost use Rattle.tree_machine.specs.Parts.{part_cell};
 ghost use Rattle.natmit.specs.Parts.{side_number, owned, mark_number, part_of, node_part, place_part, held_part};
-ghost use Rattle.natmit.specs.Parts.{natmit_code};
+ghost use Rattle.natmit.specs.Parts.{natmit_code, natmit_memory_code};
 
 use crate::memory::{NatMitMem, Node, Word};
 use crate::place::{Mode, NatMitLoc};
 use sched_program::{OutOfMemory, Sequence};
 use std::alloc::Global;
 use std::mem::replace;
-use tree_machine::{Side, Thread, read_byte, read_key, read_number, read_reference};
+use tree_machine::{Side, Thread, read_byte};
 
-/// Reads a reference to a node.
+/// The number that is this byte, if one is.
 #[inline(always)]
-fn read_name(bytes: &[u8]) -> Option<(u16, &[u8])>
-    ensures { IfSome result (λ (name, rest). bytes.now ≡ number_code (reference_number (Some name)) ++ rest.now) }
+fn number_of(byte: u8) -> Option<u64>
+    ensures { IfSome result (λ number. number_code number ≡ byte ∷ []) }
 {
-    match read_reference(bytes)? {
-        (Some(name), rest) => Some((name, rest)),
-        (None, _) => None,
+    if byte < 255 {
+        Some(u64::from(byte))
+    } else {
+        None
     }
 }
 
-/// Reads references to three nodes.
+/// The node to which this byte is a reference, if it is one.
 #[inline(always)]
-fn read_three(bytes: &[u8]) -> Option<(u16, u16, u16, &[u8])>
-    ensures { IfSome result (λ p. bytes.now
-        ≡ flat_map number_code (map reference_number (Some p.0 ∷ Some p.1 ∷ Some p.2 ∷ [])) ++ p.3.now) }
+fn name_of(byte: u8) -> Option<u16>
+    ensures { IfSome result (λ name. number_code (reference_number (Some name)) ≡ byte ∷ []) }
 {
-    let (first, rest) = read_name(bytes)?;
-    let (second, rest) = read_name(rest)?;
-    let (third, rest) = read_name(rest)?;
-    Some((first, second, third, rest))
+    if 0 < byte && byte < 255 {
+        Some(u16::from(byte) - 1)
+    } else {
+        None
+    }
+}
+
+/// The node to which this byte is a reference, or none, if it is one of these.
+#[inline(always)]
+fn reference_of(byte: u8) -> Option<Option<u16>>
+    ensures { IfSome result (λ reference. number_code (reference_number reference) ≡ byte ∷ []) }
+{
+    match byte {
+        0 => Some(None),
+        255 => None,
+        _ => Some(Some(u16::from(byte) - 1)),
+    }
 }
 
 /// The child word of a flag and a tag that are one number, and of a node.
@@ -72,19 +85,19 @@ fn side_of_number(number: u64) -> Side
     if number == 0 { Side::Left } else { Side::Right }
 }
 
-/// Reads what stands in an internal node behind its first byte.
+/// The internal node of these bytes behind its first one, if there is one.
 #[inline(always)]
-fn read_internal(bytes: &[u8]) -> Option<(Node, &[u8])>
-    ensures { IfSome result (λ (node, rest). 72 ∷ bytes.now ≡ cell_code (part_cell 0 (node_part node)) ++ rest.now) }
+fn internal_of(key: u8, marks: u8, left: u8, right: u8) -> Option<Node>
+    ensures { IfSome result (λ node. cell_code (part_cell 0 (node_part node))
+        ≡ 72 ∷ key ∷ marks ∷ left ∷ right ∷ []) }
 {
-    let (key, rest) = read_key(bytes)?;
-    let (marks, rest) = read_number(rest)?;
-    let (left, rest) = read_name(rest)?;
-    let (right, rest) = read_name(rest)?;
-    if marks < 16 {
+    let left = name_of(left)?;
+    let right = name_of(right)?;
+    let marks = u64::from(marks);
+    if key < 255 && marks < 16 {
         let left = word_of(marks % 4, left);
         let right = word_of(marks / 4, right);
-        Some((Node::Internal { key, left, right }, rest))
+        Some(Node::Internal { key, left, right })
     } else {
         None
     }
@@ -95,12 +108,12 @@ fn read_internal(bytes: &[u8]) -> Option<(Node, &[u8])>
 fn read_node(bytes: &[u8]) -> Option<(Node, &[u8])>
     ensures { IfSome result (λ (node, rest). bytes.now ≡ cell_code (part_cell 0 (node_part node)) ++ rest.now) }
 {
-    match read_byte(bytes)? {
-        (1, rest) => {
-            let (key, rest) = read_key(rest)?;
-            Some((Node::Leaf { key }, rest))
+    match bytes {
+        [1, key, rest @ ..] if *key < 255 => Some((Node::Leaf { key: *key }, rest)),
+        [72, key, marks, left, right, rest @ ..] => {
+            let node = internal_of(*key, *marks, *left, *right)?;
+            Some((node, rest))
         }
-        (72, rest) => read_internal(rest),
         _ => None,
     }
 }
@@ -135,13 +148,12 @@ fn read_begin(bytes: &[u8]) -> Option<(NatMitLoc, &[u8])>
     ensures { IfSome result (λ (place, rest). 36 ∷ bytes.now
         ≡ cell_code (part_cell 0 (place_part place)) ++ rest.now) }
 {
-    let (kind, rest) = read_number(bytes)?;
-    let (leaf, rest) = read_reference(rest)?;
-    if kind == 1 {
-        let mode = mode_of(leaf);
-        Some((NatMitLoc::Begin { mode }, rest))
-    } else {
-        None
+    match bytes {
+        [1, leaf, rest @ ..] => {
+            let mode = mode_of(reference_of(*leaf)?);
+            Some((NatMitLoc::Begin { mode }, rest))
+        }
+        _ => None,
     }
 }
 
@@ -151,19 +163,22 @@ fn read_down(bytes: &[u8]) -> Option<(NatMitLoc, &[u8])>
     ensures { IfSome result (λ (place, rest). 177 ∷ bytes.now
         ≡ cell_code (part_cell 0 (place_part place)) ++ rest.now) }
 {
-    let (kind, rest) = read_number(bytes)?;
-    let (told, rest) = read_number(rest)?;
-    let (ancestor, successor, parent, rest) = read_three(rest)?;
-    let (leaf, rest) = read_name(rest)?;
-    let (last, rest) = read_reference(rest)?;
-    if kind == 2 && told < 2 {
+    let [2, told, ancestor, successor, parent, leaf, last, rest @ ..] = bytes else {
+        return None;
+    };
+    let ancestor = name_of(*ancestor)?;
+    let successor = name_of(*successor)?;
+    let parent = name_of(*parent)?;
+    let leaf = name_of(*leaf)?;
+    let mode = mode_of(reference_of(*last)?);
+    if *told < 2 {
         let place = NatMitLoc::Down {
             ancestor,
             successor,
             parent,
             leaf,
-            tag: told == 1,
-            mode: mode_of(last),
+            tag: *told == 1,
+            mode,
         };
         Some((place, rest))
     } else {
@@ -218,9 +233,14 @@ fn read_four(bytes: &[u8]) -> Option<(NatMitLoc, &[u8])>
     ensures { IfSome result (λ (place, rest). 141 ∷ bytes.now
         ≡ cell_code (part_cell 0 (place_part place)) ++ rest.now) }
 {
-    let (kind, rest) = read_number(bytes)?;
-    let (ancestor, successor, parent, rest) = read_three(rest)?;
-    let (last, rest) = read_reference(rest)?;
+    let [kind, ancestor, successor, parent, last, rest @ ..] = bytes else {
+        return None;
+    };
+    let kind = number_of(*kind)?;
+    let ancestor = name_of(*ancestor)?;
+    let successor = name_of(*successor)?;
+    let parent = name_of(*parent)?;
+    let last = reference_of(*last)?;
     let place = place_of_four(kind, ancestor, successor, parent, last)?;
     Some((place, rest))
 }
@@ -271,12 +291,16 @@ fn read_told(bytes: &[u8]) -> Option<(NatMitLoc, &[u8])>
     ensures { IfSome result (λ (place, rest). 142 ∷ bytes.now
         ≡ cell_code (part_cell 0 (place_part place)) ++ rest.now) }
 {
-    let (kind, rest) = read_number(bytes)?;
-    let (fact, rest) = read_number(rest)?;
-    let (ancestor, successor, node, rest) = read_three(rest)?;
-    let (last, rest) = read_reference(rest)?;
+    let [kind, fact, ancestor, successor, node, last, rest @ ..] = bytes else {
+        return None;
+    };
+    let kind = number_of(*kind)?;
+    let fact = number_of(*fact)?;
+    let ancestor = name_of(*ancestor)?;
+    let successor = name_of(*successor)?;
+    let node = name_of(*node)?;
+    let mode = mode_of(reference_of(*last)?);
     if fact < 2 {
-        let mode = mode_of(last);
         let place = place_of_told(kind, fact, ancestor, successor, node, mode)?;
         Some((place, rest))
     } else {
@@ -339,24 +363,25 @@ fn read_graph<'a>(bytes: &'a [u8], nodes: &mut Vec<Node>) -> Result<Option<&'a [
         ≡ number_code (length nodes.new.items) ++ (number_code 0
         ++ (flat_map (λ node. cell_code (part_cell 0 (node_part node))) nodes.new.items ++ rest.now)))) }
 {
-    let Some((count, rest)) = read_number(bytes) else {
-        return Ok(None);
-    };
-    match read_number(rest) {
-        Some((0, rest)) => read_nodes(rest, count as usize, nodes),
+    match bytes {
+        [count, 0, rest @ ..] if *count < 255 => read_nodes(rest, usize::from(*count), nodes),
         _ => Ok(None),
     }
 }
 
 /// Reads a memory, and the place that each thread holds, in the room that these have as far as that is enough. Where it
-/// answers yes, the bytes are those of what was read. Otherwise the memory and the places are of no use.
+/// answers a number, the bytes are those of what was read, and so many of them, from the first, are those of the memory.
+/// Otherwise the memory and the places are of no use.
 pub(crate) fn read_few(
     alloc: Global,
     bytes: &[u8],
     mem: &mut NatMitMem,
     threads: &mut [Thread<NatMitLoc>],
-) -> Result<bool, OutOfMemory>
-    ensures read { IfOk result (λ read. IsTrue read → bytes.now ≡ natmit_code mem.new (places_of threads.new)) }
+) -> Result<Option<usize>, OutOfMemory>
+    ensures read { IfOk result (λ read. IfSome read
+        (λ front. bytes.now ≡ natmit_code mem.new (places_of threads.new))) }
+    ensures within { IfOk result (λ read. IfSome read (λ front. front ≤ length bytes.now)) }
+    ensures memory { IfOk result (λ read. IfSome read (λ front. take front bytes.now ≡ natmit_memory_code mem.new)) }
     ensures replies { replies_of threads.new ≡ replies_of threads.old }
     ensures notes { notes_of threads.new ≡ notes_of threads.old }
 {
@@ -364,8 +389,12 @@ pub(crate) fn read_few(
     nodes.clear();
     let read = read_graph(bytes, &mut nodes);
     mem.nodes = Sequence::from_vec(nodes);
-    match read? {
-        Some(rest) => Ok(read_places(rest, threads)),
-        None => Ok(false),
+    let Some(rest) = read? else {
+        return Ok(None);
+    };
+    if read_places(rest, threads) {
+        Ok(Some(bytes.len() - rest.len()))
+    } else {
+        Ok(None)
     }
 }

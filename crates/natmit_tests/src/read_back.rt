@@ -3,11 +3,11 @@ ghost use Rattle.tree_machine.specs.Step.{Fits};
 ghost use Rattle.natmit.specs.NatMitRules.{natmit_rules};
 
 use crate::follow::{Broken, WHOLE, advance, program_of};
-use natmit::{NatMit, NatMitLoc};
-use sched_program::Program;
+use natmit::{NatMit, NatMitLoc, NatMitMem};
+use sched_program::{Program, Sequence, ShortList};
 use std::alloc::Global;
 use std::test::Fail;
-use tree_machine::{Room, State};
+use tree_machine::{Machine, Room, State, Thread};
 
 /// Over the key 10, T0 deletes it and T1 inserts 5: each kind of place is met.
 const DELETE_AND_INSERT: &str =
@@ -25,6 +25,12 @@ const SCHEDULES: u32 = 8192;
 
 /// By which T1 helps to cut off the leaf that T0 flagged, and puts its key in.
 const HELPED: [u8; 16] = [0, 0, 0, 1, 1, 1, 1, 1, 1, 1, 1, 1, 1, 0, 0, 0];
+
+/// A leaf, which is the only node, and a thread between operations.
+const LEAF_AND_IDLE: [u8; 5] = [1, 0, 1, 7, 0];
+
+/// An internal node over two leaves, and a thread that is about to begin its search.
+const THREE_AND_BEGUN: [u8; 14] = [3, 0, 72, 9, 0, 2, 3, 1, 5, 1, 9, 36, 1, 0];
 
 /// All kinds of places.
 const ALL_KINDS: u32 = 511;
@@ -173,6 +179,35 @@ fn read_cut_along(
 fn read_cut(alloc: Global, text: &str, schedule: &[u8]) -> Result<(), Broken> {
     let program = program_of(alloc, text)?;
     read_cut_along(alloc, WHOLE, &program, schedule)
+}
+
+/// How many bytes are told to be those of the memory, where what one thread holds stands behind them.
+fn front_of(alloc: Global, bytes: &[u8]) -> Result<Option<usize>, Broken> {
+    let mut mem = NatMitMem {
+        nodes: Sequence::new(alloc),
+    };
+    let mut threads = [Thread {
+        replies: ShortList::new(),
+        place: None,
+        notes: ShortList::new(),
+    }];
+    Ok(WHOLE.read_whole(alloc, bytes, &mut mem, &mut threads)?)
+}
+
+/// The same, tried once more where a growth was refused: that happens once at most.
+fn front_at_last(alloc: Global, bytes: &[u8]) -> Result<Option<usize>, Broken> {
+    match front_of(alloc, bytes) {
+        Err(Broken::OutOfMemory) => front_of(alloc, bytes),
+        front => front,
+    }
+}
+
+#[test]
+fn the_bytes_of_the_memory_are_told(rt: HostRuntime) -> Result<(), Fail> {
+    assert!(rt; front_at_last(rt.alloc(), &LEAF_AND_IDLE) == Ok(Some(4)));
+    assert!(rt; front_at_last(rt.alloc(), &THREE_AND_BEGUN) == Ok(Some(11)));
+    assert!(rt; front_at_last(rt.alloc(), &LEAF_AND_IDLE[..4]) == Ok(None));
+    Ok(())
 }
 
 #[test]

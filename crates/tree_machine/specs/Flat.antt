@@ -50,3 +50,7 @@ flat_form fixed s = flat (parts_form fixed s)
 abbrev pub parts_code : Parts → List ℕ
 parts_code s =
     number_code (length s.nodes) ++ (number_code (length s.records) ++ flat (parts_graph s ++ parts_held s))
+
+-- how many nodes and records there are, and these as cells, which stand first in that
+abbrev pub graph_code : Parts → List ℕ
+graph_code s = number_code (length s.nodes) ++ (number_code (length s.records) ++ flat (parts_graph s))

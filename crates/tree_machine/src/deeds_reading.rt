@@ -1,5 +1,5 @@
 //! What threads did, read back from bytes.
-ghost use Rattle.std.specs.Prelude.{◌≡◌, ◌++◌, length, IfSome};
+ghost use Rattle.std.specs.Prelude.{◌≡◌, ◌++◌, ◌≤◌, length, IfSome};
 ghost use Rattle.std.specs.List.{flat_map};
 ghost use Rattle.tree_machine.specs.Alike.{notes_of, replies_of};
 ghost use Rattle.tree_machine.specs.FormCode.{astray_code, list_code, note_code, reply_code};
@@ -20,52 +20,61 @@ fn read_reply(bytes: &[u8]) -> Option<(bool, &[u8])>
     }
 }
 
-/// Reads the replies of a thread.
+/// Reads the replies of a thread to where they are to stand, since a list that is told is moved several times.
 #[inline(always)]
-fn read_replies(bytes: &[u8]) -> Option<(ShortList<bool, 6>, &[u8])>
-    ensures { IfSome result (λ (replies, rest). bytes.now ≡ list_code reply_code replies ++ rest.now) }
+fn read_replies<'a>(bytes: &'a [u8], replies: &mut ShortList<bool, 6>) -> Option<&'a [u8]>
+    ensures { IfSome result (λ rest. bytes.now ≡ list_code reply_code replies.new ++ rest.now) }
 {
+    *replies = ShortList::new();
     let (count, mut rest) = read_byte(bytes)?;
     if count > 6 {
         return None;
     }
-    let mut replies = ShortList::new();
     for _i in 0..count {
         let (reply, behind) = read_reply(rest)?;
         replies.push(reply);
         rest = behind;
     }
-    Some((replies, rest))
+    Some(rest)
 }
 
-/// Reads a note.
+/// A note of these counts.
+#[inline(always)]
+fn note_of(counts: &[u8]) -> Note
+    requires { length counts.now ≤ 4 }
+    ensures { result ≡ counts.now }
+{
+    let mut note = Note::new();
+    for count in counts {
+        note.push(*count);
+    }
+    note
+}
+
+/// Reads a note. There is a pattern for each number of threads, so that no count is tested by itself.
 #[inline(always)]
 fn read_note(bytes: &[u8]) -> Option<(Note, &[u8])>
     ensures { IfSome result (λ (note, rest). bytes.now ≡ note_code note ++ rest.now) }
 {
-    let (count, mut rest) = read_byte(bytes)?;
-    if count > 4 {
-        return None;
+    match bytes {
+        [1, a, rest @ ..] => Some((note_of(&[*a]), rest)),
+        [2, a, b, rest @ ..] => Some((note_of(&[*a, *b]), rest)),
+        [3, a, b, c, rest @ ..] => Some((note_of(&[*a, *b, *c]), rest)),
+        [4, a, b, c, d, rest @ ..] => Some((note_of(&[*a, *b, *c, *d]), rest)),
+        _ => None,
     }
-    let mut note = Note::new();
-    for _i in 0..count {
-        let (finished, behind) = read_byte(rest)?;
-        note.push(finished);
-        rest = behind;
-    }
-    Some((note, rest))
 }
 
-/// Reads the notes of a thread.
+/// Reads the notes of a thread to where they are to stand.
 #[inline(always)]
-fn read_notes(bytes: &[u8]) -> Option<(ShortList<Note, 6>, &[u8])>
-    ensures { IfSome result (λ (notes, rest). bytes.now ≡ list_code note_code notes ++ rest.now) }
+fn read_notes<'a>(bytes: &'a [u8], notes: &mut ShortList<Note, 6>) -> Option<&'a [u8]>
+    ensures { IfSome result (λ rest. bytes.now ≡ list_code note_code notes.new ++ rest.now) }
 {
+    *notes = ShortList::new();
     let (count, mut rest) = read_byte(bytes)?;
     if count > 6 {
         return None;
     }
-    let mut notes = ShortList::new();
     for _i in 0..count {
         let Some((note, behind)) = read_note(rest) else {
             return None;
@@ -73,7 +82,7 @@ fn read_notes(bytes: &[u8]) -> Option<(ShortList<Note, 6>, &[u8])>
         notes.push(note);
         rest = behind;
     }
-    Some((notes, rest))
+    Some(rest)
 }
 
 /// Reads the replies of as many threads as there are, and tells the bytes behind them.
@@ -88,11 +97,7 @@ pub(crate) fn read_all_replies<'a, L>(
 {
     let mut rest = bytes;
     for index in 0..threads.len() {
-        let Some((replies, behind)) = read_replies(rest) else {
-            return None;
-        };
-        threads[index].replies = replies;
-        rest = behind;
+        rest = read_replies(rest, &mut threads[index].replies)?;
     }
     Some(rest)
 }
@@ -107,11 +112,7 @@ pub(crate) fn read_all_notes<'a, L>(bytes: &'a [u8], threads: &mut [Thread<L>]) 
 {
     let mut rest = bytes;
     for index in 0..threads.len() {
-        let Some((notes, behind)) = read_notes(rest) else {
-            return None;
-        };
-        threads[index].notes = notes;
-        rest = behind;
+        rest = read_notes(rest, &mut threads[index].notes)?;
     }
     Some(rest)
 }

@@ -207,6 +207,26 @@ fn write_held_parts<P: Parts>(
     Ok(())
 }
 
+/// Writes what the threads hold behind the bytes in a room, by the numbers of nodes and records: what stands last where
+/// all is written so that the bytes tell it wholly.
+///
+/// # Errors
+/// `OutOfMemory` where a growth was refused, or the parts are more than a `usize` counts. What stands in the room is
+/// then of no use.
+pub fn write_held_whole<P: Parts>(
+    alloc: Global,
+    parts: &P,
+    room: &mut Room,
+) -> Result<(), OutOfMemory>
+    requires { (fixed : ℕ) × ArePartsInRange fixed (P.parts parts.now) }
+    ensures { OnOk result (room.new ≡ room.old ++ flat (parts_held (P.parts parts.now))) }
+{
+    let nodes = parts.node_count();
+    let records = parts.record_count();
+    let _graph = nodes.checked_add(records).ok_or(OutOfMemory)?;
+    write_held_parts(alloc, parts, parts.held_count(), room)
+}
+
 /// Writes nodes, records and what the threads hold behind the bytes in a room, all by their numbers, so that the bytes
 /// tell them wholly.
 ///

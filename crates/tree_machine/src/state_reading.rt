@@ -2,9 +2,11 @@
 ghost use Rattle.std.specs.Prelude.{◌≡◌, ◌≤◌, ◌++◌, ◌∷◌, length, IsTrue, IfOk, IfSome, OnOk};
 ghost use Rattle.std.specs.List.{flat_map};
 ghost use Rattle.tree_machine.specs.Alike.{notes_of, places_of, replies_of};
+ghost use Rattle.tree_machine.specs.Cuts.{AreCutsOf};
 ghost use Rattle.tree_machine.specs.Flat.{number_code};
 ghost use Rattle.tree_machine.specs.FormCode.{astray_code, list_code, note_code, reply_code, state_code};
 
+use crate::cuts::Cuts;
 use crate::deeds_reading::{read_all_notes, read_all_replies, read_astray};
 use crate::machine::Machine;
 use crate::reading::{read_any_number, read_byte};
@@ -62,7 +64,8 @@ fn read_head(bytes: &[u8]) -> Option<(u64, u8, &[u8])>
     }
 }
 
-/// Reads all that stands behind the number of threads.
+/// Reads all that stands behind the number of threads. Where it answers two numbers, as many bytes as the first stand
+/// behind what the threads did, and as many as the second of these are those of the memory.
 #[inline(always)]
 fn read_body<M: Machine>(
     alloc: Global,
@@ -71,18 +74,24 @@ fn read_body<M: Machine>(
     memory: &mut M::Mem,
     threads: &mut [Thread<M::Loc>],
     astray: &mut Option<u8>,
-) -> Result<bool, OutOfMemory>
-    ensures read { IfOk result (λ read. IsTrue read → bytes.now
+) -> Result<Option<(usize, usize)>, OutOfMemory>
+    ensures read { IfOk result (λ read. IfSome read (λ _. bytes.now
         ≡ flat_map (list_code reply_code) (replies_of threads.new)
         ++ (list_code (list_code note_code) (notes_of threads.new)
-        ++ (astray_code astray.new ++ M.whole_code memory.new (places_of threads.new)))) }
+        ++ (astray_code astray.new ++ M.whole_code memory.new (places_of threads.new))))) }
+    ensures behind { IfOk result (λ read. IfSome read
+        (λ (behind, front). behind ≡ length (M.whole_code memory.new (places_of threads.new)))) }
+    ensures front { IfOk result (λ read. IfSome read (λ (behind, front). front ≡ length (M.memory_code memory.new))) }
     ensures length { length threads.new ≡ length threads.old }
 {
     let Some((thread, rest)) = read_deeds(bytes, threads) else {
-        return Ok(false);
+        return Ok(None);
     };
     *astray = thread;
-    machine.read_whole(alloc, rest, memory, threads)
+    match machine.read_whole(alloc, rest, memory, threads)? {
+        Some(front) => Ok(Some((rest.len(), front))),
+        None => Ok(None),
+    }
 }
 
 impl<M: Machine> State<M> {
@@ -92,8 +101,21 @@ impl<M: Machine> State<M> {
     pub fn read_in(&mut self, alloc: Global, machine: M, bytes: &[u8]) -> Result<bool, OutOfMemory>
         ensures { IfOk result (λ read. IsTrue read → bytes.now ≡ state_code M.whole_code self.new) }
     {
+        Ok(self.read_cut(alloc, machine, bytes)?.is_some())
+    }
+
+    /// The same, where yes is the places in the bytes at which the parts of the state begin.
+    pub fn read_cut(
+        &mut self,
+        alloc: Global,
+        machine: M,
+        bytes: &[u8],
+    ) -> Result<Option<Cuts>, OutOfMemory>
+        ensures { IfOk result (λ read. IfSome read
+            (λ cuts. AreCutsOf M.whole_code M.memory_code bytes.now cuts self.new)) }
+    {
         let Some((steps, count, rest)) = read_head(bytes) else {
-            return Ok(false);
+            return Ok(None);
         };
         let mut threads = replace(&mut self.threads, Sequence::new(alloc)).into_vec();
         make_count(&mut threads, usize::from(count))?;
@@ -108,6 +130,18 @@ impl<M: Machine> State<M> {
         );
         self.threads = Sequence::from_vec(threads);
         self.steps = steps;
-        read
+        match read? {
+            Some((behind, front)) => {
+                let deeds = bytes.len() - rest.len() - 1;
+                let memory = bytes.len() - behind;
+                let held = memory + front;
+                Ok(Some(Cuts {
+                    deeds,
+                    memory,
+                    held,
+                }))
+            }
+            None => Ok(None),
+        }
     }
 }

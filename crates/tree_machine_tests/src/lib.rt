@@ -12,6 +12,8 @@ mod bytes;
 #[cfg(test)]
 mod cells;
 #[cfg(test)]
+mod copied;
+#[cfg(test)]
 mod forms;
 #[cfg(test)]
 mod parts;

@@ -10,8 +10,10 @@ ghost use Rattle.book.specs.Leftovers.{Keeps};
 
 use crate::book::{Book, EnterFault, Entered};
 use crate::counting::Counting;
-use crate::expansion::{Expansion, Stepped};
+use crate::expansion::Expansion;
 use crate::leftovers::Leftovers;
+use crate::stepped::Stepped;
+use crate::successors::Successors;
 use crate::table::TableFault;
 use sched_program::OutOfMemory;
 use std::alloc::Global;
@@ -28,6 +30,18 @@ impl<M: Machine> Book<M> {
         }
     }
 
+    /// Whether an expansion is that of a taken entry, of the book's machine and program.
+    fn is_expansion_of(&self, id: usize, expansion: &Expansion<'_, M>) -> bool
+        requires { IsTaken self.now.entries id }
+        ensures { IsTrue result
+            ↔ IsOwn self.now id expansion.now.machine expansion.now.program expansion.now.source }
+    {
+        match self.table.state(id) {
+            Some(state) => expansion.is_of(&self.machine, &self.program, &**state),
+            None => expansion.is_told(&self.machine, &self.program, self.table.label(id)),
+        }
+    }
+
     /// Whether an expansion may be entered: its entry is taken, and it is that entry's.
     fn admits(&self, id: usize, expansion: &Expansion<'_, M>) -> Result<(), EnterFault>
         ensures admitted { OnOk result (IsTaken self.now.entries id
@@ -38,7 +52,7 @@ impl<M: Machine> Book<M> {
         if !self.is_taken(id) {
             return Err(EnterFault::NotTaken);
         }
-        if expansion.is_of(&self.machine, &self.program, &**self.table.state(id)) {
+        if self.is_expansion_of(id, expansion) {
             Ok(())
         } else {
             Err(EnterFault::Stranger)
@@ -119,16 +133,16 @@ impl<M: Machine> Book<M> {
     {
         match self.admits(id, &expansion) {
             Err(fault) => Err(fault),
-            Ok(()) => self.enter_own(id, expansion, leftovers),
+            Ok(()) => self.enter_own(id, expansion.into_steps(), leftovers),
         }
     }
 
-    /// Enters as `enter_leaving` does an expansion of which the caller knows that it is that of the entry. It is compared
+    /// Enters as `enter_leaving` does steps of which the caller knows that they are those of the entry. They are compared
     /// with nothing.
     pub fn enter_own(
         &mut self,
         id: usize,
-        expansion: Expansion<'_, M>,
+        expansion: Successors<'_, M>,
         leftovers: &mut Leftovers<State<M>>,
     ) -> Result<Entered, EnterFault>
         requires own { IsOwn self.old id expansion.machine expansion.program expansion.source }

@@ -1,17 +1,32 @@
 //! How the entries of a layer are taken, and then handed out one by one.
-ghost use Rattle.std.specs.Prelude.{◌≡◌, ◌<◌, ℕ, IfNone, IfOk, IfSome};
+ghost use Rattle.std.specs.Prelude.{◌≡◌, ◌<◌, ℕ, length, IfNone, IfOk, IfSome};
+ghost use Rattle.tree_machine.specs.FormCode.{state_code};
 ghost use Rattle.tree_machine.specs.Step.{Fits};
 ghost use Rattle.tree_machine.specs.declared.state.State.{State};
 ghost use Rattle.book.specs.Books.{machine_in};
 ghost use Rattle.book.specs.declared.entry.Mark.{Mark};
 ghost use Rattle.book.specs.Entries.{Entry, At, IsTaken, TakesRange};
 
-use crate::book::{Book, steps_at};
+use crate::book::{Book, Merge};
 use crate::counting::Counting;
+use crate::entry::PackedRow;
 use crate::finding::Finding;
+use crate::stock::Stock;
 use sched_program::OutOfMemory;
 use std::sync::Arc;
-use tree_machine::{Machine, State};
+use tree_machine::{Bytes, Machine, State};
+
+/// The state of an entry, as a book has it, with what was found of it: shared where the book holds it, and else told by
+/// its bytes, where the entry's label is these.
+#[derive(Drop)]
+pub struct Told<M: Machine> {
+    /// The state, where the book holds it.
+    pub state: Option<Arc<State<M>>>,
+    /// Its bytes, where the book merges exactly.
+    pub code: Option<Bytes>,
+    /// What was found of it.
+    pub finding: Finding,
+}
 
 impl<M: Machine> Book<M> {
     /// Takes at once the entries that `take_layer` takes, and hands out none of their states. They stand in a row: the
@@ -24,13 +39,72 @@ impl<M: Machine> Book<M> {
         let Some(start) = self.next_open() else {
             return (0, 0);
         };
-        let end = self.first_above(steps_at(&self.table, start));
+        let end = self.first_above(self.steps_to(start));
         self.table.mark_range_taken(start, end);
         (start, end)
     }
 
-    /// The state of a taken entry, which the book holds too, with what was found of it; none where no entry of this
-    /// number is taken.
+    /// The row of an entry, if the entry is taken.
+    fn taken_row(&self, id: usize) -> Option<&PackedRow>
+        ensures some { IfSome result (λ row. (e : Entry (State M M.Mem M.Loc M.Form)) × At self.now.entries id e
+            × (e.mark ≡ Mark.Taken) × (e.finding ≡ row.now.finding)) }
+        ensures none { IfNone result (IsTaken self.now.entries id → ⊥) }
+    {
+        let row = self.table.row(id)?;
+        if row.is_taken() { Some(row) } else { None }
+    }
+
+    /// The bytes of an entry's state, where its label is these, in a list that is in stock.
+    fn code_of(&self, id: usize, stock: &mut Stock<M>) -> Result<Option<Bytes>, OutOfMemory>
+        requires { id < length self.now.entries }
+        ensures { IfOk result (λ o. IfSome o (λ code. (e : Entry (State M M.Mem M.Loc M.Form))
+            × At self.now.entries id e × (code ≡ state_code M.whole_code e.state))) }
+    {
+        match self.merge {
+            Merge::Exact => {
+                let spare = stock.spare_label(self.table.allocator());
+                let code = Bytes::copied_in(self.table.label(id), spare)?;
+                Ok(Some(code))
+            }
+            Merge::Names => Ok(None),
+        }
+    }
+
+    /// The state of a taken entry, as the book has it, with what was found of it; none where no entry of this number is
+    /// taken. Whoever has the lock of a book reads no bytes in it.
+    pub fn told(&self, id: usize, stock: &mut Stock<M>) -> Result<Option<Told<M>>, OutOfMemory>
+        ensures entry { IfOk result (λ o. IfSome o (λ t. (e : Entry (State M M.Mem M.Loc M.Form))
+            × At self.now.entries id e × (e.mark ≡ Mark.Taken)
+            × IfSome t.state (λ shared. shared.value ≡ e.state)
+            × IfSome t.code (λ code. code ≡ state_code M.whole_code e.state) × (e.finding ≡ t.finding)
+            × Fits (M.rules self.now.machine) self.now.program e.state × (e.state.steps < self.now.limit))) }
+        ensures none { IfOk result (λ o. IfNone o (IsTaken self.now.entries id → ⊥)) }
+    {
+        let Some(row) = self.taken_row(id) else {
+            return Ok(None);
+        };
+        let finding = *row.finding();
+        match self.table.state(id) {
+            Some(state) => {
+                let state = Arc::try_clone(state)?;
+                Ok(Some(Told {
+                    state: Some(state),
+                    code: None,
+                    finding,
+                }))
+            }
+            None => {
+                let code = self.code_of(id, stock)?;
+                Ok(Some(Told {
+                    state: None,
+                    code,
+                    finding,
+                }))
+            }
+        }
+    }
+
+    /// The state of a taken entry with what was found of it; none where no entry of this number is taken.
     pub fn handed_out(&self, id: usize) -> Result<Option<(Arc<State<M>>, Finding)>, OutOfMemory>
         ensures entry { IfOk result (λ o. IfSome o (λ p. (e : Entry (State M M.Mem M.Loc M.Form))
             × At self.now.entries id e × (e.mark ≡ Mark.Taken) × (e.state ≡ p.0.value) × (e.finding ≡ p.1))) }
@@ -38,13 +112,12 @@ impl<M: Machine> Book<M> {
         ensures few { IfOk result (λ o. IfSome o (λ p. p.0.value.steps < self.now.limit)) }
         ensures none { IfOk result (λ o. IfNone o (IsTaken self.now.entries id → ⊥)) }
     {
-        let Some(row) = self.table.row(id) else {
+        let Some(row) = self.taken_row(id) else {
             return Ok(None);
         };
-        if !row.is_taken() {
-            return Ok(None);
-        }
-        let state = Arc::try_clone(self.table.state(id))?;
+        // What the book knows of its entries holds of the one that is handed out.
+        let _ = &self.table;
+        let state = self.state_of(id)?;
         Ok(Some((state, *row.finding())))
     }
 }

@@ -14,7 +14,7 @@ ghost use Rattle.book.specs.Closed.{AreSound, HoldsForEvery, IsClosed};
 ghost use Rattle.book.specs.Schedule.{after};
 ghost use Rattle.book.specs.Ways.{IsWay};
 
-use crate::book::{Book, Merge, Totals, steps_at};
+use crate::book::{Book, Merge, Totals};
 use crate::counting::Counting;
 use crate::file::write_entries;
 use crate::finding::Finding;
@@ -88,7 +88,7 @@ impl<M: Machine> Book<M> {
     {
         match self.table.first_left() {
             None => false,
-            Some(first) => steps_at(&self.table, first) <= steps,
+            Some(first) => self.steps_to(first) <= steps,
         }
     }
 

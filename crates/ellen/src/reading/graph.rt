@@ -1,5 +1,5 @@
 //! The nodes and the records of a memory read back from their bytes, where each number is one byte.
-ghost use Rattle.std.specs.Prelude.{◌≡◌, ℕ, ◌++◌, ◌∷◌, [], length, IfSome, IfOk};
+ghost use Rattle.std.specs.Prelude.{◌≡◌, ◌++◌, [], length, IfSome, IfOk};
 ghost use Rattle.std.specs.List.{flat_map};
 ghost use Rattle.tree_machine.specs.Flat.{number_code, cell_code, flat};
 ghost use Rattle.tree_machine.specs.Parts.{part_cell, parts_graph};
@@ -9,56 +9,49 @@ use crate::memory::{DeleteRecord, EllenMem, InsertRecord, Node, Record};
 use crate::reading::words::word_of;
 use sched_program::{OutOfMemory, Sequence};
 use std::alloc::Global;
-use tree_machine::copy_into;
+use std::mem::replace;
 
-/// Reads the rest of a leaf, and tells the bytes behind it.
-#[inline(always)]
-fn read_leaf(bytes: &[u8]) -> Option<(Node, &[u8])>
-    ensures { IfSome result (λ read. (nodes : ℕ)
-        → 1 ∷ bytes.now ≡ cell_code (part_cell nodes (node_part read.0)) ++ read.1.now) }
-{
-    let [key @ 0..=254, rest @ ..] = bytes else {
-        return None;
-    };
-    Some((Node::Leaf { key: *key }, rest))
-}
-
-/// Reads the rest of an internal node, and tells the bytes behind it.
-#[inline(always)]
-fn read_internal(bytes: &[u8], nodes: u8) -> Option<(Node, &[u8])>
-    ensures { IfSome result (λ read.
-        102 ∷ bytes.now ≡ cell_code (part_cell nodes (node_part read.0)) ++ read.1.now) }
-{
-    let [
-        key @ 0..=254,
-        kind,
-        left @ 1..=254,
-        right @ 1..=254,
-        named,
-        rest @ ..,
-    ] = bytes
-    else {
-        return None;
-    };
-    let node = Node::Internal {
-        key: *key,
-        update: word_of(*kind, *named, nodes)?,
-        left: u16::from(*left) - 1,
-        right: u16::from(*right) - 1,
-    };
-    Some((node, rest))
-}
-
-/// Reads a node, and tells the bytes behind it.
+/// Reads a node, and tells the bytes behind it. The length is tested once for all bytes of a node.
 #[inline(always)]
 fn read_node(bytes: &[u8], nodes: u8) -> Option<(Node, &[u8])>
     ensures { IfSome result (λ read. bytes.now ≡ cell_code (part_cell nodes (node_part read.0)) ++ read.1.now) }
 {
     match bytes {
-        [1, rest @ ..] => read_leaf(rest),
-        [102, rest @ ..] => read_internal(rest, nodes),
+        [
+            102,
+            key @ 0..=254,
+            kind,
+            left @ 1..=254,
+            right @ 1..=254,
+            named,
+            rest @ ..,
+        ] => {
+            let node = Node::Internal {
+                key: *key,
+                update: word_of(*kind, *named, nodes)?,
+                left: u16::from(*left) - 1,
+                right: u16::from(*right) - 1,
+            };
+            Some((node, rest))
+        }
+        [1, key @ 0..=254, rest @ ..] => Some((Node::Leaf { key: *key }, rest)),
         _ => None,
     }
+}
+
+/// Reads a node into each place of a list, one behind the other, and tells the bytes behind them.
+fn read_each_node<'a>(bytes: &'a [u8], count: u8, nodes: &mut [Node]) -> Option<&'a [u8]>
+    ensures nodes { IfSome result (λ rest.
+        bytes.now ≡ flat_map (λ node. cell_code (part_cell count (node_part node))) nodes.new ++ rest.now) }
+    ensures count { length nodes.new ≡ length nodes.old }
+{
+    let mut rest = bytes;
+    for node in nodes.iter_mut() {
+        let (read, behind) = read_node(rest, count)?;
+        *node = read;
+        rest = behind;
+    }
+    Some(rest)
 }
 
 /// Reads so many nodes, in the room that the list has as far as that is enough, and tells the bytes behind them.
@@ -72,71 +65,67 @@ fn read_nodes<'a>(
         bytes.now ≡ flat_map (λ node. cell_code (part_cell count (node_part node))) nodes.new ++ rest.now)) }
     ensures count { IfOk result (λ read. IfSome read (λ _. length nodes.new ≡ count)) }
 {
-    copy_into(alloc, &[], nodes)?;
-    let mut rest = bytes;
-    for _i in 0..count {
-        let Some((node, behind)) = read_node(rest, count) else {
-            return Ok(None);
-        };
-        nodes.push(node)?;
-        rest = behind;
-    }
-    Ok(Some(rest))
+    let mut places = replace(nodes, Sequence::new(alloc)).into_vec();
+    places.resize(count as usize, Node::Leaf { key: 0 })?;
+    let read = read_each_node(bytes, count, places.as_mut_slice());
+    *nodes = Sequence::from_vec(places);
+    Ok(read)
 }
 
-/// Reads the rest of the record of an insert, and tells the bytes behind it.
-#[inline(always)]
-fn read_insert(bytes: &[u8]) -> Option<(Record, &[u8])>
-    ensures { IfSome result (λ read. (nodes : ℕ)
-        → 105 ∷ bytes.now ≡ cell_code (part_cell nodes (record_part read.0)) ++ read.1.now) }
-{
-    let [parent @ 1..=254, leaf @ 1..=254, new @ 1..=254, rest @ ..] = bytes else {
-        return None;
-    };
-    let insert = InsertRecord {
-        parent: u16::from(*parent) - 1,
-        leaf: u16::from(*leaf) - 1,
-        new: u16::from(*new) - 1,
-    };
-    Some((Record::Ins(insert), rest))
-}
-
-/// Reads the rest of the record of a delete, and tells the bytes behind it.
-#[inline(always)]
-fn read_delete(bytes: &[u8], nodes: u8) -> Option<(Record, &[u8])>
-    ensures { IfSome result (λ read.
-        136 ∷ bytes.now ≡ cell_code (part_cell nodes (record_part read.0)) ++ read.1.now) }
-{
-    let [
-        kind,
-        grandparent @ 1..=254,
-        parent @ 1..=254,
-        leaf @ 1..=254,
-        named,
-        rest @ ..,
-    ] = bytes
-    else {
-        return None;
-    };
-    let delete = DeleteRecord {
-        grandparent: u16::from(*grandparent) - 1,
-        parent: u16::from(*parent) - 1,
-        leaf: u16::from(*leaf) - 1,
-        parent_update: word_of(*kind, *named, nodes)?,
-    };
-    Some((Record::Del(delete), rest))
-}
-
-/// Reads a record, and tells the bytes behind it.
+/// Reads a record, and tells the bytes behind it. The length is tested once for all bytes of a record.
 #[inline(always)]
 fn read_record(bytes: &[u8], nodes: u8) -> Option<(Record, &[u8])>
     ensures { IfSome result (λ read. bytes.now ≡ cell_code (part_cell nodes (record_part read.0)) ++ read.1.now) }
 {
     match bytes {
-        [105, rest @ ..] => read_insert(rest),
-        [136, rest @ ..] => read_delete(rest, nodes),
+        [
+            105,
+            parent @ 1..=254,
+            leaf @ 1..=254,
+            new @ 1..=254,
+            rest @ ..,
+        ] => {
+            let insert = InsertRecord {
+                parent: u16::from(*parent) - 1,
+                leaf: u16::from(*leaf) - 1,
+                new: u16::from(*new) - 1,
+            };
+            Some((Record::Ins(insert), rest))
+        }
+        [
+            136,
+            kind,
+            grandparent @ 1..=254,
+            parent @ 1..=254,
+            leaf @ 1..=254,
+            named,
+            rest @ ..,
+        ] => {
+            let delete = DeleteRecord {
+                grandparent: u16::from(*grandparent) - 1,
+                parent: u16::from(*parent) - 1,
+                leaf: u16::from(*leaf) - 1,
+                parent_update: word_of(*kind, *named, nodes)?,
+            };
+            Some((Record::Del(delete), rest))
+        }
         _ => None,
     }
+}
+
+/// Reads a record into each place of a list, one behind the other, and tells the bytes behind them.
+fn read_each_record<'a>(bytes: &'a [u8], nodes: u8, records: &mut [Record]) -> Option<&'a [u8]>
+    ensures records { IfSome result (λ rest.
+        bytes.now ≡ flat_map (λ each. cell_code (part_cell nodes (record_part each))) records.new ++ rest.now) }
+    ensures count { length records.new ≡ length records.old }
+{
+    let mut rest = bytes;
+    for each in records.iter_mut() {
+        let (read, behind) = read_record(rest, nodes)?;
+        *each = read;
+        rest = behind;
+    }
+    Some(rest)
 }
 
 /// Reads so many records, in the room that the list has as far as that is enough, and tells the bytes behind them.
@@ -151,16 +140,16 @@ fn read_records<'a>(
         bytes.now ≡ flat_map (λ each. cell_code (part_cell nodes (record_part each))) records.new ++ rest.now)) }
     ensures count { IfOk result (λ read. IfSome read (λ _. length records.new ≡ count)) }
 {
-    copy_into(alloc, &[], records)?;
-    let mut rest = bytes;
-    for _i in 0..count {
-        let Some((each, behind)) = read_record(rest, nodes) else {
-            return Ok(None);
-        };
-        records.push(each)?;
-        rest = behind;
-    }
-    Ok(Some(rest))
+    let blank = InsertRecord {
+        parent: 0,
+        leaf: 0,
+        new: 0,
+    };
+    let mut places = replace(records, Sequence::new(alloc)).into_vec();
+    places.resize(count as usize, Record::Ins(blank))?;
+    let read = read_each_record(bytes, nodes, places.as_mut_slice());
+    *records = Sequence::from_vec(places);
+    Ok(read)
 }
 
 /// Reads a memory: how many nodes and records it has, and all of them. It tells the number of nodes, and the bytes

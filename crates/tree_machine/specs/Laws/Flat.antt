@@ -5,11 +5,13 @@ use Rattle.std.specs.Prelude.{Option, Some, None, nat_lt}
 use Rattle.std.specs.List.{flat_map}
 use Rattle.std.proofs.Math.Nat.{mod-lt, div-add-mod}
 use Rattle.std.proofs.lemmas.Bool.Decides.{nat_tests}
+use Rattle.std.proofs.lemmas.Grind.{flat_map-append}
 use Rattle.std.proofs.lemmas.List.{length-map}
 use Rattle.std.proofs.lemmas.List.Concat.{flat_map-cons}
 use Rattle.tree_machine.specs.Cells.{Content}
 use Rattle.tree_machine.specs.Flat.{number_code, long_code, facts_code, reference_number, cell_code, flat, flat_form}
-use Rattle.tree_machine.specs.Parts.{Parts, ArePartsInRange, CanPartsBePaired}
+use Rattle.tree_machine.specs.Flat.{parts_code, graph_code}
+use Rattle.tree_machine.specs.Parts.{Parts, ArePartsInRange, CanPartsBePaired, parts_graph, parts_held}
 use Rattle.tree_machine.specs.Laws.Parts.{parts_exactly}
 
 -- ---- one number
@@ -210,3 +212,13 @@ pub flat_forms_exact : (fixed : ℕ) (here there : Parts) → ArePartsInRange fi
 flat_forms_exact fixed here there here_fits there_fits l =
     let exactly = parts_exactly fixed here there here_fits there_fits l in
     (λ e. exactly.0 (flat_equal _ _ e), λ p. ap flat (exactly.1 p))
+
+-- what the threads hold stands last in the bytes of all
+pub parts_parted : (s : Parts) → parts_code s ≡ graph_code s ++ flat (parts_held s)
+parts_parted s =
+    let nodes = number_code (length s.nodes) in
+    let records = number_code (length s.records) in
+    let graph = flat (parts_graph s) in
+    let held = flat (parts_held s) in
+    ap (λ l. nodes ++ (records ++ l)) (flat_map-append cell_code (parts_graph s) (parts_held s))
+    ∙ (ap (λ l. nodes ++ l) (sym (append_assoc records graph held)) ∙ sym (append_assoc nodes (records ++ graph) held))

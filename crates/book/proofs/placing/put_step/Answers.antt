@@ -8,8 +8,8 @@ use Rattle.book.proofs.Leaving.{keeps_known, keeps_new}
 use Rattle.book.proofs.SlotLemmas.{put_step, step_row}
 use Rattle.book.proofs.placing.put_step.Goals as goal
 
-pub returns-in_ok-push-in-None-clause-put : goal.returns-in_ok-push-in-None-clause-put
-returns-in_ok-push-in-None-clause-put g c =
+pub returns-in_ok-hold-in-None-clause-put : goal.returns-in_ok-hold-in-None-clause-put
+returns-in_ok-hold-in-None-clause-put g c =
     let fields = c.into_fields-thread in
     let eq : Labelled g.row.S.Denot → Labelled g.row.S.Denot → Bool =
     same_label in
@@ -35,30 +35,30 @@ returns-in-Some-clause-put g c =
 pub returns-in-Some-clause-left : goal.returns-in-Some-clause-left
 returns-in-Some-clause-left g c =
     let len = rw c.in-Some.is at c.in_ok-put_new.ensures.len in
-    keeps_known c.args.leftovers.now c.keep-in-Some.new.self (length c.args.slots.now.entries)
-    (length c.put_new.new.slots.entries) len c.keep-in-Some.ensures
+    keeps_known c.args.leftovers.now c.keep.new.self (length c.args.slots.now.entries)
+    (length c.put_new.new.slots.entries) len c.keep.ensures
 
-pub returns-in_ok-push-in-None-clause-held : goal.returns-in_ok-push-in-None-clause-held
-returns-in_ok-push-in-None-clause-held g c =
+pub returns-in_ok-hold-in-None-clause-held : goal.returns-in_ok-hold-in-None-clause-held
+returns-in_ok-hold-in-None-clause-held g c =
     let fields = c.into_fields-thread in
     let len = rw c.in-None.is at c.in_ok-put_new.ensures.len in
     let eq : Labelled g.row.S.Denot → Labelled g.row.S.Denot → Bool =
     same_label in
-    stay_new eq c.args.slots.now.entries c.put_new.new.slots.entries fields.result.2 c.in_ok-row.row
-    c.in_ok-put_new.ensures.put len c.args.held.now c.push.new.self fields.result.1.value
+    λ h. stay_new eq c.args.slots.now.entries c.put_new.new.slots.entries fields.result.2 c.in_ok-row.row
+    c.in_ok-put_new.ensures.put len c.args.held.now c.hold.new.held fields.result.1.value
     (ap (λ (k : Labelled g.row.S.Denot). k.state) fields.ensures.2 ∙ sym fields.ensures.1)
-    c.in_ok-push-in-None.ensures.ok
+    (c.in_ok-hold-in-None.ensures.held h)
 
 pub returns-in-Some-clause-held : goal.returns-in-Some-clause-held
 returns-in-Some-clause-held g c =
     let len = rw c.in-Some.is at c.in_ok-put_new.ensures.len in
-    stay_known c.args.slots.now.entries c.put_new.new.slots.entries _ c.in_ok-put_new.ensures.put len c.args.held.now
+    λ _. stay_known c.args.slots.now.entries c.put_new.new.slots.entries _ c.in_ok-put_new.ensures.put len c.args.held.now
 
-pub returns-in_ok-push-in-None-clause-left : goal.returns-in_ok-push-in-None-clause-left
-returns-in_ok-push-in-None-clause-left g c =
+pub returns-in_ok-hold-in-None-clause-left : goal.returns-in_ok-hold-in-None-clause-left
+returns-in_ok-hold-in-None-clause-left g c =
     let len = rw c.in-None.is at c.in_ok-put_new.ensures.len in
-    keeps_new c.args.leftovers.now c.keep.new.self (length c.args.slots.now.entries)
-    (length c.put_new.new.slots.entries) len c.keep.ensures
+    keeps_new c.args.leftovers.now c.hold.new.leftovers (length c.args.slots.now.entries)
+    (length c.put_new.new.slots.entries) len c.hold.ensures.left
 
 pub returns-in_err-row-clause-kept : goal.returns-in_err-row-clause-kept
 returns-in_err-row-clause-kept g c = grown_itself c.args.slots.now.entries
@@ -73,21 +73,21 @@ returns-in_err-put_new-clause-kept g c =
 pub returns-in_err-put_new-clause-held_kept : goal.returns-in_err-put_new-clause-held_kept
 returns-in_err-put_new-clause-held_kept g c = grown_itself c.args.held.now
 
-pub returns-in_err-push-in-None-clause-kept : goal.returns-in_err-push-in-None-clause-kept
-returns-in_err-push-in-None-clause-kept g c =
+pub returns-in_err-hold-in-None-clause-kept : goal.returns-in_err-hold-in-None-clause-kept
+returns-in_err-hold-in-None-clause-kept g c =
     grown_front c.args.slots.now.entries _ c.put_new.new.slots.entries c.in_ok-put_new.ensures.put
 
-pub returns-in_err-push-in-None-clause-held_kept : goal.returns-in_err-push-in-None-clause-held_kept
-returns-in_err-push-in-None-clause-held_kept g c =
-    grown_same c.args.held.now c.push.new.self c.in_err-push-in-None.ensures.err
+pub returns-in_err-hold-in-None-clause-held_kept : goal.returns-in_err-hold-in-None-clause-held_kept
+returns-in_err-hold-in-None-clause-held_kept g c =
+    c.hold.ensures.kept
 
-pub returns-in_ok-push-in-None-clause-kept : goal.returns-in_ok-push-in-None-clause-kept
-returns-in_ok-push-in-None-clause-kept g c =
+pub returns-in_ok-hold-in-None-clause-kept : goal.returns-in_ok-hold-in-None-clause-kept
+returns-in_ok-hold-in-None-clause-kept g c =
     grown_front c.args.slots.now.entries _ c.put_new.new.slots.entries c.in_ok-put_new.ensures.put
 
-pub returns-in_ok-push-in-None-clause-held_kept : goal.returns-in_ok-push-in-None-clause-held_kept
-returns-in_ok-push-in-None-clause-held_kept g c =
-    grown_front c.args.held.now _ c.push.new.self c.in_ok-push-in-None.ensures.ok
+pub returns-in_ok-hold-in-None-clause-held_kept : goal.returns-in_ok-hold-in-None-clause-held_kept
+returns-in_ok-hold-in-None-clause-held_kept g c =
+    c.hold.ensures.kept
 
 pub returns-in-Some-clause-kept : goal.returns-in-Some-clause-kept
 returns-in-Some-clause-kept g c =

@@ -14,7 +14,7 @@ loop-step-init g c =
     record {
       put = sym (append-nil (map keyed_of c.args.slots.now.entries));
       kept = grown_itself c.args.slots.now.entries;
-      held = stay_same (entries_of c.args.slots.now.entries) (entries_of c.args.slots.now.entries) c.args.held.now refl;
+      held = λ _. stay_same (entries_of c.args.slots.now.entries) (entries_of c.args.slots.now.entries) c.args.held.now refl;
       held_kept = grown_itself c.args.held.now;
       left = keeps_none c.args.leftovers.now (length c.args.slots.now.entries);
     }
@@ -36,8 +36,8 @@ loop-step-preserved g c =
       put = put_turn eq (map keyed_of old) (map keyed_of mid) (map keyed_of new) c.args.parent c.loop-step.yielded step
           so_far.put one.put;
       kept = grown_on old mid new so_far.kept c.put_step.ensures.kept;
-      held = stay_on (entries_of old) (entries_of mid) (entries_of new) c.args.held.now c.loop-step.held
-          c.put_step.new.held (omega arith) so_far.held one.held;
+      held = λ h. stay_on (entries_of old) (entries_of mid) (entries_of new) c.args.held.now c.loop-step.held
+          c.put_step.new.held (omega arith) (so_far.held h) (one.held h);
       held_kept =
           grown_on c.args.held.now c.loop-step.held c.put_step.new.held so_far.held_kept c.put_step.ensures.held_kept;
       left = rw (length_push c.loop-step.yielded step)

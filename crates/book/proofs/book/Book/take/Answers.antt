@@ -1,4 +1,4 @@
-use Rattle.std.proofs.Common.{ap, position, ◌∙◌}
+use Rattle.std.proofs.Common.{ap, refl, ◌∙◌}
 use Rattle.tree_machine.specs.declared.state.State.{State}
 use Rattle.book.specs.declared.entry.Mark.TheVariants.{Taken}
 use Rattle.book.specs.Entries.{Contents, Entry, is_open}
@@ -8,14 +8,8 @@ use Rattle.book.proofs.InBook.{next_taken, taken_one}
 use Rattle.book.proofs.Labels.{known_mark}
 use Rattle.book.proofs.book.Book.take.Goals as goal
 
-pub state-requires : goal.state-requires
-state-requires g c =
-    open_is_left c.self.inside.table.entries c.in-Some.id
-    (ap (λ (b : Contents g.row.M.Denot
-    (State g.row.M.Denot g.row.M-Mem.Denot g.row.M-Loc.Denot g.row.M-Form.Denot)). position
-    (λ (e : Entry (State g.row.M.Denot g.row.M-Mem.Denot g.row.M-Loc.Denot g.row.M-Form.Denot)). is_open e.mark)
-    b.entries) c.self.view_is
-    ∙ c.in-Some.ensures.open)
+pub state_of-requires-after_bounds : goal.state_of-requires-after_bounds
+state_of-requires-after_bounds g c κs within = open_is_left c.args.self.now.entries c.in-Some.id c.in-Some.ensures.open
 
 pub invariant_of-self : goal.invariant_of-self
 invariant_of-self g c =
@@ -25,19 +19,20 @@ invariant_of-self g c =
       known_mark (label_by g.M.Machine.whole_code g.M.Machine.form_code (g.M.Machine.form_of s.machine) s.merge) s.table
           c.in-Some.id Taken c.self.invariant.1,
       c.self.invariant.2,
+      c.self.invariant.3,
     )
 
 pub returns-clause-taken : goal.returns-clause-taken
 returns-clause-taken g c =
-    (taken_one c.self.invariant.0 c.args.self.now c.self.view_is c.in-Some.id c.in-Some.ensures.next _ c.state.ensures
-    c.in_ok-state.state.value c.in_ok-state.ensures _ c.mark_taken.ensures).takes
+    (taken_one c.self.invariant.0 c.args.self.now c.self.view_is c.in-Some.id c.in-Some.ensures.next _
+    (rw (← c.self.view_is) at c.in_ok-state.ensures) c.in_ok-state.state.value refl _ c.mark_taken.ensures).takes
 
 pub returns-clause-fits : goal.returns-clause-fits
 returns-clause-fits g c =
-    (taken_one c.self.invariant.0 c.args.self.now c.self.view_is c.in-Some.id c.in-Some.ensures.next _ c.state.ensures
-    c.in_ok-state.state.value c.in_ok-state.ensures _ c.mark_taken.ensures).fits
+    (taken_one c.self.invariant.0 c.args.self.now c.self.view_is c.in-Some.id c.in-Some.ensures.next _
+    (rw (← c.self.view_is) at c.in_ok-state.ensures) c.in_ok-state.state.value refl _ c.mark_taken.ensures).fits
 
 pub returns-clause-few : goal.returns-clause-few
 returns-clause-few g c =
-    (taken_one c.self.invariant.0 c.args.self.now c.self.view_is c.in-Some.id c.in-Some.ensures.next _ c.state.ensures
-    c.in_ok-state.state.value c.in_ok-state.ensures _ c.mark_taken.ensures).few
+    (taken_one c.self.invariant.0 c.args.self.now c.self.view_is c.in-Some.id c.in-Some.ensures.next _
+    (rw (← c.self.view_is) at c.in_ok-state.ensures) c.in_ok-state.state.value refl _ c.mark_taken.ensures).few

@@ -37,7 +37,7 @@ invariant_of-self-in-None g c =
           c.args.parent (bares us) c.first_fault_from-self-inside.result
           (c.first_fault_from-self-inside.ensures
           ∙ ap (position (λ (e : Entry g.row.S.Denot). not (is_sound e.finding))) put)),
-      c.in-Ok.ensures.held s.first_left c.self.invariant.0.left.within c.self.invariant.1,
+      (λ h. c.in-Ok.ensures.held h s.first_left c.self.invariant.0.left.within (c.self.invariant.1 h)),
     )
 
 pub invariant_of-self-in-Some : goal.invariant_of-self-in-Some
@@ -54,7 +54,7 @@ invariant_of-self-in-Some g c =
           (c.in-Some.is
           ∙ sym (fault-append (entries_of s.slots.entries) (map (opened c.args.parent) (bares us)) c.in-Some.field-0
           some))),
-      c.in-Ok.ensures.held s.first_left c.self.invariant.0.left.within c.self.invariant.1,
+      (λ h. c.in-Ok.ensures.held h s.first_left c.self.invariant.0.left.within (c.self.invariant.1 h)),
     )
 
 pub returns-then-len-limit-clause-full : goal.returns-then-len-limit-clause-full

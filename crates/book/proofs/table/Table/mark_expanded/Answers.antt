@@ -1,4 +1,5 @@
-use Rattle.std.proofs.Common.{◌≡◌, ◌+◌, ◌<◌, ◌≤◌, length, sym, ap, arith, subst, List}
+use Rattle.std.proofs.lemmas.Bool.{true≢false}
+use Rattle.std.proofs.Common.{◌∙◌, ◌≡◌, ◌+◌, ◌<◌, ◌≤◌, length, sym, ap, arith, subst, List}
 use Rattle.book.specs.declared.entry.Mark.TheVariants.{Expanded}
 use Rattle.book.specs.Entries.{Entry, IsTaken, with_mark}
 use Rattle.book.specs.Labels.{Kept}
@@ -8,6 +9,7 @@ use Rattle.book.proofs.EntryLemmas.{get_within, length-with_mark}
 use Rattle.book.proofs.SlotLemmas.{length-entries}
 use Rattle.book.proofs.Cursors.{still_expanded, cursors_expanded}
 use Rattle.book.proofs.table.Table.mark_expanded.Goals as goal
+use Rattle.book.proofs.table.Table.mark_expanded.Goals.{then-self, else-self}
 
 pub first_left_from-left-requires-clause-before : goal.first_left_from-left-requires-clause-before
 first_left_from-left-requires-clause-before g c =
@@ -57,7 +59,8 @@ release-requires g c =
     left_from (entries_of s.slots.entries) s.first_left c.args.index c.self.invariant.0.left
     (subst (λ (k : Kept g.row.S.Denot). IsLeft k.entries c.args.index) (sym c.self.view_is)
     (taken_is_left es c.args.index here.0 here.1 here.2)) in
-    let held : s.first_left + length s.held ≡ length (entries_of s.slots.entries) = c.self.invariant.1.0 in
+    let are = c.self.invariant.1 c.if-self.true in
+    let held : s.first_left + length s.held ≡ length (entries_of s.slots.entries) = are.0 in
     omega arith
 
 pub invariant_of-self : goal.invariant_of-self
@@ -75,13 +78,17 @@ invariant_of-self g c =
     c.first_left_from-left.result is_left in
     let le = left_from es s.first_left c.args.index c.self.invariant.0.left
     (taken_is_left es c.args.index taken.0 taken.1 taken.2) in
-    let marked : AreHeld (with_mark es c.args.index Expanded) s.first_left c.release.new.self =
-    held_expanded es c.args.index s.first_left s.held c.release.new.self le c.self.invariant.1 c.release.ensures in
     let grows =
     left_grows_marked es s.next_open s.first_left s.fault c.self.invariant.0 c.args.index
     c.first_left_from-left.result is_left in
-    rw (c.mark_at.ensures.entries, c.give_back.ensures) (
-      cursors,
-      held_back (with_mark es c.args.index Expanded) s.first_left c.first_left_from-left.result c.release.new.self grows
-          is_left.within marked,
-    )
+    elim c.if-self.branch [
+      | then-self w ↦ rw (w.self-inside-is, c.mark_at.ensures.entries, w.give_back.ensures) (
+        cursors,
+        (λ h. held_back (with_mark es c.args.index Expanded) s.first_left c.first_left_from-left.result
+            w.release.new.self grows is_left.within
+            (held_expanded es c.args.index s.first_left s.held w.release.new.self le (c.self.invariant.1 h)
+            w.release.ensures)),
+      )
+      | else-self w ↦ rw (w.self-inside-is, c.mark_at.ensures.entries)
+          (cursors, (λ h. absurd (true≢false (sym h ∙ w.if-self.false))))
+    ]

@@ -25,7 +25,9 @@ invariant_of-self g c =
     rw ends at
     (cursors_range (c.args.end - s.next_open) (entries_of s.slots.entries) s.next_open s.first_left s.fault
     c.self.invariant.0 (omega arith)) in
-    let held =
-    held_range (c.args.end - s.next_open) s.next_open (entries_of s.slots.entries)
-    (λ j e at ge. open_unexpanded e.mark (c.self.invariant.0.above j e at ge)) s.first_left s.held c.self.invariant.1 in
-    rw (c.mark_range.ensures.entries, start) (cursors, held)
+    rw (c.mark_range.ensures.entries, start) (
+      cursors,
+      (λ h. held_range (c.args.end - s.next_open) s.next_open (entries_of s.slots.entries)
+          (λ j e at ge. open_unexpanded e.mark (c.self.invariant.0.above j e at ge)) s.first_left s.held
+          (c.self.invariant.1 h)),
+    )

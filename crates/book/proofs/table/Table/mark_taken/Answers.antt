@@ -15,7 +15,7 @@ invariant_of-self g c =
     c.self.view_is ∙ c.requires.first in
     rw c.mark_at.ensures.entries (
       cursors_taken (entries_of s.slots.entries) s.next_open s.first_left s.fault c.self.invariant.0 c.args.index first,
-      held_taken (entries_of s.slots.entries) c.args.index
+      (λ h. held_taken (entries_of s.slots.entries) c.args.index
           (left_one (entries_of s.slots.entries) c.args.index (open_is_left (entries_of s.slots.entries) c.args.index first))
-          s.first_left s.held c.self.invariant.1,
+          s.first_left s.held (c.self.invariant.1 h)),
     )

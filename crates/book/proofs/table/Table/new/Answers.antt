@@ -30,8 +30,7 @@ invariant_of-result g c =
       | else-is_sound w ↦ w.fault-is ∙ ap (λ b. cond b None (Some 0))
           (sym (sym c.is_sound.ensures ∙ w.if-is_sound.false))
     ]) in
-    let same = c.requires ∙ sym c.in_ok-new.ensures.ok in
     rw (ap entries_of one) (
       cursors_one e refl c.if-is_sound.fault (fault ∙ sym (fault_of_one e)),
-      (rw (c.in_ok-push.ensures.ok, c.none-held.ensures) (held_one e c.in_ok-new.field-0.value same)),
+      (λ h. rw (c.in_ok-held.ensures h) (held_one e c.args.state c.requires)),
     )

@@ -1,0 +1,12 @@
+use Rattle.std.proofs.Common.{◌≡◌, Some, slice_get, sym, ap, ◌∙◌}
+use Rattle.tree_machine.proofs.Lists.{map-get}
+use Rattle.book.specs.declared.entry.Row.{Row}
+use Rattle.book.specs.Labels.{Labelled}
+use Rattle.book.proofs.table.label_at.Goals as goal
+
+pub returns : goal.returns
+returns g c =
+    let slot : Labelled g.row.S.Denot × Row = (c.in-Some.known.now, c.in-Some.field-0-1.now) in
+    map-get (λ (p : Labelled g.row.S.Denot × Row). p.0.label) c.args.slots.now.entries c.args.index slot
+    (sym c.in-Some.ensures.entry)
+    ∙ ap Some (ap (λ (k : Labelled g.row.S.Denot). k.label) (sym c.value.ensures) ∙ sym c.label.ensures)

@@ -1,0 +1,95 @@
+//! The states of entries that are not expanded: where the book holds none, they are read back from their labels.
+ghost use Rattle.std.specs.Prelude.{◌≡◌, ◌-◌, ◌<◌, ◌≤◌, length, map, IfOk, IfSome};
+ghost use Rattle.std.specs.List.{range_with_len};
+ghost use Rattle.tree_machine.specs.declared.state.State.{State};
+ghost use Rattle.book.specs.Entries.{Entry, At};
+ghost use Rattle.book.specs.Slots.{AreStatesOf, IsLeft, IsOpenFrom};
+
+use crate::book::{Book, Merge};
+use crate::replayed::ReplayFault;
+use crate::replaying::replay;
+use sched_program::OutOfMemory;
+use std::sync::Arc;
+use tree_machine::{Machine, State};
+
+impl<M: Machine> Book<M> {
+    /// The state of an entry, by the schedule that leads to it.
+    fn replayed(&self, id: usize) -> Result<State<M>, OutOfMemory>
+        requires { id < length self.now.entries }
+        ensures { IfOk result (λ state. (e : Entry (State M M.Mem M.Loc M.Form)) × At self.now.entries id e
+            × (e.state ≡ state)) }
+    {
+        let alloc = self.table.allocator();
+        let schedule = self.schedule_of(alloc, id)?;
+        match replay(alloc, self.machine, &self.program, schedule.as_slice()) {
+            Ok(end) => Ok(end.state),
+            Err(ReplayFault::OutOfMemory) => Err(OutOfMemory),
+            Err(ReplayFault::NotEnabled(_)) => unreachable!(),
+        }
+    }
+
+    /// The state of an entry, read from its label. None where that can't be done.
+    fn read_label(&self, id: usize) -> Result<Option<State<M>>, OutOfMemory>
+        requires { id < length self.now.entries }
+        ensures { IfOk result (λ o. IfSome o (λ state. (e : Entry (State M M.Mem M.Loc M.Form))
+            × At self.now.entries id e × (e.state ≡ state))) }
+    {
+        match self.merge {
+            Merge::Exact => {
+                let alloc = self.table.allocator();
+                let label = self.table.label(id);
+                let mut state = State::start(alloc, self.machine, &self.program)?;
+                let is_read = state.read_in(alloc, self.machine, label)?;
+                if is_read { Ok(Some(state)) } else { Ok(None) }
+            }
+            Merge::Names => Ok(None),
+        }
+    }
+
+    /// The state of an entry, read from its label, or where that can't be done by the schedule that leads to it.
+    fn read_back(&self, id: usize) -> Result<State<M>, OutOfMemory>
+        requires { id < length self.now.entries }
+        ensures { IfOk result (λ state. (e : Entry (State M M.Mem M.Loc M.Form)) × At self.now.entries id e
+            × (e.state ≡ state)) }
+    {
+        match self.read_label(id)? {
+            Some(state) => Ok(state),
+            None => self.replayed(id),
+        }
+    }
+
+    /// The state of an entry that is not expanded, shared with the book where that holds it.
+    pub(crate) fn state_of(&self, id: usize) -> Result<Arc<State<M>>, OutOfMemory>
+        requires { IsLeft self.now.entries id }
+        ensures { IfOk result (λ state. (e : Entry (State M M.Mem M.Loc M.Form)) × At self.now.entries id e
+            × (e.state ≡ state.value)) }
+    {
+        match self.table.state(id) {
+            Some(state) => Ok(Arc::try_clone(state)?),
+            None => {
+                let state = self.read_back(id)?;
+                Ok(Arc::new(self.table.allocator(), state)?)
+            }
+        }
+    }
+
+    /// The entries from `start` to below `end`, which are open, each by its number and its state.
+    pub(crate) fn states_of(
+        &self,
+        start: usize,
+        end: usize,
+    ) -> Result<Vec<(usize, Arc<State<M>>)>, OutOfMemory>
+        requires some { start ≤ end }
+        requires within { end ≤ length self.now.entries }
+        requires open { IsOpenFrom self.now.entries start }
+        ensures numbers { IfOk result (λ range. map (λ p. p.0) range.items ≡ range_with_len start (end - start)) }
+        ensures states { IfOk result (λ range. AreStatesOf self.now.entries range.items) }
+    {
+        let mut range = Vec::with_capacity(self.table.allocator(), end - start)?;
+        for index in start..end {
+            let state = self.state_of(index)?;
+            range.push((index, state))?;
+        }
+        Ok(range)
+    }
+}

@@ -1,0 +1,123 @@
+-- A step after which its thread has no reply and no note more leaves what the threads did as it was.
+use Rattle.std.proofs.Common.{◌≡◌, ℕ, zero, suc, Bool, List, [], ◌∷◌, ◌++◌, length, map, Option, Some, None, refl}
+use Rattle.std.proofs.Common.{sym, ap, ◌∙◌, arith, slice_get, slice_set, is_some, if◌then◌else◌, length-append}
+use Rattle.std.proofs.lemmas.List.{append-nil}
+use Rattle.std.proofs.lemmas.Option.{same_Some}
+use Rattle.sched_program.specs.Program.{Program}
+use Rattle.tree_machine.specs.Alike.{replies_of, notes_of}
+use Rattle.tree_machine.specs.Cuts.{deeds_of}
+use Rattle.tree_machine.specs.FormCode.{deeds_code}
+use Rattle.tree_machine.specs.Rules.{Rules}
+use Rattle.tree_machine.specs.Step.{at_step, after_access, finished_counts, notes_at_step, ready, step, stepped}
+use Rattle.tree_machine.specs.declared.machine.Outcome.{Outcome}
+use Rattle.tree_machine.specs.declared.machine.Outcome.TheVariants.{Goes, Replies, Astray}
+use Rattle.tree_machine.specs.declared.state.Thread.{Thread}
+use Rattle.tree_machine.specs.declared.state.State.{State}
+use Rattle.tree_machine.proofs.States.{map_some, step_parts}
+
+module _ {X : Type 0} where
+  get-set_same : (xs : List X) (i : ℕ) (v x y : X) → slice_get xs i ≡ Some x → slice_get (slice_set xs i v) i ≡ Some y
+      → y ≡ v
+  get-set_same [] i v x y h e = cc
+  get-set_same (z ∷ xs) zero v x y h e = cc
+  get-set_same (z ∷ xs) (suc i) v x y h e = get-set_same xs i v x y h e
+
+  map-put : {Y : Type 0} (f : X → Y) (xs : List X) (i : ℕ) (v x : X) → slice_get xs i ≡ Some x → f v ≡ f x
+      → map f (slice_set xs i v) ≡ map f xs
+  map-put f [] i v x h e = cc
+  map-put f (z ∷ xs) zero v x h e = ap (λ y. y ∷ map f xs) (e ∙ ap f (sym (same_Some _ _ h)))
+  map-put f (z ∷ xs) (suc i) v x h e = ap (λ ys. f z ∷ ys) (map-put f xs i v x h e)
+
+  -- a list that is no longer with more behind it is as it was
+  no_more : (xs more ys : List X) → ys ≡ xs ++ more → length ys ≡ length xs → ys ≡ xs
+  no_more xs [] ys e h = e ∙ append-nil xs
+  no_more xs (x ∷ more) ys e h = absurd (omega (arith, length-append xs (x ∷ more), ap length e))
+
+module _ {Place : Type 0} (threads : List (Thread Place)) (t : ℕ) (there here : Thread Place)
+    (at_t : slice_get threads t ≡ Some there) (as_many : length here.replies ≡ length there.replies)
+    (as_many_notes : length here.notes ≡ length there.notes) where
+  -- the thread is put back with what it did, and maybe more
+  put_same : (after : Thread Place) (more : List Bool) (more_notes : List (List ℕ))
+      → slice_get (slice_set threads t after) t ≡ Some here → after.replies ≡ there.replies ++ more
+      → after.notes ≡ there.notes ++ more_notes → (replies_of (slice_set threads t after) ≡ replies_of threads)
+      × (notes_of (slice_set threads t after) ≡ notes_of threads)
+  put_same after more more_notes found replies notes =
+      let same : here ≡ after = get-set_same threads t after there here at_t found in
+      let count : length after.replies ≡ length there.replies =
+      ap (λ (x : Thread Place). length x.replies) (sym same) ∙ as_many in
+      let note_count : length after.notes ≡ length there.notes =
+      ap (λ (x : Thread Place). length x.notes) (sym same) ∙ as_many_notes in (
+        map-put (λ (x : Thread Place). x.replies) threads t after there at_t
+            (no_more there.replies more after.replies replies count),
+        map-put (λ (x : Thread Place). x.notes) threads t after there at_t
+            (no_more there.notes more_notes after.notes notes note_count),
+      )
+
+noted : {Place : Type 0} (held : Option Place) (notes : List (List ℕ)) (counts : List ℕ)
+    → (more : List (List ℕ)) × (notes_at_step held notes counts ≡ notes ++ more)
+noted None notes counts = (counts ∷ [], refl)
+noted (Some place) notes counts = ([], sym (append-nil notes))
+
+module _ {Machine Memory Place Form : Type 0} (state : State Machine Memory Place Form) (t : ℕ)
+    (there here : Thread Place) (at_t : slice_get state.threads t ≡ Some there)
+    (as_many : length here.replies ≡ length there.replies) (as_many_notes : length here.notes ≡ length there.notes)
+  where
+    access_same : (at : Thread Place) (more_notes : List (List ℕ)) (acted : Memory × Outcome Place)
+        → at.replies ≡ there.replies → at.notes ≡ there.notes ++ more_notes
+        → slice_get (after_access state t at acted).threads t ≡ Some here
+        → (replies_of (after_access state t at acted).threads ≡ replies_of state.threads)
+        × (notes_of (after_access state t at acted).threads ≡ notes_of state.threads)
+    access_same at more_notes (memory, Goes place) replies notes found =
+        put_same state.threads t there here at_t as_many as_many_notes (record at { place = Some place }) [] more_notes
+        found (replies ∙ sym (append-nil there.replies)) notes
+    access_same at more_notes (memory, Replies reply) replies notes found =
+        put_same state.threads t there here at_t as_many as_many_notes
+        (record at { replies = at.replies ++ reply ∷ []; place = None }) (reply ∷ []) more_notes found
+        (ap (λ l. l ++ reply ∷ []) replies) notes
+    access_same at more_notes (memory, Astray) replies notes found =
+        put_same state.threads t there here at_t as_many as_many_notes at [] more_notes found
+        (replies ∙ sym (append-nil there.replies)) notes
+
+not_astray : {X : Type 0} (astray : Option ℕ) (rest : Option X) (x : X)
+    → (if is_some astray then None else rest) ≡ Some x → astray ≡ None
+not_astray None rest x h = refl
+not_astray (Some t) rest x h = cc
+
+module _ {Machine Memory Place Form : Type 0} (rules : Rules Memory Place) (program : Program)
+    (state next : State Machine Memory Place Form) (t : ℕ) (made : step rules program state t ≡ Some next) where
+  -- a state that has a step is not astray
+  pub source_not_astray : state.astray ≡ None
+  source_not_astray =
+      let whose = map_some _ (ready program state t) next made in not_astray state.astray _ whose.0 whose.1
+
+  module _ (there here : Thread Place) (at_t : slice_get state.threads t ≡ Some there)
+      (found : slice_get next.threads t ≡ Some here) (as_many : length here.replies ≡ length there.replies)
+      (as_many_notes : length here.notes ≡ length there.notes) where
+    -- what the threads did is as it was
+    pub deeds_stay : (replies_of next.threads ≡ replies_of state.threads)
+        × (notes_of next.threads ≡ notes_of state.threads)
+    deeds_stay =
+        step_parts rules program
+        ((replies_of next.threads ≡ replies_of state.threads) × (notes_of next.threads ≡ notes_of state.threads))
+        state next t made (λ thread is op at_op stepped_is.
+        let same : thread ≡ there = same_Some _ _ (sym is ∙ at_t) in
+        let at = at_step rules state op thread in
+        let more = noted thread.place thread.notes (finished_counts state.threads) in
+        let there_still : slice_get (stepped rules state t op thread).threads t ≡ Some here =
+        ap (λ (s : State Machine Memory Place Form). slice_get s.threads t) (sym stepped_is) ∙ found in
+        let kept =
+        access_same state t there here at_t as_many as_many_notes at more.0 _
+        (ap (λ (x : Thread Place). x.replies) same)
+        (more.1 ∙ ap (λ (x : Thread Place). x.notes ++ more.0) same) there_still in (
+          ap (λ (s : State Machine Memory Place Form). replies_of s.threads) stepped_is ∙ kept.0,
+          ap (λ (s : State Machine Memory Place Form). notes_of s.threads) stepped_is ∙ kept.1,
+        ))
+
+  -- the same of its bytes
+  pub deeds_as_before : (there here : Thread Place) → slice_get state.threads t ≡ Some there
+      → slice_get next.threads t ≡ Some here → next.astray ≡ None → length here.replies ≡ length there.replies
+      → length here.notes ≡ length there.notes → deeds_of next ≡ deeds_of state
+  deeds_as_before there here at_t found calm as_many as_many_notes =
+      let kept = deeds_stay there here at_t found as_many as_many_notes in
+      let astray = calm ∙ sym source_not_astray in
+      λ i. deeds_code (kept.0 i) (kept.1 i) (astray i)

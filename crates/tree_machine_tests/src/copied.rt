@@ -1,0 +1,98 @@
+//! Bytes of steps of the machine `Atomic`, copied from those of the states before them.
+ghost use Rattle.tree_machine.specs.Atomic.{atomic_rules};
+ghost use Rattle.tree_machine.specs.Step.{Fits};
+
+use crate::broken::{Broken, Case, ensure};
+use crate::states::{after, two_inserts};
+use sched_program::Program;
+use std::alloc::Global;
+use tree_machine::{Atomic, Room, State};
+
+/// A schedule, and the thread whose step comes then.
+struct Row {
+    case: Case,
+    schedule: &'static [u8],
+    thread: u8,
+}
+
+/// The first insert puts its key in, and the second finds it there and leaves the keys.
+const ROWS: &[Row] = &[
+    Row {
+        case: Case::AStepOfTheFirst,
+        schedule: &[],
+        thread: 0,
+    },
+    Row {
+        case: Case::AStepOfTheSecond,
+        schedule: &[],
+        thread: 1,
+    },
+    Row {
+        case: Case::TheFirstBeforeTheSecond,
+        schedule: &[0],
+        thread: 1,
+    },
+    Row {
+        case: Case::TheSecondBeforeTheFirst,
+        schedule: &[1],
+        thread: 0,
+    },
+];
+
+/// The bytes of the state after a step of a thread are the same where they are copied from those of the state before it,
+/// which a state is read from, as where they are written anew.
+fn is_copied(
+    alloc: Global,
+    program: &Program,
+    state: &State<Atomic>,
+    thread: u8,
+    case: Case,
+) -> Result<(), Broken>
+    requires { Fits atomic_rules program.now state.now }
+{
+    if state.steps() >= 100 {
+        return Err(Broken::NotEnabled);
+    }
+    // Whoever reads a program knows that it meets the limits.
+    let _ = program.initial();
+    let mut room = Room::new(alloc);
+    let told = state.code_in(alloc, Atomic, &mut room, Vec::new(alloc))?;
+    let bytes = told.as_slice();
+    let mut read = state.copy(alloc, Atomic)?;
+    let Some(cuts) = read.read_cut(alloc, Atomic, bytes)? else {
+        return Err(Broken::Wrong(case));
+    };
+    let next = state.step(alloc, Atomic, program, thread)?;
+    let same_memory = next.memory() == state.memory();
+    let copied = next.code_after(
+        alloc,
+        Atomic,
+        state,
+        bytes,
+        cuts,
+        thread,
+        same_memory,
+        &mut room,
+        Vec::new(alloc),
+    )?;
+    let anew = next.code_in(alloc, Atomic, &mut room, Vec::new(alloc))?;
+    ensure(copied == anew, case)
+}
+
+/// This is so of the step of each row.
+fn are_copied(alloc: Global) -> Result<(), Broken> {
+    let program = two_inserts(alloc)?;
+    for row in ROWS {
+        let state = after(alloc, &program, row.schedule)?;
+        is_copied(alloc, &program, &state, row.thread, row.case)?;
+    }
+    Ok(())
+}
+
+#[test]
+fn steps_are_copied(rt: HostRuntime) -> Result<(), Broken> {
+    match are_copied(rt.alloc()) {
+        Ok(()) => Ok(()),
+        Err(_) => are_copied(rt.alloc()),
+    }
+}
