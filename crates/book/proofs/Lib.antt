@@ -20,6 +20,7 @@ mod Cursors
 mod Holding
 mod Draining
 pub mod Machines
+mod Lent
 mod Loans
 mod Answered
 pub mod Ranges

@@ -9,7 +9,7 @@ use crate::book::Merge;
 use crate::finding::Finding;
 use crate::stock::Stock;
 use crate::successors::Successors;
-use sched_program::{OutOfMemory, Program};
+use sched_program::{OutOfMemory, Program, same};
 use std::alloc::Global;
 use std::marker::Model;
 use tree_machine::{Bytes, Machine, Room, State};
@@ -20,6 +20,7 @@ use tree_machine::{Bytes, Machine, Room, State};
 #[derive(Drop)]
 pub struct Expansion<'a, M: Machine> {
     steps: Successors<'a, M>,
+    source: &'a State<M>,
     code: Bytes,
 }
 
@@ -33,7 +34,7 @@ impl<'a, M: Machine> Model for Expansion<'a, M> {
 
     ghost view = { λ x. x.steps };
 
-    ghost invariant = { λ x. x.code ≡ state_code M.whole_code x.steps.source };
+    ghost invariant = { λ x. (x.source.now ≡ x.steps.source) × (x.code ≡ state_code M.whole_code x.steps.source) };
 }
 
 impl<'a, M: Machine> Expansion<'a, M> {
@@ -73,9 +74,7 @@ impl<'a, M: Machine> Expansion<'a, M> {
         ensures program { IfOk result (λ x. x.program ≡ program.now) }
         ensures source { IfOk result (λ x. x.source ≡ state.now) }
     {
-        let steps = Successors::of_found(
-            alloc, machine, program, state, None, finding, merge, stock,
-        )?;
+        let steps = Successors::of_found(alloc, machine, program, state, finding, merge, stock)?;
         Expansion::with_code(alloc, machine, program, state, steps)
     }
 
@@ -116,7 +115,11 @@ impl<'a, M: Machine> Expansion<'a, M> {
         let _ = program.initial();
         let mut room = Room::new(alloc);
         let code = state.code_in(alloc, machine, &mut room, Vec::new(alloc))?;
-        Ok(Expansion { steps, code })
+        Ok(Expansion {
+            steps,
+            source: state,
+            code,
+        })
     }
 
     /// Whether it is the expansion of this state of this machine and program.
@@ -124,7 +127,7 @@ impl<'a, M: Machine> Expansion<'a, M> {
         ensures { IsTrue result
             ↔ ((self.now.machine ≡ machine.now) × (self.now.program ≡ program.now) × (self.now.source ≡ state.now)) }
     {
-        self.steps.is_of(machine, program, state)
+        self.steps.is_with(machine, program) && same(self.source, state)
     }
 
     /// Whether it is the expansion of the state of these bytes, of this machine and program.

@@ -14,7 +14,7 @@ use std::sync::Arc;
 /// a lock can drop these after it.
 #[derive(Drop)]
 pub struct Leftovers<S> {
-    known: Vec<(Hashed<Known<S>>, Arc<S>)>,
+    known: Vec<(Hashed<Known<S>>, Option<Arc<S>>)>,
     /// States that were entered, and that the book does not hold. Of these the memory alone is of use.
     states: Vec<Arc<S>>,
     /// What steps lay in that were entered. Of these lists the memory alone is of use.
@@ -71,7 +71,9 @@ impl<S: Drop> Leftovers<S> {
         lists: &mut Vec<Vec<Stepped<S>>>,
     ) {
         for (known, state) in self.known.drain(..) {
-            let _ = shells.push(state);
+            if let Some(state) = state {
+                let _ = shells.push(state);
+            }
             let _ = labels.push(known.into_value().into_label().into_vec());
         }
         let _ = shells.append(&mut self.states);
@@ -98,7 +100,7 @@ impl<S: Drop> Leftovers<S> {
     }
 
     /// Keeps a state, if there is one, where there is room, and else drops it.
-    pub(crate) fn keep(&mut self, state: Option<(Hashed<Known<S>>, Arc<S>)>)
+    pub(crate) fn keep(&mut self, state: Option<(Hashed<Known<S>>, Option<Arc<S>>)>)
         ensures { Keeps self.old self.new (if is_some state then 1 else 0) }
     {
         if let Some(state) = state {

@@ -10,6 +10,7 @@ mod file;
 mod finding;
 mod hashed;
 mod held;
+mod in_place;
 mod known;
 mod leftovers;
 mod lending;

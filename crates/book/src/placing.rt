@@ -1,5 +1,5 @@
 //! Steps put into the entries of a book.
-ghost use Rattle.std.specs.Prelude.{◌≡◌, ◌++◌, ◌∷◌, [], length, map, true, OnOk, Some};
+ghost use Rattle.std.specs.Prelude.{◌≡◌, ◌++◌, ◌∷◌, [], length, map, true, IfSome, OnOk, Some};
 ghost use Rattle.book.specs.Entries.{opened, states, unknown};
 ghost use Rattle.book.specs.Labels.{same_label};
 ghost use Rattle.book.specs.Leftovers.{Keeps, KeepsMet};
@@ -16,21 +16,24 @@ use indexmap::IndexMap;
 use std::alloc::AllocError;
 use std::sync::Arc;
 
-/// Holds the state of a new entry behind all others, where states are held. Else it is left for its memory.
+/// Holds the state of a new entry behind all others, where states are held. Else it is left for its memory. A step whose
+/// state is not at hand comes to no book that holds states; it would be refused as memory that there is not.
 fn hold<S: Drop>(
     held: &mut Held<S>,
     holds: bool,
-    state: Arc<S>,
+    state: Option<Arc<S>>,
     leftovers: &mut Leftovers<S>,
 ) -> Result<(), AllocError>
-    ensures held { OnOk result (holds ≡ true → held.new ≡ held.old ++ Some state.value ∷ []) }
+    ensures held { OnOk result (holds ≡ true → (s : S) → IfSome state (λ shared. shared.value ≡ s)
+        → held.new ≡ held.old ++ Some s ∷ []) }
     ensures kept { IsGrown held.old held.new }
     ensures left { Keeps leftovers.old leftovers.new 0 }
 {
-    if holds {
-        held.push(state)?;
-    } else {
-        leftovers.keep_state(state);
+    match state {
+        Some(state) if holds => held.push(state)?,
+        Some(state) => leftovers.keep_state(state),
+        None if holds => return Err(AllocError),
+        None => {}
     }
     Ok(())
 }

@@ -9,7 +9,7 @@ use crate::stepped::Stepped;
 use sched_program::{OutOfMemory, Program};
 use std::alloc::Global;
 use std::sync::Arc;
-use tree_machine::{Bytes, Cuts, Machine, Room, State, StepFault};
+use tree_machine::{Bytes, Cuts, Machine, Room, State, StepFault, Undo};
 
 /// How many shared states a stock takes in for their memory: as many as the steps of the entries that a worker expands
 /// before it hands these in, so that where layers shrink what is over can serve for labels.
@@ -25,6 +25,8 @@ pub struct Stock<M: Machine> {
     labels: Vec<Vec<u8>>,
     /// Lists that steps lay in.
     lists: Vec<Vec<Stepped<State<M>>>>,
+    /// What takes steps back that are made in their source.
+    pub(crate) undo: Undo<M>,
     /// Leftovers that were taken in.
     left: Option<Leftovers<State<M>>>,
 }
@@ -37,12 +39,15 @@ impl<M: Machine> Stock<M> {
             shells: Vec::new(alloc),
             labels: Vec::new(alloc),
             lists: Vec::new(alloc),
+            undo: Undo::new(),
             left: None,
         }
     }
 
     /// A list for a label, of no use otherwise.
-    pub fn spare_label(&mut self, alloc: Global) -> Vec<u8> {
+    pub fn spare_label(&mut self, alloc: Global) -> Vec<u8>
+        ensures undo { self.new.undo ≡ self.old.undo }
+    {
         match self.labels.pop() {
             Some(label) => label,
             None => Vec::new(alloc),

@@ -1,8 +1,7 @@
 //! All enabled steps of a state.
 ghost use Rattle.std.specs.Prelude.{◌≡◌, ℕ, ◌+◌, ◌^◌, ◌<◌, ◌↔◌};
 ghost use Rattle.std.specs.Prelude.{◌≤◌, length, IsTrue, IfOk, Some, slice_get, vec_len, vec_capacity};
-ghost use Rattle.std.specs.Prelude.{IfSome};
-ghost use Rattle.tree_machine.specs.Cuts.{AreCutsOf};
+ghost use Rattle.std.specs.Prelude.{IfErr};
 ghost use Rattle.tree_machine.specs.Step.{Fits, step};
 ghost use Rattle.book.specs.Books.{HoldsSteps};
 ghost use Rattle.book.specs.Entries.{Successor};
@@ -15,12 +14,13 @@ ghost use Rattle.book.specs.Findings.{machine_of, IsFindingOf, IsLoan};
 use crate::book::Merge;
 use crate::finding::Finding;
 use crate::lending::{Loan, find_after};
-use crate::stepped::{Stepped, label_after, labelled};
+use crate::stepped::{Stepped, label, labelled};
 use crate::stock::Stock;
-use sched_program::{OutOfMemory, Program, same};
+use sched_program::{OutOfMemory, Program};
 use std::alloc::Global;
 use std::marker::Model;
-use tree_machine::{Cuts, Machine, State, StepFault};
+use std::snapshot::Snapshot;
+use tree_machine::{Machine, State, StepFault};
 
 /// Puts the step of a thread, if it is enabled, behind those in a list, with its finding. It is made in and of what is in
 /// stock, and put straight to where it stays: a step that is given back is moved several times.
@@ -29,7 +29,6 @@ fn put_step_of<M: Machine>(
     machine: M,
     program: &Program,
     source: &State<M>,
-    told: Option<(&[u8], Cuts)>,
     thread: u8,
     merge: Merge,
     is_ordered: bool,
@@ -41,7 +40,6 @@ fn put_step_of<M: Machine>(
     requires room { source.now.steps + 1 < 2 ^ 64 }
     requires ordered { IsTrue is_ordered → (M.rules machine).IsOrdered source.now.memory }
     requires loan { IsLoan program.now (history_of source.now) loan.old }
-    requires told { IfSome told (λ p. AreCutsOf M.whole_code M.memory_code p.0.now p.1 source.now) }
     requires place { vec_len steps.old < vec_capacity steps.old }
     ensures loan { IfOk result (λ _. IsLoan program.now (history_of source.now) loan.new) }
     ensures put { IfOk result (λ _. PutsStep (machine_of (M.rules machine) program.now)
@@ -61,21 +59,10 @@ fn put_step_of<M: Machine>(
         alloc, machine, program, source, next, thread, is_ordered, loan,
     )?;
     let spare = stock.spare_label(alloc);
-    let known = label_after(
-        alloc,
-        machine,
-        program,
-        source,
-        told,
-        thread,
-        next,
-        merge,
-        &mut stock.room,
-        spare,
-    )?;
+    let known = label(alloc, machine, program, next, merge, &mut stock.room, spare)?;
     steps.push_reserved(Stepped {
         thread,
-        state,
+        state: Some(state),
         known,
         finding,
     });
@@ -86,11 +73,12 @@ fn put_step_of<M: Machine>(
 /// for a book of one merge. A book takes them where it is known whose they are (`Book::enter_own`).
 #[derive(Drop)]
 pub struct Successors<'a, M: Machine> {
-    machine: M,
-    program: &'a Program,
-    merge: Merge,
-    source: &'a State<M>,
-    successors: Vec<Stepped<State<M>>>,
+    pub(crate) machine: M,
+    pub(crate) program: &'a Program,
+    pub(crate) merge: Merge,
+    /// The state, which only proofs see: its steps need it no more.
+    pub(crate) source: Snapshot<State<M>>,
+    pub(crate) successors: Vec<Stepped<State<M>>>,
 }
 
 impl<'a, M: Machine> Model for Successors<'a, M> {
@@ -104,14 +92,14 @@ impl<'a, M: Machine> Model for Successors<'a, M> {
     ghost view = { λ x. record {
       machine = x.machine;
       program = x.program.now;
-      source = x.source.now;
+      source = x.source.value;
       successors = bares x.successors.items;
     } };
 
     ghost invariant = { λ x. HoldsSteps M.rules (record {
       machine = x.machine;
       program = x.program.now;
-      source = x.source.now;
+      source = x.source.value;
       successors = bares x.successors.items;
     })
         × AreStepsKnownBy (label_by M.whole_code M.form_code (M.form_of x.machine) x.merge) x.successors.items };
@@ -119,22 +107,18 @@ impl<'a, M: Machine> Model for Successors<'a, M> {
 
 impl<'a, M: Machine> Successors<'a, M> {
     /// Does as `for_merge` does for a state of which it is known what is found. Where that is a linearization, it is
-    /// lent to the steps: the history of the state is not judged once more. Where the bytes of the state are at hand,
-    /// with the places where their parts begin, exact labels are copied from them as far as they are the same. The steps
-    /// are made in and of what is in stock.
+    /// lent to the steps: the history of the state is not judged once more. The steps are made in and of what is in stock.
     pub fn of_found(
         alloc: Global,
         machine: M,
         program: &'a Program,
-        state: &'a State<M>,
-        told: Option<(&[u8], Cuts)>,
+        state: &State<M>,
         finding: &Finding,
         merge: Merge,
         stock: &mut Stock<M>,
     ) -> Result<Successors<'a, M>, OutOfMemory>
         requires fits { Fits (M.rules machine) program.now state.now }
         requires room { state.now.steps + 1 < 2 ^ 64 }
-        requires told { IfSome told (λ p. AreCutsOf M.whole_code M.memory_code p.0.now p.1 state.now) }
         requires finding { IsFindingOf (M.rules machine) program.now state.now finding.now }
         ensures machine { IfOk result (λ x. x.machine ≡ machine) }
         ensures program { IfOk result (λ x. x.program ≡ program.now) }
@@ -147,7 +131,7 @@ impl<'a, M: Machine> Successors<'a, M> {
         // Of a state that is sound it is known that its memory keeps search order.
         let is_ordered = finding.is_sound();
         Successors::with_loan(
-            alloc, machine, program, state, told, merge, is_ordered, loan, stock,
+            alloc, machine, program, state, merge, is_ordered, loan, stock,
         )
     }
 
@@ -157,7 +141,7 @@ impl<'a, M: Machine> Successors<'a, M> {
         alloc: Global,
         machine: M,
         program: &'a Program,
-        state: &'a State<M>,
+        state: &State<M>,
         merge: Merge,
     ) -> Result<Successors<'a, M>, OutOfMemory>
         requires fits { Fits (M.rules machine) program.now state.now }
@@ -168,7 +152,7 @@ impl<'a, M: Machine> Successors<'a, M> {
     {
         let mut stock = Stock::new(alloc);
         Successors::with_loan(
-            alloc, machine, program, state, None, merge, false, None, &mut stock,
+            alloc, machine, program, state, merge, false, None, &mut stock,
         )
     }
 
@@ -178,8 +162,7 @@ impl<'a, M: Machine> Successors<'a, M> {
         alloc: Global,
         machine: M,
         program: &'a Program,
-        state: &'a State<M>,
-        told: Option<(&[u8], Cuts)>,
+        state: &State<M>,
         merge: Merge,
         is_ordered: bool,
         mut loan: Loan,
@@ -188,7 +171,6 @@ impl<'a, M: Machine> Successors<'a, M> {
         requires fits { Fits (M.rules machine) program.now state.now }
         requires room { state.now.steps + 1 < 2 ^ 64 }
         requires ordered { IsTrue is_ordered → (M.rules machine).IsOrdered state.now.memory }
-        requires told { IfSome told (λ p. AreCutsOf M.whole_code M.memory_code p.0.now p.1 state.now) }
         requires loan { IsLoan program.now (history_of state.now) loan }
         ensures machine { IfOk result (λ x. x.machine ≡ machine) }
         ensures program { IfOk result (λ x. x.program ≡ program.now) }
@@ -202,7 +184,6 @@ impl<'a, M: Machine> Successors<'a, M> {
                 machine,
                 program,
                 state,
-                told,
                 thread,
                 merge,
                 is_ordered,
@@ -215,7 +196,7 @@ impl<'a, M: Machine> Successors<'a, M> {
             machine,
             program,
             merge,
-            source: state,
+            source: Snapshot::of(state),
             successors,
         })
     }
@@ -227,38 +208,47 @@ impl<'a, M: Machine> Successors<'a, M> {
         self.machine == *machine && self.program.is_same(program)
     }
 
-    /// Whether they are the steps of this state of this machine and program.
-    pub(crate) fn is_of(&self, machine: &M, program: &Program, state: &State<M>) -> bool
-        ensures { IsTrue result
-            ↔ ((self.now.machine ≡ machine.now) × (self.now.program ≡ program.now) × (self.now.source ≡ state.now)) }
-    {
-        self.is_with(machine, program) && same(self.source, state)
-    }
-
-    /// The steps, labelled for a book that merges so.
+    /// The steps, if they are labelled for a book that merges so. Else they are given back.
     pub(crate) fn into_steps(
         self,
-        alloc: Global,
         merge: Merge,
-    ) -> Result<Vec<Stepped<State<M>>>, OutOfMemory>
+    ) -> Result<Vec<Stepped<State<M>>>, Successors<'a, M>>
         ensures steps { IfOk result (λ steps. bares steps.items ≡ self.entry.successors) }
         ensures known { IfOk result
             (λ steps. AreStepsKnownBy (label_by M.whole_code M.form_code (M.form_of self.entry.machine) merge)
             steps.items) }
         ensures law { HoldsSteps M.rules self.entry }
+        ensures other { IfErr result (λ other. other ≡ self.entry) }
+    {
+        if self.merge == merge {
+            Ok(self.successors)
+        } else {
+            Err(self)
+        }
+    }
+
+    /// The steps, labelled for a book that merges so, with their states. Their source is at hand.
+    pub(crate) fn relabelled(
+        self,
+        alloc: Global,
+        source: &State<M>,
+        merge: Merge,
+    ) -> Result<Vec<Stepped<State<M>>>, OutOfMemory>
+        requires source { source.now ≡ self.source }
+        requires fits { Fits (M.rules self.machine) self.program source.now }
+        requires room { source.now.steps + 1 < 2 ^ 64 }
+        ensures steps { IfOk result (λ steps. bares steps.items ≡ self.entry.successors) }
+        ensures known { IfOk result
+            (λ steps. AreStepsKnownBy (label_by M.whole_code M.form_code (M.form_of self.entry.machine) merge)
+            steps.items) }
     {
         let Successors {
             machine,
             program,
-            merge: own,
-            source: _,
             successors,
+            ..
         } = self;
-        if own == merge {
-            Ok(successors)
-        } else {
-            labelled(alloc, machine, program, successors, merge)
-        }
+        labelled(alloc, machine, program, source, successors, merge)
     }
 
     /// How many there are.

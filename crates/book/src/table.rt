@@ -193,6 +193,18 @@ impl<S> Table<S> {
         label_at(&self.slots, index)
     }
 
+    /// Looks for the labels of steps, one right after the other, so that what there is of them comes into the processor's
+    /// caches all at once. How many there are is of no use.
+    pub fn look_ahead(&self, steps: &[Stepped<S>]) -> usize {
+        let mut there = 0usize;
+        for step in steps {
+            if self.slots.contains_key(&step.known) {
+                there = there.wrapping_add(1);
+            }
+        }
+        there
+    }
+
     /// The first open entry. All entries from it on are open.
     pub fn first_open(&self) -> Option<usize>
         ensures first { result ≡ position (λ e. is_open e.mark) self.now.entries }

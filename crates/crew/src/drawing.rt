@@ -45,9 +45,9 @@ fn places_of(
     Ok(places)
 }
 
-/// Looks at the states of entries. The sum of what it sees is of no use: each state was last touched a layer ago, by whichever
-/// worker made it, and looked at one right after the other they come into the processor's caches all at once, so that no
-/// expansion has to wait for its own.
+/// Looks at the states of entries. The sum of what it sees is of no use: a state that a book holds was last touched a layer
+/// ago, by whichever worker made it, and looked at one right after the other they come into the processor's caches all at
+/// once, so that no expansion has to wait for its own.
 fn look_at<K: Tie<M, State<M>>, M: Machine>(
     drawn: &[(usize, Ready<'_, K, M>)],
 ) -> Result<usize, OutOfMemory> {
@@ -161,17 +161,17 @@ impl<'a, K: Tie<M, State<M>>, M: Machine> Layer<'a, K, M> {
     }
 
     /// Makes the expansions of some of the entries drawn. Room for all of them is asked for at once.
-    pub fn expand<'d>(
+    pub fn expand(
         &self,
         gate: &impl Gate,
         number: u8,
-        drawn: &'d [(usize, Ready<'a, K, M>)],
-        made: &mut Vec<Made<'d, K, M>>,
+        drawn: &mut [(usize, Ready<'a, K, M>)],
+        made: &mut Vec<Made<'a, K, M>>,
         stock: &mut Stock<M>,
     ) -> Result<(), OutOfMemory> {
         let _seen = look_at(drawn)?;
         made.reserve(drawn.len())?;
-        for (place, ready) in drawn {
+        for (place, ready) in drawn.iter_mut() {
             if let Some(one) = ready.expand(self.alloc, self.merge, stock)? {
                 gate.arrive(number, self.number, *place);
                 made.push(one)?;

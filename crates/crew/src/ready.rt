@@ -1,5 +1,5 @@
 //! An entry of a layer, as a worker is given it.
-ghost use Rattle.std.specs.Prelude.{◌≡◌, IfOk, IfSome};
+ghost use Rattle.std.specs.Prelude.{◌≡◌, IfOk, IfSome, OnOk, Some};
 ghost use Rattle.tree_machine.specs.Cuts.{AreCutsOf};
 ghost use Rattle.tree_machine.specs.FormCode.{state_code};
 ghost use Rattle.tree_machine.specs.declared.state.State.{State};
@@ -20,6 +20,44 @@ fn finished_in<M: Machine>(state: &State<M>) -> usize {
         finished = finished.wrapping_add(thread.replies.len());
     }
     finished
+}
+
+/// Bytes with the places where their parts begin, where both are at hand.
+fn told_by<'c>(code: &'c Option<Bytes>, cuts: &Option<Cuts>) -> Option<(&'c [u8], Cuts)>
+    ensures code { IfSome result (λ p. code.now ≡ Some p.0.now) }
+    ensures cuts { IfSome result (λ p. cuts.now ≡ Some p.1) }
+{
+    match (code, cuts) {
+        (Some(code), Some(cuts)) => Some((code.as_slice(), *cuts)),
+        _ => None,
+    }
+}
+
+/// The steps of a state of which it is known what is found. Those of a sound state whose bytes are at hand are made in the
+/// state itself, where nobody shares it; then it is what it was. After a refusal it is of no use.
+fn steps_made<'a, M: Machine>(
+    alloc: Global,
+    machine: M,
+    program: &'a Program,
+    state: &mut Arc<State<M>>,
+    told: Option<(&[u8], Cuts)>,
+    finding: &Finding,
+    merge: Merge,
+    stock: &mut Stock<M>,
+) -> Result<Successors<'a, M>, OutOfMemory>
+    requires ready { IsReady (M.rules machine) program.now state.old.value finding.now }
+    requires told { IfSome told (λ p. AreCutsOf M.whole_code M.memory_code p.0.now p.1 state.old.value) }
+    ensures machine { IfOk result (λ x. x.machine ≡ machine) }
+    ensures program { IfOk result (λ x. x.program ≡ program.now) }
+    ensures source { IfOk result (λ x. x.source ≡ state.old.value) }
+    ensures state { OnOk result (state.new.value ≡ state.old.value) }
+{
+    if let (Some((code, cuts)), Finding::Sound(order), Merge::Exact) = (told, finding, merge)
+        && let Some(own) = Arc::get_mut(state)
+    {
+        return Successors::of_sound(alloc, machine, program, own, code, cuts, order, stock);
+    }
+    Successors::of_found(alloc, machine, program, &**state, finding, merge, stock)
 }
 
 /// An entry of the tie's book that can be expanded once its state is at hand: its number, the machine and the program that
@@ -107,30 +145,27 @@ impl<'a, K: Tie<M, State<M>>, M: Machine> Ready<'a, K, M> {
         self.state = Some(state);
     }
 
-    /// Makes its steps, where its state is at hand.
+    /// Makes its steps, where its state is at hand. After a refusal it is not any more.
     pub fn expand(
-        &self,
+        &mut self,
         alloc: Global,
         merge: Merge,
         stock: &mut Stock<M>,
-    ) -> Result<Option<Made<'_, K, M>>, OutOfMemory> {
-        let Some(state) = &self.state else {
+    ) -> Result<Option<Made<'a, K, M>>, OutOfMemory> {
+        let Some(mut state) = self.state.take() else {
             return Ok(None);
         };
-        let told = match (&self.code, &self.cuts) {
-            (Some(code), Some(cuts)) => Some((code.as_slice(), *cuts)),
-            _ => None,
-        };
-        let steps = Successors::of_found(
+        let steps = steps_made(
             alloc,
             self.machine,
             self.program,
-            &**state,
-            told,
+            &mut state,
+            told_by(&self.code, &self.cuts),
             &self.finding,
             merge,
             stock,
         )?;
+        self.state = Some(state);
         Ok(Some(Made::new(self.id, steps)))
     }
 

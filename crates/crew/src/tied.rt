@@ -24,13 +24,13 @@ impl<X, S> Tie<X, S> for Brand {
 
 /// An expansion that is made and not entered, beside the number of its entry. Contracts see the expansion.
 #[derive(Drop)]
-pub struct Made<'d, K: Tie<M, State<M>>, M: Machine> {
+pub struct Made<'a, K: Tie<M, State<M>>, M: Machine> {
     id: usize,
-    expansion: Successors<'d, M>,
+    expansion: Successors<'a, M>,
     tie: PhantomData<K>,
 }
 
-impl<'d, K: Tie<M, State<M>>, M: Machine> Model for Made<'d, K, M> {
+impl<'a, K: Tie<M, State<M>>, M: Machine> Model for Made<'a, K, M> {
     ghost use Rattle.tree_machine.specs.declared.state.State.{State};
     ghost use Rattle.book.specs.Entries.{Steps};
     ghost use Rattle.crew.specs.Working.{IsTiedTo};
@@ -42,9 +42,9 @@ impl<'d, K: Tie<M, State<M>>, M: Machine> Model for Made<'d, K, M> {
     ghost invariant = { λ m. IsTiedTo K.book m.expansion.machine m.expansion.program m.id m.expansion.source };
 }
 
-impl<'d, K: Tie<M, State<M>>, M: Machine> Made<'d, K, M> {
+impl<'a, K: Tie<M, State<M>>, M: Machine> Made<'a, K, M> {
     /// The expansion of an entry of the tie's book.
-    pub fn new(id: usize, expansion: Successors<'d, M>) -> Made<'d, K, M>
+    pub fn new(id: usize, expansion: Successors<'a, M>) -> Made<'a, K, M>
         requires tied { IsTiedTo K.book expansion.machine expansion.program id expansion.source }
     {
         Made {
@@ -121,6 +121,11 @@ impl<J: Ledgers, K: Tie<M, State<M>>, M: Machine> Tied<J, K, M> {
             ready.fill(state);
         }
         Ok(())
+    }
+
+    /// Looks for the steps of an expansion, as the book does. What it answers is of no use.
+    pub fn look_ahead(&self, made: &Made<'_, K, M>) -> usize {
+        self.desk.book.look_ahead(&made.expansion)
     }
 
     /// Enters an expansion as the desk does.

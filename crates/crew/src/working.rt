@@ -69,6 +69,22 @@ fn room_for<K: Tie<M, State<M>>, M: Machine>(
     stock.leftovers(alloc, steps)
 }
 
+/// Looks for the steps of expansions, of which what the book has is mostly not in the processor's caches: looked for one right
+/// after the other, they are not waited for one by one. The sum of what it sees is of no use.
+fn look_ahead<J: Ledgers, K: Tie<M, State<M>>, M: Machine>(
+    desk: &Tied<J, K, M>,
+    made: &[Made<'_, K, M>],
+) -> Result<usize, Stop> {
+    let mut seen = 0usize;
+    for one in made {
+        match seen.checked_add(desk.look_ahead(one)) {
+            Some(sum) => seen = sum,
+            None => return Err(Stop::OutOfMemory),
+        }
+    }
+    Ok(seen)
+}
+
 /// Enters expansions, all in one holding of the lock. What the book knew is left for after it.
 fn enter_all<J: Ledgers, K: Tie<M, State<M>>, M: Machine>(
     desk: &mut Tied<J, K, M>,
@@ -80,6 +96,7 @@ fn enter_all<J: Ledgers, K: Tie<M, State<M>>, M: Machine>(
     ensures kept { IfOk result (λ _. leftovers.new.kept + tally.old.share.met
         ≡ leftovers.old.kept + tally.new.share.met) }
 {
+    let _seen = look_ahead(desk, made.as_slice())?;
     for one in made {
         let id = one.id();
         match desk.enter(tally, one, leftovers) {
@@ -118,14 +135,14 @@ impl<'a, M: Machine, G: Gate, R: Wait> Exploration<'a, M, G, R> {
     }
 
     /// Enters expansions, where they have to be entered or no other worker has the lock. Else they are given back.
-    fn enter<'d, J: Ledgers, K: Tie<M, State<M>>>(
+    fn enter<J: Ledgers, K: Tie<M, State<M>>>(
         &self,
         desk: &RwLock<Tied<J, K, M>>,
-        made: Vec<Made<'d, K, M>>,
+        made: Vec<Made<'a, K, M>>,
         at_once: bool,
         tally: &mut Tally<J>,
         stock: &mut Stock<M>,
-    ) -> Result<Vec<Made<'d, K, M>>, Stop> {
+    ) -> Result<Vec<Made<'a, K, M>>, Stop> {
         let Ok(mut leftovers) = room_for(self.alloc, stock, made.as_slice()) else {
             return Err(Stop::OutOfMemory);
         };
@@ -147,13 +164,13 @@ impl<'a, M: Machine, G: Gate, R: Wait> Exploration<'a, M, G, R> {
         desk: &RwLock<Tied<J, K, M>>,
         layer: &Layer<'a, K, M>,
         number: u8,
-        drawn: &[(usize, Ready<'a, K, M>)],
+        drawn: &mut [(usize, Ready<'a, K, M>)],
         tally: &mut Tally<J>,
         stock: &mut Stock<M>,
     ) -> Result<(), Stop> {
         let mut made = Vec::new(self.alloc);
         let mut left = drawn.len();
-        for some in drawn.chunks(STRIDE) {
+        for some in drawn.chunks_mut(STRIDE) {
             if layer
                 .expand(self.gate, number, some, &mut made, stock)
                 .is_err()
@@ -180,13 +197,13 @@ impl<'a, M: Machine, G: Gate, R: Wait> Exploration<'a, M, G, R> {
         requires seat { IsSeatOf layer.now seat.old }
         ensures seat { IsSeatOf layer.now seat.new }
     {
-        let Ok(drawn) = layer.draw(self.rt, desk, seat, stock) else {
+        let Ok(mut drawn) = layer.draw(self.rt, desk, seat, stock) else {
             return Err(Stop::OutOfMemory);
         };
         if drawn.is_empty() {
             return Ok(false);
         }
-        self.expand_all(desk, layer, number, drawn.as_slice(), tally, stock)?;
+        self.expand_all(desk, layer, number, drawn.as_mut_slice(), tally, stock)?;
         for (_, ready) in drawn {
             ready.leave_in(stock);
         }

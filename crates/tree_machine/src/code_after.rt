@@ -1,6 +1,6 @@
 //! Bytes of steps, copied as far as they are those of the states that the steps were made from.
 ghost use Rattle.std.specs.Prelude.{◌≡◌, ◌≤◌, ◌-◌, ◌++◌, [], Some, if◌then◌else◌, length, IfOk, IsTrue};
-ghost use Rattle.std.specs.Prelude.{OnOk, drop, take};
+ghost use Rattle.std.specs.Prelude.{OnOk, drop, slice_get, take};
 ghost use Rattle.sched_program.specs.Program.{Program, IsWithinLimits};
 ghost use Rattle.tree_machine.specs.Alike.{places_of};
 ghost use Rattle.tree_machine.specs.Cuts.{AreCutsOf, deeds_of};
@@ -14,6 +14,7 @@ use crate::room::Room;
 use crate::state::{State, Thread};
 use sched_program::OutOfMemory;
 use std::alloc::Global;
+use std::snapshot::Snapshot;
 
 /// Whether a thread has as many replies and as many notes as another.
 #[inline(always)]
@@ -37,17 +38,16 @@ fn put_part(bytes: &[u8], start: usize, end: usize, room: &mut Room) -> Result<(
 impl<M: Machine> State<M> {
     /// Whether a thread, by its step from another state to this one, got no reply and no note, and did not go astray.
     #[inline(always)]
-    fn did_no_more(&self, source: &State<M>, thread: u8) -> bool
-        requires { (machine : M) × (program : Program)
-            × (step (M.rules machine) program source.now thread ≡ Some self.now) }
-        ensures { IsTrue result → deeds_of self.now ≡ deeds_of source.now }
+    fn did_no_more(&self, source: &Snapshot<State<M>>, was: &Thread<M::Loc>, thread: u8) -> bool
+        requires step { (machine : M) × (program : Program)
+            × (step (M.rules machine) program source.now.value thread ≡ Some self.now) }
+        requires was { slice_get source.now.value.threads thread ≡ Some was.now }
+        ensures { IsTrue result → deeds_of self.now ≡ deeds_of source.now.value }
     {
-        match (
-            self.thread_at(thread),
-            source.thread_at(thread),
-            self.astray,
-        ) {
-            (Some(here), Some(there), None) => did_as_many(here, there),
+        // Proofs alone read what the state was.
+        let _ = source;
+        match (self.thread_at(thread), self.astray) {
+            (Some(here), None) => did_as_many(here, was),
             _ => false,
         }
     }
@@ -57,7 +57,8 @@ impl<M: Machine> State<M> {
     #[inline(always)]
     fn put_front(
         &self,
-        source: &State<M>,
+        source: &Snapshot<State<M>>,
+        was: &Thread<M::Loc>,
         told: &[u8],
         cuts: Cuts,
         thread: u8,
@@ -66,14 +67,15 @@ impl<M: Machine> State<M> {
     ) -> Result<(), OutOfMemory>
         requires few { length self.now.threads ≤ 4 }
         requires step { (machine : M) × (program : Program)
-            × (step (M.rules machine) program source.now thread ≡ Some self.now) }
-        requires cuts { AreCutsOf M.whole_code M.memory_code told.now cuts source.now }
-        requires memory { IsTrue same_memory → self.now.memory ≡ source.now.memory }
+            × (step (M.rules machine) program source.now.value thread ≡ Some self.now) }
+        requires was { slice_get source.now.value.threads thread ≡ Some was.now }
+        requires cuts { AreCutsOf M.whole_code M.memory_code told.now cuts source.now.value }
+        requires memory { IsTrue same_memory → self.now.memory ≡ source.now.value.memory }
         ensures { OnOk result (room.new ≡ room.old
             ++ (deeds_of self.now ++ (if same_memory then M.memory_code self.now.memory else []))) }
     {
         let end = cuts.end(same_memory);
-        if self.did_no_more(source, thread) {
+        if self.did_no_more(source, was, thread) {
             return put_part(told, cuts.deeds, end, room);
         }
         room.put_deeds(self.threads.as_slice(), self.astray)?;
@@ -103,12 +105,15 @@ impl<M: Machine> State<M> {
     }
 
     /// What `code_in` makes, where this state is the step of a thread from another one whose bytes and their cuts are at
-    /// hand: what the step left as it was is copied from these. It is told whether the memory is the same.
+    /// hand, and so is the thread as it was there: what the step left as it was is copied from these. It is told whether
+    /// the memory is the same.
+    #[inline(always)]
     pub fn code_after(
         &self,
         alloc: Global,
         machine: M,
-        source: &State<M>,
+        source: &Snapshot<State<M>>,
+        was: &Thread<M::Loc>,
         told: &[u8],
         cuts: Cuts,
         thread: u8,
@@ -117,14 +122,16 @@ impl<M: Machine> State<M> {
         spare: Vec<u8>,
     ) -> Result<Bytes, OutOfMemory>
         requires fits { (program : Program) × IsWithinLimits program × Fits (M.rules machine) program self.now }
-        requires step { (program : Program) × (step (M.rules machine) program source.now thread ≡ Some self.now) }
-        requires cuts { AreCutsOf M.whole_code M.memory_code told.now cuts source.now }
-        requires memory { IsTrue same_memory → self.now.memory ≡ source.now.memory }
+        requires step { (program : Program)
+            × (step (M.rules machine) program source.now.value thread ≡ Some self.now) }
+        requires was { slice_get source.now.value.threads thread ≡ Some was.now }
+        requires cuts { AreCutsOf M.whole_code M.memory_code told.now cuts source.now.value }
+        requires memory { IsTrue same_memory → self.now.memory ≡ source.now.value.memory }
         ensures { IfOk result (λ bytes. bytes ≡ state_code M.whole_code self.now) }
     {
         room.clear();
         room.put_number(self.steps)?;
-        self.put_front(source, told, cuts, thread, same_memory, room)?;
+        self.put_front(source, was, told, cuts, thread, same_memory, room)?;
         self.put_rest(alloc, machine, same_memory, room)?;
         Ok(Bytes::copied_in(room.as_slice(), spare)?)
     }

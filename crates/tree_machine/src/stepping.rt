@@ -1,22 +1,22 @@
 //! Steps of states.
-ghost use Rattle.std.specs.Prelude.{◌≡◌, ◌+◌, ◌^◌, ◌<◌, ◌≤◌, ◌↔◌, length};
+ghost use Rattle.std.specs.Prelude.{◌≡◌, ℕ, ◌+◌, ◌^◌, ◌<◌, ◌≤◌, ◌↔◌, List, length, IfSome};
 ghost use Rattle.std.specs.Prelude.{IsSomeAnd, Some, None, IfOk, OnOk, IsErrOf};
 ghost use Rattle.sched_program.specs.Program.{Program, IsWithinLimits};
 ghost use Rattle.tree_machine.specs.Alike.{AreStatesAlike};
 ghost use Rattle.tree_machine.specs.declared.state.State.{State};
 ghost use Rattle.tree_machine.specs.Step.{IsEnabled, ready, step, stepped, notes_at_step, after_outcome, astray_by};
-ghost use Rattle.tree_machine.specs.Step.{finished_counts, Fits};
+ghost use Rattle.tree_machine.specs.Step.{finished_counts, with_note, Fits};
 
 use crate::machine::{Machine, Outcome};
 use crate::state::{State, StepFault, Thread, copy_reserved, finished_counts, place_or};
-use sched_program::{Op, OutOfMemory, Program, Sequence};
+use sched_program::{Note, Op, OutOfMemory, Program, Sequence};
 use std::alloc::Global;
 use std::mem::replace;
 
 /// Makes a thread equal to another one where it stands: field by field from where the other lies, so that nothing is put
 /// together apart and moved.
 #[inline(always)]
-fn copy_thread_into<M: Machine>(
+pub(crate) fn copy_thread_into<M: Machine>(
     alloc: Global,
     machine: M,
     thread: &Thread<M::Loc>,
@@ -72,30 +72,44 @@ fn copied_threads<M: Machine>(
     Ok(copies)
 }
 
+/// The note of the operation that a thread begins by its access, if it is in none: how many operations each thread has
+/// finished.
+#[inline(always)]
+pub(crate) fn note_at_step<L>(held: &Option<L>, threads: &[Thread<L>]) -> Option<Note>
+    requires { length threads.now ≤ 4 }
+    ensures note { (notes : List (List ℕ))
+        → with_note notes result ≡ notes_at_step held.now notes (finished_counts threads.now) }
+    ensures begun { IfSome result (λ _. held.now ≡ None) }
+{
+    match held {
+        Some(_) => None,
+        None => Some(finished_counts(threads)),
+    }
+}
+
 /// Moves a thread on, where it stands, by what came of its access at a place: with a note more, if its operation began
 /// with that access. Tells who went astray, if that came of it; only then the place is copied.
 #[inline(always)]
-fn advance<M: Machine>(
+pub(crate) fn advance<M: Machine>(
     alloc: Global,
     machine: M,
-    threads: &[Thread<M::Loc>],
+    note: Option<Note>,
     t: u8,
     place: &M::Loc,
     outcome: Outcome<M::Loc>,
     thread: &mut Thread<M::Loc>,
 ) -> Result<Option<u8>, OutOfMemory>
-    requires thread_count { length threads.now ≤ 4 }
     requires reply_room { length thread.old.replies < 6 }
-    requires note_room { thread.old.place ≡ None → length thread.old.notes < 6 }
+    requires note_room { IfSome note (λ _. length thread.old.notes < 6) }
     ensures thread { OnOk result (thread.new ≡ after_outcome (record {
       replies = thread.old.replies;
       place = Some place.now;
-      notes = notes_at_step thread.old.place thread.old.notes (finished_counts threads.now);
+      notes = with_note thread.old.notes note;
     }) outcome) }
     ensures astray { IfOk result (λ astray. astray ≡ astray_by t outcome) }
 {
-    if thread.place.is_none() {
-        thread.notes.push(finished_counts(threads));
+    if let Some(note) = note {
+        thread.notes.push(note);
     }
     match outcome {
         Outcome::Goes(goal) => {
@@ -138,8 +152,9 @@ impl<M: Machine> State<M> {
         let own = self.threads.as_slice();
         let others = replace(&mut next.threads, Sequence::new(alloc));
         let mut threads = copied_threads(alloc, machine, own, others)?;
+        let note = note_at_step(&thread.place, own);
         let moved = &mut threads.as_mut_slice()[usize::from(t)];
-        next.astray = advance(alloc, machine, own, t, place, outcome, moved)?;
+        next.astray = advance(alloc, machine, note, t, place, outcome, moved)?;
         next.threads = Sequence::from_vec(threads);
         next.steps = self.steps + 1;
         Ok(())

@@ -1,4 +1,4 @@
-//! Bytes of steps of the machine `Atomic`, copied from those of the states before them.
+//! Steps of the machine `Atomic`: their bytes, copied from those of the states before them, and steps that are taken back.
 ghost use Rattle.tree_machine.specs.Atomic.{atomic_rules};
 ghost use Rattle.tree_machine.specs.Step.{Fits};
 
@@ -6,7 +6,8 @@ use crate::broken::{Broken, Case, ensure};
 use crate::states::{after, two_inserts};
 use sched_program::Program;
 use std::alloc::Global;
-use tree_machine::{Atomic, Room, State};
+use std::snapshot::Snapshot;
+use tree_machine::{Atomic, Room, State, Undo};
 
 /// A schedule, and the thread whose step comes then.
 struct Row {
@@ -64,10 +65,15 @@ fn is_copied(
     };
     let next = state.step(alloc, Atomic, program, thread)?;
     let same_memory = next.memory() == state.memory();
+    let source = Snapshot::of(state);
+    let Some(was) = state.threads.get(usize::from(thread)) else {
+        return Err(Broken::Wrong(case));
+    };
     let copied = next.code_after(
         alloc,
         Atomic,
-        state,
+        &source,
+        was,
         bytes,
         cuts,
         thread,
@@ -79,12 +85,36 @@ fn is_copied(
     ensure(copied == anew, case)
 }
 
+/// A step that is made in the state itself leads to the state that it leads to anyway, and taken back leaves what was there.
+fn is_taken_back(
+    alloc: Global,
+    program: &Program,
+    state: &State<Atomic>,
+    thread: u8,
+    case: Case,
+) -> Result<(), Broken>
+    requires { Fits atomic_rules program.now state.now }
+{
+    if state.steps() >= 100 {
+        return Err(Broken::NotEnabled);
+    }
+    let next = state.step(alloc, Atomic, program, thread)?;
+    let mut here = state.copy(alloc, Atomic)?;
+    let source = Snapshot::of(&here);
+    let mut undo = Undo::new();
+    here.step_here(alloc, Atomic, program, thread, &mut undo)?;
+    ensure(here == next, case)?;
+    here.take_back(alloc, &source, thread, &mut undo);
+    ensure(here == *state, case)
+}
+
 /// This is so of the step of each row.
 fn are_copied(alloc: Global) -> Result<(), Broken> {
     let program = two_inserts(alloc)?;
     for row in ROWS {
         let state = after(alloc, &program, row.schedule)?;
         is_copied(alloc, &program, &state, row.thread, row.case)?;
+        is_taken_back(alloc, &program, &state, row.thread, row.case)?;
     }
     Ok(())
 }

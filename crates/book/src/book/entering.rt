@@ -4,7 +4,7 @@ ghost use Rattle.tree_machine.specs.declared.state.State.{State};
 ghost use Rattle.book.specs.declared.entry.Mark.{Mark};
 ghost use Rattle.book.specs.Entries.{Entry, At, Enters, IsOwn, IsTaken, Refuses, states, unknown, with_successors};
 ghost use Rattle.book.specs.Labels.{AreStepsKnownBy, bares, label_by};
-ghost use Rattle.book.specs.Books.{machine_in, right_in};
+ghost use Rattle.book.specs.Books.{machine_in, right_in, HoldsSteps};
 ghost use Rattle.book.specs.Law.{IsExpansion};
 ghost use Rattle.book.specs.Leftovers.{Keeps};
 
@@ -102,6 +102,30 @@ impl<M: Machine> Book<M> {
         }
     }
 
+    /// The steps of a taken entry, labelled for this book.
+    fn steps_of(
+        &self,
+        id: usize,
+        expansion: Successors<'_, M>,
+    ) -> Result<Vec<Stepped<State<M>>>, OutOfMemory>
+        requires own { IsOwn self.now id expansion.machine expansion.program expansion.source }
+        requires taken { IsTaken self.now.entries id }
+        ensures steps { IfOk result (λ steps. bares steps.items ≡ expansion.entry.successors) }
+        ensures known { IfOk result (λ steps. AreStepsKnownBy
+            (label_by M.whole_code M.form_code (M.form_of self.now.machine) self.now.merge) steps.items) }
+        ensures law { HoldsSteps M.rules expansion.entry }
+    {
+        match expansion.into_steps(self.merge) {
+            Ok(steps) => Ok(steps),
+            Err(other) => match self.handed_out(id)? {
+                Some((source, _)) => {
+                    other.relabelled(self.table.allocator(), &*source, self.merge)
+                }
+                None => unreachable!(),
+            },
+        }
+    }
+
     /// Enters the steps of a taken entry, and marks it expanded: appends, in thread order, each state that is not in
     /// the book yet, as an open entry. After a refusal the book is unchanged.
     pub fn enter(&mut self, id: usize, expansion: Expansion<'_, M>) -> Result<Entered, EnterFault>
@@ -137,6 +161,12 @@ impl<M: Machine> Book<M> {
         }
     }
 
+    /// Looks for the states to which steps lead, as entering them does, and enters none: whoever enters several expansions
+    /// looks for the steps of all of them first, so that none has to wait for its own. What it answers is of no use.
+    pub fn look_ahead(&self, expansion: &Successors<'_, M>) -> usize {
+        self.table.look_ahead(expansion.successors.as_slice())
+    }
+
     /// Enters as `enter_leaving` does steps of which the caller knows that they are those of the entry. They are compared
     /// with nothing.
     pub fn enter_own(
@@ -157,7 +187,7 @@ impl<M: Machine> Book<M> {
         if !self.is_taken(id) {
             return Err(EnterFault::NotTaken);
         }
-        match expansion.into_steps(self.table.allocator(), self.merge) {
+        match self.steps_of(id, expansion) {
             Err(OutOfMemory) => Err(EnterFault::OutOfMemory),
             Ok(steps) => self.put(id, steps, leftovers),
         }

@@ -45,9 +45,9 @@ returns-in_ok-hold-in-None-clause-held g c =
     let eq : Labelled g.row.S.Denot → Labelled g.row.S.Denot → Bool =
     same_label in
     λ h. stay_new eq c.args.slots.now.entries c.put_new.new.slots.entries fields.result.2 c.in_ok-row.row
-    c.in_ok-put_new.ensures.put len c.args.held.now c.hold.new.held fields.result.1.value
-    (ap (λ (k : Labelled g.row.S.Denot). k.state) fields.ensures.2 ∙ sym fields.ensures.1)
-    (c.in_ok-hold-in-None.ensures.held h)
+    c.in_ok-put_new.ensures.put len c.args.held.now c.hold.new.held c.args.step.state.state
+    (ap (λ (k : Labelled g.row.S.Denot). k.state) fields.ensures.2)
+    (c.in_ok-hold-in-None.ensures.held h c.args.step.state.state fields.ensures.1)
 
 pub returns-in-Some-clause-held : goal.returns-in-Some-clause-held
 returns-in-Some-clause-held g c =

@@ -11,10 +11,17 @@ loop-step-init g c = record {
   rest = c.into_iter-step-iterator.ensures.into_iter_gives.0;
 }
 
-pub relabelled-requires-after_bounds : goal.relabelled-requires-after_bounds
-relabelled-requires-after_bounds g c =
+pub relabelled-requires-clause-step : goal.relabelled-requires-clause-step
+relabelled-requires-clause-step g c κs within =
     let steps = rw c.in-Some.is at c.next.ensures.steps in
-    λ κs o. c.requires _ c.in-Some.step
+    c.requires.steps _ c.in-Some.step
+    (get-next c.loop-step.yielded c.loop-step.step-iterator.rest.items c.args.steps.items c.in-Some.step
+    c.next.new.self.rest.items c.loop-step.invariant.rest steps.0)
+
+pub relabelled-requires-clause-fits : goal.relabelled-requires-clause-fits
+relabelled-requires-clause-fits g c κs within =
+    let steps = rw c.in-Some.is at c.next.ensures.steps in
+    c.requires.fit _ c.in-Some.step
     (get-next c.loop-step.yielded c.loop-step.step-iterator.rest.items c.args.steps.items c.in-Some.step
     c.next.new.self.rest.items c.loop-step.invariant.rest steps.0)
 

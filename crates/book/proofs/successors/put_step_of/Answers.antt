@@ -10,15 +10,6 @@ returns-clause-loan g c = c.in_ok-finding.ensures.loan
 pub find_after-requires-clause-loan : goal.find_after-requires-clause-loan
 find_after-requires-clause-loan g c κs within = c.requires.loan
 
-pub label_after-requires-clause-fits : goal.label_after-requires-clause-fits
-label_after-requires-clause-fits g c κs within = rw c.deref-next.ensures c.in-Ok.ensures.fits
-
-pub label_after-requires-clause-step : goal.label_after-requires-clause-step
-label_after-requires-clause-step g c κs within = c.in-Ok.ensures.step ∙ ap Some (sym c.deref-next.ensures)
-
-pub label_after-requires-clause-told : goal.label_after-requires-clause-told
-label_after-requires-clause-told g c κs within = c.requires.told
-
 pub returns-clause-put : goal.returns-clause-put
 returns-clause-put g c =
     let rules = g.M.Machine.rules c.args.machine in

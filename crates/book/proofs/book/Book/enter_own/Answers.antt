@@ -1,12 +1,12 @@
-use Rattle.std.proofs.Common.{◌≡◌, ap, subst}
-use Rattle.tree_machine.specs.declared.state.State.{State}
 use Rattle.book.specs.Books.{counted_as_one}
-use Rattle.book.specs.Entries.{Contents}
-use Rattle.book.specs.Labels.{AreStepsKnownBy, bares, label_by}
+use Rattle.book.specs.Labels.{bares}
 use Rattle.book.specs.Law.{IsExpansion}
 use Rattle.book.specs.Findings.{machine_of, IsFindingOf}
 use Rattle.book.proofs.Entering.{enters_by, expansion_of_own, refuses_by}
 use Rattle.book.proofs.book.Book.enter_own.Goals as goal
+
+pub steps_of-requires-clause-taken : goal.steps_of-requires-clause-taken
+steps_of-requires-clause-taken g c κs within = c.is_taken.ensures.0 c.if-not-is_taken.false
 
 pub put-requires-clause-taken : goal.put-requires-clause-taken
 put-requires-clause-taken g c =
@@ -16,7 +16,7 @@ put-requires-clause-taken g c =
     let rules = g.M.Machine.rules in
     let expansion : IsExpansion (machine_of (rules x.machine) x.program) (IsFindingOf (rules x.machine) x.program)
     x.source (bares c.in-Ok.steps.items) =
-    rw c.in-Ok.ensures.steps c.into_steps.ensures.law in
+    rw c.in-Ok.ensures.steps c.steps_of.ensures.law in
     λ κs o. (
       taken.0,
       taken.1,
@@ -27,18 +27,7 @@ put-requires-clause-taken g c =
     )
 
 pub put-requires-clause-known : goal.put-requires-clause-known
-put-requires-clause-known g c =
-    let own = c.requires.own in
-    let merge : c.self.inside.merge ≡ c.args.self.now.merge =
-    ap (λ (q : Contents g.row.M.Denot
-    (State g.row.M.Denot g.row.M-Mem.Denot g.row.M-Loc.Denot g.row.M-Form.Denot)). q.merge) c.self.view_is in
-    λ κs o. subst
-    (λ n. AreStepsKnownBy (label_by g.M.Machine.whole_code g.M.Machine.form_code
-    (g.M.Machine.form_of n) c.args.self.now.merge)
-    c.in-Ok.steps.items) own.machine
-    (subst (λ k. AreStepsKnownBy (label_by g.M.Machine.whole_code g.M.Machine.form_code
-    (g.M.Machine.form_of c.args.expansion.machine) k)
-    c.in-Ok.steps.items) merge c.in-Ok.ensures.known)
+put-requires-clause-known g c = λ κs o. c.in-Ok.ensures.known
 
 pub returns-in-Ok-clause-entered : goal.returns-in-Ok-clause-entered
 returns-in-Ok-clause-entered g c =

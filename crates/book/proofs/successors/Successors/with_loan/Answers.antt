@@ -49,7 +49,7 @@ invariant_of-result g c =
     let all : length c.threads-threads.result.now ≡ length c.args.program.now.threads =
     ap length c.threads-threads.ensures.value in
     let done : c.loop-thread.thread ≡ length c.args.program.now.threads = omega arith in (
-      expansion_from_front m right c.args.state.now (bares steps)
-          (subst (λ n. IsFront m right c.args.state.now n (bares steps)) done c.loop-thread.invariant.front),
+      rw c.of.ensures (expansion_from_front m right c.args.state.now (bares steps)
+          (subst (λ n. IsFront m right c.args.state.now n (bares steps)) done c.loop-thread.invariant.front)),
       c.loop-thread.invariant.known,
     )

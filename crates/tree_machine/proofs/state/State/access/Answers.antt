@@ -1,7 +1,7 @@
 -- The thread is moved on in a copy of the threads, by what came of the access.
 use Rattle.std.proofs.Common.{◌≡◌, ◌<◌, length, ◌∙◌, ap, sym, arith, rules, subst, Some, None, slice_set}
-use Rattle.std.proofs.lemmas.Option.{slice_get_within}
-use Rattle.tree_machine.specs.Step.{place_or, notes_at_step, after_outcome, finished_counts}
+use Rattle.std.proofs.lemmas.Option.{slice_get_within, IfSome_then}
+use Rattle.tree_machine.specs.Step.{place_or, notes_at_step, after_outcome, finished_counts, with_note}
 use Rattle.tree_machine.proofs.Lists.{put_back}
 use Rattle.tree_machine.proofs.States.{ready_pieces, thread_read, next_place_in_range, reply_room, note_room}
 use Rattle.tree_machine.proofs.Steps.{step_made}
@@ -55,8 +55,9 @@ advance-requires-clause-note_room g c κs within =
     let there = thread_read program c.args.self.now c.args.t thread c.args.op ready c.as_mut_slice.result.now
     c.from.result c.index-as_mut_slice-from.result
     (c.as_mut_slice.ensures.value ∙ (c.in_ok-threads.ensures ∙ c.as_slice-own.ensures)) c.from.ensures in
-    subst (λ x. x.place ≡ None → length x.notes < 6) (sym there) (note_room (g.M.Machine.rules c.args.machine) program
-    c.args.self.now c.requires.ready.1.1.0 c.requires.ready.1.0 c.args.t c.args.op thread pieces.0 pieces.1)
+    IfSome_then c.note_at_step-note.result c.note_at_step-note.ensures.begun (λ _ begins.
+    subst (λ x. length x.notes < 6) (sym there) (note_room (g.M.Machine.rules c.args.machine) program
+    c.args.self.now c.requires.ready.1.1.0 c.requires.ready.1.0 c.args.t c.args.op thread pieces.0 pieces.1 begins))
 
 pub returns : goal.returns
 returns g c =
@@ -71,6 +72,7 @@ returns g c =
     let there = thread_read c.requires.ready.0 state c.args.t thread c.args.op c.requires.ready.1.1.1
     c.as_mut_slice.result.now c.from.result c.index-as_mut_slice-from.result same c.from.ensures in
     let counts = c.as_slice-own.ensures in
+    let note = c.note_at_step-note.result in
     let set : c.from_vec.result ≡ slice_set c.as_mut_slice.result.now c.from.result after =
     c.from_vec.ensures
     ∙ put_back c.as_mut_slice.result.now c.in_ok-threads.threads.items c.in_ok-threads.threads.len c.from.result after
@@ -82,6 +84,11 @@ returns g c =
     (c.in_ok-next.ensures.thread ∙ (λ i. after_outcome (record {
       replies = (there i).replies;
       place = Some place;
-      notes = notes_at_step (there i).place (there i).notes (finished_counts (counts i));
+      notes = with_note (there i).notes note;
+    }) outcome) ∙ (λ i. after_outcome (record {
+      replies = thread.replies;
+      place = Some place;
+      notes = (c.note_at_step-note.ensures.note thread.notes
+          ∙ ap (λ threads. notes_at_step thread.place thread.notes (finished_counts threads)) counts) i;
     }) outcome))
     (set ∙ (λ i. slice_set (same i) (c.from.ensures i) after)) c.in_ok-next.ensures.astray

@@ -11,7 +11,7 @@ put_part-requires g c =
     let bound = g.met.M.Machine g.world.𝓛 g.world.𝓜 g.world.𝓡 ((λ s x. x), (λ x. x), (λ x. x), λ x. x) in
     let order =
     cuts_in_order g.M.Machine.whole_code g.M.Machine.memory_code g.M.Machine.held_code bound.parted c.args.told.now
-    c.args.cuts c.args.source.now c.requires.cuts c.args.same_memory c.end-end.result c.end-end.ensures in
+    c.args.cuts c.args.source.now.value c.requires.cuts c.args.same_memory c.end-end.result c.end-end.ensures in
     record { order = order.0; within = order.2 }
 
 pub put_part-requires-2 : goal.put_part-requires-2
@@ -19,7 +19,7 @@ put_part-requires-2 g c =
     let bound = g.met.M.Machine g.world.𝓛 g.world.𝓜 g.world.𝓡 ((λ s x. x), (λ x. x), (λ x. x), λ x. x) in
     let order =
     cuts_in_order g.M.Machine.whole_code g.M.Machine.memory_code g.M.Machine.held_code bound.parted c.args.told.now
-    c.args.cuts c.args.source.now c.requires.cuts c.args.same_memory c.end-end.result c.end-end.ensures in
+    c.args.cuts c.args.source.now.value c.requires.cuts c.args.same_memory c.end-end.result c.end-end.ensures in
     record { order = order.1; within = order.2 }
 
 pub returns-then-did_no_more : goal.returns-then-did_no_more
@@ -29,7 +29,7 @@ returns-then-did_no_more g c =
     let front = if c.args.same_memory then g.M.Machine.memory_code mem else [] in
     let told =
     deeds_told g.M.Machine.whole_code g.M.Machine.memory_code g.M.Machine.held_code bound.parted c.args.told.now
-    c.args.cuts c.args.source.now c.requires.cuts mem c.args.same_memory c.end-end.result c.requires.memory
+    c.args.cuts c.args.source.now.value c.requires.cuts mem c.args.same_memory c.end-end.result c.requires.memory
     c.end-end.ensures in
     on_ok_weaker c.put_part.result
     (λ put. put ∙ ap (λ l. c.args.room.now ++ l)
@@ -42,7 +42,7 @@ returns g c =
     let threads = c.as_slice.ensures in
     let told =
     memory_told g.M.Machine.whole_code g.M.Machine.memory_code g.M.Machine.held_code bound.parted c.args.told.now
-    c.args.cuts c.args.source.now c.requires.cuts mem c.args.same_memory c.end-end.result c.requires.memory
+    c.args.cuts c.args.source.now.value c.requires.cuts mem c.args.same_memory c.end-end.result c.requires.memory
     c.end-end.ensures in
     on_ok_weaker c.put_part-2.result
     (λ put. front_put _ _ _ _ _ _ _ c.in_ok-put_deeds.ensures put

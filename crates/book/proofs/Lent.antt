@@ -1,0 +1,8 @@
+-- What was found, or what stands where nothing was.
+use Rattle.std.proofs.Common.{Option, Some, None}
+use Rattle.std.specs.Prelude.{IfSome, IfNone, unwrap_or}
+
+pub found_or : {X : Type 0} (P : X → Type 0) (found : Option X) (other : X) → IfSome found P → IfNone found (P other)
+    → P (unwrap_or found other)
+found_or P (Some x) other some none = some
+found_or P None other some none = none

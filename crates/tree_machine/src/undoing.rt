@@ -1,0 +1,203 @@
+//! Steps that are made in a state itself and taken back.
+ghost use Rattle.std.specs.Prelude.{◌≡◌, ◌+◌, ◌^◌, ◌<◌, ◌↔◌, true, false, Some, None, IsErrOf, IfOk, OnOk};
+ghost use Rattle.std.specs.Prelude.{length, slice_set};
+ghost use Rattle.sched_program.specs.Program.{Program, IsWithinLimits};
+ghost use Rattle.tree_machine.specs.declared.state.State.{State};
+ghost use Rattle.tree_machine.specs.Step.{place_or, ready, step, stepped, Fits};
+ghost use Rattle.tree_machine.specs.Undoing.{TakesBack};
+
+use crate::machine::Machine;
+use crate::state::{State, StepFault, Thread, place_or};
+use crate::stepping::{advance, copy_thread_into, note_at_step};
+use sched_program::{Op, OutOfMemory, Program, Sequence, ShortList};
+use std::alloc::Global;
+use std::mem::{replace, swap};
+use std::snapshot::Snapshot;
+
+/// What takes a step back that was made in a state itself: the thread as it was, and the memory too where the step may have
+/// written. Kept from one step to the next, it asks for memory until it has a memory of its own.
+#[derive(Drop)]
+pub struct Undo<M: Machine> {
+    pub(crate) thread: Thread<M::Loc>,
+    pub(crate) reads: bool,
+    pub(crate) memory: Option<M::Mem>,
+}
+
+impl<M: Machine> Undo<M> {
+    /// Nothing is to be taken back. It takes no memory.
+    pub fn new() -> Undo<M> {
+        Undo {
+            thread: Thread {
+                replies: ShortList::new(),
+                place: None,
+                notes: ShortList::new(),
+            },
+            reads: true,
+            memory: None,
+        }
+    }
+
+    /// The thread as it was before its step.
+    pub fn thread(&self) -> &Thread<M::Loc>
+        ensures { result.now ≡ self.now.thread }
+    {
+        &self.thread
+    }
+
+    /// Whether the step is known to have left the memory as it was.
+    pub fn reads(&self) -> bool
+        ensures { result ≡ self.now.reads }
+    {
+        self.reads
+    }
+}
+
+/// Makes the memory that is kept equal to another one, in the room that it has as far as that is enough.
+#[inline(always)]
+fn keep_memory<M: Machine>(
+    alloc: Global,
+    machine: M,
+    memory: &M::Mem,
+    kept: &mut Option<M::Mem>,
+) -> Result<(), OutOfMemory>
+    ensures { OnOk result (kept.new ≡ Some memory.now) }
+{
+    match kept {
+        Some(copy) => machine.copy_mem_into(alloc, memory, copy),
+        None => {
+            *kept = Some(machine.copy_mem(alloc, memory)?);
+            Ok(())
+        }
+    }
+}
+
+/// Whether the access of a thread leaves the memory as it is. Where it may write, the memory is kept.
+#[inline(always)]
+fn keep_written<M: Machine>(
+    alloc: Global,
+    machine: M,
+    op: Op,
+    thread: &Thread<M::Loc>,
+    memory: &M::Mem,
+    kept: &mut Option<M::Mem>,
+) -> Result<bool, OutOfMemory>
+    ensures reads { IfOk result (λ reads. reads ≡ true
+        → ((M.rules machine).act op (place_or thread.now.place ((M.rules machine).first op)) memory.now).0
+        ≡ memory.now) }
+    ensures kept { IfOk result (λ reads. reads ≡ false → kept.new ≡ Some memory.now) }
+{
+    let first = machine.begin(op);
+    if machine.only_reads(place_or(&thread.place, &first)) {
+        return Ok(true);
+    }
+    keep_memory(alloc, machine, memory, kept)?;
+    Ok(false)
+}
+
+/// Puts a thread in the place of another one, and this one in its place.
+#[inline(always)]
+fn exchange<L: Drop>(
+    alloc: Global,
+    threads: &mut Sequence<Thread<L>>,
+    t: u8,
+    thread: &mut Thread<L>,
+)
+    requires { t < length threads.old }
+    ensures threads { threads.new ≡ slice_set threads.old t thread.old }
+{
+    let mut items = replace(threads, Sequence::new(alloc)).into_vec();
+    swap(&mut items.as_mut_slice()[usize::from(t)], thread);
+    *threads = Sequence::from_vec(items);
+}
+
+impl<M: Machine> State<M> {
+    /// Makes the access of a thread, which is ready for an operation, in this state itself. A copy of the thread is at hand.
+    #[inline(always)]
+    fn access_here(
+        &mut self,
+        alloc: Global,
+        machine: M,
+        t: u8,
+        thread: &Thread<M::Loc>,
+        op: Op,
+    ) -> Result<(), OutOfMemory>
+        requires ready { (program : Program) × (IsWithinLimits program × (Fits (M.rules machine) program self.old
+            × (ready program self.old t ≡ Some (thread.now, op)))) }
+        requires room { self.old.steps + 1 < 2 ^ 64 }
+        ensures { OnOk result (self.new ≡ stepped (M.rules machine) self.old t op thread.now) }
+    {
+        let first = machine.begin(op);
+        let place = place_or(&thread.place, &first);
+        let outcome = machine.act(alloc, op, place, &mut self.memory)?;
+        let mut threads = replace(&mut self.threads, Sequence::new(alloc)).into_vec();
+        let note = note_at_step(&thread.place, threads.as_slice());
+        let moved = &mut threads.as_mut_slice()[usize::from(t)];
+        self.astray = advance(alloc, machine, note, t, place, outcome, moved)?;
+        self.threads = Sequence::from_vec(threads);
+        self.steps = self.steps + 1;
+        Ok(())
+    }
+
+    /// Makes the step of a thread in this state itself, and keeps what takes it back. `NotEnabled` exactly where the thread
+    /// has no step; then this state is unchanged. After a refusal of memory it is of no use.
+    #[inline(always)]
+    pub fn step_here(
+        &mut self,
+        alloc: Global,
+        machine: M,
+        program: &Program,
+        t: u8,
+        undo: &mut Undo<M>,
+    ) -> Result<(), StepFault>
+        requires fits { Fits (M.rules machine) program.now self.old }
+        requires room { self.old.steps + 1 < 2 ^ 64 }
+        ensures step { OnOk result (step (M.rules machine) program.now self.old t ≡ Some self.new) }
+        ensures fits { OnOk result (Fits (M.rules machine) program.now self.new) }
+        ensures no_step { IsErrOf result StepFault.NotEnabled ↔ (step (M.rules machine) program.now self.old t ≡ None) }
+        ensures kept { IsErrOf result StepFault.NotEnabled → self.new ≡ self.old }
+        ensures back { OnOk result
+            (TakesBack self.old t undo.new.thread undo.new.reads undo.new.memory self.new) }
+    {
+        let Some((thread, op)) = self.ready(program, t) else {
+            return Err(StepFault::NotEnabled);
+        };
+        copy_thread_into(alloc, machine, thread, &mut undo.thread)?;
+        undo.reads = keep_written(
+            alloc,
+            machine,
+            op,
+            &undo.thread,
+            &self.memory,
+            &mut undo.memory,
+        )?;
+        self.access_here(alloc, machine, t, &undo.thread, op)?;
+        Ok(())
+    }
+
+    /// Takes the step of a thread back by what `step_here` kept of it: this state is what it was. What is kept is of no use
+    /// any more.
+    #[inline(always)]
+    pub fn take_back(
+        &mut self,
+        alloc: Global,
+        source: &Snapshot<State<M>>,
+        t: u8,
+        undo: &mut Undo<M>,
+    )
+        requires step { (machine : M) × (program : Program)
+            × (step (M.rules machine) program source.now.value t ≡ Some self.old) }
+        requires back { TakesBack source.now.value t undo.old.thread undo.old.reads undo.old.memory self.old }
+        ensures { self.new ≡ source.now.value }
+    {
+        // Proofs alone read what the state was.
+        let _ = source;
+        exchange(alloc, &mut self.threads, t, &mut undo.thread);
+        self.astray = None;
+        self.steps = self.steps - 1;
+        if !undo.reads {
+            if let Some(memory) = &mut undo.memory {
+                swap(&mut self.memory, memory);
+            }
+        }
+    }
+}
