@@ -11,6 +11,8 @@ mod fixtures;
 mod forms;
 pub mod held_byte;
 #[cfg(test)]
+mod in_place;
+#[cfg(test)]
 mod layers;
 #[cfg(test)]
 mod lending;
