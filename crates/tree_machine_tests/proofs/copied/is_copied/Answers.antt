@@ -13,4 +13,4 @@ code_after-requires-clause-cuts c κs =
     let same =
     state_code_tells (λ keys held. atomic_code (atomic_form keys held)) atomic_tells c.read_cut.new.self
     c.args.state.now (sym cuts.written ∙ (c.as_slice-bytes.ensures ∙ c.in_ok-told.ensures)) in
-    subst (λ state. AreCutsOf (λ keys held. atomic_code (atomic_form keys held)) (λ _. []) c.as_slice-bytes.result.now c.in-Some.cuts state) same cuts
+    subst (λ state. AreCutsOf (λ keys held. atomic_code (atomic_form keys held)) (λ _. []) c.as_slice-bytes.result.now c.in-Some.cuts state) (same ∙ sym c.of-source.ensures) cuts
