@@ -15,13 +15,24 @@ use std::marker::{Model, PhantomData};
 use std::sync::{RwLock, Wait};
 use tree_machine::{Machine, State};
 
+/// How many places a worker draws in one round at most, by names: it has the states of all of them in hand, and they would
+/// drive each other out of the processor's caches.
+const ROUND: usize = 64;
+
+/// How many with exact merging, where an entry is a copy of its bytes until it is opened.
+const LONG_ROUND: usize = 256;
+
 /// How many places a worker draws in one round: several, so that it waits for the lock less often than once for each
 /// entry, but few beside its portion of the layer, so that all workers come to the layer's end at about the same time.
-pub fn round_of(places: usize, workers: usize) -> usize
+pub fn round_of(places: usize, workers: usize, merge: Merge) -> usize
     requires some { 0 < workers }
     requires few { workers < 2 ^ 8 }
 {
-    (places / (8 * workers)).clamp(1, 64)
+    let most = match merge {
+        Merge::Exact => LONG_ROUND,
+        Merge::Names => ROUND,
+    };
+    (places / (8 * workers)).clamp(1, most)
 }
 
 /// Draws the places of one round, fewer where no more are left.
@@ -124,8 +135,8 @@ impl<'a, K: Tie<M, State<M>>, M: Machine> Layer<'a, K, M> {
         self.entries_at(&*desk, places, stock)
     }
 
-    /// Opens the entries drawn. The book is asked once more for a state that can't be read from its bytes.
-    fn open_all<J: Ledgers>(
+    /// Opens entries that were drawn. The book is asked once more for a state that can't be read from its bytes.
+    pub fn open_all<J: Ledgers>(
         &self,
         rt: &impl Wait,
         desk: &RwLock<Tied<J, K, M>>,
@@ -140,7 +151,7 @@ impl<'a, K: Tie<M, State<M>>, M: Machine> Layer<'a, K, M> {
         Ok(())
     }
 
-    /// Draws the places of one round. The answer is the entries there, with their states.
+    /// Draws the places of one round. The answer is the entries there.
     pub fn draw<J: Ledgers>(
         &self,
         rt: &impl Wait,
@@ -155,12 +166,10 @@ impl<'a, K: Tie<M, State<M>>, M: Machine> Layer<'a, K, M> {
         if places.is_empty() {
             return Ok(Vec::new(self.alloc));
         }
-        let mut drawn = self.hand_out(rt, desk, places.as_slice(), stock)?;
-        self.open_all(rt, desk, drawn.as_mut_slice(), stock)?;
-        Ok(drawn)
+        self.hand_out(rt, desk, places.as_slice(), stock)
     }
 
-    /// Makes the expansions of some of the entries drawn. Room for all of them is asked for at once.
+    /// Makes the expansions of some of the entries drawn, which are open. Room for all of them is asked for at once.
     pub fn expand(
         &self,
         gate: &impl Gate,
@@ -176,6 +185,7 @@ impl<'a, K: Tie<M, State<M>>, M: Machine> Layer<'a, K, M> {
                 gate.arrive(number, self.number, *place);
                 made.push(one)?;
             }
+            ready.close(stock);
         }
         Ok(())
     }

@@ -99,6 +99,7 @@ fn explore_together<J: Ledgers + Send + Sync, M: Machine, G: Gate, R: Threads + 
         machine,
         program,
         merge: options.merge(),
+        workers: options.workers(),
         gate,
         stocks: &stocks,
     };

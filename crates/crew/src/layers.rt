@@ -109,6 +109,7 @@ impl<'a, M: Machine, G: Gate, R: Threads + Wait + Sync> Exploration<'a, M, G, R>
             machine: self.machine,
             program: self.program,
             merge: self.merge,
+            workers: self.workers,
             gate: self.gate,
             stocks: self.stocks,
         }
@@ -133,7 +134,7 @@ impl<'a, M: Machine, G: Gate, R: Threads + Wait + Sync> Exploration<'a, M, G, R>
         let places = end - start;
         let (claims, seats) = Claims::new(self.alloc, places, workers.len())?;
         seat_all(&claims, workers, seats);
-        let round = round_of(places, workers.len());
+        let round = round_of(places, workers.len(), self.merge);
         let shift = Shift {
             exploration: self.again(),
             layer: Layer {

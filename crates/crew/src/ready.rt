@@ -169,6 +169,15 @@ impl<'a, K: Tie<M, State<M>>, M: Machine> Ready<'a, K, M> {
         Ok(Some(Made::new(self.id, steps)))
     }
 
+    /// Leaves its state in stock, where it was read from its bytes: the next one is read in its place.
+    pub fn close(&mut self, stock: &mut Stock<M>) {
+        if self.cuts.is_some()
+            && let Some(state) = self.state.take()
+        {
+            stock.take_in(state);
+        }
+    }
+
     /// Looks at its state, where it was not just read: at its threads, at its memory, and at what stands behind both in the
     /// state itself. What it answers is of no use.
     pub fn look_at(&self) -> usize {

@@ -12,6 +12,7 @@ use book::{EnterFault, Leftovers, Merge, Stock};
 use claims::Seat;
 use sched_program::{OutOfMemory, Program};
 use std::alloc::Global;
+use std::mem::replace;
 use std::sync::{Mutex, RwLock, RwLockWriteGuard, Wait};
 use tree_machine::{Machine, State};
 
@@ -48,8 +49,14 @@ pub struct Worker<J: Ledgers> {
     pub stop: Option<Stop>,
 }
 
-/// How many entries a worker expands between two tests of the lock.
+/// How many entries a worker expands between two tests of the lock, where others wait for it.
 const STRIDE: usize = 8;
+
+/// How many where none does, with exact merging: the steps of more entries are looked for at once.
+const LONG_STRIDE: usize = 16;
+
+/// With how many expansions that are not entered a worker waits for the lock before it draws once more.
+const PILE: usize = 256;
 
 /// Leftovers with room for all steps of expansions.
 fn room_for<K: Tie<M, State<M>>, M: Machine>(
@@ -115,12 +122,24 @@ pub struct Exploration<'a, M: Machine, G: Gate, R: Wait> {
     pub machine: M,
     pub program: &'a Program,
     pub merge: Merge,
+    /// How many workers there are.
+    pub workers: u8,
     pub gate: &'a G,
     /// What workers left of their stocks at the end of a layer, for those of the next.
     pub stocks: &'a Mutex<Vec<Stock<M>>>,
 }
 
 impl<'a, M: Machine, G: Gate, R: Wait> Exploration<'a, M, G, R> {
+    /// How many entries a worker expands between two tests of the lock.
+    fn stride(&self) -> usize
+        ensures { 0 < result }
+    {
+        match self.merge {
+            Merge::Exact if self.workers == 1 => LONG_STRIDE,
+            _ => STRIDE,
+        }
+    }
+
     /// The lock of the desk. Where it need not be had at once, it is none where another worker has it.
     fn locked<'l, J: Ledgers, K: Tie<M, State<M>>>(
         &self,
@@ -134,63 +153,85 @@ impl<'a, M: Machine, G: Gate, R: Wait> Exploration<'a, M, G, R> {
         }
     }
 
-    /// Enters expansions, where they have to be entered or no other worker has the lock. Else they are given back.
+    /// Enters expansions, where they have to be entered or no other worker has the lock. Else they stay.
     fn enter<J: Ledgers, K: Tie<M, State<M>>>(
         &self,
         desk: &RwLock<Tied<J, K, M>>,
-        made: Vec<Made<'a, K, M>>,
+        made: &mut Vec<Made<'a, K, M>>,
         at_once: bool,
         tally: &mut Tally<J>,
         stock: &mut Stock<M>,
-    ) -> Result<Vec<Made<'a, K, M>>, Stop> {
+    ) -> Result<(), Stop> {
+        if made.is_empty() {
+            return Ok(());
+        }
         let Ok(mut leftovers) = room_for(self.alloc, stock, made.as_slice()) else {
             return Err(Stop::OutOfMemory);
         };
         let Some(mut desk) = self.locked(desk, at_once) else {
             stock.take_leftovers(leftovers);
-            return Ok(made);
+            return Ok(());
         };
-        let entered = enter_all(&mut *desk, made, tally, &mut leftovers);
+        let all = replace(made, Vec::new(self.alloc));
+        let entered = enter_all(&mut *desk, all, tally, &mut leftovers);
         drop(desk);
         stock.take_leftovers(leftovers);
-        entered?;
-        Ok(Vec::new(self.alloc))
+        entered
     }
 
-    /// Expands the entries drawn, some at a time, and enters what is made whenever no other worker has the lock, the last
-    /// of them in any case.
+    /// Makes the expansions of some of the entries drawn, whose states are at hand meanwhile.
+    fn expand_some<J: Ledgers, K: Tie<M, State<M>>>(
+        &self,
+        desk: &RwLock<Tied<J, K, M>>,
+        layer: &Layer<'a, K, M>,
+        number: u8,
+        some: &mut [(usize, Ready<'a, K, M>)],
+        made: &mut Vec<Made<'a, K, M>>,
+        stock: &mut Stock<M>,
+    ) -> Result<(), OutOfMemory> {
+        layer.open_all(self.rt, desk, some, stock)?;
+        layer.expand(self.gate, number, some, made, stock)
+    }
+
+    /// Whether a worker has to enter what it made before it draws once more: where much is left, and by names, since there
+    /// the states of entries serve again only once the book has given them back.
+    fn has_to_enter<K: Tie<M, State<M>>>(&self, made: &[Made<'a, K, M>]) -> bool {
+        made.len() >= PILE || self.merge == Merge::Names
+    }
+
+    /// Expands the entries drawn, some at a time, and enters what is made whenever no other worker has the lock.
     fn expand_all<J: Ledgers, K: Tie<M, State<M>>>(
         &self,
         desk: &RwLock<Tied<J, K, M>>,
         layer: &Layer<'a, K, M>,
         number: u8,
         drawn: &mut [(usize, Ready<'a, K, M>)],
+        made: &mut Vec<Made<'a, K, M>>,
         tally: &mut Tally<J>,
         stock: &mut Stock<M>,
     ) -> Result<(), Stop> {
-        let mut made = Vec::new(self.alloc);
-        let mut left = drawn.len();
-        for some in drawn.chunks_mut(STRIDE) {
-            if layer
-                .expand(self.gate, number, some, &mut made, stock)
+        for some in drawn.chunks_mut(self.stride()) {
+            if self
+                .expand_some(desk, layer, number, some, made, stock)
                 .is_err()
             {
                 return Err(Stop::OutOfMemory);
             }
-            left = left.saturating_sub(some.len());
-            made = self.enter(desk, made, left == 0, tally, stock)?;
+            self.enter(desk, made, false, tally, stock)?;
         }
-        Ok(())
+        let at_once = self.has_to_enter(made.as_slice());
+        self.enter(desk, made, at_once, tally, stock)
     }
 
-    /// Expands the entries at the next places that the worker draws. Whether there were any. Their states serve again: the
-    /// book gave them back when their entries were expanded.
+    /// Expands the entries at the next places that the worker draws. Whether there were any. Their states serve again: those
+    /// that a book holds it gave back when their entries were expanded.
     fn turn<J: Ledgers, K: Tie<M, State<M>>>(
         &self,
         desk: &RwLock<Tied<J, K, M>>,
         layer: &Layer<'a, K, M>,
         number: u8,
         seat: &mut Seat,
+        made: &mut Vec<Made<'a, K, M>>,
         tally: &mut Tally<J>,
         stock: &mut Stock<M>,
     ) -> Result<bool, Stop>
@@ -203,14 +244,23 @@ impl<'a, M: Machine, G: Gate, R: Wait> Exploration<'a, M, G, R> {
         if drawn.is_empty() {
             return Ok(false);
         }
-        self.expand_all(desk, layer, number, drawn.as_mut_slice(), tally, stock)?;
+        self.expand_all(
+            desk,
+            layer,
+            number,
+            drawn.as_mut_slice(),
+            made,
+            tally,
+            stock,
+        )?;
         for (_, ready) in drawn {
             ready.leave_in(stock);
         }
         Ok(true)
     }
 
-    /// Expands the entries at the places that the worker draws, until none is left or it has to stop. Why, if so.
+    /// Expands the entries at the places that the worker draws, until none is left or it has to stop, and enters what is
+    /// made. Why it had to stop, if so.
     fn turns<J: Ledgers, K: Tie<M, State<M>>>(
         &self,
         desk: &RwLock<Tied<J, K, M>>,
@@ -222,14 +272,15 @@ impl<'a, M: Machine, G: Gate, R: Wait> Exploration<'a, M, G, R> {
     ) -> Option<Stop>
         requires seat { IsSeatOf layer.now seat.old }
     {
+        let mut made = Vec::new(self.alloc);
         for _turn in 0..layer.end {
-            match self.turn(desk, layer, number, seat, tally, stock) {
+            match self.turn(desk, layer, number, seat, &mut made, tally, stock) {
                 Ok(true) => {}
-                Ok(false) => return None,
+                Ok(false) => break,
                 Err(why) => return Some(why),
             }
         }
-        None
+        self.enter(desk, &mut made, true, tally, stock).err()
     }
 
     /// What some worker left of its stock, if there is such.
