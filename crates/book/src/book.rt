@@ -297,6 +297,10 @@ impl<M: Machine> Book<M> {
     {
         let mut low = 0;
         let mut high = self.table.len();
+        // Where a layer is taken there is mostly no such entry: the last one tells that, and no other has to be asked.
+        if high > 0 && self.steps_to(high - 1) <= steps {
+            return high;
+        }
         while low < high {
             let middle = low + (high - low) / 2;
             if self.steps_to(middle) <= steps {

@@ -1,5 +1,5 @@
 //! Orders that a state lends to its steps.
-ghost use Rattle.std.specs.Prelude.{◌≡◌, ◌≤◌, ◌↔◌, All, IsTrue, length, IfOk, IfSome, IfNone, MatchOption, Some, None};
+ghost use Rattle.std.specs.Prelude.{◌≡◌, ◌≤◌, ◌↔◌, ℕ, All, IsTrue, length, IfOk, IfSome, IfNone, MatchOption, Some, None};
 ghost use Rattle.std.specs.Prelude.{slice_get, slice_index};
 ghost use Rattle.sched_program.specs.Program.{Program};
 ghost use Rattle.lin.specs.Linearization.{IsLinearization};
@@ -12,10 +12,10 @@ ghost use Rattle.book.specs.Findings.{IsFindingOf, IsLoan};
 
 use crate::finding::{Finding, fault_in, judge_anew, judged};
 use lin::{Order, order_with_reply};
-use sched_program::{Note, OpId, OutOfMemory, Program};
+use sched_program::{OpId, OutOfMemory, Program};
 use std::alloc::Global;
 use std::snapshot::Snapshot;
-use tree_machine::{Machine, State, Thread};
+use tree_machine::{Machine, ShortNote, State, Thread};
 
 /// A linearization of a state's history, if there is one; nothing as long as none was sought.
 pub(crate) type Loan = Option<Option<Order>>;
@@ -58,11 +58,11 @@ fn reply_after<M: Machine>(source: &State<M>, next: &State<M>, thread: u8) -> Op
 }
 
 /// Whether no note counts the operation among those that had finished.
-fn is_in_no_note(notes: &[Note], name: OpId) -> bool
+fn is_in_no_note(notes: &[ShortNote], name: OpId) -> bool
     ensures { IsTrue result ↔ All (λ note. slice_index note name.thread ≤ name.index) notes.now }
 {
     for note in notes {
-        if note.get(usize::from(name.thread)).unwrap_or(0) > name.index {
+        if note.count_of(name.thread) > name.index {
             return false;
         }
     }
@@ -163,22 +163,39 @@ fn finding_by<M: Machine>(
     )
 }
 
-/// Whether a thread holds a place at which its step leaves the memory as it is. Where it answers no, the step may write.
-fn only_reads<M: Machine>(machine: M, source: &State<M>, thread: u8) -> bool
-    ensures { IsTrue result → (program : Program) (next : State M M.Mem M.Loc M.Form)
-        → step (M.rules machine) program source.now thread ≡ Some next → next.memory ≡ source.now.memory }
+/// Whether the step of a thread that stood so leaves search order as it is. Where it answers no, the step may disturb it.
+fn keeps_order<M: Machine>(machine: M, was: &Thread<M::Loc>) -> bool
+    ensures { IsTrue result → (program : Program) (source next : State M M.Mem M.Loc M.Form) (thread : ℕ)
+        → slice_get source.threads thread ≡ Some was.now
+        → step (M.rules machine) program source thread ≡ Some next
+        → (M.rules machine).IsOrdered source.memory → (M.rules machine).IsOrdered next.memory }
 {
-    match source.threads.get(usize::from(thread)) {
-        Some(was) => match &was.place {
-            Some(place) => machine.only_reads(place),
-            None => false,
-        },
+    match &was.place {
+        Some(place) => machine.keeps_order(place),
         None => false,
     }
 }
 
-/// The fault that a thread's step shows without its history, if it shows one. The order of a memory that is known to
-/// keep it is not tested once more where the step only read.
+/// The fault that a thread's step shows without its history, if it shows one. It may be known that its memory keeps search
+/// order.
+fn fault_here<M: Machine>(machine: M, next: &State<M>, is_ordered: bool) -> Option<Finding>
+    requires range { (M.rules machine).IsInRange next.now.memory }
+    requires ordered { IsTrue is_ordered → (M.rules machine).IsOrdered next.now.memory }
+    ensures some { IfSome result (λ fault. (program : Program)
+        → IsFindingOf (M.rules machine) program next.now fault) }
+    ensures none { IfNone result ((next.now.astray ≡ None) × (M.rules machine).IsOrdered next.now.memory) }
+{
+    if !is_ordered {
+        return fault_in(machine, next);
+    }
+    if next.astray().is_some() {
+        return Some(Finding::Astray);
+    }
+    None
+}
+
+/// The same of a step from a state of whose memory it may be known that it keeps search order. That is not tested once more
+/// where the step left it as it was.
 fn fault_after<M: Machine>(
     machine: M,
     source: &State<M>,
@@ -193,13 +210,10 @@ fn fault_after<M: Machine>(
         → IsFindingOf (M.rules machine) program next.now fault) }
     ensures none { IfNone result ((next.now.astray ≡ None) × (M.rules machine).IsOrdered next.now.memory) }
 {
-    if !is_ordered || !only_reads(machine, source, thread) {
-        return fault_in(machine, next);
+    match source.threads.get(usize::from(thread)) {
+        Some(was) if is_ordered && keeps_order(machine, was) => fault_here(machine, next, true),
+        _ => fault_in(machine, next),
     }
-    if next.astray().is_some() {
-        return Some(Finding::Astray);
-    }
-    None
 }
 
 /// The finding of a thread's step, for which its source lends an order, and of whose source it may be known that its
@@ -232,24 +246,6 @@ pub(crate) fn find_after<M: Machine>(
     }
 }
 
-/// The fault that a thread's step shows without its history, if it shows one, where it was made from a state whose memory
-/// keeps search order.
-fn fault_here<M: Machine>(machine: M, next: &State<M>, reads: bool) -> Option<Finding>
-    requires range { (M.rules machine).IsInRange next.now.memory }
-    requires ordered { IsTrue reads → (M.rules machine).IsOrdered next.now.memory }
-    ensures some { IfSome result (λ fault. (program : Program)
-        → IsFindingOf (M.rules machine) program next.now fault) }
-    ensures none { IfNone result ((next.now.astray ≡ None) × (M.rules machine).IsOrdered next.now.memory) }
-{
-    if !reads {
-        return fault_in(machine, next);
-    }
-    if next.astray().is_some() {
-        return Some(Finding::Astray);
-    }
-    None
-}
-
 /// The finding of a thread's step that was made from a sound state, whose order is lent, and whether it read alone. None
 /// where the order stands as it is, since the step ended no operation. The thread is at hand as it was before.
 #[inline(always)]
@@ -273,7 +269,8 @@ pub(crate) fn find_here<M: Machine>(
     ensures none { IfOk result
         (λ found. IfNone found (IsFindingOf (M.rules machine) program.now next.now (Sound order.now))) }
 {
-    if let Some(fault) = fault_here(machine, next, reads) {
+    let is_ordered = reads || keeps_order(machine, was);
+    if let Some(fault) = fault_here(machine, next, is_ordered) {
         return Ok(Some(fault));
     }
     let Some((name, reply)) = reply_since(was, next, thread) else {

@@ -91,6 +91,10 @@ impl Machine for Straying {
         true
     }
 
+    fn keeps_order(&self, _loc: &bool) -> bool {
+        false
+    }
+
     fn ordered(&self, mem: &bool) -> bool {
         !*mem
     }

@@ -219,8 +219,10 @@ impl<'a, M: Machine, G: Gate, R: Wait> Exploration<'a, M, G, R> {
             }
             self.enter(desk, made, false, tally, stock)?;
         }
-        let at_once = self.has_to_enter(made.as_slice());
-        self.enter(desk, made, at_once, tally, stock)
+        if self.has_to_enter(made.as_slice()) {
+            return self.enter(desk, made, true, tally, stock);
+        }
+        Ok(())
     }
 
     /// Expands the entries at the next places that the worker draws. Whether there were any. Their states serve again: those

@@ -101,6 +101,10 @@ impl Machine for Faulty {
         false
     }
 
+    fn keeps_order(&self, _loc: &bool) -> bool {
+        false
+    }
+
     fn ordered(&self, mem: &bool) -> bool {
         !*mem
     }

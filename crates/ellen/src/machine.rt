@@ -98,6 +98,14 @@ impl Machine for Ellen {
     }
 
     #[inline(always)]
+    fn keeps_order(&self, loc: &EllenLoc) -> bool {
+        match loc {
+            EllenLoc::Search(at) => !matches!(at, SearchLoc::InsOnly { .. }),
+            EllenLoc::Help(at, _) => !matches!(at, HelpLoc::InsChild(_) | HelpLoc::Splice { .. }),
+        }
+    }
+
+    #[inline(always)]
     fn look_at(&self, mem: &EllenMem) -> u8 {
         // Nodes that lie six apart, ten bytes each, are in all pieces that the processor fetches of the first twenty.
         let nodes = mem.nodes.as_slice();

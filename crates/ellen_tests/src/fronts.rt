@@ -7,7 +7,7 @@ use sched_program::{OutOfMemory, ShortList};
 use std::alloc::Global;
 use std::process::Abort;
 use std::test::Fail;
-use tree_machine::{Machine, Room, Thread};
+use tree_machine::{Machine, Replies, Room, Thread};
 
 const WHOLE: Ellen = Ellen {
     mark: true,
@@ -24,7 +24,7 @@ fn holding(place: Option<EllenLoc>) -> Thread<EllenLoc>
     ensures { result.place ≡ place }
 {
     Thread {
-        replies: ShortList::new(),
+        replies: Replies::new(),
         place,
         notes: ShortList::new(),
     }

@@ -236,11 +236,17 @@ fn add_records(text: &mut String, old: &EllenMem, new: &EllenMem) -> Result<(), 
     Ok(())
 }
 
+/// What a thread replied last, if it replied.
+fn last_reply(thread: &Thread<EllenLoc>) -> Option<bool> {
+    let before = thread.replies.len().checked_sub(1)?;
+    thread.replies.get(before)
+}
+
 /// Where a thread stands, or what it replied last.
 fn add_thread(text: &mut String, thread: &Thread<EllenLoc>) -> Result<(), OutOfMemory> {
     match &thread.place {
         Some(place) => add_place(text, place),
-        None => match thread.replies.as_slice().last() {
+        None => match last_reply(thread) {
             Some(reply) => write!(text, " {reply}"),
             None => text.push_str(" idle"),
         },

@@ -4,6 +4,7 @@ pub mod Codes
 pub mod Exact
 pub mod Forms
 pub mod Initial
+pub mod Order
 pub mod Pairs
 pub mod PairedAccesses
 pub mod PairedAppends

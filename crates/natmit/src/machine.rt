@@ -94,6 +94,12 @@ impl Machine for NatMit {
     }
 
     #[inline(always)]
+    #[tactic(auto, using(crate::specs::Laws::Order::act_ordered))]
+    fn keeps_order(&self, loc: &NatMitLoc) -> bool {
+        !matches!(loc, NatMitLoc::Put { .. } | NatMitLoc::Swing { .. })
+    }
+
+    #[inline(always)]
     fn look_at(&self, mem: &NatMitMem) -> u8 {
         // Nodes that lie six apart, ten bytes each, are in all pieces that the processor fetches of the first twenty.
         let nodes = mem.nodes.as_slice();

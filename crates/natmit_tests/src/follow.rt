@@ -86,8 +86,8 @@ pub fn advance(
 fn replied(state: &State<NatMit>, thread: u8, reply: bool) -> bool {
     match state.threads.get(usize::from(thread)) {
         Some(thread) => {
-            let last = thread.replies.as_slice().last();
-            thread.place.is_none() && last == Some(&reply)
+            let count = thread.replies.len();
+            thread.place.is_none() && count > 0 && thread.replies.get(count - 1) == Some(reply)
         }
         None => false,
     }

@@ -7,7 +7,7 @@ use natmit::{NatMit, NatMitLoc, NatMitMem};
 use sched_program::{Program, Sequence, ShortList};
 use std::alloc::Global;
 use std::test::Fail;
-use tree_machine::{Machine, Room, State, Thread};
+use tree_machine::{Machine, Replies, Room, State, Thread};
 
 /// Over the key 10, T0 deletes it and T1 inserts 5: each kind of place is met.
 const DELETE_AND_INSERT: &str =
@@ -187,7 +187,7 @@ fn front_of(alloc: Global, bytes: &[u8]) -> Result<Option<usize>, Broken> {
         nodes: Sequence::new(alloc),
     };
     let mut threads = [Thread {
-        replies: ShortList::new(),
+        replies: Replies::new(),
         place: None,
         notes: ShortList::new(),
     }];

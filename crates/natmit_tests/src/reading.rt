@@ -1,4 +1,4 @@
-//! Places at which an access only reads.
+//! Places at which an access only reads, and at which it keeps search order.
 
 use crate::follow::WHOLE;
 use natmit::{Mode, NatMitLoc};
@@ -46,14 +46,46 @@ fn a_search_only_reads(rt: HostRuntime) -> Result<(), Fail> {
     Ok(())
 }
 
+const FLAG: NatMitLoc = NatMitLoc::Flag {
+    ancestor: 0,
+    successor: 1,
+    parent: 6,
+    leaf: 5,
+};
+
+const TAG: NatMitLoc = NatMitLoc::Tag {
+    ancestor: 0,
+    successor: 1,
+    parent: 6,
+    side: Side::Right,
+    mode: Mode::Owner(5),
+};
+
+const PUT: NatMitLoc = NatMitLoc::Put {
+    ancestor: 0,
+    successor: 1,
+    parent: 6,
+    leaf: 5,
+};
+
 #[test]
 fn an_exchange_may_write(rt: HostRuntime) -> Result<(), Fail> {
-    let flag = NatMitLoc::Flag {
-        ancestor: 0,
-        successor: 1,
-        parent: 6,
-        leaf: 5,
-    };
-    assert!(rt; !WHOLE.only_reads(&flag));
+    assert!(rt; !WHOLE.only_reads(&FLAG));
+    Ok(())
+}
+
+#[test]
+fn reads_flags_and_tags_keep_order(rt: HostRuntime) -> Result<(), Fail> {
+    for place in READS {
+        assert!(rt; WHOLE.keeps_order(&place));
+    }
+    assert!(rt; WHOLE.keeps_order(&FLAG));
+    assert!(rt; WHOLE.keeps_order(&TAG));
+    Ok(())
+}
+
+#[test]
+fn a_child_that_is_put_may_disturb_order(rt: HostRuntime) -> Result<(), Fail> {
+    assert!(rt; !WHOLE.keeps_order(&PUT));
     Ok(())
 }

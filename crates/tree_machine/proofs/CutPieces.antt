@@ -1,13 +1,15 @@
 -- What is copied from the bytes of a state by their cuts.
-use Rattle.std.proofs.Common.{◌≡◌, ℕ, ◌+◌, ◌-◌, ◌≤◌, Bool, true, false, List, [], ◌++◌, length, take, drop, Option, refl}
-use Rattle.std.proofs.Common.{sym, ap, ◌∙◌, arith, append_assoc, if◌then◌else◌, length-append}
+use Rattle.std.proofs.Common.{◌≡◌, ℕ, ◌+◌, ◌-◌, ◌≤◌, Bool, true, false, List, [], ◌∷◌, ◌++◌, length, take, drop}
+use Rattle.std.proofs.Common.{Option, refl, sym, ap, ◌∙◌, arith, append_assoc, if◌then◌else◌, length-append}
 use Rattle.std.specs.Prelude.{IsTrue}
-use Rattle.std.proofs.lemmas.List.{append-nil}
+use Rattle.std.proofs.lemmas.List.{append-nil, length-map}
 use Rattle.std.proofs.Math.Seq.{drop-append_seam, take-append_seam}
-use Rattle.tree_machine.specs.Alike.{places_of}
+use Rattle.std.specs.List.{flat_map}
+use Rattle.tree_machine.specs.Alike.{notes_of, places_of, replies_of}
 use Rattle.tree_machine.specs.Cuts.{AreCutsOf, deeds_of}
 use Rattle.tree_machine.specs.Flat.{number_code}
-use Rattle.tree_machine.specs.FormCode.{state_code}
+use Rattle.tree_machine.specs.FormCode.{astray_code, deeds_code, list_code, note_code, replies_code, state_code}
+use Rattle.tree_machine.specs.declared.state.Thread.{Thread}
 use Rattle.tree_machine.specs.declared.cuts.Cuts.{Cuts}
 use Rattle.tree_machine.specs.declared.state.State.{State}
 
@@ -53,6 +55,84 @@ module _ {Memory Place : Type 0} (whole_code : Memory → List (Option Place) �
           else whole_code next.memory (places_of next.threads)) ≡ whole_code next.memory (places_of next.threads)
       whole true = sym (parted next.memory (places_of next.threads))
       whole false = refl
+
+  -- bytes that were read as the number of steps, how many threads there are, and all that stands behind that
+  module _ {Machine Form : Type 0} (state : State Machine Memory Place Form) (threads : List (Thread Place))
+      (bytes rest : List ℕ) (count behind front : ℕ) (same : state.threads ≡ threads)
+      (head : bytes ≡ number_code state.steps ++ count ∷ rest)
+      (body : rest ≡ flat_map replies_code (replies_of threads) ++ (list_code (list_code note_code) (notes_of threads)
+      ++ (astray_code state.astray ++ whole_code state.memory (places_of threads))))
+      (many : length threads ≡ count) (behind_is : behind ≡ length (whole_code state.memory (places_of threads)))
+      (front_is : front ≡ length (memory_code state.memory)) where
+    whole : List ℕ
+    whole = whole_code state.memory (places_of threads)
+
+    rest_is : count ∷ rest ≡ deeds_code (replies_of threads) (notes_of threads) state.astray ++ whole
+    unfolding whole
+    rest_is =
+        let replies = flat_map replies_code (replies_of threads) in
+        let notes = list_code (list_code note_code) (notes_of threads) in
+        ap (λ l. count ∷ l) body
+        ∙ (ap (λ n. n ∷ (replies ++ (notes ++ (astray_code state.astray ++ whole))))
+        (sym many ∙ sym (length-map threads (λ thread. thread.replies)))
+        ∙ ap (λ l. length (replies_of threads) ∷ l)
+        (ap (λ l. replies ++ l) (sym (append_assoc notes (astray_code state.astray) whole))
+        ∙ sym (append_assoc replies (notes ++ astray_code state.astray) whole)))
+
+    bytes_are : bytes
+        ≡ number_code state.steps ++ (deeds_code (replies_of threads) (notes_of threads) state.astray ++ whole)
+    bytes_are = head ∙ ap (λ l. number_code state.steps ++ l) rest_is
+
+    written : bytes ≡ state_code whole_code state
+    unfolding whole
+    written =
+        bytes_are ∙ ap (λ ts. number_code state.steps ++ (deeds_code (replies_of ts) (notes_of ts) state.astray
+        ++ whole_code state.memory (places_of ts))) (sym same)
+
+    deeds_are : deeds_of state ≡ deeds_code (replies_of threads) (notes_of threads) state.astray
+    deeds_are = ap (λ ts. deeds_code (replies_of ts) (notes_of ts) state.astray) same
+
+    lengths : length bytes ≡ length (number_code state.steps) + (length (deeds_of state) + length whole)
+    lengths =
+        let steps = number_code state.steps in
+        let deeds = deeds_code (replies_of threads) (notes_of threads) state.astray in
+        omega (
+          arith,
+          ap length bytes_are,
+          ap length deeds_are,
+          length-append steps (deeds ++ whole),
+          length-append deeds whole,
+        )
+
+    head_length : length bytes ≡ length (number_code state.steps) + (1 + length rest)
+    head_length = ap length head ∙ length-append (number_code state.steps) (count ∷ rest) ∙ omega arith
+
+    pub cuts_read : AreCutsOf whole_code memory_code bytes
+        (record {
+          deeds = length bytes - length rest - 1;
+          memory = length bytes - behind;
+          held = length bytes - behind + front;
+        }) state
+    unfolding whole
+    cuts_read =
+        record {
+          written = written;
+          deeds = omega (arith, head_length);
+          memory = omega (arith, head_length, lengths, behind_is);
+          held = ap (λ n. length bytes - behind + n) front_is;
+        }
+
+    pub cuts_fit : length bytes - behind + front ≤ length bytes
+    unfolding whole
+    cuts_fit =
+        omega (
+          arith,
+          lengths,
+          behind_is,
+          front_is,
+          ap length (parted state.memory (places_of threads)),
+          length-append (memory_code state.memory) (held_code state.memory (places_of threads)),
+        )
 
   module _ {Machine Form : Type 0} (told : List ℕ) (cuts : Cuts) (source : State Machine Memory Place Form)
       (are : AreCutsOf whole_code memory_code told cuts source) where

@@ -1,20 +1,24 @@
 -- What the form of a state tells, and whole states, in bytes.
-use Rattle.std.specs.Prelude.{◌≡◌, ℕ, Bool, if◌then◌else◌, List, [], ◌∷◌, ◌++◌, length, Option, Some, None}
+use Rattle.std.specs.Prelude.{◌≡◌, ℕ, ◌/◌, ◌%◌, Bool, if◌then◌else◌, List, [], ◌∷◌, ◌++◌, length, Option, Some, None}
 use Rattle.std.specs.List.{flat_map}
 use Rattle.tree_machine.specs.Alike.{FormContent, places_of, replies_of, notes_of}
 use Rattle.tree_machine.specs.Flat.{number_code}
+use Rattle.tree_machine.specs.Packed.{is_short, note_number, replies_number}
 use Rattle.tree_machine.specs.declared.state.State.{State}
 
 -- a list: how many there are, and each of them
 abbrev pub list_code : {A : Type 0} → (A → List ℕ) → List A → List ℕ
 list_code code xs = length xs ∷ flat_map code xs
 
-abbrev pub reply_code : Bool → List ℕ
-reply_code reply = (if reply then 1 else 0) ∷ []
+-- the replies of a thread, as a number, which is one byte for six of them
+unfoldable pub replies_code : List Bool → List ℕ
+replies_code replies = number_code (replies_number replies)
 
--- a note: how many counts there are, and the counts
-abbrev pub note_code : List ℕ → List ℕ
-note_code counts = length counts ∷ counts
+-- a note: its number in two bytes if it is short, and else how many counts there are, and the counts, behind a byte that no
+-- such number begins with
+unfoldable pub note_code : List ℕ → List ℕ
+note_code counts =
+    if is_short counts then note_number counts / 256 ∷ note_number counts % 256 ∷ [] else 255 ∷ length counts ∷ counts
 
 abbrev pub astray_code : Option ℕ → List ℕ
 astray_code None = 0 ∷ []
@@ -23,7 +27,7 @@ astray_code (Some t) = 1 ∷ t ∷ []
 -- what the threads did, and who went astray
 abbrev pub deeds_code : List (List Bool) → List (List (List ℕ)) → Option ℕ → List ℕ
 deeds_code replies notes astray =
-    list_code (list_code reply_code) replies ++ (list_code (list_code note_code) notes ++ astray_code astray)
+    list_code replies_code replies ++ (list_code (list_code note_code) notes ++ astray_code astray)
 
 -- all of it: the machine's form stands last, since nothing tells where its bytes end
 abbrev pub content_code : {Form : Type 0} → (Form → List ℕ) → FormContent Form → List ℕ

@@ -12,11 +12,14 @@ pub mod Flat
 pub mod FormCode
 pub mod Graphs
 pub mod InitialKeys
+pub mod Packed
 pub mod PairLists
 pub mod PartCells
 pub mod Parts
 pub mod SearchOrder
+pub mod SearchOrderKept
 pub mod SearchOrderPairs
+pub mod ShortNotes
 pub mod SideExact
 pub mod SmallCodes
 pub mod StateExact

@@ -1,72 +1,52 @@
 //! What threads did, in bytes, one value after the other.
 ghost use Rattle.std.specs.Prelude.{◌≡◌, ◌≤◌, ◌+◌, ◌++◌, OnOk, length, take};
 ghost use Rattle.tree_machine.specs.Alike.{notes_of, replies_of};
-ghost use Rattle.tree_machine.specs.FormCode.{astray_code, deeds_code, list_code, note_code, reply_code};
+ghost use Rattle.tree_machine.specs.FormCode.{astray_code, deeds_code, list_code, note_code, replies_code};
 
 use crate::fixed::put_byte;
+use crate::short_note::ShortNote;
 use crate::state::Thread;
-use sched_program::{Note, OutOfMemory, ShortList};
+use sched_program::{OutOfMemory, ShortList};
 
-/// As many zeros as what threads did takes bytes at most: the replies take 1 + 4 * 7 of them, the notes 1 + 4 * 31, and
-/// who went astray 2.
-static ZEROS: [u8; 156] = [0; 156];
+/// As many zeros as what threads did takes bytes at most: the replies take 1 + 4 of them, the notes 1 + 4 * 13, and who
+/// went astray 2.
+static ZEROS: [u8; 60] = [0; 60];
 
-/// Puts the replies of a thread at a place of a slice, and tells the place behind them.
-#[inline(always)]
-fn put_replies(bytes: &mut [u8], start: usize, replies: &ShortList<bool, 6>) -> usize
-    requires { start + 7 ≤ length bytes.old }
-    ensures put { take result bytes.new ≡ take start bytes.old ++ list_code reply_code replies.now }
-    ensures most { result ≤ start + 7 }
-    ensures length { length bytes.new ≡ length bytes.old }
-{
-    let mut at = put_byte(bytes, start, replies.len() as u8);
-    for reply in replies.as_slice() {
-        at = put_byte(bytes, at, if *reply { 1 } else { 0 });
-    }
-    at
-}
-
-/// The same for the replies of each thread.
+/// Puts the replies of each thread at a place of a slice, and tells the place behind them.
 fn put_all_replies<L>(bytes: &mut [u8], start: usize, threads: &[Thread<L>]) -> usize
     requires few { length threads.now ≤ 4 }
-    requires room { start + 29 ≤ length bytes.old }
+    requires room { start + 5 ≤ length bytes.old }
     ensures put { take result bytes.new
-        ≡ take start bytes.old ++ list_code (list_code reply_code) (replies_of threads.now) }
-    ensures most { result ≤ start + 29 }
+        ≡ take start bytes.old ++ list_code replies_code (replies_of threads.now) }
+    ensures most { result ≤ start + 5 }
     ensures length { length bytes.new ≡ length bytes.old }
 {
     let mut at = put_byte(bytes, start, threads.len() as u8);
     for thread in threads {
-        at = put_replies(bytes, at, &thread.replies);
+        at = put_byte(bytes, at, thread.replies.byte());
     }
     at
 }
 
-/// The same for a note. It has four counts at most, one for each thread: the loop goes by that number, so that it can be
-/// unrolled, since one by the note's length, or a copy, takes longer for so few.
+/// The same for a note.
 #[inline(always)]
-fn put_note(bytes: &mut [u8], start: usize, note: &Note) -> usize
-    requires { start + 5 ≤ length bytes.old }
+fn put_note(bytes: &mut [u8], start: usize, note: &ShortNote) -> usize
+    requires { start + 2 ≤ length bytes.old }
     ensures put { take result bytes.new ≡ take start bytes.old ++ note_code note.now }
-    ensures most { result ≤ start + 5 }
+    ensures place { result ≡ start + 2 }
     ensures length { length bytes.new ≡ length bytes.old }
 {
-    let mut at = put_byte(bytes, start, note.len() as u8);
-    for index in 0..4 {
-        match note.get(index) {
-            Some(count) => at = put_byte(bytes, at, count),
-            None => break,
-        }
-    }
-    at
+    let (high, low) = note.bytes();
+    let at = put_byte(bytes, start, high);
+    put_byte(bytes, at, low)
 }
 
 /// The same for the notes of a thread.
 #[inline(always)]
-fn put_notes(bytes: &mut [u8], start: usize, notes: &ShortList<Note, 6>) -> usize
-    requires { start + 31 ≤ length bytes.old }
+fn put_notes(bytes: &mut [u8], start: usize, notes: &ShortList<ShortNote, 6>) -> usize
+    requires { start + 13 ≤ length bytes.old }
     ensures put { take result bytes.new ≡ take start bytes.old ++ list_code note_code notes.now }
-    ensures most { result ≤ start + 31 }
+    ensures most { result ≤ start + 13 }
     ensures length { length bytes.new ≡ length bytes.old }
 {
     let mut at = put_byte(bytes, start, notes.len() as u8);
@@ -79,10 +59,10 @@ fn put_notes(bytes: &mut [u8], start: usize, notes: &ShortList<Note, 6>) -> usiz
 /// The same for the notes of each thread.
 fn put_all_notes<L>(bytes: &mut [u8], start: usize, threads: &[Thread<L>]) -> usize
     requires few { length threads.now ≤ 4 }
-    requires room { start + 125 ≤ length bytes.old }
+    requires room { start + 53 ≤ length bytes.old }
     ensures put { take result bytes.new
         ≡ take start bytes.old ++ list_code (list_code note_code) (notes_of threads.now) }
-    ensures most { result ≤ start + 125 }
+    ensures most { result ≤ start + 53 }
     ensures length { length bytes.new ≡ length bytes.old }
 {
     let mut at = put_byte(bytes, start, threads.len() as u8);

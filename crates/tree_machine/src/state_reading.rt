@@ -4,12 +4,13 @@ ghost use Rattle.std.specs.List.{flat_map};
 ghost use Rattle.tree_machine.specs.Alike.{notes_of, places_of, replies_of};
 ghost use Rattle.tree_machine.specs.Cuts.{AreCutsOf};
 ghost use Rattle.tree_machine.specs.Flat.{number_code};
-ghost use Rattle.tree_machine.specs.FormCode.{astray_code, list_code, note_code, reply_code, state_code};
+ghost use Rattle.tree_machine.specs.FormCode.{astray_code, list_code, note_code, replies_code, state_code};
 
 use crate::cuts::Cuts;
 use crate::deeds_reading::{read_all_notes, read_all_replies, read_astray};
 use crate::machine::Machine;
 use crate::reading::{read_any_number, read_byte};
+use crate::replies::Replies;
 use crate::state::{State, Thread};
 use sched_program::{OutOfMemory, Sequence, ShortList};
 use std::alloc::Global;
@@ -23,7 +24,7 @@ fn make_count<L: Drop>(threads: &mut Vec<Thread<L>>, count: usize) -> Result<(),
     threads.truncate(count);
     for _i in threads.len()..count {
         threads.push(Thread {
-            replies: ShortList::new(),
+            replies: Replies::new(),
             place: None,
             notes: ShortList::new(),
         })?;
@@ -36,7 +37,7 @@ fn make_count<L: Drop>(threads: &mut Vec<Thread<L>>, count: usize) -> Result<(),
 #[inline(always)]
 fn read_deeds<'a, L>(bytes: &'a [u8], threads: &mut [Thread<L>]) -> Option<(Option<u8>, &'a [u8])>
     ensures read { IfSome result (λ (astray, rest). bytes.now
-        ≡ flat_map (list_code reply_code) (replies_of threads.new)
+        ≡ flat_map replies_code (replies_of threads.new)
         ++ (list_code (list_code note_code) (notes_of threads.new) ++ (astray_code astray ++ rest.now))) }
     ensures length { length threads.new ≡ length threads.old }
 {
@@ -76,7 +77,7 @@ fn read_body<M: Machine>(
     astray: &mut Option<u8>,
 ) -> Result<Option<(usize, usize)>, OutOfMemory>
     ensures read { IfOk result (λ read. IfSome read (λ _. bytes.now
-        ≡ flat_map (list_code reply_code) (replies_of threads.new)
+        ≡ flat_map replies_code (replies_of threads.new)
         ++ (list_code (list_code note_code) (notes_of threads.new)
         ++ (astray_code astray.new ++ M.whole_code memory.new (places_of threads.new))))) }
     ensures behind { IfOk result (λ read. IfSome read

@@ -8,8 +8,9 @@ ghost use Rattle.tree_machine.specs.Step.{IsEnabled, ready, step, stepped, notes
 ghost use Rattle.tree_machine.specs.Step.{finished_counts, with_note, Fits};
 
 use crate::machine::{Machine, Outcome};
+use crate::short_note::ShortNote;
 use crate::state::{State, StepFault, Thread, copy_reserved, finished_counts, place_or};
-use sched_program::{Note, Op, OutOfMemory, Program, Sequence};
+use sched_program::{Op, OutOfMemory, Program, Sequence};
 use std::alloc::Global;
 use std::mem::replace;
 
@@ -75,7 +76,7 @@ fn copied_threads<M: Machine>(
 /// The note of the operation that a thread begins by its access, if it is in none: how many operations each thread has
 /// finished.
 #[inline(always)]
-pub(crate) fn note_at_step<L>(held: &Option<L>, threads: &[Thread<L>]) -> Option<Note>
+pub(crate) fn note_at_step<L>(held: &Option<L>, threads: &[Thread<L>]) -> Option<ShortNote>
     requires { length threads.now ≤ 4 }
     ensures note { (notes : List (List ℕ))
         → with_note notes result ≡ notes_at_step held.now notes (finished_counts threads.now) }
@@ -93,7 +94,7 @@ pub(crate) fn note_at_step<L>(held: &Option<L>, threads: &[Thread<L>]) -> Option
 pub(crate) fn advance<M: Machine>(
     alloc: Global,
     machine: M,
-    note: Option<Note>,
+    note: Option<ShortNote>,
     t: u8,
     place: &M::Loc,
     outcome: Outcome<M::Loc>,

@@ -7,6 +7,7 @@ ghost use Rattle.tree_machine.specs.Step.{place_or, ready, step, stepped, Fits};
 ghost use Rattle.tree_machine.specs.Undoing.{TakesBack};
 
 use crate::machine::Machine;
+use crate::replies::Replies;
 use crate::state::{State, StepFault, Thread, place_or};
 use crate::stepping::{advance, copy_thread_into, note_at_step};
 use sched_program::{Op, OutOfMemory, Program, Sequence, ShortList};
@@ -28,7 +29,7 @@ impl<M: Machine> Undo<M> {
     pub fn new() -> Undo<M> {
         Undo {
             thread: Thread {
-                replies: ShortList::new(),
+                replies: Replies::new(),
                 place: None,
                 notes: ShortList::new(),
             },

@@ -4,7 +4,7 @@ use crate::broken::{Broken, Case, ensure};
 use sched_program::{Op, OutOfMemory, Sequence, ShortList};
 use std::alloc::Global;
 use std::test::Fail;
-use tree_machine::{Atomic, AtomicForm, AtomicLoc, Machine, Outcome, Thread};
+use tree_machine::{Atomic, AtomicForm, AtomicLoc, Machine, Outcome, Replies, Thread};
 
 /// An operation, the keys before and after it, and its reply.
 struct Access {
@@ -143,6 +143,7 @@ fn builds_and_copies(rt: HostRuntime) -> Result<(), Broken> {
 #[test]
 fn a_place_may_write(rt: HostRuntime) -> Result<(), Fail> {
     assert!(rt; !Atomic.only_reads(&AtomicLoc::Do));
+    assert!(rt; !Atomic.keeps_order(&AtomicLoc::Do));
     Ok(())
 }
 
@@ -179,7 +180,7 @@ fn threads_of(
     let mut threads = Sequence::new(alloc);
     for place in places {
         threads.push(Thread {
-            replies: ShortList::new(),
+            replies: Replies::new(),
             place: *place,
             notes: ShortList::new(),
         })?;

@@ -27,7 +27,7 @@ const ROWS: &[Row] = &[
     },
     Row {
         case: Case::ManySteps,
-        bytes: &[255, 255, 45, 1, 0, 1, 0, 0, 1, 0, 9],
+        bytes: &[255, 255, 45, 1, 1, 1, 0, 0, 1, 0, 9],
         steps: 555,
         thread_count: 1,
         astray: None,
@@ -35,7 +35,7 @@ const ROWS: &[Row] = &[
     },
     Row {
         case: Case::FourThreads,
-        bytes: &[3, 4, 0, 0, 0, 0, 4, 0, 0, 0, 0, 0, 1, 1, 1, 1, 0, 7, 8],
+        bytes: &[3, 4, 1, 1, 1, 1, 4, 0, 0, 0, 0, 0, 1, 1, 1, 1, 0, 7, 8],
         steps: 3,
         thread_count: 4,
         astray: None,
@@ -43,7 +43,7 @@ const ROWS: &[Row] = &[
     },
     Row {
         case: Case::TheSecondAstray,
-        bytes: &[2, 2, 0, 0, 2, 0, 0, 1, 1, 1, 2, 0],
+        bytes: &[2, 2, 1, 1, 2, 0, 0, 1, 1, 1, 2, 0],
         steps: 2,
         thread_count: 2,
         astray: Some(1),
@@ -64,44 +64,50 @@ const REFUSED: &[Refused] = &[
     },
     Refused {
         case: Case::FiveThreads,
-        bytes: &[0, 5, 0, 0, 0, 0, 0, 5, 0, 0, 0, 0, 0, 0, 1, 1, 1, 1, 1, 0],
+        bytes: &[0, 5, 1, 1, 1, 1, 1, 5, 0, 0, 0, 0, 0, 0, 1, 1, 1, 1, 1, 0],
     },
     Refused {
         case: Case::SevenReplies,
-        bytes: &[0, 1, 7, 1, 1, 1, 1, 1, 1, 1, 1, 0, 0, 1, 0],
+        bytes: &[0, 1, 128, 1, 0, 0, 1, 0],
     },
     Refused {
-        case: Case::AReplyOfNeither,
-        bytes: &[0, 1, 1, 2, 1, 0, 0, 1, 0],
+        case: Case::RepliesWithoutALeadingOne,
+        bytes: &[0, 1, 0, 1, 0, 0, 1, 0],
     },
     Refused {
         case: Case::NotesOfMoreThreads,
-        bytes: &[0, 1, 0, 2, 0, 0, 0, 1, 0],
+        bytes: &[0, 1, 1, 2, 0, 0, 0, 1, 0],
     },
     Refused {
         case: Case::SevenNotes,
-        bytes: &[0, 1, 0, 1, 7, 0, 0, 0, 0, 0, 0, 0, 0, 1, 0],
+        bytes: &[
+            0, 1, 1, 1, 7, 0, 0, 0, 0, 0, 0, 0, 0, 0, 0, 0, 0, 0, 0, 0, 1, 0,
+        ],
     },
     Refused {
         case: Case::FiveCounts,
-        bytes: &[0, 1, 0, 1, 1, 5, 0, 0, 0, 0, 0, 0, 1, 0],
+        bytes: &[0, 1, 1, 1, 1, 80, 0, 0, 1, 0],
+    },
+    Refused {
+        case: Case::ACountBehindTheLast,
+        bytes: &[0, 1, 1, 1, 1, 0, 1, 0, 1, 0],
     },
     Refused {
         case: Case::AstrayOfNeither,
-        bytes: &[0, 1, 0, 1, 0, 2, 1, 0],
+        bytes: &[0, 1, 1, 1, 0, 2, 1, 0],
     },
     Refused {
         case: Case::AnUnknownPlace,
-        bytes: &[0, 1, 0, 1, 0, 0, 3, 0],
+        bytes: &[0, 1, 1, 1, 0, 0, 3, 0],
     },
     Refused {
         case: Case::APlaceTooFew,
-        bytes: &[0, 2, 0, 0, 2, 0, 0, 0, 1, 0],
+        bytes: &[0, 2, 1, 1, 2, 0, 0, 0, 1, 0],
     },
 ];
 
 /// The bytes of a state of two threads and no key.
-const WHOLE: &[u8] = &[0, 2, 0, 0, 2, 0, 0, 0, 1, 1, 0];
+const WHOLE: &[u8] = &[0, 2, 1, 1, 2, 0, 0, 0, 1, 1, 0];
 
 /// Whether a state has what a row tells.
 fn is_state(state: &State<Atomic>, row: &Row) -> bool {

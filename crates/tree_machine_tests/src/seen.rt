@@ -4,9 +4,9 @@ ghost use Rattle.tree_machine.specs.Step.{Fits};
 
 use crate::broken::{Broken, Case, ensure};
 use crate::states::{after, copy_of, form_of, has_form, two_inserts};
-use sched_program::{Note, OpId, Program};
+use sched_program::{OpId, Program};
 use std::alloc::Global;
-use tree_machine::{Atomic, AtomicLoc, Room, State, Thread};
+use tree_machine::{Atomic, AtomicLoc, Replies, Room, ShortNote, State, Thread};
 
 /// What is seen of a thread of one operation: its reply, and once it began how many each thread had finished then.
 struct Seen {
@@ -15,8 +15,9 @@ struct Seen {
 }
 
 /// A schedule, and what is seen of the state after it: the keys, the threads, which of three threads have a step, the
-/// replies in its history, and all of it in bytes: the number of steps, the replies and the notes of each thread, who
-/// went astray, what each thread holds, and behind a 0 the keys.
+/// replies in its history, and all of it in bytes: the number of steps, the replies of each thread (a binary digit each
+/// below a leading one, the first lowest), its notes (each in two bytes, 32 for two counts and then their octal digits),
+/// who went astray, what each thread holds, and behind a 0 the keys.
 struct Row {
     case: Case,
     schedule: &'static [u8],
@@ -65,7 +66,7 @@ const ROWS: &[Row] = &[
         threads: [NOTHING, NOTHING],
         enabled: [true, true, false],
         replies: &[],
-        code: &[0, 2, 0, 0, 2, 0, 0, 0, 1, 1, 0],
+        code: &[0, 2, 1, 1, 2, 0, 0, 0, 1, 1, 0],
     },
     Row {
         case: Case::AStepOfTheFirst,
@@ -74,7 +75,7 @@ const ROWS: &[Row] = &[
         threads: [WON, NOTHING],
         enabled: [false, true, false],
         replies: &[(A, true)],
-        code: &[1, 2, 1, 1, 0, 2, 1, 2, 0, 0, 0, 0, 1, 1, 0, 1],
+        code: &[1, 2, 3, 1, 2, 1, 32, 0, 0, 0, 1, 1, 0, 1],
     },
     Row {
         case: Case::AStepOfTheSecond,
@@ -83,7 +84,7 @@ const ROWS: &[Row] = &[
         threads: [NOTHING, WON],
         enabled: [true, false, false],
         replies: &[(B, true)],
-        code: &[1, 2, 0, 1, 1, 2, 0, 1, 2, 0, 0, 0, 1, 1, 0, 1],
+        code: &[1, 2, 1, 3, 2, 0, 1, 32, 0, 0, 1, 1, 0, 1],
     },
     Row {
         case: Case::TheSecondBeforeTheFirst,
@@ -92,7 +93,7 @@ const ROWS: &[Row] = &[
         threads: [LOST, WON],
         enabled: [false, false, false],
         replies: &[(A, false), (B, true)],
-        code: &[2, 2, 1, 0, 1, 1, 2, 1, 2, 0, 1, 1, 2, 0, 0, 0, 1, 1, 0, 1],
+        code: &[2, 2, 2, 3, 2, 1, 32, 8, 1, 32, 0, 0, 1, 1, 0, 1],
     },
     Row {
         case: Case::TheFirstBeforeTheSecond,
@@ -101,14 +102,24 @@ const ROWS: &[Row] = &[
         threads: [WON, LATER],
         enabled: [false, false, false],
         replies: &[(A, true), (B, false)],
-        code: &[2, 2, 1, 1, 1, 0, 2, 1, 2, 0, 0, 1, 2, 1, 0, 0, 1, 1, 0, 1],
+        code: &[2, 2, 3, 2, 2, 1, 32, 0, 1, 32, 1, 0, 1, 1, 0, 1],
     },
 ];
 
+/// Whether these are the replies of a thread, in order.
+fn are_replies(replies: Replies, expected: &[bool]) -> bool {
+    for (index, reply) in expected.iter().enumerate() {
+        if replies.get(index) != Some(*reply) {
+            return false;
+        }
+    }
+    replies.len() == expected.len()
+}
+
 /// Whether this is the note of a thread of one operation.
-fn is_note(notes: &[Note], expected: Option<&[u8]>) -> bool {
+fn is_note(notes: &[ShortNote], expected: Option<&[u8]>) -> bool {
     match (notes, expected) {
-        ([note], Some(counts)) => note.as_slice() == counts,
+        ([note], Some(counts)) => note.counts().as_slice() == counts,
         ([], None) => true,
         _ => false,
     }
@@ -117,7 +128,7 @@ fn is_note(notes: &[Note], expected: Option<&[u8]>) -> bool {
 /// Whether this is seen of a thread.
 fn is_thread(thread: &Thread<AtomicLoc>, seen: &Seen) -> bool {
     thread.place.is_none()
-        && thread.replies.as_slice() == seen.replies
+        && are_replies(thread.replies, seen.replies)
         && is_note(thread.notes.as_slice(), seen.note)
 }
 

@@ -1,6 +1,6 @@
 -- What the form of a state tells can be read off its bytes, so that two forms are equal where their bytes are.
-use Rattle.std.specs.Prelude.{◌≡◌, ℕ, Bool, true, false, List, [], ◌∷◌, ◌++◌, length, Option, Some, None}
-use Rattle.std.specs.Prelude.{nat_eq}
+use Rattle.std.specs.Prelude.{◌≡◌, ℕ, ◌/◌, ◌%◌, Bool, true, false, if◌then◌else◌, List, [], ◌∷◌, ◌++◌, length, Option}
+use Rattle.std.specs.Prelude.{Some, None, nat_eq}
 use Rattle.std.specs.Cmp.{IsEquivalence}
 use Rattle.std.specs.Cmp.Lexicographic.{pointwise}
 use Rattle.std.specs.List.{flat_map}
@@ -12,8 +12,12 @@ use Rattle.sched_program.specs.Laws.Exact.{nat_exact, list_exact}
 use Rattle.tree_machine.specs.Laws.CellOrder.{nat_equivalence}
 use Rattle.tree_machine.specs.Alike.{FormContent}
 use Rattle.tree_machine.specs.Laws.StateExact.{same_answer}
-use Rattle.tree_machine.specs.FormCode.{list_code, reply_code, note_code, astray_code, deeds_code, content_code}
+use Rattle.tree_machine.specs.FormCode.{list_code, replies_code, note_code, astray_code, deeds_code, content_code}
 use Rattle.tree_machine.specs.FormCode.{IsInjective}
+use Rattle.tree_machine.specs.Laws.Flat.{number_split}
+use Rattle.tree_machine.specs.Laws.Packed.{replies_least}
+use Rattle.tree_machine.specs.Laws.ShortNotes.{counts_of_number, number_below}
+use Rattle.tree_machine.specs.Packed.{counts_in, is_short, note_number, replies_number}
 
 -- whatever stands behind it, what is coded and where its bytes end can be read off
 abbrev IsReadable : {A : Type 0} → (A → List ℕ) → Type 0
@@ -40,11 +44,20 @@ list_readable code readable cs ds xs ys e =
     let rest : flat_map code cs ++ xs ≡ flat_map code ds ++ ys = cc in
     each_readable code readable cs ds xs ys lengths rest
 
-reply_readable : IsReadable reply_code
-reply_readable true true xs ys e = (refl, let rest : xs ≡ ys = cc in rest)
-reply_readable true false xs ys e = let same : ◌≡◌ {A = ℕ} 1 0 = cc in absurd (omega (arith, same))
-reply_readable false true xs ys e = let same : ◌≡◌ {A = ℕ} 0 1 = cc in absurd (omega (arith, same))
-reply_readable false false xs ys e = (refl, let rest : xs ≡ ys = cc in rest)
+replies_injective : (a b : List Bool) → replies_number a ≡ replies_number b → a ≡ b
+replies_injective [] [] e = refl
+replies_injective [] (r ∷ b) e = let least = replies_least b in absurd (omega (arith, e, least))
+replies_injective (r ∷ a) [] e = let least = replies_least a in absurd (omega (arith, e, least))
+replies_injective (true ∷ a) (true ∷ b) e = ap (λ l. true ∷ l) (replies_injective a b (omega (arith, e)))
+replies_injective (true ∷ a) (false ∷ b) e = absurd (omega (arith, e))
+replies_injective (false ∷ a) (true ∷ b) e = absurd (omega (arith, e))
+replies_injective (false ∷ a) (false ∷ b) e = ap (λ l. false ∷ l) (replies_injective a b (omega (arith, e)))
+
+replies_readable : IsReadable replies_code
+unfolding replies_code
+replies_readable a b xs ys e =
+    let parts = number_split (replies_number a) (replies_number b) xs ys e in
+    (replies_injective a b parts.0, parts.1)
 
 counts_readable : (cs ds xs ys : List ℕ) → length cs ≡ length ds → cs ++ xs ≡ ds ++ ys → (cs ≡ ds) × (xs ≡ ys)
 counts_readable [] [] xs ys l e = (refl, e)
@@ -56,11 +69,41 @@ counts_readable (c ∷ cs) (d ∷ ds) xs ys l e =
     let rest = counts_readable cs ds xs ys (omega arith) behind in
     (ap (λ k. k ∷ cs) first ∙ ap (λ ks. d ∷ ks) rest.0, rest.1)
 
+-- a short note and one that is not begin with different bytes
 note_readable : IsReadable note_code
-note_readable cs ds xs ys e =
-    let lengths : length cs ≡ length ds = cc in
-    let rest : cs ++ xs ≡ ds ++ ys = cc in
-    counts_readable cs ds xs ys lengths rest
+unfolding note_code
+note_readable cs ds xs ys e = go (is_short cs) (is_short ds) refl refl e
+  where
+    code : Bool → List ℕ → List ℕ
+    code short counts =
+        if short then note_number counts / 256 ∷ note_number counts % 256 ∷ [] else 255 ∷ length counts ∷ counts
+
+    go : (short other : Bool) → is_short cs ≡ short → is_short ds ≡ other
+        → code (is_short cs) cs ++ xs ≡ code (is_short ds) ds ++ ys → (cs ≡ ds) × (xs ≡ ys)
+    go true true c d e =
+        let same : code true cs ++ xs ≡ code true ds ++ ys =
+        ap (λ b. code b cs ++ xs) (sym c) ∙ (e ∙ ap (λ b. code b ds ++ ys) d) in
+        let high : note_number cs / 256 ≡ note_number ds / 256 = cc in
+        let low : note_number cs % 256 ≡ note_number ds % 256 = cc in
+        let rest : xs ≡ ys = cc in
+        let number : note_number cs ≡ note_number ds = omega arith in
+        (sym (counts_of_number cs c) ∙ (ap counts_in number ∙ counts_of_number ds d), rest)
+    go true false c d e =
+        let same : code true cs ++ xs ≡ code false ds ++ ys =
+        ap (λ b. code b cs ++ xs) (sym c) ∙ (e ∙ ap (λ b. code b ds ++ ys) d) in
+        let high : note_number cs / 256 ≡ 255 = cc in
+        absurd (omega (arith, number_below cs c))
+    go false true c d e =
+        let same : code false cs ++ xs ≡ code true ds ++ ys =
+        ap (λ b. code b cs ++ xs) (sym c) ∙ (e ∙ ap (λ b. code b ds ++ ys) d) in
+        let high : 255 ≡ note_number ds / 256 = cc in
+        absurd (omega (arith, number_below ds d))
+    go false false c d e =
+        let same : code false cs ++ xs ≡ code false ds ++ ys =
+        ap (λ b. code b cs ++ xs) (sym c) ∙ (e ∙ ap (λ b. code b ds ++ ys) d) in
+        let lengths : length cs ≡ length ds = cc in
+        let rest : cs ++ xs ≡ ds ++ ys = cc in
+        counts_readable cs ds xs ys lengths rest
 
 astray_readable : IsReadable astray_code
 astray_readable None None xs ys e = (refl, let rest : xs ≡ ys = cc in rest)
@@ -82,10 +125,10 @@ codes_same {A} code readable E exact equivalence a b =
 
 module _ {Form : Type 0} (code : Form → List ℕ) (readable : IsInjective code) where
   in_row : (replies : List (List Bool)) (notes : List (List (List ℕ))) (astray : Option ℕ) (xs : List ℕ)
-      → deeds_code replies notes astray ++ xs ≡ list_code (list_code reply_code) replies
+      → deeds_code replies notes astray ++ xs ≡ list_code replies_code replies
       ++ (list_code (list_code note_code) notes ++ (astray_code astray ++ xs))
   in_row replies notes astray xs =
-      let first = list_code (list_code reply_code) replies in
+      let first = list_code replies_code replies in
       let second = list_code (list_code note_code) notes in
       append_assoc first (second ++ astray_code astray) xs
       ∙ ap (λ l. first ++ l) (append_assoc second (astray_code astray) xs)
@@ -94,11 +137,11 @@ module _ {Form : Type 0} (code : Form → List ℕ) (readable : IsInjective code
   content_readable a b e =
       let rest_of = λ (c : FormContent Form). astray_code c.astray ++ code c.form in
       let behind = λ (c : FormContent Form). list_code (list_code note_code) c.notes ++ rest_of c in
-      let whole : list_code (list_code reply_code) a.replies ++ behind a ≡ list_code (list_code reply_code) b.replies
+      let whole : list_code replies_code a.replies ++ behind a ≡ list_code replies_code b.replies
       ++ behind b =
       sym (in_row a.replies a.notes a.astray (code a.form)) ∙ (e ∙ in_row b.replies b.notes b.astray (code b.form)) in
       let replies =
-      list_readable (list_code reply_code) (list_readable reply_code reply_readable) a.replies b.replies (behind a)
+      list_readable replies_code replies_readable a.replies b.replies (behind a)
       (behind b) whole in
       let notes =
       list_readable (list_code note_code) (list_readable note_code note_readable) a.notes b.notes (rest_of a)

@@ -9,6 +9,6 @@ invariant-loop-thread g l =
     record {
       put : take l.at l.bytes ≡ take l.start l.fn.bytes ++ length l.threads
           ∷ flat_map (λ thread. list_code note_code thread.notes) (take l.thread-index l.threads);
-      at : l.at ≤ l.start + 1 + 31 * l.thread-index;
+      at : l.at ≤ l.start + 1 + 13 * l.thread-index;
       length : length l.bytes ≡ length l.fn.bytes;
     }

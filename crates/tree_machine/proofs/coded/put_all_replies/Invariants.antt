@@ -1,6 +1,6 @@
-use Rattle.std.proofs.Common.{◌≡◌, ◌+◌, ◌*◌, ◌≤◌, ◌++◌, ◌∷◌, length, take}
+use Rattle.std.proofs.Common.{◌≡◌, ◌+◌, ◌++◌, ◌∷◌, length, take}
 use Rattle.std.specs.List.{flat_map}
-use Rattle.tree_machine.specs.FormCode.{list_code, reply_code}
+use Rattle.tree_machine.specs.FormCode.{replies_code}
 use Rattle.tree_machine.proofs.coded.put_all_replies.Given as goal
 
 -- the replies of the threads so far are put, at places that are there
@@ -8,7 +8,7 @@ abbrev pub invariant-loop-thread : goal.invariant-loop-thread
 invariant-loop-thread g l =
     record {
       put : take l.at l.bytes ≡ take l.start l.fn.bytes ++ length l.threads
-          ∷ flat_map (λ thread. list_code reply_code thread.replies) (take l.thread-index l.threads);
-      at : l.at ≤ l.start + 1 + 7 * l.thread-index;
+          ∷ flat_map (λ thread. replies_code thread.replies) (take l.thread-index l.threads);
+      at : l.at ≡ l.start + 1 + l.thread-index;
       length : length l.bytes ≡ length l.fn.bytes;
     }

@@ -1,0 +1,100 @@
+-- What the types of replies and notes in bytes promise.
+use Rattle.std.proofs.Common.{◌≡◌, ℕ, ◌+◌, ◌*◌, ◌/◌, ◌%◌, ◌^◌, ◌<◌, ◌≤◌, List, [], ◌∷◌, ◌++◌, length, refl, sym, ◌∙◌}
+use Rattle.std.proofs.Common.{ap, ap₂, true, zero, suc, subst, arith, eq-eqb, eqb-true, get_or, length-append}
+use Rattle.std.specs.Prelude.{nat_eq}
+use Rattle.std.specs.Cmp.{bool_eq_equiv}
+use Rattle.std.specs.Cmp.Lexicographic.{pointwise}
+use Rattle.std.proofs.lemmas.Cmp.{lists_equiv, nat_eq_equiv}
+use Rattle.std.proofs.lemmas.Nat.{shl_whole}
+use Rattle.sched_program.specs.Laws.Exact.{bool_exact, nat_exact, list_exact}
+use Rattle.tree_machine.specs.FormCode.{note_code}
+use Rattle.tree_machine.specs.Laws.Packed.{replies_back}
+use Rattle.tree_machine.specs.Laws.ShortNotes.{counts_short, counts_of_number, counts_at, digits_more}
+use Rattle.tree_machine.specs.Laws.ShortNotes.{length_of_number, number_below, one_count_more, short_of, short_parts}
+use Rattle.tree_machine.specs.Laws.StateExact.{same_answer}
+use Rattle.tree_machine.specs.Packed.{counts_in, is_short, note_number, replies_in, replies_number}
+use mathlib.Core.Bool.{beq}
+
+-- numbers are equal where the replies are
+pub replies_same : (n m : ℕ) → 0 < n → n < 128 → 0 < m → m < 128
+    → nat_eq n m ≡ pointwise beq (replies_in n) (replies_in m)
+replies_same n m n_least n_below m_least m_below =
+    same_answer (nat_eq n m) (pointwise beq (replies_in n) (replies_in m))
+    (λ e. ap (λ k. pointwise beq (replies_in n) (replies_in k)) (sym (eqb-true n m e))
+    ∙ (lists_equiv bool_eq_equiv).refl (replies_in n))
+    (λ e. eq-eqb n m (sym (replies_back n n_least n_below)
+    ∙ (ap replies_number (list_exact bool_exact (replies_in n) (replies_in m) e) ∙ replies_back m m_least m_below)))
+
+pub notes_same : (n m : ℕ) → note_number (counts_in n) ≡ n → note_number (counts_in m) ≡ m
+    → nat_eq n m ≡ pointwise nat_eq (counts_in n) (counts_in m)
+notes_same n m n_whole m_whole =
+    same_answer (nat_eq n m) (pointwise nat_eq (counts_in n) (counts_in m))
+    (λ e. ap (λ k. pointwise nat_eq (counts_in n) (counts_in k)) (sym (eqb-true n m e))
+    ∙ (lists_equiv nat_eq_equiv).refl (counts_in n))
+    (λ e. eq-eqb n m (sym n_whole
+    ∙ (ap note_number (list_exact nat_exact (counts_in n) (counts_in m) e) ∙ m_whole)))
+
+get_or_behind : (xs : List ℕ) (k : ℕ) → length xs ≤ k → get_or xs k 0 ≡ 0
+get_or_behind [] k l = refl
+get_or_behind (x ∷ xs) zero l = absurd (omega arith)
+get_or_behind (x ∷ xs) (suc k) l = get_or_behind xs k (omega arith)
+
+-- the two bytes of a number are the code of its note
+pub code_of_number : (n : ℕ) → note_number (counts_in n) ≡ n → note_code (counts_in n) ≡ n / 256 ∷ n % 256 ∷ []
+unfolding note_code
+code_of_number n whole = rw (counts_short n, whole) refl
+
+module _ (n : ℕ) (counts : List ℕ) (whole : note_number (counts_in n) ≡ n) (is : counts_in n ≡ counts) where
+  is_number : n ≡ note_number counts
+  is_number = sym whole ∙ ap note_number is
+
+  are_short : is_short counts ≡ true
+  are_short = subst (λ (l : List ℕ). is_short l ≡ true) is (counts_short n)
+
+  pub length_is : n / 4096 ≡ length counts
+  length_is = ap (λ k. k / 4096) is_number ∙ length_of_number counts are_short
+
+  pub four_at_most : length counts ≤ 4
+  four_at_most = (short_parts counts are_short).0
+
+  pub digits_are : (n % 8 ≡ get_or counts 0 0) × (n / 8 % 8 ≡ get_or counts 1 0) × (n / 64 % 8 ≡ get_or counts 2 0)
+      × (n / 512 % 8 ≡ get_or counts 3 0)
+  digits_are =
+      subst (λ k. (k % 8 ≡ get_or counts 0 0) × (k / 8 % 8 ≡ get_or counts 1 0) × (k / 64 % 8 ≡ get_or counts 2 0)
+      × (k / 512 % 8 ≡ get_or counts 3 0)) (sym is_number) (counts_at counts are_short)
+
+  -- the count of a thread, and that of one that there is none of
+  pub digit_at : (t : ℕ) → t < 4 → n / 2 ^ (3 * t) % 8 ≡ get_or counts t 0
+  digit_at zero few = let digit = digits_are.0 in omega arith
+  digit_at (suc zero) few = digits_are.1
+  digit_at (suc (suc zero)) few = digits_are.2
+  digit_at (suc (suc (suc zero))) few = digits_are.3
+  digit_at (suc (suc (suc (suc t)))) few = absurd (omega arith)
+
+  pub none_at : (t : ℕ) → 4 ≤ t → 0 ≡ get_or counts t 0
+  none_at t many = sym (get_or_behind counts t (omega (arith, four_at_most)))
+
+  -- one count more
+  module _ (count moved : ℕ) (room : length counts < 4) (small : count < 8)
+      (shifted : moved ≡ count * 2 ^ (3 * (n / 4096)) % 65536) where
+    moved_is : moved ≡ count * 2 ^ (3 * length counts)
+    moved_is =
+        shifted ∙ (shl_whole count 3 (3 * (n / 4096)) 16 small (omega (arith, length_is, room))
+        ∙ ap (λ k. count * 2 ^ (3 * k)) length_is)
+
+    longer : n + (4096 + moved) ≡ note_number (counts ++ count ∷ [])
+    longer = ap₂ (λ k m. k + (4096 + m)) is_number moved_is ∙ sym (one_count_more counts count room)
+
+    longer_short : is_short (counts ++ count ∷ []) ≡ true
+    longer_short =
+        short_of (counts ++ count ∷ []) (omega (arith, length-append counts (count ∷ []), room))
+        (digits_more counts count (short_parts counts are_short).1 small)
+
+    pub count_pushed : counts_in (n + (4096 + moved)) ≡ counts ++ count ∷ []
+    count_pushed = ap counts_in longer ∙ counts_of_number (counts ++ count ∷ []) longer_short
+
+    pub longer_below : n + (4096 + moved) < 20480
+    longer_below = subst (λ k. k < 20480) (sym longer) (number_below (counts ++ count ∷ []) longer_short)
+
+    pub longer_whole : note_number (counts_in (n + (4096 + moved))) ≡ n + (4096 + moved)
+    longer_whole = ap note_number count_pushed ∙ sym longer

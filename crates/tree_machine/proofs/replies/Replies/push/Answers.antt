@@ -1,0 +1,21 @@
+use Rattle.std.proofs.Common.{arith}
+use Rattle.std.proofs.Math.Facts.{Fits-bits}
+use Rattle.tree_machine.specs.Laws.Packed.{pushed}
+use Rattle.tree_machine.proofs.replies.Replies.push.Goals as goal
+
+pub overflow_add-self : goal.overflow_add-self
+overflow_add-self c =
+    Fits-bits 7 tt (pushed c.self.inside.number c.added.result c.len.result c.args.reply c.args.self.now c.self.view_is
+    c.self.invariant.0 c.self.invariant.1 c.requires c.len.ensures.value c.added.ensures).0
+
+pub invariant_of-self : goal.invariant_of-self
+invariant_of-self c = (
+  omega (arith, c.self.invariant.0),
+  (pushed c.self.inside.number c.added.result c.len.result c.args.reply c.args.self.now c.self.view_is
+      c.self.invariant.0 c.self.invariant.1 c.requires c.len.ensures.value c.added.ensures).0,
+)
+
+pub returns : goal.returns
+returns c =
+    (pushed c.self.inside.number c.added.result c.len.result c.args.reply c.args.self.now c.self.view_is
+    c.self.invariant.0 c.self.invariant.1 c.requires c.len.ensures.value c.added.ensures).1

@@ -1,0 +1,48 @@
+-- What was read tells where the parts begin.
+use Rattle.std.proofs.Common.{◌≡◌, ◌≤◌, ◌+◌, ◌-◌, length, ap, ◌∙◌, rules}
+use Rattle.tree_machine.proofs.Lists.{given_back}
+use Rattle.tree_machine.proofs.CutPieces.{cuts_read, cuts_fit}
+use Rattle.tree_machine.proofs.state.State.read_cut.Goals as goal
+
+pub overflow_add-held : goal.overflow_add-held
+overflow_add-held g c =
+    let bound = g.met.M.Machine g.world.𝓛 g.world.𝓜 g.world.𝓡 ((λ s x. x), (λ x. x), (λ x. x), λ x. x) in
+    let same =
+    c.from_vec.ensures
+    ∙ given_back c.read_body-read.new.threads c.make_count.new.threads.items c.make_count.new.threads.len
+    (c.read_body-read.ensures.length ∙ c.as_mut_slice-lent.ensures.len) in
+    let many : length c.read_body-read.new.threads ≡ c.in-Some.count =
+    c.read_body-read.ensures.length ∙ (ap length c.as_mut_slice-lent.ensures.value
+    ∙ (c.in_ok-make_count.ensures ∙ c.from.ensures)) in
+    let read = rw c.in-Some-2.is at c.in_ok-behind.ensures.read in
+    let behind = rw c.in-Some-2.is at c.in_ok-behind.ensures.behind in
+    let front = rw c.in-Some-2.is at c.in_ok-behind.ensures.front in
+    let fits : length c.args.bytes.now - c.in-Some-2.behind + c.in-Some-2.front ≤ length c.args.bytes.now =
+    cuts_fit g.M.Machine.whole_code g.M.Machine.memory_code g.M.Machine.held_code bound.parted {Machine = g.row.M.Denot}
+    {Form = g.row.M-Form.Denot}
+    (record {
+      memory = c.read_body-read.new.memory;
+      threads = c.from_vec.result;
+      steps = c.in-Some.steps;
+      astray = c.read_body-read.new.astray;
+    })
+    c.read_body-read.new.threads c.args.bytes.now c.in-Some.rest.now c.in-Some.count c.in-Some-2.behind c.in-Some-2.front
+    same c.in-Some.ensures.read read many behind front in
+    search (rules, fits)
+
+pub returns-in-Some-2 : goal.returns-in-Some-2
+returns-in-Some-2 g c =
+    let bound = g.met.M.Machine g.world.𝓛 g.world.𝓜 g.world.𝓡 ((λ s x. x), (λ x. x), (λ x. x), λ x. x) in
+    let same =
+    c.from_vec.ensures
+    ∙ given_back c.read_body-read.new.threads c.make_count.new.threads.items c.make_count.new.threads.len
+    (c.read_body-read.ensures.length ∙ c.as_mut_slice-lent.ensures.len) in
+    let many : length c.read_body-read.new.threads ≡ c.in-Some.count =
+    c.read_body-read.ensures.length ∙ (ap length c.as_mut_slice-lent.ensures.value
+    ∙ (c.in_ok-make_count.ensures ∙ c.from.ensures)) in
+    let read = rw c.in-Some-2.is at c.in_ok-behind.ensures.read in
+    let behind = rw c.in-Some-2.is at c.in_ok-behind.ensures.behind in
+    let front = rw c.in-Some-2.is at c.in_ok-behind.ensures.front in
+    cuts_read g.M.Machine.whole_code g.M.Machine.memory_code g.M.Machine.held_code bound.parted _
+    c.read_body-read.new.threads c.args.bytes.now c.in-Some.rest.now c.in-Some.count c.in-Some-2.behind c.in-Some-2.front
+    same c.in-Some.ensures.read read many behind front

@@ -1,0 +1,222 @@
+-- Replies and notes are read back from their numbers.
+use Rattle.std.proofs.Common.{◌≡◌, ℕ, zero, suc, ◌+◌, ◌-◌, ◌*◌, ◌/◌, ◌%◌, ◌^◌, ◌<◌, ◌≤◌, ◌⊎◌, inl, inr, Bool, true}
+use Rattle.std.proofs.Common.{false, List, [], ◌∷◌, ◌++◌, length, refl, sym, ◌∙◌, ap, subst, arith, eq-eqb}
+use Rattle.std.proofs.Common.{length-append}
+use Rattle.std.specs.Prelude.{nat_eq, nat_le, slice_get, Some, if◌then◌else◌}
+use Rattle.std.specs.Int.{bit_at}
+use Rattle.std.proofs.Math.Nat.{two-pow-succ}
+use Rattle.std.proofs.Math.Pow.{pow_mono}
+use Rattle.std.proofs.lemmas.Bool.Decides.{leb_tells, eqb_tells}
+use Rattle.std.proofs.lemmas.Nat.{pow_pos}
+use Rattle.std.proofs.lemmas.Nat.Bits.{bit_at_lowest, bit_at-suc}
+use Rattle.tree_machine.specs.Packed.{replies_number, digits_of, replies_in}
+
+-- a digit
+abbrev digit_of : Bool → ℕ
+digit_of reply = if reply then 1 else 0
+
+digit_is : (n : ℕ) → (if nat_eq (n % 2) 1 then 1 else 0) ≡ n % 2
+digit_is n = go (eqb_tells (n % 2) 1)
+  where
+    go : ((nat_eq (n % 2) 1 ≡ true) × (n % 2 ≡ 1)) ⊎ ((nat_eq (n % 2) 1 ≡ false) × (n % 2 ≡ 1 → ⊥))
+        → (if nat_eq (n % 2) 1 then 1 else 0) ≡ n % 2
+    go (inl t) = rw t.0 (sym t.1)
+    go (inr t) = rw t.0 (let odd : n % 2 ≡ 1 → ⊥ = t.1 in omega arith)
+
+pub replies_least : (replies : List Bool) → 0 < replies_number replies
+replies_least [] = omega arith
+replies_least (reply ∷ replies) = let least = replies_least replies in omega arith
+
+-- ---- from a number to its replies and back
+
+-- a number below the power of two behind so many digits is that of its digits
+pub number_of_digits : (most n : ℕ) → 0 < n → n < 2 * 2 ^ most → replies_number (digits_of most n) ≡ n
+number_of_digits zero n least below = omega arith
+number_of_digits (suc most) n least below = go (λ l b. number_of_digits most (n / 2) l b) (leb_tells n 1)
+  where
+    go : (0 < n / 2 → n / 2 < 2 * 2 ^ most → replies_number (digits_of most (n / 2)) ≡ n / 2)
+        → ((nat_le n 1 ≡ true) × (n ≤ 1)) ⊎ ((nat_le n 1 ≡ false) × (1 < n))
+        → replies_number (digits_of (suc most) n) ≡ n
+    go rests (inl t) = rw t.0 (let low : n ≤ 1 = t.1 in omega arith)
+    go rests (inr t) =
+        let high : 1 < n = t.1 in
+        let double : 2 ^ suc most ≡ 2 ^ most + 2 ^ most = two-pow-succ most in
+        let rest : replies_number (digits_of most (n / 2)) ≡ n / 2 = rests (omega arith) (omega arith) in
+        let digit : (if nat_eq (n % 2) 1 then 1 else 0) ≡ n % 2 = digit_is n in
+        rw (t.0, digit, rest) (omega arith)
+
+digit_back : (reply : Bool) (n : ℕ) → nat_eq ((digit_of reply + 2 * n) % 2) 1 ≡ reply
+digit_back true n = eq-eqb ((1 + 2 * n) % 2) 1 (omega arith)
+digit_back false n = rw (let even : (0 + 2 * n) % 2 ≡ 0 = omega arith in even) refl
+
+half_back : (reply : Bool) (n : ℕ) → (digit_of reply + 2 * n) / 2 ≡ n
+half_back true n = omega arith
+half_back false n = omega arith
+
+not_one : (reply : Bool) (n : ℕ) → 0 < n → nat_le (digit_of reply + 2 * n) 1 ≡ false
+not_one reply n least = go (leb_tells (digit_of reply + 2 * n) 1)
+  where
+    go : ((nat_le (digit_of reply + 2 * n) 1 ≡ true) × (digit_of reply + 2 * n ≤ 1))
+        ⊎ ((nat_le (digit_of reply + 2 * n) 1 ≡ false) × (1 < digit_of reply + 2 * n))
+        → nat_le (digit_of reply + 2 * n) 1 ≡ false
+    go (inl t) = let low : digit_of reply + 2 * n ≤ 1 = t.1 in absurd (omega arith)
+    go (inr t) = t.0
+
+-- the digits of the number of some replies are these
+pub digits_of_number : (most : ℕ) (replies : List Bool) → length replies ≤ most
+    → digits_of most (replies_number replies) ≡ replies
+digits_of_number zero [] few = refl
+digits_of_number zero (reply ∷ replies) few = absurd (omega arith)
+digits_of_number (suc most) [] few = refl
+digits_of_number (suc most) (reply ∷ replies) few =
+    let rest : digits_of most (replies_number replies) ≡ replies =
+    digits_of_number most replies (omega arith) in
+    rw (
+      not_one reply (replies_number replies) (replies_least replies),
+      digit_back reply (replies_number replies),
+      half_back reply (replies_number replies),
+      rest,
+    ) refl
+
+-- ---- how many there are, and each of them
+
+-- as many digits as the power of two that the number reaches
+pub digits_length : (most k n : ℕ) → k ≤ most → 2 ^ k ≤ n → n < 2 * 2 ^ k → length (digits_of most n) ≡ k
+digits_length zero k n few reaches below = omega arith
+digits_length (suc most) zero n few reaches below =
+    go (leb_tells n 1)
+  where
+    go : ((nat_le n 1 ≡ true) × (n ≤ 1)) ⊎ ((nat_le n 1 ≡ false) × (1 < n)) → length (digits_of (suc most) n) ≡ zero
+    go (inl t) = rw t.0 refl
+    go (inr t) = let high : 1 < n = t.1 in absurd (omega arith)
+digits_length (suc most) (suc k) n few reaches below =
+    go (λ r b. digits_length most k (n / 2) (omega arith) r b) (leb_tells n 1)
+  where
+    double : 2 ^ suc k ≡ 2 ^ k + 2 ^ k
+    double = two-pow-succ k
+
+    least : 0 < 2 ^ k
+    least = pow_pos k
+
+    go : (2 ^ k ≤ n / 2 → n / 2 < 2 * 2 ^ k → length (digits_of most (n / 2)) ≡ k)
+        → ((nat_le n 1 ≡ true) × (n ≤ 1)) ⊎ ((nat_le n 1 ≡ false) × (1 < n))
+        → length (digits_of (suc most) n) ≡ suc k
+    go rests (inl t) = let low : n ≤ 1 = t.1 in absurd (omega (arith, double, least))
+    go rests (inr t) =
+        let rest : length (digits_of most (n / 2)) ≡ k =
+        rests (omega (arith, double)) (omega (arith, double)) in
+        rw t.0 (ap suc rest)
+
+-- each digit of a number is one of its bits
+pub digit_at : (most n i : ℕ) → i < length (digits_of most n)
+    → slice_get (digits_of most n) i ≡ Some (nat_eq (bit_at n i) 1)
+digit_at zero n i within = absurd (omega arith)
+digit_at (suc most) n i within = go (λ k w. digit_at most (n / 2) k w) i (leb_tells n 1) within
+  where
+    go : ((k : ℕ) → k < length (digits_of most (n / 2))
+        → slice_get (digits_of most (n / 2)) k ≡ Some (nat_eq (bit_at (n / 2) k) 1))
+        → (i : ℕ) → ((nat_le n 1 ≡ true) × (n ≤ 1)) ⊎ ((nat_le n 1 ≡ false) × (1 < n))
+        → i < length (digits_of (suc most) n)
+        → slice_get (digits_of (suc most) n) i ≡ Some (nat_eq (bit_at n i) 1)
+    go rests i (inl t) within =
+        let none : i < 0 =
+        subst (λ b. i < length (if b then [] else nat_eq (n % 2) 1 ∷ digits_of most (n / 2))) t.0 within in
+        absurd (omega arith)
+    go rests zero (inr t) within = rw (t.0, bit_at_lowest n) refl
+    go rests (suc i) (inr t) within =
+        let rest : suc i < suc (length (digits_of most (n / 2))) =
+        subst (λ b. suc i < length (if b then [] else nat_eq (n % 2) 1 ∷ digits_of most (n / 2))) t.0 within in
+        rw (t.0, bit_at-suc n i) (rests i (omega arith))
+
+-- ---- one more reply
+
+pub one_reply_more : (replies : List Bool) (reply : Bool)
+    → replies_number (replies ++ reply ∷ [])
+    ≡ replies_number replies + (if reply then 2 * 2 ^ length replies else 2 ^ length replies)
+one_reply_more [] true = refl
+one_reply_more [] false = refl
+one_reply_more (first ∷ replies) true =
+    let rest = one_reply_more replies true in
+    let double : 2 ^ suc (length replies) ≡ 2 ^ length replies + 2 ^ length replies = two-pow-succ (length replies) in
+    omega (arith, rest, double)
+one_reply_more (first ∷ replies) false =
+    let rest = one_reply_more replies false in
+    let double : 2 ^ suc (length replies) ≡ 2 ^ length replies + 2 ^ length replies = two-pow-succ (length replies) in
+    omega (arith, rest, double)
+
+pub replies_below : (replies : List Bool) → replies_number replies < 2 * 2 ^ length replies
+replies_below [] = omega arith
+replies_below (true ∷ replies) =
+    let rest = replies_below replies in
+    let double : 2 ^ suc (length replies) ≡ 2 ^ length replies + 2 ^ length replies = two-pow-succ (length replies) in
+    omega (arith, rest, double)
+replies_below (false ∷ replies) =
+    let rest = replies_below replies in
+    let double : 2 ^ suc (length replies) ≡ 2 ^ length replies + 2 ^ length replies = two-pow-succ (length replies) in
+    omega (arith, rest, double)
+
+-- ---- the same of six replies at most
+
+pub replies_back : (n : ℕ) → 0 < n → n < 128 → replies_number (replies_in n) ≡ n
+unfolding replies_in
+replies_back n least below = number_of_digits 6 n least below
+
+pub replies_of_number : (replies : List Bool) → length replies ≤ 6 → replies_in (replies_number replies) ≡ replies
+unfolding replies_in
+replies_of_number replies few = digits_of_number 6 replies few
+
+pub replies_length : (k n : ℕ) → k ≤ 6 → 2 ^ k ≤ n → n < 2 * 2 ^ k → length (replies_in n) ≡ k
+unfolding replies_in
+replies_length k n few reaches below = digits_length 6 k n few reaches below
+
+pub reply_at : (n i : ℕ) → i < length (replies_in n) → slice_get (replies_in n) i ≡ Some (nat_eq (bit_at n i) 1)
+unfolding replies_in
+reply_at n i within = digit_at 6 n i within
+
+-- a number of replies reaches no seventh power
+pub power_few : (k n : ℕ) → 2 ^ k ≤ n → n < 128 → k ≤ 6
+power_few k n reaches below = go (leb_tells k 6)
+  where
+    go : ((nat_le k 6 ≡ true) × (k ≤ 6)) ⊎ ((nat_le k 6 ≡ false) × (6 < k)) → k ≤ 6
+    go (inl t) = t.1
+    go (inr t) = let power : 2 ^ 7 ≤ 2 ^ k = pow_mono t.1 in absurd (omega arith)
+
+-- a reply is put behind those of a number
+pub reply_pushed : (n : ℕ) (reply : Bool) → 0 < n → n < 128 → length (replies_in n) < 6
+    → replies_in (n + (if reply then 2 * 2 ^ length (replies_in n) else 2 ^ length (replies_in n)))
+    ≡ replies_in n ++ reply ∷ []
+reply_pushed n reply least below few =
+    let replies = replies_in n in
+    let is_number : replies_number replies ≡ n = replies_back n least below in
+    let more : replies_number (replies ++ reply ∷ [])
+    ≡ n + (if reply then 2 * 2 ^ length replies else 2 ^ length replies) =
+    one_reply_more replies reply
+    ∙ ap (λ k. k + (if reply then 2 * 2 ^ length replies else 2 ^ length replies)) is_number in
+    ap replies_in (sym more) ∙ replies_of_number (replies ++ reply ∷ [])
+    (omega (arith, length-append replies (reply ∷ [])))
+
+-- and it is one of replies
+pub pushed_below : (n : ℕ) (reply : Bool) → 0 < n → n < 128 → length (replies_in n) < 6
+    → n + (if reply then 2 * 2 ^ length (replies_in n) else 2 ^ length (replies_in n)) < 128
+pushed_below n reply least below few =
+    let replies = replies_in n in
+    let is_number : replies_number replies ≡ n = replies_back n least below in
+    let more = one_reply_more replies reply in
+    let most : replies_number (replies ++ reply ∷ []) < 2 * 2 ^ length (replies ++ reply ∷ []) =
+    replies_below (replies ++ reply ∷ []) in
+    let longer : length (replies ++ reply ∷ []) ≤ 6 = omega (arith, length-append replies (reply ∷ [])) in
+    let power : 2 ^ length (replies ++ reply ∷ []) ≤ 64 = pow_mono longer in
+    omega (arith, more, most, power, is_number)
+
+-- both, where what is added is told
+pub pushed : (n more count : ℕ) (reply : Bool) (old : List Bool) → replies_in n ≡ old → 0 < n → n < 128
+    → length old < 6 → count ≡ length old → more ≡ (if reply then 2 * 2 ^ count else 2 ^ count)
+    → (n + more < 128) × (replies_in (n + more) ≡ old ++ reply ∷ [])
+pushed n more count reply old is least below few counted added =
+    let same : count ≡ length (replies_in n) = counted ∙ ap length (sym is) in
+    let more_is : more ≡ (if reply then 2 * 2 ^ length (replies_in n) else 2 ^ length (replies_in n)) =
+    added ∙ ap (λ k. if reply then 2 * 2 ^ k else 2 ^ k) same in
+    let room : length (replies_in n) < 6 = subst (λ (l : List Bool). length l < 6) (sym is) few in (
+      subst (λ k. n + k < 128) (sym more_is) (pushed_below n reply least below room),
+      ap (λ k. replies_in (n + k)) more_is ∙ (reply_pushed n reply least below room ∙ ap (λ l. l ++ reply ∷ []) is),
+    )
