@@ -9,6 +9,7 @@ mod explorer;
 mod gate;
 mod layers;
 mod options;
+mod pile;
 mod reading;
 mod ready;
 mod reporting;

@@ -13,9 +13,9 @@ fn call<T, F: Fn(&mut T)>(f: &F, item: &mut T)
     f(item);
 }
 
-/// Calls `f` with each item, in a thread for each, until all calls have returned. This thread starts all others: a
-/// thread that a new one starts often waits for its processor while another is idle.
-#[cycle(starts)]
+/// Calls `f` with each item, in a new thread for each where there are several, until all calls have returned. This thread
+/// starts all others, since a thread that a new one starts often waits for its processor while another is idle, and then
+/// only waits: a new thread is often put on the processor of the one that starts it, and begins once that one waits.
 pub fn call_at_once<R: Threads + Sync, T: Send, F: Fn(&mut T) + Sync>(
     rt: &R,
     f: &F,
@@ -51,6 +51,17 @@ fn call_beside<R: Threads + Sync, T: Send, F: Fn(&mut T) + Sync>(
     let mut rest = ||
         requires { IsSync R.row × IsSync F.row × IsSend T.row × All (TakesItem F.Fn f.now) others.now }
         ensures { length others.exit.now ≡ length others.entry.now }
-    { call_at_once(rt, f, others) };
+    { call_each(rt, f, others) };
     thread::join_mut(rt, &mut alone, &mut rest);
+}
+
+/// Calls `f` with each item, in a new thread for each.
+#[cycle(starts)]
+fn call_each<R: Threads + Sync, T: Send, F: Fn(&mut T) + Sync>(rt: &R, f: &F, items: &mut [T])
+    requires { All (TakesItem F.Fn f.now) items.old }
+    ensures { length items.new ≡ length items.old }
+{
+    if let Some((last, others)) = items.split_last_mut() {
+        call_beside(rt, f, last, others);
+    }
 }

@@ -4,16 +4,16 @@ ghost use Rattle.claims.specs.Seats.{IsSeatOf};
 
 use crate::drawing::Layer;
 use crate::gate::Gate;
+use crate::pile::Pile;
 use crate::ready::Ready;
 use crate::tally::{Ledgers, Tally};
 use crate::tied::{Made, Tie, Tied};
-use crate::waiting::write_soon;
+use crate::waiting::{read_soon, write_soon};
 use book::{EnterFault, Leftovers, Merge, Stock};
 use claims::Seat;
 use sched_program::{OutOfMemory, Program};
 use std::alloc::Global;
-use std::mem::replace;
-use std::sync::{Mutex, RwLock, RwLockWriteGuard, Wait};
+use std::sync::{Mutex, RwLock, RwLockReadGuard, RwLockWriteGuard, Wait};
 use tree_machine::{Machine, State};
 
 /// Why a worker draws no more.
@@ -76,22 +76,6 @@ fn room_for<K: Tie<M, State<M>>, M: Machine>(
     stock.leftovers(alloc, steps)
 }
 
-/// Looks for the steps of expansions, of which what the book has is mostly not in the processor's caches: looked for one right
-/// after the other, they are not waited for one by one. The sum of what it sees is of no use.
-fn look_ahead<J: Ledgers, K: Tie<M, State<M>>, M: Machine>(
-    desk: &Tied<J, K, M>,
-    made: &[Made<'_, K, M>],
-) -> Result<usize, Stop> {
-    let mut seen = 0usize;
-    for one in made {
-        match seen.checked_add(desk.look_ahead(one)) {
-            Some(sum) => seen = sum,
-            None => return Err(Stop::OutOfMemory),
-        }
-    }
-    Ok(seen)
-}
-
 /// Enters expansions, all in one holding of the lock. What the book knew is left for after it.
 fn enter_all<J: Ledgers, K: Tie<M, State<M>>, M: Machine>(
     desk: &mut Tied<J, K, M>,
@@ -103,7 +87,6 @@ fn enter_all<J: Ledgers, K: Tie<M, State<M>>, M: Machine>(
     ensures kept { IfOk result (λ _. leftovers.new.kept + tally.old.share.met
         ≡ leftovers.old.kept + tally.new.share.met) }
 {
-    let _seen = look_ahead(desk, made.as_slice())?;
     for one in made {
         let id = one.id();
         match desk.enter(tally, one, leftovers) {
@@ -153,26 +136,56 @@ impl<'a, M: Machine, G: Gate, R: Wait> Exploration<'a, M, G, R> {
         }
     }
 
+    /// The desk to read. Where it need not be had at once, it is none where another worker has it to write.
+    fn shared<'l, J: Ledgers, K: Tie<M, State<M>>>(
+        &self,
+        desk: &'l RwLock<Tied<J, K, M>>,
+        at_once: bool,
+    ) -> Option<RwLockReadGuard<'l, Tied<J, K, M>>> {
+        if at_once {
+            Some(read_soon(self.rt, desk))
+        } else {
+            desk.try_read()
+        }
+    }
+
+    /// Looks for the steps of expansions before they are entered, beside other workers that do the same, so that to enter
+    /// them takes the lock for less time. Whether it was done.
+    fn look<J: Ledgers, K: Tie<M, State<M>>>(
+        &self,
+        desk: &RwLock<Tied<J, K, M>>,
+        pile: &mut Pile<'a, K, M>,
+        at_once: bool,
+    ) -> Result<bool, Stop> {
+        let Some(desk) = self.shared(desk, at_once) else {
+            return Ok(false);
+        };
+        match pile.look_ahead(&*desk) {
+            Ok(_seen) => Ok(true),
+            Err(OutOfMemory) => Err(Stop::OutOfMemory),
+        }
+    }
+
     /// Enters expansions, where they have to be entered or no other worker has the lock. Else they stay.
     fn enter<J: Ledgers, K: Tie<M, State<M>>>(
         &self,
         desk: &RwLock<Tied<J, K, M>>,
-        made: &mut Vec<Made<'a, K, M>>,
+        pile: &mut Pile<'a, K, M>,
         at_once: bool,
         tally: &mut Tally<J>,
         stock: &mut Stock<M>,
     ) -> Result<(), Stop> {
-        if made.is_empty() {
+        if pile.made.is_empty() || !self.look(desk, pile, at_once)? {
             return Ok(());
         }
-        let Ok(mut leftovers) = room_for(self.alloc, stock, made.as_slice()) else {
+        let Ok(mut leftovers) = room_for(self.alloc, stock, pile.made.as_slice()) else {
             return Err(Stop::OutOfMemory);
         };
         let Some(mut desk) = self.locked(desk, at_once) else {
             stock.take_leftovers(leftovers);
             return Ok(());
         };
-        let all = replace(made, Vec::new(self.alloc));
+        let all = pile.take(self.alloc);
         let entered = enter_all(&mut *desk, all, tally, &mut leftovers);
         drop(desk);
         stock.take_leftovers(leftovers);
@@ -186,17 +199,17 @@ impl<'a, M: Machine, G: Gate, R: Wait> Exploration<'a, M, G, R> {
         layer: &Layer<'a, K, M>,
         number: u8,
         some: &mut [(usize, Ready<'a, K, M>)],
-        made: &mut Vec<Made<'a, K, M>>,
+        pile: &mut Pile<'a, K, M>,
         stock: &mut Stock<M>,
     ) -> Result<(), OutOfMemory> {
         layer.open_all(self.rt, desk, some, stock)?;
-        layer.expand(self.gate, number, some, made, stock)
+        layer.expand(self.gate, number, some, &mut pile.made, stock)
     }
 
     /// Whether a worker has to enter what it made before it draws once more: where much is left, and by names, since there
     /// the states of entries serve again only once the book has given them back.
-    fn has_to_enter<K: Tie<M, State<M>>>(&self, made: &[Made<'a, K, M>]) -> bool {
-        made.len() >= PILE || self.merge == Merge::Names
+    fn has_to_enter<K: Tie<M, State<M>>>(&self, pile: &Pile<'a, K, M>) -> bool {
+        pile.made.len() >= PILE || self.merge == Merge::Names
     }
 
     /// Expands the entries drawn, some at a time, and enters what is made whenever no other worker has the lock.
@@ -206,21 +219,21 @@ impl<'a, M: Machine, G: Gate, R: Wait> Exploration<'a, M, G, R> {
         layer: &Layer<'a, K, M>,
         number: u8,
         drawn: &mut [(usize, Ready<'a, K, M>)],
-        made: &mut Vec<Made<'a, K, M>>,
+        pile: &mut Pile<'a, K, M>,
         tally: &mut Tally<J>,
         stock: &mut Stock<M>,
     ) -> Result<(), Stop> {
         for some in drawn.chunks_mut(self.stride()) {
             if self
-                .expand_some(desk, layer, number, some, made, stock)
+                .expand_some(desk, layer, number, some, pile, stock)
                 .is_err()
             {
                 return Err(Stop::OutOfMemory);
             }
-            self.enter(desk, made, false, tally, stock)?;
+            self.enter(desk, pile, false, tally, stock)?;
         }
-        if self.has_to_enter(made.as_slice()) {
-            return self.enter(desk, made, true, tally, stock);
+        if self.has_to_enter(pile) {
+            return self.enter(desk, pile, true, tally, stock);
         }
         Ok(())
     }
@@ -233,7 +246,7 @@ impl<'a, M: Machine, G: Gate, R: Wait> Exploration<'a, M, G, R> {
         layer: &Layer<'a, K, M>,
         number: u8,
         seat: &mut Seat,
-        made: &mut Vec<Made<'a, K, M>>,
+        pile: &mut Pile<'a, K, M>,
         tally: &mut Tally<J>,
         stock: &mut Stock<M>,
     ) -> Result<bool, Stop>
@@ -251,7 +264,7 @@ impl<'a, M: Machine, G: Gate, R: Wait> Exploration<'a, M, G, R> {
             layer,
             number,
             drawn.as_mut_slice(),
-            made,
+            pile,
             tally,
             stock,
         )?;
@@ -274,15 +287,15 @@ impl<'a, M: Machine, G: Gate, R: Wait> Exploration<'a, M, G, R> {
     ) -> Option<Stop>
         requires seat { IsSeatOf layer.now seat.old }
     {
-        let mut made = Vec::new(self.alloc);
+        let mut pile = Pile::new(self.alloc);
         for _turn in 0..layer.end {
-            match self.turn(desk, layer, number, seat, &mut made, tally, stock) {
+            match self.turn(desk, layer, number, seat, &mut pile, tally, stock) {
                 Ok(true) => {}
                 Ok(false) => break,
                 Err(why) => return Some(why),
             }
         }
-        self.enter(desk, &mut made, true, tally, stock).err()
+        self.enter(desk, &mut pile, true, tally, stock).err()
     }
 
     /// What some worker left of its stock, if there is such.

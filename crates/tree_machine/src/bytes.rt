@@ -35,10 +35,14 @@ impl Bytes {
     }
 
     /// Equal bytes, in the memory of a list that is of no further use, as far as that is enough: only where it is not, and
-    /// then no more than they have, is memory asked for.
+    /// then no more than they have, is memory asked for. It is asked for anew: to let a list grow would copy what stands in
+    /// it, and would wait for the thread that made it where that one asks for memory too.
     pub fn copied_in(bytes: &[u8], mut spare: Vec<u8>) -> Result<Self, OutOfMemory>
         ensures { IfOk result (λ copy. copy ≡ bytes.now) }
     {
+        if spare.capacity() < bytes.len() {
+            spare = Vec::new(*spare.allocator());
+        }
         spare.clear();
         spare.reserve_exact(bytes.len())?;
         spare.extend_from_slice(bytes)?;
