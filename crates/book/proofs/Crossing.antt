@@ -66,15 +66,15 @@ module _ (M Mem Loc Form : RattleType) (m : IsSend M) (mem : IsSend Mem) (loc : 
   state_sync : IsSync (State.the_row M Mem Loc Form)
   state_sync = search (sendable, crosses) depth 30
 
-  pub stock_send : IsSend (Stock.the_row M Mem Loc Form)
-  stock_send = search (leftovers_send, stepped_send, state_send, state_sync, sendable, crosses) depth 30
-
 module _ (M Mem Loc Form : RattleType) (g : machine.Ghosts M.Denot Mem.Denot Loc.Denot Form.Denot)
     (mp : partial.Ghosts M.Denot) (ap : partial.Ghosts Mem.Denot) (ah : hash.Ghosts Mem.Denot)
     (lp : partial.Ghosts Loc.Denot) (lh : hash.Ghosts Loc.Denot)
     (fp : partial.Ghosts Form.Denot) (fh : hash.Ghosts Form.Denot)
     (m : IsSend M) (mem : IsSend Mem) (loc : IsSend Loc) (form : IsSend Form)
     (m' : IsSync M) (mem' : IsSync Mem) (loc' : IsSync Loc) (form' : IsSync Form) where
+  pub stock_send : IsSend (Stock.the_row M Mem Loc Form g mp ap ah lp lh fp fh)
+  stock_send = search (leftovers_send, stepped_send, state_send, state_sync, sendable, crosses) depth 30
+
   pub book_send : IsSend (Book.the_row M Mem Loc Form g mp ap ah lp lh fp fh)
   book_send = search (table_send, program_send, state_send, state_sync, sendable, crosses) depth 30
 

@@ -15,6 +15,15 @@ use tree_machine::{Bytes, Cuts, Machine, Room, State, StepFault, Undo};
 /// before it hands these in, so that where layers shrink what is over can serve for labels.
 const MOST: usize = 256;
 
+/// A state that was read from its bytes, and the places where their parts begin.
+#[derive(Drop)]
+struct ReadBack<M: Machine> {
+    state: Arc<State<M>>,
+    code: Bytes,
+    cuts: Cuts,
+    ghost told: { AreCutsOf M.whole_code M.memory_code code cuts state.value },
+}
+
 /// What expansions are made in, used again from one to the next: room for labels, states and labels that nobody needs
 /// any more, whose memory serves for steps and for their labels, and the lists that steps and leftovers lie in.
 #[derive(Drop)]
@@ -29,6 +38,8 @@ pub struct Stock<M: Machine> {
     pub(crate) undo: Undo<M>,
     /// Leftovers that were taken in.
     left: Option<Leftovers<State<M>>>,
+    /// The state that was read last, in the place of which the next one is read.
+    last: Option<ReadBack<M>>,
 }
 
 impl<M: Machine> Stock<M> {
@@ -41,6 +52,7 @@ impl<M: Machine> Stock<M> {
             lists: Vec::new(alloc),
             undo: Undo::new(),
             left: None,
+            last: None,
         }
     }
 
@@ -143,6 +155,35 @@ impl<M: Machine> Stock<M> {
         Ok(Arc::new(alloc, State::start(alloc, machine, program)?)?)
     }
 
+    /// The same as `read`, in the place of the state that was read last: most states that are read one after the other have
+    /// one memory.
+    #[inline(always)]
+    fn read_after(
+        &mut self,
+        alloc: Global,
+        machine: M,
+        last: ReadBack<M>,
+        code: &[u8],
+    ) -> Result<Option<(Arc<State<M>>, Cuts)>, OutOfMemory>
+        ensures { IfOk result
+            (λ o. IfSome o (λ p. AreCutsOf M.whole_code M.memory_code code.now p.1 p.0.value)) }
+    {
+        let ReadBack {
+            state: mut shell,
+            code: told,
+            cuts,
+        } = last;
+        let Some(state) = Arc::get_mut(&mut shell) else {
+            return Ok(None);
+        };
+        let read = state.read_after(alloc, machine, code, told.as_slice(), cuts);
+        self.keep_label(told);
+        match read? {
+            Some(cuts) => Ok(Some((shell, cuts))),
+            None => Ok(None),
+        }
+    }
+
     /// The state of these bytes, read in the place of one that nobody shares any more, with the places where the parts of
     /// the bytes begin. None where they can't be read.
     pub fn read(
@@ -155,6 +196,9 @@ impl<M: Machine> Stock<M> {
         ensures { IfOk result
             (λ o. IfSome o (λ p. AreCutsOf M.whole_code M.memory_code code.now p.1 p.0.value)) }
     {
+        if let Some(last) = self.last.take() {
+            return self.read_after(alloc, machine, last, code);
+        }
         let mut shell = self.shell(alloc, machine, program)?;
         let Some(state) = Arc::get_mut(&mut shell) else {
             return Ok(None);
@@ -162,6 +206,18 @@ impl<M: Machine> Stock<M> {
         match state.read_cut(alloc, machine, code)? {
             Some(cuts) => Ok(Some((shell, cuts))),
             None => Ok(None),
+        }
+    }
+
+    /// Takes in a state that was read, with its bytes and the places where their parts begin. The next one is read in its
+    /// place.
+    pub fn take_in_read(&mut self, state: Arc<State<M>>, code: Bytes, cuts: Cuts)
+        requires { AreCutsOf M.whole_code M.memory_code code cuts state.value }
+    {
+        if let Some(before) = self.last.replace(ReadBack { state, code, cuts }) {
+            let ReadBack { state, code, .. } = before;
+            self.take_in(state);
+            self.keep_label(code);
         }
     }
 

@@ -152,6 +152,16 @@ impl Machine for Straying {
         Ok(None)
     }
 
+    fn read_held(
+        &self,
+        _alloc: Global,
+        _bytes: &[u8],
+        _mem: &bool,
+        _threads: &mut [Thread<bool>],
+    ) -> Result<bool, OutOfMemory> {
+        Ok(false)
+    }
+
     ghost lawful = { λ _. straying_lawful };
 
     ghost forms = { λ _ memory other held twins _ _ _ _ _. straying_forms memory other held twins };

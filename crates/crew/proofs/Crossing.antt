@@ -116,9 +116,15 @@ module _ (J K M Mem Loc Form : RattleType)
       (recorded_sync _ _ _ T.to_one
       (struct_sync (shape T) (desk, (struct_sync (shape (Phantom.the_type K)) tt, tt))))
 
-module _ (a : NamedLft) (M G R Mem Loc Form : RattleType) (m : IsSync M) (gate : IsSync G) (threads : IsSync R)
-    (stock : IsSend (Stock.the_row M Mem Loc Form)) where
-  exploration_sync : IsSync (Exploration.the_field a M G R Mem Loc Form).row
+module _ (a : NamedLft) (M G R Mem Loc Form : RattleType)
+    (g : machine.Ghosts M.Denot Mem.Denot Loc.Denot Form.Denot)
+    (mp : partial.Ghosts M.Denot)
+    (ap : partial.Ghosts Mem.Denot) (ah : hash.Ghosts Mem.Denot) (lp : partial.Ghosts Loc.Denot)
+    (lh : hash.Ghosts Loc.Denot) (fp : partial.Ghosts Form.Denot)
+    (fh : hash.Ghosts Form.Denot)
+    (m : IsSync M) (gate : IsSync G) (threads : IsSync R)
+    (stock : IsSend (Stock.the_row M Mem Loc Form g mp ap ah lp lh fp fh)) where
+  exploration_sync : IsSync (Exploration.the_field a M G R Mem Loc Form g mp ap ah lp lh fp fh).row
   exploration_sync = search (program_sync, sendable, crosses) depth 30 fits 10000
 
 module _ (a : NamedLft) (J K M G R Mem Loc Form : RattleType) (r : ledgers.Ghosts J.Denot)
@@ -128,13 +134,13 @@ module _ (a : NamedLft) (J K M G R Mem Loc Form : RattleType) (r : ledgers.Ghost
     (ap : partial.Ghosts Mem.Denot) (ah : hash.Ghosts Mem.Denot) (lp : partial.Ghosts Loc.Denot)
     (lh : hash.Ghosts Loc.Denot) (fp : partial.Ghosts Form.Denot)
     (fh : hash.Ghosts Form.Denot)
-    (exploration : IsSync (Exploration.the_field a M G R Mem Loc Form).row)
+    (exploration : IsSync (Exploration.the_field a M G R Mem Loc Form g mp ap ah lp lh fp fh).row)
     (layer : IsSync (Layer.the_field a K M Mem Loc Form t g mp ap ah lp lh fp fh).row)
     (send : IsSend (Tied.the_row J K M Mem Loc Form g mp ap ah lp lh fp fh r t))
     (sync : IsSync (Tied.the_row J K M Mem Loc Form g mp ap ah lp lh fp fh r t)) where
-  whole_sync : IsSync (Shift.the_row a J K M G R Mem Loc Form r t g mp ap ah lp lh fp fh)
+  whole_sync : IsSync (Shift.the_row a J K M G R Mem Loc Form g mp ap ah lp lh fp fh r t)
   whole_sync =
-      let T = Shift.the_type a J K M G R Mem Loc Form r t g mp ap ah lp lh fp fh in
+      let T = Shift.the_type a J K M G R Mem Loc Form g mp ap ah lp lh fp fh r t in
       recorded_sync _ _ _ T.to_one
       (struct_sync (shape T) (exploration, (layer, (search (slots_sync, sendable, crosses) depth 12, tt))))
 
@@ -150,13 +156,13 @@ module _ (a : NamedLft) (J K M Mem Loc Form G R : RattleType)
     (m : IsSend M) (mem : IsSend Mem) (loc : IsSend Loc) (form : IsSend Form) (m' : IsSync M) (mem' : IsSync Mem)
     (loc' : IsSync Loc) (form' : IsSync Form)
     (gate : IsSync G) (threads : IsSync R) where
-  pub shift_sync : IsSync (Shift.the_row a J K M G R Mem Loc Form r t g mp ap ah lp lh fp fh)
+  pub shift_sync : IsSync (Shift.the_row a J K M G R Mem Loc Form g mp ap ah lp lh fp fh r t)
   shift_sync =
       let send = desk_send J M Mem Loc Form g mp ap ah lp lh fp fh r j m mem loc form m' mem' loc' form' in
       let sync = desk_sync J M Mem Loc Form g mp ap ah lp lh fp fh r j' m mem loc form m' mem' loc' form' in
-      let stock = stock_send M Mem Loc Form m mem loc form m' mem' loc' form' in
+      let stock = stock_send M Mem Loc Form g mp ap ah lp lh fp fh m mem loc form m' mem' loc' form' in
       whole_sync a J K M G R Mem Loc Form r t g mp ap ah lp lh fp fh
-      (exploration_sync a M G R Mem Loc Form m' gate threads stock)
+      (exploration_sync a M G R Mem Loc Form g mp ap ah lp lh fp fh m' gate threads stock)
       (layer_sync a K M Mem Loc Form t g mp ap ah lp lh fp fh m')
       (tied_send J K M Mem Loc Form g mp ap ah lp lh fp fh r t send)
       (tied_sync J K M Mem Loc Form g mp ap ah lp lh fp fh r t sync)

@@ -135,20 +135,21 @@ impl<'a, K: Tie<M, State<M>>, M: Machine> Layer<'a, K, M> {
         self.entries_at(&*desk, places, stock)
     }
 
-    /// Opens entries that were drawn. The book is asked once more for a state that can't be read from its bytes.
-    pub fn open_all<J: Ledgers>(
+    /// Makes the expansion of an entry, whose state is at hand meanwhile. The book is asked once more for a state that can't be
+    /// read from its bytes.
+    fn expand_one<J: Ledgers>(
         &self,
         rt: &impl Wait,
         desk: &RwLock<Tied<J, K, M>>,
-        drawn: &mut [(usize, Ready<'a, K, M>)],
+        ready: &mut Ready<'a, K, M>,
         stock: &mut Stock<M>,
-    ) -> Result<(), OutOfMemory> {
-        for (_, ready) in drawn.iter_mut() {
-            if !ready.open(self.alloc, stock)? {
-                read_soon(rt, desk).fill(ready)?;
-            }
+    ) -> Result<Option<Made<'a, K, M>>, OutOfMemory> {
+        if !ready.open(self.alloc, stock)? {
+            read_soon(rt, desk).fill(ready)?;
         }
-        Ok(())
+        let made = ready.expand(self.alloc, self.merge, stock)?;
+        ready.close(stock);
+        Ok(made)
     }
 
     /// Draws the places of one round. The answer is the entries there.
@@ -169,9 +170,11 @@ impl<'a, K: Tie<M, State<M>>, M: Machine> Layer<'a, K, M> {
         self.hand_out(rt, desk, places.as_slice(), stock)
     }
 
-    /// Makes the expansions of some of the entries drawn, which are open. Room for all of them is asked for at once.
-    pub fn expand(
+    /// Makes the expansions of some of the entries drawn. Room for all of them is asked for at once.
+    pub fn expand<J: Ledgers>(
         &self,
+        rt: &impl Wait,
+        desk: &RwLock<Tied<J, K, M>>,
         gate: &impl Gate,
         number: u8,
         drawn: &mut [(usize, Ready<'a, K, M>)],
@@ -181,11 +184,10 @@ impl<'a, K: Tie<M, State<M>>, M: Machine> Layer<'a, K, M> {
         let _seen = look_at(drawn)?;
         made.reserve(drawn.len())?;
         for (place, ready) in drawn.iter_mut() {
-            if let Some(one) = ready.expand(self.alloc, self.merge, stock)? {
+            if let Some(one) = self.expand_one(rt, desk, ready, stock)? {
                 gate.arrive(number, self.number, *place);
                 made.push(one)?;
             }
-            ready.close(stock);
         }
         Ok(())
     }

@@ -169,12 +169,13 @@ impl<'a, K: Tie<M, State<M>>, M: Machine> Ready<'a, K, M> {
         Ok(Some(Made::new(self.id, steps)))
     }
 
-    /// Leaves its state in stock, where it was read from its bytes: the next one is read in its place.
+    /// Leaves its state in stock with its bytes, where it was read from them: the next one is read in its place.
     pub fn close(&mut self, stock: &mut Stock<M>) {
-        if self.cuts.is_some()
-            && let Some(state) = self.state.take()
-        {
-            stock.take_in(state);
+        let Some(cuts) = self.cuts else {
+            return;
+        };
+        if let (Some(state), Some(code)) = (self.state.take(), self.code.take()) {
+            stock.take_in_read(state, code, cuts);
         }
     }
 

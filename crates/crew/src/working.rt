@@ -192,20 +192,6 @@ impl<'a, M: Machine, G: Gate, R: Wait> Exploration<'a, M, G, R> {
         entered
     }
 
-    /// Makes the expansions of some of the entries drawn, whose states are at hand meanwhile.
-    fn expand_some<J: Ledgers, K: Tie<M, State<M>>>(
-        &self,
-        desk: &RwLock<Tied<J, K, M>>,
-        layer: &Layer<'a, K, M>,
-        number: u8,
-        some: &mut [(usize, Ready<'a, K, M>)],
-        pile: &mut Pile<'a, K, M>,
-        stock: &mut Stock<M>,
-    ) -> Result<(), OutOfMemory> {
-        layer.open_all(self.rt, desk, some, stock)?;
-        layer.expand(self.gate, number, some, &mut pile.made, stock)
-    }
-
     /// Whether a worker has to enter what it made before it draws once more: where much is left, and by names, since there
     /// the states of entries serve again only once the book has given them back.
     fn has_to_enter<K: Tie<M, State<M>>>(&self, pile: &Pile<'a, K, M>) -> bool {
@@ -224,8 +210,9 @@ impl<'a, M: Machine, G: Gate, R: Wait> Exploration<'a, M, G, R> {
         stock: &mut Stock<M>,
     ) -> Result<(), Stop> {
         for some in drawn.chunks_mut(self.stride()) {
-            if self
-                .expand_some(desk, layer, number, some, pile, stock)
+            let made = &mut pile.made;
+            if layer
+                .expand(self.rt, desk, self.gate, number, some, made, stock)
                 .is_err()
             {
                 return Err(Stop::OutOfMemory);

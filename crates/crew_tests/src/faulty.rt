@@ -162,6 +162,16 @@ impl Machine for Faulty {
         Ok(None)
     }
 
+    fn read_held(
+        &self,
+        _alloc: Global,
+        _bytes: &[u8],
+        _mem: &bool,
+        _threads: &mut [Thread<bool>],
+    ) -> Result<bool, OutOfMemory> {
+        Ok(false)
+    }
+
     ghost lawful = { λ _. faulty_lawful };
 
     ghost forms = { λ _ memory other held twins _ _ _ _ _. faulty_forms memory other held twins };

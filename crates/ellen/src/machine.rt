@@ -5,7 +5,7 @@ use crate::helping::{first_place, help_act};
 use crate::initial::build;
 use crate::memory::{EllenMem, key_in};
 use crate::place::{EllenLoc, HelpLoc, SearchLoc};
-use crate::reading::read_few;
+use crate::reading::{read_behind, read_few};
 use crate::searching::search_act;
 use sched_program::{Op, OutOfMemory};
 use std::alloc::Global;
@@ -170,6 +170,17 @@ impl Machine for Ellen {
         threads: &mut [Thread<EllenLoc>],
     ) -> Result<Option<usize>, OutOfMemory> {
         read_few(alloc, bytes, mem, threads)
+    }
+
+    #[inline(always)]
+    fn read_held(
+        &self,
+        alloc: Global,
+        bytes: &[u8],
+        mem: &EllenMem,
+        threads: &mut [Thread<EllenLoc>],
+    ) -> Result<bool, OutOfMemory> {
+        read_behind(alloc, bytes, mem, threads)
     }
 
     ghost lawful = { ellen_lawful };

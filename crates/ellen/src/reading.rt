@@ -1,7 +1,7 @@
 //! A memory and the places that threads hold, read back from their bytes where each number is one byte.
-ghost use Rattle.std.specs.Prelude.{◌≡◌, ◌≤◌, length, take, IfOk, IfSome};
+ghost use Rattle.std.specs.Prelude.{◌≡◌, ◌≤◌, length, take, IfOk, IfSome, IsTrue};
 ghost use Rattle.tree_machine.specs.Alike.{places_of, replies_of, notes_of};
-ghost use Rattle.ellen.specs.Parts.{ellen_code, ellen_memory_code};
+ghost use Rattle.ellen.specs.Parts.{ellen_code, ellen_held_code, ellen_memory_code};
 
 mod graph;
 mod held;
@@ -41,5 +41,25 @@ pub(crate) fn read_few(
         Ok(Some(bytes.len() - rest.len()))
     } else {
         Ok(None)
+    }
+}
+
+/// Reads the place that each thread holds from the bytes behind those of a memory, in the room that these have as far as
+/// that is enough. It answers no where bytes are left over or missing, or a number takes more than one byte.
+#[inline(always)]
+pub(crate) fn read_behind(
+    alloc: Global,
+    bytes: &[u8],
+    memory: &EllenMem,
+    threads: &mut [Thread<EllenLoc>],
+) -> Result<bool, OutOfMemory>
+    ensures read { IfOk result (λ read. IsTrue read
+        → bytes.now ≡ ellen_held_code memory.now (places_of threads.new)) }
+    ensures replies { replies_of threads.new ≡ replies_of threads.old }
+    ensures notes { notes_of threads.new ≡ notes_of threads.old }
+{
+    match u8::try_from(memory.nodes.len()) {
+        Ok(nodes) => read_each(alloc, bytes, nodes, threads),
+        Err(_) => Ok(false),
     }
 }

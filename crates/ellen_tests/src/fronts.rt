@@ -50,18 +50,33 @@ fn is_rest_written(alloc: Global) -> Result<bool, OutOfMemory> {
     Ok(room.as_slice() == &BYTES[12..])
 }
 
-/// Both.
-fn both(rt: &impl Abort, alloc: Global) -> Result<(), OutOfMemory> {
+/// Whether what the thread holds is read from these alone, and from no others.
+fn is_rest_read(alloc: Global) -> Result<bool, OutOfMemory> {
+    let memory = small_tree(alloc, 1, 101)?;
+    let begun = SearchLoc::Update {
+        above: None,
+        parent: 0,
+    };
+    let mut threads = [holding(None)];
+    let is_read = WHOLE.read_held(alloc, &BYTES[12..], &memory, &mut threads)?;
+    let is_placed = threads[0].place == Some(EllenLoc::Search(begun));
+    let is_cut = WHOLE.read_held(alloc, &BYTES[12..17], &memory, &mut threads)?;
+    Ok(is_read && is_placed && !is_cut)
+}
+
+/// All.
+fn all(rt: &impl Abort, alloc: Global) -> Result<(), OutOfMemory> {
     assert!(rt; told(alloc)? == Some(12));
     assert!(rt; is_rest_written(alloc)?);
+    assert!(rt; is_rest_read(alloc)?);
     Ok(())
 }
 
 #[test]
 fn the_bytes_of_a_memory_stand_first(rt: HostRuntime) -> Result<(), Fail> {
     // One request for memory may be refused.
-    if both(&rt, rt.alloc()).is_err() {
-        both(&rt, rt.alloc())?;
+    if all(&rt, rt.alloc()).is_err() {
+        all(&rt, rt.alloc())?;
     }
     Ok(())
 }

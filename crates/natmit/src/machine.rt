@@ -11,7 +11,7 @@ use crate::form::Snapshot;
 use crate::initial::build;
 use crate::memory::{NatMitMem, key_in};
 use crate::place::{Mode, NatMitLoc};
-use crate::reading::read_few;
+use crate::reading::{read_few, read_places};
 use sched_program::{Op, OutOfMemory};
 use std::alloc::Global;
 use tree_machine::{
@@ -164,6 +164,16 @@ impl Machine for NatMit {
         threads: &mut [Thread<NatMitLoc>],
     ) -> Result<Option<usize>, OutOfMemory> {
         read_few(alloc, bytes, mem, threads)
+    }
+
+    fn read_held(
+        &self,
+        _alloc: Global,
+        bytes: &[u8],
+        _mem: &NatMitMem,
+        threads: &mut [Thread<NatMitLoc>],
+    ) -> Result<bool, OutOfMemory> {
+        Ok(read_places(bytes, threads))
     }
 
     ghost lawful = { natmit_lawful };

@@ -338,7 +338,7 @@ fn read_held(bytes: &[u8]) -> Option<(Option<NatMitLoc>, &[u8])>
 }
 
 /// Reads what each thread holds, and tells whether that is all that there is.
-fn read_places(bytes: &[u8], threads: &mut [Thread<NatMitLoc>]) -> bool
+pub(crate) fn read_places(bytes: &[u8], threads: &mut [Thread<NatMitLoc>]) -> bool
     ensures read { IsTrue result
         → bytes.now ≡ flat_map (λ thread. cell_code (part_cell 0 (held_part thread.place))) threads.new }
     ensures replies { replies_of threads.new ≡ replies_of threads.old }

@@ -99,6 +99,32 @@ fn is_read_back(
     Ok(is_read && desk.shell == *state)
 }
 
+/// Whether a state is read back from its bytes where another one was read before, of whose bytes it is known where their parts
+/// begin.
+fn is_read_after(
+    alloc: Global,
+    machine: NatMit,
+    program: &Program,
+    before: &State<NatMit>,
+    state: &State<NatMit>,
+    desk: &mut Desk,
+) -> Result<bool, Broken>
+    requires before { Fits (natmit_rules machine) program.now before.now }
+    requires fits { Fits (natmit_rules machine) program.now state.now }
+{
+    // Whoever reads a program knows that it meets the limits.
+    let _ = program.initial();
+    let told = before.code_in(alloc, machine, &mut desk.room, Vec::new(alloc))?;
+    let bytes = state.code_in(alloc, machine, &mut desk.room, Vec::new(alloc))?;
+    let Some(cuts) = desk.shell.read_cut(alloc, machine, told.as_slice())? else {
+        return Ok(false);
+    };
+    let read = desk
+        .shell
+        .read_after(alloc, machine, bytes.as_slice(), told.as_slice(), cuts)?;
+    Ok(read.is_some() && desk.shell == *state)
+}
+
 /// Reads each state along a schedule, of which each bit is a thread, as long as that has a step.
 fn read_along(
     alloc: Global,
@@ -181,7 +207,34 @@ fn read_cut(alloc: Global, text: &str, schedule: &[u8]) -> Result<(), Broken> {
     read_cut_along(alloc, WHOLE, &program, schedule)
 }
 
-/// How many bytes are told to be those of the memory, where what one thread holds stands behind them.
+/// Reads each state along a schedule where the one before it was read.
+fn read_after_along(
+    alloc: Global,
+    machine: NatMit,
+    program: &Program,
+    schedule: &[u8],
+) -> Result<(), Broken> {
+    let mut desk = desk_of(alloc)?;
+    let mut state = State::start(alloc, machine, program)?;
+    for (step, thread) in schedule.iter().enumerate() {
+        let copy = state.copy(alloc, machine)?;
+        let next = advance(alloc, machine, program, copy, *thread, 1)?;
+        if !is_read_after(alloc, machine, program, &state, &next, &mut desk)? {
+            return Err(Broken::Row(step));
+        }
+        state = next;
+    }
+    Ok(())
+}
+
+/// The same along a schedule of the program of a text.
+fn read_after(alloc: Global, text: &str, schedule: &[u8]) -> Result<(), Broken> {
+    let program = program_of(alloc, text)?;
+    read_after_along(alloc, WHOLE, &program, schedule)
+}
+
+/// How many bytes are told to be those of the memory, where what one thread holds stands behind them. That is then read once
+/// more, alone.
 fn front_of(alloc: Global, bytes: &[u8]) -> Result<Option<usize>, Broken> {
     let mut mem = NatMitMem {
         nodes: Sequence::new(alloc),
@@ -191,7 +244,16 @@ fn front_of(alloc: Global, bytes: &[u8]) -> Result<Option<usize>, Broken> {
         place: None,
         notes: ShortList::new(),
     }];
-    Ok(WHOLE.read_whole(alloc, bytes, &mut mem, &mut threads)?)
+    let Some(front) = WHOLE.read_whole(alloc, bytes, &mut mem, &mut threads)? else {
+        return Ok(None);
+    };
+    let place = threads[0].place.take();
+    let is_read = WHOLE.read_held(alloc, &bytes[front..], &mem, &mut threads)?;
+    if is_read && threads[0].place == place {
+        Ok(Some(front))
+    } else {
+        Ok(None)
+    }
 }
 
 /// The same, tried once more where a growth was refused: that happens once at most.
@@ -226,6 +288,17 @@ fn no_state_is_read_from_other_bytes(rt: HostRuntime) -> Result<(), Fail> {
     // Once more where a growth was refused: that happens once at most.
     let end = match read_cut(rt.alloc(), DELETE_AND_INSERT, &HELPED) {
         Err(Broken::OutOfMemory) => read_cut(rt.alloc(), DELETE_AND_INSERT, &HELPED),
+        end => end,
+    };
+    assert!(rt; end == Ok(()));
+    Ok(())
+}
+
+#[test]
+fn states_are_read_one_after_the_other(rt: HostRuntime) -> Result<(), Fail> {
+    // Once more where a growth was refused: that happens once at most.
+    let end = match read_after(rt.alloc(), DELETE_AND_INSERT, &HELPED) {
+        Err(Broken::OutOfMemory) => read_after(rt.alloc(), DELETE_AND_INSERT, &HELPED),
         end => end,
     };
     assert!(rt; end == Ok(()));

@@ -1,10 +1,10 @@
 -- A step that is taken back leaves the state that it was made from.
-use Rattle.std.proofs.Common.{◌≡◌, ℕ, zero, suc, ◌+◌, ◌-◌, List, [], ◌∷◌, Option, Some, None, refl, sym, ap, ◌∙◌, arith}
+use Rattle.std.proofs.Common.{◌≡◌, ℕ, zero, suc, ◌+◌, ◌-◌, List, [], ◌∷◌, Some, None, refl, sym, ap, ◌∙◌, arith}
 use Rattle.std.proofs.Common.{slice_get, slice_set}
 use Rattle.std.proofs.lemmas.Option.{same_Some}
 use Rattle.sched_program.specs.Program.{Program}
 use Rattle.tree_machine.specs.Rules.{Rules}
-use Rattle.tree_machine.specs.Step.{at_step, after_access, step, stepped}
+use Rattle.tree_machine.specs.Step.{at_step, after_access, step}
 use Rattle.tree_machine.specs.declared.machine.Outcome.{Outcome}
 use Rattle.tree_machine.specs.declared.machine.Outcome.TheVariants.{Goes, Replies, Astray}
 use Rattle.tree_machine.specs.declared.state.Thread.{Thread}

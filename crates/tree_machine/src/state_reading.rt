@@ -1,5 +1,5 @@
 //! Whole states read back from bytes.
-ghost use Rattle.std.specs.Prelude.{◌≡◌, ◌≤◌, ◌++◌, ◌∷◌, length, IsTrue, IfOk, IfSome, OnOk};
+ghost use Rattle.std.specs.Prelude.{◌≡◌, ◌≤◌, ◌++◌, ◌∷◌, length, take, IsTrue, IfOk, IfSome, OnOk};
 ghost use Rattle.std.specs.List.{flat_map};
 ghost use Rattle.tree_machine.specs.Alike.{notes_of, places_of, replies_of};
 ghost use Rattle.tree_machine.specs.Cuts.{AreCutsOf};
@@ -65,17 +65,48 @@ fn read_head(bytes: &[u8]) -> Option<(u64, u8, &[u8])>
     }
 }
 
+/// Reads a memory, and the place that each thread holds, as `Machine::read_whole` does. Where the bytes begin with those of
+/// the memory as it is, which are known, it stays.
+#[inline(always)]
+fn read_parts<M: Machine>(
+    alloc: Global,
+    machine: M,
+    bytes: &[u8],
+    known: Option<&[u8]>,
+    memory: &mut M::Mem,
+    threads: &mut [Thread<M::Loc>],
+) -> Result<Option<usize>, OutOfMemory>
+    requires { IfSome known (λ known. known.now ≡ M.memory_code memory.old) }
+    ensures read { IfOk result (λ read. IfSome read
+        (λ front. bytes.now ≡ M.whole_code memory.new (places_of threads.new))) }
+    ensures within { IfOk result (λ read. IfSome read (λ front. front ≤ length bytes.now)) }
+    ensures memory { IfOk result (λ read. IfSome read (λ front. take front bytes.now ≡ M.memory_code memory.new)) }
+    ensures replies { replies_of threads.new ≡ replies_of threads.old }
+    ensures notes { notes_of threads.new ≡ notes_of threads.old }
+{
+    if let Some(known) = known
+        && let Some(rest) = bytes.strip_prefix(known)
+        && machine.read_held(alloc, rest, memory, threads)?
+    {
+        return Ok(Some(known.len()));
+    }
+    machine.read_whole(alloc, bytes, memory, threads)
+}
+
 /// Reads all that stands behind the number of threads. Where it answers two numbers, as many bytes as the first stand
-/// behind what the threads did, and as many as the second of these are those of the memory.
+/// behind what the threads did, and as many as the second of these are those of the memory. If the bytes of the memory as it
+/// is are known, it is not read where these stand there.
 #[inline(always)]
 fn read_body<M: Machine>(
     alloc: Global,
     machine: M,
     bytes: &[u8],
+    known: Option<&[u8]>,
     memory: &mut M::Mem,
     threads: &mut [Thread<M::Loc>],
     astray: &mut Option<u8>,
 ) -> Result<Option<(usize, usize)>, OutOfMemory>
+    requires { IfSome known (λ known. known.now ≡ M.memory_code memory.old) }
     ensures read { IfOk result (λ read. IfSome read (λ _. bytes.now
         ≡ flat_map replies_code (replies_of threads.new)
         ++ (list_code (list_code note_code) (notes_of threads.new)
@@ -89,7 +120,7 @@ fn read_body<M: Machine>(
         return Ok(None);
     };
     *astray = thread;
-    match machine.read_whole(alloc, rest, memory, threads)? {
+    match read_parts(alloc, machine, rest, known, memory, threads)? {
         Some(front) => Ok(Some((rest.len(), front))),
         None => Ok(None),
     }
@@ -115,6 +146,39 @@ impl<M: Machine> State<M> {
         ensures { IfOk result (λ read. IfSome read
             (λ cuts. AreCutsOf M.whole_code M.memory_code bytes.now cuts self.new)) }
     {
+        self.read_over(alloc, machine, bytes, None)
+    }
+
+    /// The same, where the bytes of this state as it is are at hand, and the places where their parts begin: the memory is
+    /// read only where its bytes are others. States that are read one after the other mostly have one memory.
+    pub fn read_after(
+        &mut self,
+        alloc: Global,
+        machine: M,
+        bytes: &[u8],
+        told: &[u8],
+        cuts: Cuts,
+    ) -> Result<Option<Cuts>, OutOfMemory>
+        requires { AreCutsOf M.whole_code M.memory_code told.now cuts self.old }
+        ensures { IfOk result (λ read. IfSome read
+            (λ cuts. AreCutsOf M.whole_code M.memory_code bytes.now cuts self.new)) }
+    {
+        self.read_over(alloc, machine, bytes, Some(&told[cuts.memory..cuts.held]))
+    }
+
+    /// The same, where the bytes of the memory as it is may be known.
+    #[inline(always)]
+    fn read_over(
+        &mut self,
+        alloc: Global,
+        machine: M,
+        bytes: &[u8],
+        known: Option<&[u8]>,
+    ) -> Result<Option<Cuts>, OutOfMemory>
+        requires { IfSome known (λ known. known.now ≡ M.memory_code self.old.memory) }
+        ensures { IfOk result (λ read. IfSome read
+            (λ cuts. AreCutsOf M.whole_code M.memory_code bytes.now cuts self.new)) }
+    {
         let Some((steps, count, rest)) = read_head(bytes) else {
             return Ok(None);
         };
@@ -125,6 +189,7 @@ impl<M: Machine> State<M> {
             alloc,
             machine,
             rest,
+            known,
             &mut self.memory,
             lent,
             &mut self.astray,

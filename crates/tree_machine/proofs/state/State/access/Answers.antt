@@ -1,5 +1,5 @@
 -- The thread is moved on in a copy of the threads, by what came of the access.
-use Rattle.std.proofs.Common.{◌≡◌, ◌<◌, length, ◌∙◌, ap, sym, arith, rules, subst, Some, None, slice_set}
+use Rattle.std.proofs.Common.{◌≡◌, ◌<◌, length, ◌∙◌, ap, sym, arith, rules, subst, Some, slice_set}
 use Rattle.std.proofs.lemmas.Option.{slice_get_within, IfSome_then}
 use Rattle.tree_machine.specs.Step.{place_or, notes_at_step, after_outcome, finished_counts, with_note}
 use Rattle.tree_machine.proofs.Lists.{put_back}

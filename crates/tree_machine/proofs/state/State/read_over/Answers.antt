@@ -2,7 +2,7 @@
 use Rattle.std.proofs.Common.{◌≡◌, ◌≤◌, ◌+◌, ◌-◌, length, ap, ◌∙◌, rules}
 use Rattle.tree_machine.proofs.Lists.{given_back}
 use Rattle.tree_machine.proofs.CutPieces.{cuts_read, cuts_fit}
-use Rattle.tree_machine.proofs.state.State.read_cut.Goals as goal
+use Rattle.tree_machine.proofs.state.State.read_over.Goals as goal
 
 pub overflow_add-held : goal.overflow_add-held
 overflow_add-held g c =
