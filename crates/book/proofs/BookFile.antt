@@ -6,3 +6,4 @@ pub mod Exclusive
 pub mod Written
 pub mod Writable
 pub mod Whole
+pub mod Recalled

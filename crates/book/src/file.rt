@@ -3,10 +3,12 @@
 
 mod check;
 mod closing;
+mod coded;
 mod fault;
 mod line;
 mod printing;
 mod reading;
+mod recalling;
 mod replaying;
 mod writing;
 

@@ -89,7 +89,7 @@ module _ {Machine Memory Place Form : Type 0} (rules : Rules Memory Place) (prog
   only_start P first h (suc i) s at = absurd (let q : None ≡ Some s = at in cc)
 
   -- the first states stay where they are
-  front : (before : List (State Machine Memory Place Form)) (lines : List Line)
+  pub front : (before : List (State Machine Memory Place Form)) (lines : List Line)
       (states : List (State Machine Memory Place Form)) → Continues rules program before lines states
       → (i : ℕ) (s : State Machine Memory Place Form) → slice_get before i ≡ Some s → slice_get states i ≡ Some s
   front before [] states so i s at = let e : states ≡ before = so in

@@ -40,7 +40,7 @@ pub fn check_lines<M: Machine>(
         Ok(states) => states,
         Err(fault) => return Err(fault),
     };
-    test_closed(alloc, machine, program, &states)
+    test_closed(alloc, machine, program, lines, &states)
 }
 
 /// Whether the bytes of a book file pass, and how many entries it has: they are in the form, and their lines pass. Then

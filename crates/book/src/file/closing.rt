@@ -10,23 +10,30 @@ ghost use Rattle.book.specs.Closed.{AreClosed, IsAlikeToOneOf};
 ghost use Rattle.book.specs.Findings.{machine_of};
 ghost use Rattle.book.specs.BookFile.Closing.{IsFirstOpen};
 ghost use Rattle.book.specs.BookFile.Forms.{AreFormsOf, AreStepsKnown, IsStepUnknown};
+ghost use Rattle.book.specs.BookFile.Replays.{AreReplayed};
 ghost use Rattle.book.specs.Labels.{named_by};
 
+use crate::file::coded::Coded;
 use crate::file::fault::CheckFault;
+use crate::file::line::Line;
+use crate::file::recalling::recall;
 use crate::stock::Stock;
 use sched_program::{OutOfMemory, Program, Sequence};
 use std::alloc::Global;
 use std::collections::HashSet;
 use tree_machine::{Bytes, Machine, Room, State, StepFault};
 
-/// The bytes of the forms of the states.
+/// The bytes of the forms of the states, each of which is recalled in a state that is at hand.
 fn forms_of<M: Machine>(
     alloc: Global,
     machine: M,
     program: &Program,
-    states: &Sequence<State<M>>,
+    lines: &[Line],
+    states: &Sequence<Coded<M>>,
+    state: &mut State<M>,
 ) -> Result<HashSet<Bytes>, OutOfMemory>
-    requires { (i : ℕ) (s : State M M.Mem M.Loc M.Form) → slice_get states.now i ≡ Some s
+    requires replayed { AreReplayed (M.rules machine) program.now lines.now states.now }
+    requires fit { (i : ℕ) (s : State M M.Mem M.Loc M.Form) → slice_get states.now i ≡ Some s
         → Fits (M.rules machine) program.now s }
     ensures { IfOk result (λ forms. AreFormsOf (pointwise nat_eq) (named_by M.form_code (M.form_of machine))
         states.now (contains (pointwise nat_eq) forms)) }
@@ -35,7 +42,8 @@ fn forms_of<M: Machine>(
     let _ = program.initial();
     let mut forms = HashSet::new(alloc);
     let mut room = Room::new(alloc);
-    for state in states.as_slice() {
+    for index in 0..states.len() {
+        recall(alloc, machine, program, lines, states, index, state)?;
         let form = state.form_code_in(alloc, machine, &mut room, Vec::new(alloc))?;
         forms.insert(form)?;
     }
@@ -107,8 +115,10 @@ pub fn test_closed<M: Machine>(
     alloc: Global,
     machine: M,
     program: &Program,
-    states: &Sequence<State<M>>,
+    lines: &[Line],
+    states: &Sequence<Coded<M>>,
 ) -> Result<(), CheckFault>
+    requires replayed { AreReplayed (M.rules machine) program.now lines.now states.now }
     requires fit { (i : ℕ) (s : State M M.Mem M.Loc M.Form) → slice_get states.now i ≡ Some s
         → Fits (M.rules machine) program.now s }
     requires few { (i : ℕ) (s : State M M.Mem M.Loc M.Form) → slice_get states.now i ≡ Some s → s.steps ≤ i }
@@ -122,10 +132,12 @@ pub fn test_closed<M: Machine>(
 {
     // Whoever reads a program knows that it meets the limits.
     let _ = program.initial();
-    let forms = forms_of(alloc, machine, program, states)?;
+    let mut state = State::start(alloc, machine, program)?;
+    let forms = forms_of(alloc, machine, program, lines, states, &mut state)?;
     let mut stock = Stock::new(alloc);
-    for (i, state) in states.as_slice().iter().enumerate() {
-        if leads_out(alloc, machine, program, &forms, state, &mut stock)? {
+    for i in 0..states.len() {
+        recall(alloc, machine, program, lines, states, i, &mut state)?;
+        if leads_out(alloc, machine, program, &forms, &state, &mut stock)? {
             return Err(CheckFault::Open(i + 2));
         }
     }

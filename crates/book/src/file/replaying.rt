@@ -4,8 +4,11 @@ ghost use Rattle.tree_machine.specs.Step.{Fits};
 ghost use Rattle.tree_machine.specs.declared.state.State.{State};
 ghost use Rattle.book.specs.BookFile.Replays.{AreReplayed, IsAmiss, IsFirstAmiss, IsShown, IsUnshown, Tells};
 
+use crate::file::coded::Coded;
 use crate::file::fault::CheckFault;
 use crate::file::line::Line;
+use crate::file::recalling::recall;
+use crate::stock::Stock;
 use lin::check_order;
 use sched_program::{OpId, Program, Sequence};
 use std::alloc::Global;
@@ -39,14 +42,18 @@ fn test_state<M: Machine>(
     }
 }
 
-/// The state of the entry after these, by its line.
+/// The state of the entry after these, by its line. That of its parent is recalled in a state that is at hand.
 fn told<M: Machine>(
     alloc: Global,
     machine: M,
     program: &Program,
-    before: &Sequence<State<M>>,
+    lines: &[Line],
+    before: &Sequence<Coded<M>>,
     line: &Line,
-) -> Result<State<M>, CheckFault>
+    parent: &mut State<M>,
+    stock: &mut Stock<M>,
+) -> Result<Coded<M>, CheckFault>
+    requires replayed { AreReplayed (M.rules machine) program.now lines.now before.now }
     requires fit { (i : ℕ) (s : State M M.Mem M.Loc M.Form) → slice_get before.now i ≡ Some s
         → Fits (M.rules machine) program.now s }
     requires few { (i : ℕ) (s : State M M.Mem M.Loc M.Form) → slice_get before.now i ≡ Some s → s.steps ≤ i }
@@ -57,25 +64,22 @@ fn told<M: Machine>(
         ⊎ IsAmiss {Machine = M} {Form = M.Form} (M.rules machine) program.now before.now line.now fault) }
 {
     let number = before.len() + 2;
-    let Some(parent) = before.get(line.parent) else {
+    if line.parent >= before.len() {
         return Err(CheckFault::Parent(number));
-    };
-    let state = match parent.step(alloc, machine, program, line.thread) {
+    }
+    recall(alloc, machine, program, lines, before, line.parent, parent)?;
+    let state = match stock.step(alloc, machine, program, parent, line.thread) {
         Ok(state) => state,
         Err(StepFault::NotEnabled) => return Err(CheckFault::Step(number)),
         Err(StepFault::OutOfMemory) => return Err(CheckFault::OutOfMemory),
     };
-    match test_state(
-        alloc,
-        machine,
-        program,
-        &state,
-        line.order.as_slice(),
-        number,
-    ) {
-        Ok(()) => Ok(state),
-        Err(fault) => Err(fault),
+    let order = line.order.as_slice();
+    if let Err(fault) = test_state(alloc, machine, program, &*state, order, number) {
+        return Err(fault);
     }
+    let coded = Coded::of(alloc, machine, program, &*state, &mut stock.room)?;
+    stock.take_in(state);
+    Ok(coded)
 }
 
 /// The states of the entries, the start's first, replayed one after the other.
@@ -84,7 +88,7 @@ pub fn replay_lines<M: Machine>(
     machine: M,
     program: &Program,
     lines: &[Line],
-) -> Result<Sequence<State<M>>, CheckFault>
+) -> Result<Sequence<Coded<M>>, CheckFault>
     requires { length lines.now < 2000000 }
     ensures replayed { IfOk result (AreReplayed (M.rules machine) program.now lines.now) }
     ensures fit { IfOk result (λ states. (i : ℕ) (s : State M M.Mem M.Loc M.Form) → slice_get states i ≡ Some s
@@ -95,15 +99,20 @@ pub fn replay_lines<M: Machine>(
     ensures amiss { IfErr result (λ fault. (fault ≡ CheckFault.OutOfMemory)
         ⊎ IsFirstAmiss M M.Form (M.rules machine) program.now lines.now fault) }
 {
-    let start = State::start(alloc, machine, program)?;
-    if let Err(fault) = test_state(alloc, machine, program, &start, &[], 2) {
+    let mut state = State::start(alloc, machine, program)?;
+    if let Err(fault) = test_state(alloc, machine, program, &state, &[], 2) {
         return Err(fault);
     }
+    let mut stock = Stock::new(alloc);
+    let start = Coded::of(alloc, machine, program, &state, &mut stock.room)?;
     let mut states = Sequence::new(alloc);
     states.push(start)?;
-    for line in lines {
-        match told(alloc, machine, program, &states, line) {
-            Ok(state) => states.push(state)?,
+    for (i, line) in lines.iter().enumerate() {
+        let earlier = &lines[..i];
+        match told(
+            alloc, machine, program, earlier, &states, line, &mut state, &mut stock,
+        ) {
+            Ok(next) => states.push(next)?,
             Err(fault) => return Err(fault),
         }
     }

@@ -1,8 +1,7 @@
 -- The step is put with the finding and the label of the state that it leads to, and the state is what it was.
-use Rattle.std.proofs.Common.{ap, refl, ◌∙◌, Err, rules}
+use Rattle.std.proofs.Common.{ap, refl, ◌∙◌}
 use Rattle.tree_machine.specs.FormCode.{state_code}
 use Rattle.book.specs.Findings.{machine_of, IsFindingOf}
-use Rattle.book.specs.Labels.{Labelled}
 use Rattle.book.proofs.Expanding.{puts_next}
 use Rattle.book.proofs.Lent.{found_or}
 use Rattle.book.proofs.in_place.put_step_here.Goals as goal

@@ -1,5 +1,5 @@
 -- A step that ended no operation leaves the order as it was.
-use Rattle.std.proofs.Common.{Some, None, slice_get, length, ap, sym, ◌∙◌}
+use Rattle.std.proofs.Common.{slice_get, length, ap, sym, ◌∙◌}
 use Rattle.std.proofs.lemmas.Option.{same_Some}
 use Rattle.tree_machine.specs.declared.state.Thread.{Thread}
 use Rattle.book.proofs.Loans.{step_silent}

@@ -1,4 +1,4 @@
-use Rattle.std.proofs.Common.{Bool, length, ap, sym, ◌∙◌}
+use Rattle.std.proofs.Common.{Bool, length, ap, ◌∙◌}
 use Rattle.book.specs.declared.entry.Row.{Row}
 use Rattle.book.specs.Labels.{Labelled, same_label}
 use Rattle.book.specs.Laws.Labels.{same_label_equiv}

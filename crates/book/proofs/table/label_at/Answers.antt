@@ -1,4 +1,4 @@
-use Rattle.std.proofs.Common.{◌≡◌, Some, slice_get, sym, ap, ◌∙◌}
+use Rattle.std.proofs.Common.{Some, sym, ap, ◌∙◌}
 use Rattle.tree_machine.proofs.Lists.{map-get}
 use Rattle.book.specs.declared.entry.Row.{Row}
 use Rattle.book.specs.Labels.{Labelled}

@@ -1,4 +1,4 @@
-use Rattle.std.proofs.Common.{◌<◌, length, ◌∙◌}
+use Rattle.std.proofs.Common.{◌∙◌}
 use Rattle.tree_machine.proofs.Lists.{get_at}
 use Rattle.book.proofs.ToldStates.{told_state}
 use Rattle.book.proofs.book.Book.code_of.Goals as goal

@@ -2,7 +2,7 @@ use Rattle.std.proofs.Common.{◌≡◌, ap, refl, subst, sym, ◌∙◌}
 use Rattle.tree_machine.specs.FormCode.{state_code}
 use Rattle.tree_machine.specs.Laws.Codes.{state_code_tells}
 use Rattle.tree_machine.specs.declared.state.State.{State}
-use Rattle.book.specs.Entries.{Contents, IsTaken}
+use Rattle.book.specs.Entries.{Contents}
 use Rattle.book.specs.Slots.{IsLeft}
 use Rattle.book.proofs.Entering.{own_from}
 use Rattle.book.proofs.EntryLemmas.{get_within}

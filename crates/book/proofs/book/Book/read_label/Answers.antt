@@ -1,4 +1,4 @@
-use Rattle.std.proofs.Common.{◌≡◌, ◌<◌, length, sym, ◌∙◌}
+use Rattle.std.proofs.Common.{sym, ◌∙◌}
 use Rattle.tree_machine.proofs.Lists.{get_at}
 use Rattle.tree_machine.specs.Laws.Codes.{state_code_tells}
 use Rattle.book.proofs.ToldStates.{told_state}

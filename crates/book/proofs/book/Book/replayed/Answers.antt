@@ -1,5 +1,4 @@
 use Rattle.std.proofs.Common.{◌≡◌, Some, None, ap, sym, ◌∙◌}
-use Rattle.tree_machine.specs.declared.state.State.{State}
 use Rattle.book.specs.Findings.{machine_of}
 use Rattle.book.specs.Schedule.{after}
 use Rattle.book.proofs.Stopping.{stopped}

@@ -1,7 +1,5 @@
-use Rattle.std.proofs.Common.{ap, refl, ◌∙◌}
-use Rattle.tree_machine.specs.declared.state.State.{State}
+use Rattle.std.proofs.Common.{refl}
 use Rattle.book.specs.declared.entry.Mark.TheVariants.{Taken}
-use Rattle.book.specs.Entries.{Contents, Entry, is_open}
 use Rattle.book.specs.Labels.{label_by}
 use Rattle.book.proofs.Holding.{open_is_left}
 use Rattle.book.proofs.InBook.{next_taken, taken_one}

@@ -1,7 +1,6 @@
 use Rattle.std.proofs.Common.{◌≡◌, Some, refl, slice_get, subst, sym, ◌∙◌}
 use Rattle.tree_machine.specs.declared.state.State.{State}
-use Rattle.book.specs.Entries.{Contents, Entry}
-use Rattle.book.specs.Slots.{IsLeft}
+use Rattle.book.specs.Entries.{Entry}
 use Rattle.book.proofs.EntryLemmas.{get_within}
 use Rattle.book.proofs.Holding.{taken_is_left}
 use Rattle.book.proofs.InBook.{state_few, state_fits}

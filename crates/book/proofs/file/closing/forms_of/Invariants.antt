@@ -5,8 +5,8 @@ use Rattle.std.specs.Cmp.Lexicographic.{pointwise}
 use Rattle.book.specs.BookFile.Forms.{AreFormsOf}
 use Rattle.book.proofs.file.closing.forms_of.Given as goal
 
-abbrev pub invariant-loop-state : goal.invariant-loop-state
-invariant-loop-state g l =
-    AreFormsOf (pointwise nat_eq) (named_by g.M.Machine.form_code (g.M.Machine.form_of l.machine))
-    (take l.state-index l.states)
+abbrev pub invariant-loop-index : goal.invariant-loop-index
+invariant-loop-index g l =
+    AreFormsOf (pointwise nat_eq) (named_by g.M.Machine.form_code (g.M.Machine.form_of l.fn.machine))
+    (take l.index l.states)
     (contains (pointwise nat_eq) l.forms)

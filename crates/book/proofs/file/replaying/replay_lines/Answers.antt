@@ -1,51 +1,60 @@
-use Rattle.std.proofs.Common.{◌∙◌, ap, [], ◌∷◌, ◌++◌}
-use Rattle.std.proofs.lemmas.List.{take_all}
+use Rattle.std.proofs.Common.{◌≡◌, ◌+◌, ◌<◌, ◌∙◌, ap, [], ◌∷◌, ◌++◌, arith, length, take}
+use Rattle.std.proofs.lemmas.List.{length-take-le, take_all}
 use Rattle.book.proofs.BookFile.Replayed.{replayed_start, replayed_item, amiss_of_next, amiss_at_start}
 use Rattle.book.proofs.file.replaying.replay_lines.Goals as goal
 
-pub loop-line-init : goal.loop-line-init
-loop-line-init g c =
+pub loop-i-init : goal.loop-i-init
+loop-i-init g c =
     replayed_start (g.M.Machine.rules c.args.machine) c.args.program.now c.in_ok-start.start c.push.new.self
-    c.in_ok-start.ensures.start c.in_ok-start.ensures.fits c.in_default.ensures.shown
+    (c.in_ok-start.ensures ∙ c.in_ok-state.ensures.start) (rw c.in_ok-start.ensures c.in_ok-state.ensures.fits)
+    (rw c.in_ok-start.ensures c.in_default.ensures.shown)
     (c.in_ok-push.ensures.ok ∙ ap (λ xs. xs ++ c.in_ok-start.start ∷ []) c.new-states.ensures)
 
 pub returns-in-Err-told-clause-amiss : goal.returns-in-Err-told-clause-amiss
 returns-in-Err-told-clause-amiss g c =
-    amiss_of_next (g.M.Machine.rules c.args.machine) c.args.program.now c.args.lines.now c.loop-line.states
-    c.loop-line.line-index c.line-item.result c.loop-line-test.true c.line-item.is c.loop-line.invariant
+    amiss_of_next (g.M.Machine.rules c.args.machine) c.args.program.now c.args.lines.now c.loop-i.states
+    c.loop-i.i c.index-lines-i.result c.loop-i-test.true c.index-lines-i.is c.loop-i.invariant
     c.in-Err-told.fault c.in-Err-told.ensures.amiss
 
-pub loop-line-preserved : goal.loop-line-preserved
-loop-line-preserved g c =
-    replayed_item (g.M.Machine.rules c.args.machine) c.args.program.now c.args.lines.now c.loop-line.states
-    c.loop-line.line-index c.line-item.result c.loop-line-test.true c.line-item.is c.loop-line.invariant
-    c.push-in-Ok.new.self c.in-Ok.state c.in-Ok.ensures.told c.in-Ok.ensures.fits c.in_ok-push-in-Ok.ensures.ok
+pub loop-i-preserved : goal.loop-i-preserved
+loop-i-preserved g c =
+    replayed_item (g.M.Machine.rules c.args.machine) c.args.program.now c.args.lines.now c.loop-i.states
+    c.loop-i.i c.index-lines-i.result c.loop-i-test.true c.index-lines-i.is c.loop-i.invariant
+    c.push-in-Ok.new.self c.in-Ok.next c.in-Ok.ensures.told c.in-Ok.ensures.fits c.in_ok-push-in-Ok.ensures.ok
 
 pub returns-in-Err-clause-amiss : goal.returns-in-Err-clause-amiss
 returns-in-Err-clause-amiss g c =
-    amiss_at_start (g.M.Machine.rules c.args.machine) c.args.program.now c.args.lines.now c.in_ok-start.start
-    c.in-Err.fault c.in_ok-start.ensures.start c.in-Err.ensures.unshown
+    amiss_at_start (g.M.Machine.rules c.args.machine) c.args.program.now c.args.lines.now c.in_ok-state.state
+    c.in-Err.fault c.in_ok-state.ensures.start c.in-Err.ensures.unshown
 
 pub returns-clause-replayed : goal.returns-clause-replayed
 returns-clause-replayed g c =
-    let so =
-    rw (take_all c.loop-line.line-index c.args.lines.now c.loop-line-test.false) at c.loop-line.invariant in
-    so.replayed
+    let so = rw (take_all c.loop-i.i c.args.lines.now c.loop-i-test.false) at c.loop-i.invariant in so.replayed
 
 pub returns-clause-fit : goal.returns-clause-fit
-returns-clause-fit g c = c.loop-line.invariant.fit
+returns-clause-fit g c = c.loop-i.invariant.fit
 
 pub returns-clause-few : goal.returns-clause-few
-returns-clause-few g c = c.loop-line.invariant.few
+returns-clause-few g c = c.loop-i.invariant.few
 
 pub returns-clause-many : goal.returns-clause-many
 returns-clause-many g c =
-    let so =
-    rw (take_all c.loop-line.line-index c.args.lines.now c.loop-line-test.false) at c.loop-line.invariant in
-    so.many
+    let so = rw (take_all c.loop-i.i c.args.lines.now c.loop-i-test.false) at c.loop-i.invariant in so.many
 
 pub told-requires-clause-fit : goal.told-requires-clause-fit
-told-requires-clause-fit g c κs within = c.loop-line.invariant.fit
+told-requires-clause-fit g c κs within = c.loop-i.invariant.fit
 
 pub told-requires-clause-few : goal.told-requires-clause-few
-told-requires-clause-few g c κs within = c.loop-line.invariant.few
+told-requires-clause-few g c κs within = c.loop-i.invariant.few
+
+pub told-requires-clause-many : goal.told-requires-clause-many
+told-requires-clause-many g c κs within =
+    let many : length c.loop-i.states ≡ length (take c.loop-i.i c.args.lines.now) + 1 = c.loop-i.invariant.many in
+    let less : c.loop-i.i < length c.args.lines.now = c.loop-i-test.true in
+    let short : length (take c.loop-i.i c.args.lines.now) ≡ c.loop-i.i =
+    length-take-le c.loop-i.i c.args.lines.now (omega arith) in
+    let most : length c.args.lines.now < 2000000 = c.requires in
+    omega arith
+
+pub told-requires-clause-replayed : goal.told-requires-clause-replayed
+told-requires-clause-replayed g c κs within = c.loop-i.invariant.replayed

@@ -3,7 +3,7 @@ use Rattle.std.proofs.Common.{◌∙◌, ◌≡◌, ◌+◌, ◌<◌, ◌≤◌,
 use Rattle.book.specs.declared.entry.Mark.TheVariants.{Expanded}
 use Rattle.book.specs.Entries.{Entry, IsTaken, with_mark}
 use Rattle.book.specs.Labels.{Kept}
-use Rattle.book.specs.Slots.{entries_of, AreHeld, IsFirstLeft, IsLeft}
+use Rattle.book.specs.Slots.{entries_of, IsFirstLeft, IsLeft}
 use Rattle.book.proofs.Holding.{held_back, held_expanded, left_from, left_grows_marked, taken_is_left}
 use Rattle.book.proofs.EntryLemmas.{get_within, length-with_mark}
 use Rattle.book.proofs.SlotLemmas.{length-entries}
