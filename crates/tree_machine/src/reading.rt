@@ -1,7 +1,7 @@
 //! Values read from the front of bytes, each with the bytes behind it. Where there is none, as behind the last byte, or
 //! where a value would be too large, a reader tells that by `None`.
 ghost use Rattle.std.specs.Prelude.{◌≡◌, ◌<◌, ◌++◌, ◌∷◌, IfSome};
-ghost use Rattle.tree_machine.specs.Flat.{number_code, reference_number};
+ghost use Rattle.tree_machine.specs.Flat.{number_code};
 
 /// Reads a byte.
 #[inline(always)]
@@ -23,31 +23,6 @@ pub fn read_number(bytes: &[u8]) -> Option<(u64, &[u8])>
         Some((u64::from(byte), rest))
     } else {
         None
-    }
-}
-
-/// Reads a key as a number, if it is below 255.
-#[inline(always)]
-pub fn read_key(bytes: &[u8]) -> Option<(u8, &[u8])>
-    ensures key { IfSome result (λ (key, rest). bytes.now ≡ number_code key ++ rest.now) }
-    ensures small { IfSome result (λ (key, rest). key < 255) }
-{
-    let (byte, rest) = read_byte(bytes)?;
-    if byte < 255 { Some((byte, rest)) } else { None }
-}
-
-/// Reads a reference to a node or a record, or none, as a number that is one byte.
-#[inline(always)]
-pub fn read_reference(bytes: &[u8]) -> Option<(Option<u16>, &[u8])>
-    ensures reference { IfSome result
-        (λ (reference, rest). bytes.now ≡ number_code (reference_number reference) ++ rest.now) }
-    ensures small { IfSome result (λ (reference, rest). IfSome reference (λ cell. cell < 254)) }
-{
-    let (byte, rest) = read_key(bytes)?;
-    if byte == 0 {
-        Some((None, rest))
-    } else {
-        Some((Some(u16::from(byte) - 1), rest))
     }
 }
 

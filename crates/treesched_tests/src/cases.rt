@@ -2,7 +2,6 @@
 use crate::answers::{Wanted, answers, checks};
 use crate::books::closes;
 use crate::devices::{Device, works};
-use crate::exploring::{By, Exploration, explores};
 use crate::faults::{is_shown, is_shown_with_its_line};
 use crate::programs::nests;
 use crate::replaying::{replays, replays_zeros};
@@ -34,8 +33,6 @@ pub enum Case<'a> {
     /// The words of an exploration with a book file, the program, and the line of the states: every schedule is told to
     /// hold, and the book passes.
     Closes(&'a str, &'a [u8], &'a str),
-    /// An exploration, and who explores.
-    Explores(&'a By, Exploration),
     /// A reader or a writer that fails.
     Works(Device<'a>),
     /// Words, and what they ask for.
@@ -56,7 +53,6 @@ impl Case<'_> {
             Case::Zeros(count, wanted) => replays_zeros(rt, *count, wanted),
             Case::Check(book, file, wanted) => checks(rt, book, file, wanted),
             Case::Closes(line, file, states) => closes(rt, line, file, states),
-            Case::Explores(by, exploration) => explores(rt, by, exploration),
             Case::Works(device) => works(rt, device),
             Case::Reads(words, asked) => asks(rt.alloc(), words, asked),
             Case::Shows(fault) => is_shown(rt.alloc(), *fault),

@@ -11,15 +11,15 @@ mod cases;
 #[cfg(test)]
 mod devices;
 #[cfg(test)]
-mod exploring;
-pub mod failing;
+mod explorations;
+#[cfg(test)]
+mod failing;
 #[cfg(test)]
 mod faults;
 #[cfg(test)]
 mod programs;
 #[cfg(test)]
 mod replaying;
-#[cfg(test)]
-mod sources;
+pub mod sources;
 #[cfg(test)]
 mod words;

@@ -1,0 +1,293 @@
+//! Forms of a few nodes and records.
+
+use crate::machine::broken::{Broken, Case, ensure};
+use crate::machine::parts::{Tables, Written, bytes_of, row_of};
+use sched_program::OutOfMemory;
+use std::alloc::Global;
+use tree_machine::Bytes;
+
+/// A root of this fact above a ring of a node and a record, which a thread holds. The record of the ring names this
+/// record, and the thread this node.
+#[derive(Clone, Copy)]
+struct Ring {
+    case: Case,
+    fact: &'static [u64],
+    named_record: &'static [Option<usize>],
+    named_node: &'static [Option<usize>],
+}
+
+const RING: &Ring = &Ring {
+    case: Case::TheRing,
+    fact: &[511],
+    named_record: &[None],
+    named_node: &[Some(1)],
+};
+
+/// The bytes of a ring, and of a node and a record that nothing names. They stand in the order in which they are met.
+fn ring_of(alloc: Global, ring: &Ring, written: Written) -> Result<Bytes, OutOfMemory> {
+    let nodes = [
+        row_of(ring.fact, &[Some(1), None], &[]),
+        row_of(&[300], &[Some(0)], &[Some(0)]),
+        row_of(ring.fact, &[Some(2)], &[Some(1)]),
+    ];
+    let records = [
+        row_of(&[], &[Some(1)], ring.named_record),
+        row_of(&[4, 5], &[], &[Some(0)]),
+    ];
+    let held = [
+        row_of(&[2], ring.named_node, &[Some(0)]),
+        row_of(&[], &[], &[]),
+    ];
+    bytes_of(
+        alloc,
+        &Tables {
+            nodes: &nodes,
+            records: &records,
+            held: &held,
+        },
+        written,
+    )
+}
+
+/// The form of `RING`, where nodes and records stand the other way round.
+fn turned_ring(alloc: Global) -> Result<Bytes, OutOfMemory> {
+    let nodes = [
+        row_of(&[511], &[Some(2), None], &[]),
+        row_of(&[511], &[Some(1)], &[Some(0)]),
+        row_of(&[300], &[Some(0)], &[Some(1)]),
+    ];
+    let records = [
+        row_of(&[4, 5], &[], &[Some(1)]),
+        row_of(&[], &[Some(2)], &[None]),
+    ];
+    let held = [row_of(&[2], &[Some(2)], &[Some(1)]), row_of(&[], &[], &[])];
+    bytes_of(
+        alloc,
+        &Tables {
+            nodes: &nodes,
+            records: &records,
+            held: &held,
+        },
+        Written::Form,
+    )
+}
+
+/// The form of both.
+///
+/// Each cell: a byte that tells how many facts it has, how many nodes it names (times 5), and how many nodes and
+/// records (times 30); its facts; each node or record as its place and one, or 0 for none. Places: 0 the root, 1 and 2
+/// the threads, 3 the node, 4 the record.
+const FORM: [u8; 19] = [
+    71, 255, 255, 1, 4, 0, // the root, of fact 511
+    66, 2, 4, 5, // what the first thread holds
+    0, // what the second holds
+    66, 255, 45, 1, 5, // the node, of fact 300
+    65, 4, 0, // the record
+];
+
+/// All of the same ring: how many nodes and records there are, and then the nodes, the records and what the threads
+/// hold, each with the numbers of what it names and one; records are numbered behind the nodes.
+const WHOLE: [u8; 31] = [
+    3, 2, // three nodes and two records
+    71, 255, 255, 1, 2, 0, // the root
+    66, 255, 45, 1, 4, // the node
+    66, 255, 255, 1, 3, 5, // the node that nothing names
+    65, 2, 0, // the record
+    32, 4, 5, 4, // the record that nothing names
+    66, 2, 2, 4, // what the first thread holds
+    0, // what the second holds
+];
+
+/// All of the ring is written as it is here.
+fn is_ring_whole(alloc: Global) -> Result<(), Broken> {
+    let whole = ring_of(alloc, RING, Written::Whole)?;
+    ensure(whole.as_slice() == WHOLE.as_slice(), RING.case)
+}
+
+#[test]
+fn all_of_the_parts_is_written_by_number(rt: HostRuntime) -> Result<(), Broken> {
+    match is_ring_whole(rt.alloc()) {
+        Ok(()) => Ok(()),
+        Err(_) => is_ring_whole(rt.alloc()),
+    }
+}
+
+/// The form of a ring is `FORM`, or another one, as is expected.
+fn has_form(alloc: Global, ring: &Ring, expected: bool) -> Result<(), Broken> {
+    let form = ring_of(alloc, ring, Written::Form)?;
+    let is_form = form.as_slice() == FORM.as_slice();
+    ensure(form.as_slice().len() > 0 && is_form == expected, ring.case)
+}
+
+/// The ring has the same form where its numbers are others.
+fn turned_has_form(alloc: Global) -> Result<(), Broken> {
+    let form = turned_ring(alloc)?;
+    ensure(form.as_slice() == FORM.as_slice(), Case::TheRingTurned)
+}
+
+fn is_ring_one(alloc: Global) -> Result<(), Broken> {
+    has_form(alloc, RING, true)?;
+    turned_has_form(alloc)
+}
+
+#[test]
+fn names_up_to_numbers_are_equal(rt: HostRuntime) -> Result<(), Broken> {
+    match is_ring_one(rt.alloc()) {
+        Ok(()) => Ok(()),
+        Err(_) => is_ring_one(rt.alloc()),
+    }
+}
+
+/// Facts in one byte and in two.
+const OTHER_FACTS: &[(Case, &[u64])] = &[
+    (Case::Fact0, &[0]),
+    (Case::Fact1, &[1]),
+    (Case::Fact255, &[255]),
+    (Case::Fact256, &[256]),
+    (Case::Fact510, &[510]),
+    (Case::Fact512, &[512]),
+];
+
+/// The form tells a ring of this fact from `RING`.
+fn is_fact_told(alloc: Global, case: Case, fact: &'static [u64]) -> Result<(), Broken> {
+    let ring = Ring {
+        case,
+        fact,
+        named_record: &[None],
+        named_node: &[Some(1)],
+    };
+    has_form(alloc, &ring, false)
+}
+
+fn other_facts(alloc: Global) -> Result<(), Broken> {
+    has_form(alloc, RING, true)?;
+    for (case, fact) in OTHER_FACTS {
+        is_fact_told(alloc, *case, fact)?;
+    }
+    Ok(())
+}
+
+#[test]
+fn a_fact_above_a_byte_tells_apart(rt: HostRuntime) -> Result<(), Broken> {
+    match other_facts(rt.alloc()) {
+        Ok(()) => Ok(()),
+        Err(_) => other_facts(rt.alloc()),
+    }
+}
+
+/// One side has a reference, and the other has none.
+const OTHER_REFERENCES: &[Ring] = &[
+    Ring {
+        case: Case::ARecordNamedByTheRecord,
+        fact: &[511],
+        named_record: &[Some(0)],
+        named_node: &[Some(1)],
+    },
+    Ring {
+        case: Case::NoNodeNamedByTheThread,
+        fact: &[511],
+        named_record: &[None],
+        named_node: &[None],
+    },
+];
+
+fn other_references(alloc: Global) -> Result<(), Broken> {
+    has_form(alloc, RING, true)?;
+    for ring in OTHER_REFERENCES {
+        has_form(alloc, ring, false)?;
+    }
+    Ok(())
+}
+
+#[test]
+fn a_reference_that_one_side_has_tells_apart(rt: HostRuntime) -> Result<(), Broken> {
+    match other_references(rt.alloc()) {
+        Ok(()) => Ok(()),
+        Err(_) => other_references(rt.alloc()),
+    }
+}
+
+/// A root that names nodes and records, none of which is there, and its bytes.
+struct Root {
+    case: Case,
+    facts: &'static [u64],
+    nodes: &'static [Option<usize>],
+    records: &'static [Option<usize>],
+    bytes: &'static [u8],
+}
+
+/// The most that one byte tells, and one more of each. Behind a byte of 255 numbers tell it: how many facts, the first
+/// of which is how many nodes it names, and how many nodes and records.
+const ROOTS: &[Root] = &[
+    Root {
+        case: Case::FourFacts,
+        facts: &[1, 2, 3, 4],
+        nodes: &[None],
+        records: &[],
+        bytes: &[39, 1, 2, 3, 4, 0],
+    },
+    Root {
+        case: Case::FiveFacts,
+        facts: &[1, 2, 3, 4, 5],
+        nodes: &[None],
+        records: &[],
+        bytes: &[255, 6, 1, 1, 1, 2, 3, 4, 5, 0],
+    },
+    Root {
+        case: Case::FiveNodes,
+        facts: &[9],
+        nodes: &[None, None, None, None, None],
+        records: &[],
+        bytes: &[176, 9, 0, 0, 0, 0, 0],
+    },
+    Root {
+        case: Case::SixNodes,
+        facts: &[9],
+        nodes: &[None, None, None, None, None, None],
+        records: &[],
+        bytes: &[255, 2, 6, 6, 9, 0, 0, 0, 0, 0, 0],
+    },
+    Root {
+        case: Case::ThreeNodesAndFourRecords,
+        facts: &[],
+        nodes: &[None, None, None],
+        records: &[None, None, None, None],
+        bytes: &[225, 0, 0, 0, 0, 0, 0, 0],
+    },
+    Root {
+        case: Case::ThreeNodesAndFiveRecords,
+        facts: &[],
+        nodes: &[None, None, None],
+        records: &[None, None, None, None, None],
+        bytes: &[255, 1, 8, 3, 0, 0, 0, 0, 0, 0, 0, 0],
+    },
+];
+
+/// A root has the form that it is to have.
+fn has_bytes(alloc: Global, root: &Root) -> Result<(), Broken> {
+    let form = bytes_of(
+        alloc,
+        &Tables {
+            nodes: &[row_of(root.facts, root.nodes, root.records)],
+            records: &[],
+            held: &[],
+        },
+        Written::Form,
+    )?;
+    ensure(form.as_slice() == root.bytes, root.case)
+}
+
+fn roots(alloc: Global) -> Result<(), Broken> {
+    for root in ROOTS {
+        has_bytes(alloc, root)?;
+    }
+    Ok(())
+}
+
+#[test]
+fn one_byte_tells_what_is_few(rt: HostRuntime) -> Result<(), Broken> {
+    match roots(rt.alloc()) {
+        Ok(()) => Ok(()),
+        Err(_) => roots(rt.alloc()),
+    }
+}

@@ -1,0 +1,222 @@
+//! Forms of states that differ in the numbers of nodes and records alone, and of states that differ in more.
+ghost use Rattle.std.specs.Prelude.{IfOk};
+ghost use Rattle.tree_machine.specs.Step.{Fits};
+ghost use Rattle.ellen.specs.EllenRules.{ellen_rules};
+
+use crate::on_ellen::states::{next, program_of, start};
+use ellen::{Ellen, EllenLoc, SearchLoc};
+use sched_program::{OutOfMemory, Program};
+use std::alloc::Global;
+use std::test::Fail;
+use tree_machine::{State, StateForm, StepFault, Thread};
+
+const WHOLE: Ellen = Ellen {
+    mark: true,
+    iflag: true,
+};
+
+/// Two inserts below different parents.
+const INSERTS: &str =
+    r#"{"version":1,"tree":"ellen","initial":[20,10,30],"threads":[[{"op":"insert","key":5}],[{"op":"insert","key":40}]]}"#;
+
+/// A key is deleted, put in again and deleted again while it is looked for.
+const DELETES: &str =
+    r#"{"version":1,"tree":"ellen","initial":[10],"threads":[[{"op":"delete","key":10},{"op":"insert","key":10},{"op":"delete","key":10}],[{"op":"find","key":10}]]}"#;
+
+/// Stretches of steps, each of one thread: both inserts have searched, and then flag their parents.
+const FLAG_IN_ORDER: [(u8, u64); 4] = [(0, 6), (1, 8), (0, 1), (1, 1)];
+
+/// The same with the flags in the other order.
+const FLAG_IN_TURN: [(u8, u64); 4] = [(0, 6), (1, 8), (1, 1), (0, 1)];
+
+/// The find has come to the node that the first delete has spliced out since.
+const AT_FIRST: [(u8, u64); 2] = [(1, 2), (0, 15)];
+
+/// The find has come to the node that the insert has put in its place.
+const AT_SECOND: [(u8, u64); 3] = [(1, 1), (0, 15), (1, 1)];
+
+/// Like `AT_FIRST`, and the second delete has spliced out the node of the insert.
+const BEHIND_FIRST: [(u8, u64); 2] = [(1, 2), (0, 25)];
+
+/// Like `AT_SECOND`, and the second delete has spliced out that node.
+const BEHIND_SECOND: [(u8, u64); 4] = [(1, 1), (0, 15), (1, 1), (0, 10)];
+
+/// The state after so many more steps of a thread.
+fn more_steps(
+    alloc: Global,
+    machine: Ellen,
+    program: &Program,
+    state: Box<State<Ellen>>,
+    thread: u8,
+    count: u64,
+) -> Result<Box<State<Ellen>>, StepFault>
+    requires { Fits (ellen_rules machine) program.now state.value }
+    ensures { IfOk result (λ state. Fits (ellen_rules machine) program.now state.value) }
+{
+    let mut state = state;
+    for _step in 0..count {
+        state = next(alloc, machine, program, &state, thread)?;
+    }
+    Ok(state)
+}
+
+/// The state after stretches of steps from the start, each of one thread.
+fn after(
+    alloc: Global,
+    machine: Ellen,
+    program: &Program,
+    stretches: &[(u8, u64)],
+) -> Result<Box<State<Ellen>>, StepFault>
+    ensures { IfOk result (λ state. Fits (ellen_rules machine) program.now state.value) }
+{
+    let mut state = start(alloc, machine, program)?;
+    for (thread, count) in stretches {
+        state = more_steps(alloc, machine, program, state, *thread, *count)?;
+    }
+    Ok(state)
+}
+
+/// The state to which the program of a text comes by a schedule.
+fn state_of(
+    alloc: Global,
+    text: &str,
+    stretches: &[(u8, u64)],
+) -> Result<Box<State<Ellen>>, StepFault> {
+    let program = program_of(alloc, text)?;
+    after(alloc, WHOLE, &program, stretches)
+}
+
+/// The form of a state.
+fn form_of(
+    alloc: Global,
+    machine: Ellen,
+    program: &Program,
+    state: &State<Ellen>,
+) -> Result<Box<StateForm<Ellen>>, OutOfMemory>
+    requires { Fits (ellen_rules machine) program.now state.now }
+{
+    // Whoever reads a program knows that it meets the limits.
+    let _ = program.initial();
+    Ok(Box::new(alloc, state.form(alloc, machine)?)?)
+}
+
+/// The form of the state to which the program of a text comes by a schedule.
+fn form_after(
+    alloc: Global,
+    text: &str,
+    stretches: &[(u8, u64)],
+) -> Result<Box<StateForm<Ellen>>, StepFault> {
+    let program = program_of(alloc, text)?;
+    let state = after(alloc, WHOLE, &program, stretches)?;
+    Ok(form_of(alloc, WHOLE, &program, &state)?)
+}
+
+/// Whether two schedules lead to equal states.
+fn are_equal(
+    alloc: Global,
+    text: &str,
+    stretches: &[(u8, u64)],
+    others: &[(u8, u64)],
+) -> Result<bool, StepFault> {
+    let left = state_of(alloc, text, stretches)?;
+    let right = state_of(alloc, text, others)?;
+    Ok(*left == *right)
+}
+
+/// Whether they lead to states of equal forms.
+fn have_equal_forms(
+    alloc: Global,
+    text: &str,
+    stretches: &[(u8, u64)],
+    others: &[(u8, u64)],
+) -> Result<bool, StepFault> {
+    let left = form_after(alloc, text, stretches)?;
+    let right = form_after(alloc, text, others)?;
+    Ok(*left == *right)
+}
+
+/// The parent at which a thread looks for its key, if it does.
+fn parent_at(thread: &Thread<EllenLoc>) -> Option<u16> {
+    match &thread.place {
+        Some(EllenLoc::Search(SearchLoc::Update { parent, .. })) => Some(*parent),
+        _ => None,
+    }
+}
+
+/// The parent at which thread 1 looks for its key after a schedule.
+fn parent_of_find(
+    alloc: Global,
+    text: &str,
+    stretches: &[(u8, u64)],
+) -> Result<Option<u16>, StepFault> {
+    let state = state_of(alloc, text, stretches)?;
+    match state.threads.get(1) {
+        Some(thread) => Ok(parent_at(thread)),
+        None => Ok(None),
+    }
+}
+
+/// Two schedules of a program, each with the parent at which thread 1 looks for its key then, and whether the states
+/// that they lead to are equal, and their forms.
+struct Pair {
+    name: &'static str,
+    text: &'static str,
+    first: (&'static [(u8, u64)], Option<u16>),
+    second: (&'static [(u8, u64)], Option<u16>),
+    states: bool,
+    forms: bool,
+}
+
+static PAIRS: [Pair; 3] = [
+    Pair {
+        name: "two orders of new nodes and records",
+        text: INSERTS,
+        first: (&FLAG_IN_ORDER, None),
+        second: (&FLAG_IN_TURN, None),
+        states: false,
+        forms: true,
+    },
+    Pair {
+        name: "a node that is spliced out and still held, and a node of the tree",
+        text: DELETES,
+        first: (&AT_FIRST, Some(5)),
+        second: (&AT_SECOND, Some(8)),
+        states: false,
+        forms: false,
+    },
+    // Their records differ: the root's update word has the record of one.
+    Pair {
+        name: "two nodes that are spliced out, marked by different records",
+        text: DELETES,
+        first: (&BEHIND_FIRST, Some(5)),
+        second: (&BEHIND_SECOND, Some(8)),
+        states: false,
+        forms: false,
+    },
+];
+
+/// Whether the states and forms of a pair are as it says.
+fn is_right(alloc: Global, pair: &Pair) -> Result<bool, StepFault> {
+    let (first, first_parent) = pair.first;
+    let (second, second_parent) = pair.second;
+    let is_there = parent_of_find(alloc, pair.text, first)? == first_parent;
+    let is_there_too = parent_of_find(alloc, pair.text, second)? == second_parent;
+    let states = are_equal(alloc, pair.text, first, second)?;
+    let forms = have_equal_forms(alloc, pair.text, first, second)?;
+    Ok(is_there && is_there_too && states == pair.states && forms == pair.forms)
+}
+
+#[test]
+fn forms(rt: HostRuntime) -> Result<(), Fail> {
+    let alloc = rt.alloc();
+    for pair in PAIRS.as_slice() {
+        let name = pair.name;
+        // One request for memory may be refused.
+        let mut answer = is_right(alloc, pair);
+        if answer.is_err() {
+            answer = is_right(alloc, pair);
+        }
+        assert!(rt; answer?, "{name}");
+    }
+    Ok(())
+}

@@ -1,6 +1,0 @@
-use Rattle.tree_machine.specs.Step.{Fits}
-use Rattle.natmit.specs.NatMitRules.{natmit_rules}
-use Rattle.natmit_tests.proofs.forms.after.Given as goal
-
-abbrev pub invariant-loop-thread : goal.invariant-loop-thread
-invariant-loop-thread l = Fits (natmit_rules l.machine) l.program l.state

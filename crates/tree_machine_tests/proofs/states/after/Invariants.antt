@@ -1,6 +1,0 @@
-use Rattle.tree_machine.specs.Atomic.{atomic_rules}
-use Rattle.tree_machine.specs.Step.{Fits}
-use Rattle.tree_machine_tests.proofs.states.after.Given as goal
-
-abbrev pub invariant-loop-thread : goal.invariant-loop-thread
-invariant-loop-thread l = Fits atomic_rules l.program l.state.value
