@@ -59,9 +59,7 @@ fn places_of(
 /// Looks at the states of entries. The sum of what it sees is of no use: a state that a book holds was last touched a layer
 /// ago, by whichever worker made it, and looked at one right after the other they come into the processor's caches all at
 /// once, so that no expansion has to wait for its own.
-fn look_at<K: Tie<M, State<M>>, M: Machine>(
-    drawn: &[(usize, Ready<'_, K, M>)],
-) -> usize {
+fn look_at<K: Tie<M, State<M>>, M: Machine>(drawn: &[(usize, Ready<'_, K, M>)]) -> usize {
     let mut seen = 0usize;
     for (_, ready) in drawn {
         seen = seen.wrapping_add(ready.look_at());
