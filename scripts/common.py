@@ -1,6 +1,6 @@
 """What the scripts share: the program that they run, what it answers and refuses, and how a script ends.
 
-A script's `main` returns its status. `end` runs it, and tells whatever the user can mend in one line.
+A script's `main` returns its status. `end` runs it, and prints whatever the user can mend as one line.
 """
 from __future__ import annotations
 
@@ -115,7 +115,7 @@ def words_of(usage: str | None) -> argparse.ArgumentParser:
 
 
 def end(main: Callable[[], int], interrupted: str = "interrupted") -> None:
-    """Runs a script's `main`, and exits with its status. What the user can mend is told in one line."""
+    """Runs a script's `main`, and exits with its status. What the user can mend is one line on the standard error."""
     name = Path(sys.argv[0]).stem
     try:
         status = main()

@@ -4,12 +4,13 @@
 usage: scripts/compare_sweep.py [--sample N] [--seed N] [--processes P] RESULTS ..
 
 The explorer here shares nothing with treesched: its machines are scripts/place_tables.py, written from
-docs/MACHINES.md. For each line of RESULTS, which scripts/sweep.py wrote, it finds the verdict and the number of
-steps, and where every schedule holds the number of states. With --sample N, only N lines are drawn. It takes some
-twenty times as long as treesched. Lines whose verdict is `holds` or `stopped` bound the exploration, and are left out.
+docs/MACHINES.md. For each line of RESULTS, which scripts/sweep.py wrote, it finds the verdict and the number
+of steps, and where every schedule holds the number of states. With --sample N, only N lines are drawn. It
+takes some twenty times as long as treesched. Lines whose verdict is `holds` or `stopped` bound the
+exploration, and are left out.
 
-Each program for which the two differ is shown, and at the end comes 'N programs, M differ'. The status is 0 if none
-differs, 1 if one does or none was compared, and 2 where a file can't be used.
+Each program for which the two differ is shown, and at the end comes 'N programs, M differ'. The status is 0
+if none differs, 1 if one does or none was compared, and 2 where a file can't be used.
 """
 from __future__ import annotations
 

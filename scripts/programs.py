@@ -48,7 +48,7 @@ Thread = tuple[Operation, ...]
 
 
 def keys_of(text: str) -> list[int]:
-    """The keys of a list joined by commas, each of which may stand there once."""
+    """The keys of a list joined by commas, where each may stand once."""
     words = text.split(",") if text else []
     if not all(map(KEY.fullmatch, words)):
         raise Unusable(f"{text!r} is no list of keys, which are numbers from 0 to {MOST_KEY} with commas between")
@@ -198,7 +198,7 @@ class Family:
     waits: bool = False
 
     def refuse(self) -> None:
-        """Refuses a family that is none, or of which the program would refuse a program."""
+        """Refuses a family that is none, or that has a program which treesched would refuse."""
         most = self.threads * self.most
         if most > MOST_IN_ALL:
             counts = f"{self.threads} threads of {self.most} operations have {most}"

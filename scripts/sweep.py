@@ -119,7 +119,7 @@ class Progress:
     """How far a sweep is, on the standard error: on a terminal in one line that is written over, else now and then."""
 
     def __init__(self, there: int, left: int) -> None:
-        self.begun = self.told = time.monotonic()
+        self.begun = self.shown = time.monotonic()
         self.there, self.left, self.done, self.wrong = there, left, 0, 0
 
     def count(self, is_right: bool) -> None:
@@ -128,8 +128,8 @@ class Progress:
         self.wrong += not is_right
         now = time.monotonic()
         is_terminal = sys.stderr.isatty()
-        if self.done == self.left or now - self.told >= (0.2 if is_terminal else SECONDS_BETWEEN_LINES):
-            self.told = now
+        if self.done == self.left or now - self.shown >= (0.2 if is_terminal else SECONDS_BETWEEN_LINES):
+            self.shown = now
             rest = (now - self.begun) / self.done * (self.left - self.done)
             had = f", {self.there} were there" if self.there else ""
             line = f"sweep: {self.done} of {self.left}{had}, {self.wrong} wrong, about {rest:.0f} s more"

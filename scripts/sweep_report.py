@@ -102,7 +102,7 @@ def family_of(results: list[Result]) -> Family:
 
 
 def read_sweep(file: Path) -> Swept:
-    """A file of results as a family, each program of which has one line whose answer was judged anew."""
+    """A file of results as a family: each of its programs has one line, whose answer was judged anew."""
     results = read_results(file)
     if not results:
         raise Incomplete(f"{file} has no line")
