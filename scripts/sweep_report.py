@@ -75,11 +75,6 @@ class Swept:
         """The results on a tree."""
         return [result for result in self.results if result.tree == tree]
 
-    @property
-    def commits(self) -> list[str]:
-        """The commits that its lines name."""
-        return sorted({result.commit or "" for result in self.results})
-
 
 def operations_in(result: Result) -> int:
     """How many operations a program has."""
@@ -155,7 +150,7 @@ def title_of(family: Family) -> str:
 
 
 def in_words(swept: Swept) -> str:
-    """A family in words, with how many programs it has and what made its results."""
+    """A family in words, with how many programs it has."""
     family = swept.family
     initials = listed([f"[{initial.strip('-').replace(',', ', ')}]" for initial in family.initials])
     keys = listed([str(key) for key in family.keys])
@@ -163,9 +158,8 @@ def in_words(swept: Swept) -> str:
     words = f"Every operation is an {listed(list(WORDS.values()), 'or')} of one of the keys {keys};"
     words += f" the initial lists are {initials}."
     waits = " The programs are of version 2: there is a find, and each find waits for one insert of another thread."
-    programs = f"That is {count(len(swept.results) // len(family.trees))} programs of each tree, and all were run"
-    commits = listed([f"`{commit[:12]}`" for commit in swept.commits])
-    return f"{threads} {words}{waits if family.waits else ''} {programs}, with the sources of commit {commits}."
+    programs = f"That is {count(len(swept.results) // len(family.trees))} programs of each tree, and all were run."
+    return f"{threads} {words}{waits if family.waits else ''} {programs}"
 
 
 def greatest(results: list[Result], measure: Callable[[Result], int]) -> str:
@@ -242,11 +236,14 @@ def page(sweeps: list[Swept], notes: list[str], commands: list[str]) -> str:
     """The whole page."""
     again = "## Again\n\n" + "\n".join(f"    {command}" for command in commands) + "\n"
     results = [result for swept in sweeps for result in swept.results]
+    commits = sorted({f"`{result.commit}`" for result in results})
+    sources = f"The sources are those of commit {listed(commits)}."
     explored = sum(result.seconds for result in results) / 60
     whole = sum(result.seconds_all for result in results) / 60
     programs = f"One after the other the {count(len(results))} programs took {whole:.0f} minutes"
     ending = map(filled, [*notes, f"{programs}, {explored:.0f} of them to explore."])
-    return "\n".join([*map(filled, HEAD), *map(section, sweeps), *map(filled, LIMITS), again, *ending])
+    head = map(filled, [*HEAD, sources])
+    return "\n".join([*head, *map(section, sweeps), *map(filled, LIMITS), again, *ending])
 
 
 def write_whole(file: Path, text: str) -> None:
