@@ -12,7 +12,7 @@ from pathlib import Path
 from typing import Any
 
 from common import MOST_STATES as MOST_ENTRIES
-from place_tables import MACHINES, Astray, told
+from place_tables import MACHINES, Astray, reply_on
 from programs import Operation
 
 HEAD = re.compile(rb"treesched book 1 entries ([1-9][0-9]*)")
@@ -110,7 +110,7 @@ class Program:
         keys = frozenset(self.initial)
         for thread, index in order:
             operation = self.threads[thread][index]
-            reply, keys = told(operation.word, operation.key, keys)
+            reply, keys = reply_on(operation.word, operation.key, keys)
             if state.replies.get((thread, index), reply) != reply:
                 return False
         return True

@@ -24,7 +24,7 @@ from typing import Any
 
 from book_judge import Name, Program, State
 from common import MOST_PROCESSES, RIGHT, WRONG, end, number_from, words_of
-from place_tables import told
+from place_tables import reply_on
 from results import Result, read_results
 
 LINES_BETWEEN = 500
@@ -54,7 +54,7 @@ def has_order(program: Program, state: State) -> bool:
             if name in placed or any(note[thread] > index for thread, index in left):
                 continue
             operation = program.threads[name[0]][name[1]]
-            reply, after = told(operation.word, operation.key, keys)
+            reply, after = reply_on(operation.word, operation.key, keys)
             if state.replies.get(name, reply) == reply and extends(placed | {name}, after):
                 return True
         refuted.add((placed, keys))

@@ -359,6 +359,7 @@ def main() -> int:
         message = "docs/BELIEFS.md is not what the contracts cite: scripts/count_beliefs.py --write puts it right"
         print(f"count_beliefs: {message}", file=sys.stderr)
         return WRONG
+    print(f"docs/BELIEFS.md has what the contracts cite{' now' if words.write else ''}")
     return RIGHT
 
 
