@@ -55,7 +55,7 @@ class Program:
 
         def operation(item: dict[str, Any]) -> Operation:
             after = item.get("after") if value["version"] == 2 else None
-            return Operation(item["op"], item["key"], tuple(after) if after else None)
+            return Operation(item["op"], item["key"], (after[0], after[1]) if after else None)
 
         self.machine = MACHINES[value["tree"]]
         self.initial: list[int] = value["initial"]

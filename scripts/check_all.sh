@@ -91,6 +91,13 @@ python_files() {
         echo "${#files[@]} files"
 }
 
+# The types of all that stands on scripts/common.py, and of its tests.
+types() {
+    local files
+    mapfile -t files < <(git grep -l 'from common import\|import script_runs\|from script_runs import' -- '*.py')
+    MYPYPATH=scripts:scripts/tests:bench mypy --strict --cache-dir "$work/mypy" "${files[@]}"
+}
+
 check unit-tests unit_tests
 check pages scripts/check_pages.py --program "$program"
 [ ! -e scripts/check_links.py ] || check links scripts/check_links.py
@@ -101,6 +108,7 @@ check beliefs scripts/count_beliefs.py --check
 check sweeps sweeps
 if command -v g++ >/dev/null; then check baseline baseline; else skip baseline "there is no g++"; fi
 if command -v shellcheck >/dev/null; then check shell shell_scripts; else skip shell "there is no shellcheck"; fi
+if command -v mypy >/dev/null; then check types types; else skip types "there is no mypy"; fi
 check python python_files
 [ "$failed" -eq 0 ] || echo "$failed checks fail"
 [ "$failed" -eq 0 ]

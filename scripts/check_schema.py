@@ -215,7 +215,7 @@ def variants(value: Any) -> Iterator[Any]:
 def validator_of(schema: dict[str, Any]) -> Any:
     """A judge of values by a schema."""
     try:
-        from jsonschema import Draft202012Validator
+        from jsonschema import Draft202012Validator  # type: ignore[import]
     except ImportError:
         raise Unusable("the Python package jsonschema is missing (in Debian, python3-jsonschema)") from None
     Draft202012Validator.check_schema(schema)

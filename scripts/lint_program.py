@@ -57,14 +57,15 @@ def is_list(value: Any, least: int, most: int) -> bool:
 
 def is_operation(value: Any) -> bool:
     """Whether a value is an operation, whatever it waits for."""
-    return isinstance(value, dict) and value.get("op") in WORDS.values() and is_key(value.get("key"))
+    return isinstance(value, dict) and value.get("op") in [*WORDS.values()] and is_key(value.get("key"))
 
 
 def is_wait(value: Any, thread: int, threads: list[list[Any]]) -> bool:
     """Whether a value is an `after` of an operation of a thread."""
     if not is_list(value, 2, 2) or not all(type(number) is int for number in value):
         return False
-    return 0 <= value[0] < thread and 1 <= value[1] <= len(threads[value[0]])
+    other, count = value
+    return bool(0 <= other < thread and 1 <= count <= len(threads[other]))
 
 
 def is_program(value: Any) -> bool:
@@ -73,7 +74,8 @@ def is_program(value: Any) -> bool:
         return False
     if value.get("tree") not in TREES:
         return False
-    initial, threads = value.get("initial"), value.get("threads")
+    initial: Any = value.get("initial")
+    threads: Any = value.get("threads")
     if not is_list(initial, 0, MOST_INITIAL) or not all(map(is_key, initial)) or len(set(initial)) < len(initial):
         return False
     if not is_list(threads, 1, MOST_THREADS) or not all(is_list(thread, 1, MOST_OPERATIONS) for thread in threads):
@@ -162,7 +164,8 @@ def threads_of(value: dict[str, Any]) -> list[list[Operation]]:
     waits = value["version"] == 2
 
     def operation(item: dict[str, Any]) -> Operation:
-        return Operation(item["op"], item["key"], tuple(item["after"]) if waits and "after" in item else None)
+        after = (item["after"][0], item["after"][1]) if waits and "after" in item else None
+        return Operation(item["op"], item["key"], after)
 
     return [[operation(item) for item in thread] for thread in value["threads"]]
 

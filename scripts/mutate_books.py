@@ -195,7 +195,7 @@ def other_shape(random: Random, fields: list[bytes], entry: int) -> None:
     place = random.randrange(len(fields))
     field = fields[place]
     spaced = [[field, b""], [b"", field], [field + b"\r"], [b"\t" + field]]
-    other = [[b"0" + field], [b"+" + field], [field, field], [], [field + b","], [b"-"]]
+    other: list[list[bytes]] = [[b"0" + field], [b"+" + field], [field, field], [], [field + b","], [b"-"]]
     fields[place : place + 1] = random.choice([*spaced, *other])
 
 

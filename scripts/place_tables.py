@@ -75,7 +75,8 @@ class Tree:
         raise NotImplementedError
 
     def key(self, memory: Memory, node: Node) -> int:
-        return memory[0][node][0]
+        key: int = memory[0][node][0]
+        return key
 
     def is_leaf(self, memory: Memory, node: Node) -> bool:
         return len(memory[0][node]) == 1
@@ -145,7 +146,8 @@ class Ellen(Tree):
     roots = [Node(0)]
 
     def child_of(self, word: Any) -> Node:
-        return word
+        node: Node = word
+        return node
 
     def start(self, initial: list[int]) -> Memory:
         memory: Memory = (((INF2, CLEAN, Node(1), Node(2)), (INF1,), (INF2,)), ())
@@ -169,7 +171,8 @@ class Ellen(Tree):
     def update(self, memory: Memory, node: Node) -> Value:
         if self.is_leaf(memory, node):
             raise Astray
-        return memory[0][node][1]
+        update: Value = memory[0][node][1]
+        return update
 
     def exchanged(self, memory: Memory, node: Node, old: Value, new: Value) -> tuple[Memory, Value]:
         """An exchange of an update word: the memory after it, and the word found."""
@@ -205,7 +208,9 @@ class Ellen(Tree):
             case ("insonly", p, l):
                 grown, new = self.with_new(memory, key, l)
                 after, is_done = self.child_exchanged(grown, p, l, new)
-                return (after, True) if is_done else (memory, AGAIN)
+                if not is_done:
+                    return memory, AGAIN
+                return after, True
             case ("dflag", gp, gpu, p, u, l):
                 record = Record(len(memory[1]))
                 grown = (memory[0], (*memory[1], ("del", gp, p, l, u)))
@@ -286,7 +291,8 @@ class NatMit(Tree):
     roots = [Node(0), Node(1)]
 
     def child_of(self, word: Any) -> Node:
-        return word[2]
+        node: Node = word[2]
+        return node
 
     def start(self, initial: list[int]) -> Memory:
         def internal(key: int, left: int, right: int) -> Value:
@@ -313,7 +319,8 @@ class NatMit(Tree):
 
     def own_word(self, memory: Memory, node: Node, key: int) -> Value:
         """The child word of a node on a key's side."""
-        return self.word(memory, node, self.side(memory, node, key))
+        word: Value = self.word(memory, node, self.side(memory, node, key))
+        return word
 
     def exchanged(
         self, memory: Memory, grown: Memory, node: Node, key: int, old: Value, new: Value

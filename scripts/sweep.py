@@ -94,8 +94,18 @@ def judged(setting: Setting, name: str) -> Result:
         elif answer.schedule is not None:
             replayed = ask(setting.treesched, "replay", file, "--schedule", answer.schedule)
             checked = replayed.endswith(f"\nfault {answer.verdict}\n")
-        times = [round(seconds, 4), round(time.monotonic() - begun, 4)]
-    return Result(name, answer.verdict, answer.states, steps, checked, *times, answer.schedule, setting.commit)
+        seconds_all = time.monotonic() - begun
+    return Result(
+        name,
+        answer.verdict,
+        answer.states,
+        steps,
+        checked,
+        round(seconds, 4),
+        round(seconds_all, 4),
+        answer.schedule,
+        setting.commit,
+    )
 
 
 def run_one(setting: Setting, name: str) -> Result | Refused:

@@ -31,7 +31,7 @@ if words[0] == "check":
 
 def run_script(name: str, *words: object, folder: Path = TOP) -> subprocess.CompletedProcess[str]:
     """What comes of a script of the repository on these words."""
-    command = [sys.executable, TOP / name, *map(str, words)]
+    command = [sys.executable, str(TOP / name), *map(str, words)]
     return subprocess.run(command, cwd=folder, capture_output=True, text=True, check=False)
 
 

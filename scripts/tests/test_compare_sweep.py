@@ -60,13 +60,14 @@ class Comparisons(unittest.TestCase):
 
     def test_faults_of_use_are_one_line(self) -> None:
         (self.folder / "damaged.jsonl").write_text('{"program": 1}\n', encoding="utf-8")
-        for words, cause in [
+        faults: list[tuple[list[object], str]] = [
             (["no.jsonl"], "can't read no.jsonl: No such file"),
             (["damaged.jsonl"], "damaged.jsonl:1 is no line of results"),
             (["--processes", "0", "damaged.jsonl"], "'0' is not a number from 1 to 256"),
             (["--sample", "some", "damaged.jsonl"], "'some' is not a number"),
             ([], "required: RESULTS"),
-        ]:
+        ]
+        for words, cause in faults:
             with self.subTest(words):
                 status, out, err = self.compare(*words)
                 self.assertEqual((status, out, len(err.splitlines())), (2, "", 1), err)

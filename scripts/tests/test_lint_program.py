@@ -11,12 +11,15 @@ from common import Unusable
 from lint_program import warnings_of
 
 
-def text_of(threads: list[list[dict[str, object]]], version: int = 2, **others: object) -> str:
-    """The text of a program on the tree `nm` with the initial key 10."""
-    return json.dumps({"version": version, "tree": "nm", "initial": [10], "threads": threads, **others})
+Operation = dict[str, object]
 
 
-def operation(word: str, key: int, **others: object) -> dict[str, object]:
+def text_of(threads: list[list[Operation]], **others: object) -> str:
+    """The text of a program of version 2 on the tree `nm` with the initial key 10, with other members too."""
+    return json.dumps({"version": 2, "tree": "nm", "initial": [10], "threads": threads, **others})
+
+
+def operation(word: str, key: int, **others: object) -> Operation:
     """An operation of a text."""
     return {"op": word, "key": key, **others}
 
@@ -47,7 +50,7 @@ class Warnings(unittest.TestCase):
     def test_after_in_version_1(self) -> None:
         threads = [[operation("insert", 5)], [operation("find", 5, after=[0, 1])]]
         warning = "1.0 find 5: version 1 ignores 'after'; write \"version\": 2"
-        self.assertEqual(warnings_of(text_of(threads, 1)), [warning])
+        self.assertEqual(warnings_of(text_of(threads, version=1)), [warning])
 
     def test_operations_that_can_never_matter(self) -> None:
         threads = [[operation("find", 7), operation("insert", 7)], [operation("insert", 10)], [operation("delete", 8)]]
@@ -67,7 +70,7 @@ class Warnings(unittest.TestCase):
         self.assertEqual(warnings_of(text_of(threads)), [warning])
 
     def test_what_is_no_program(self) -> None:
-        faulty = [[], [[operation("find", 100)]], [[operation("find", 1, after=[0, 1])]]]
+        faulty: list[list[list[Operation]]] = [[], [[operation("find", 100)]], [[operation("find", 1, after=[0, 1])]]]
         for text in ("", "[]", *map(text_of, faulty)):
             with self.subTest(text), self.assertRaises(Unusable):
                 warnings_of(text)

@@ -85,12 +85,13 @@ class Benchmarks(unittest.TestCase):
         self.assertEqual(ended.stdout.splitlines()[1].split()[:2], ["most-nm-2x2", "7"])
 
     def test_faults_of_use_are_one_line(self) -> None:
-        for script, words, cause in [
+        faults: list[tuple[str, list[object], str]] = [
             ("bench/run.py", ["nowhere"], "nowhere is no program that can be run"),
             ("bench/run.py", ["--workers", "9", self.binary], "--workers: '9' is not a number from 1 to 8"),
             ("bench/run.py", ["--repeat", "0", self.binary], "'0' is not a number"),
             ("bench/books.py", [TOP / "README.md"], "is no program that can be run"),
-        ]:
+        ]
+        for script, words, cause in faults:
             with self.subTest(cause):
                 ended = run_script(script, *words)
                 self.assertEqual((ended.returncode, ended.stdout, len(ended.stderr.splitlines())), (2, "", 1))

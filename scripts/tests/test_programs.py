@@ -73,12 +73,13 @@ class Families(unittest.TestCase):
         self.assertNotIn("nm::d10:i5:f5@1.0", names)
 
     def test_a_family_that_the_program_refuses_is_refused(self) -> None:
-        for changes, cause in [
+        families: list[tuple[dict[str, object], str]] = [
             ({"threads": 4, "most": 4}, "have 16: a program has at most 12"),
             ({"trees": ["nm", "nm"]}, "stands twice"),
             ({"initials": ["10", "10"]}, "stands twice"),
             ({"threads": 1, "waits": True}, "needs two threads"),
-        ]:
+        ]
+        for changes, cause in families:
             with self.subTest(cause), self.assertRaisesRegex(Unusable, cause):
                 family(**changes).refuse()
         family(threads=2, most=6).refuse()

@@ -118,7 +118,7 @@ class Sweeps(unittest.TestCase):
 
     def test_faults_of_use_are_one_line(self) -> None:
         (self.folder / "damaged.jsonl").write_text("{}\n", encoding="utf-8")
-        for words, told in [
+        faults: list[tuple[list[object], str]] = [
             (["--show", "nonsense"], "'nonsense' is no name of a program"),
             (["--job", "nonsense"], "'nonsense' is no name of a program"),
             (["--out", "nodir/x", "--program", self.program], "can't write nodir/x: No such file"),
@@ -133,12 +133,13 @@ class Sweeps(unittest.TestCase):
             (["--out", "x", "--program", "nowhere"], "does not run"),
             (["--jobs-only", "--show", "nm::i5"], "--jobs-only lists what --out RESULTS lacks"),
             ([], "one of the arguments --out --job --show is required"),
-        ]:
+        ]
+        for words, cause in faults:
             with self.subTest(words):
                 status, out, err = self.sweep(*words)
                 self.assertEqual((status, out, len(err.splitlines())), (2, "", 1), err)
                 self.assertTrue(err.startswith("sweep: "), err)
-                self.assertIn(told, err)
+                self.assertIn(cause, err)
                 self.assertNotRegex(err, "_list|_of|number_from")
 
 
