@@ -185,6 +185,7 @@ def run(command: str, folder: Path) -> tuple[list[str], list[str], str]:
     process = subprocess.Popen(
         ["bash", "-c", command],
         cwd=folder,
+        env={name: value for name, value in os.environ.items() if name != "COLUMNS"},
         stdin=subprocess.DEVNULL,
         stdout=subprocess.PIPE,
         stderr=subprocess.PIPE,

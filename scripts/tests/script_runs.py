@@ -15,17 +15,23 @@ sys.path.insert(0, str(SCRIPTS))
 
 # A program that says of everything that it holds, and writes a book of two entries. With one state it is refused
 # memory; under the name `lying` its check answers otherwise.
-STUB = """#!/usr/bin/env python3
-import sys
-words = sys.argv[1:]
-if words[0] == "explore":
-    if words.count("--states") and words[words.index("--states") + 1] == "1":
-        print("treesched: out of memory", file=sys.stderr)
-        sys.exit(5)
-    open(words[words.index("--book") + 1], "w").write("treesched book 1 entries 2\\n- - -\\n0 0 -\\n")
-    print("holds for every schedule\\nstates 2")
-if words[0] == "check":
-    print("every schedule holds\\nstates", 3 if "lying" in sys.argv[0] else 2)
+STUB = """#!/bin/sh
+case $1 in
+explore)
+    for word; do
+        case $before in
+        --states) states=$word ;;
+        --book) book=$word ;;
+        esac
+        before=$word
+    done
+    [ "$states" != 1 ] || { echo 'treesched: out of memory' >&2; exit 5; }
+    printf 'treesched book 1 entries 2\\n- - -\\n0 0 -\\n' >"$book"
+    printf 'holds for every schedule\\nstates 2\\n' ;;
+check)
+    case $0 in *lying) states=3 ;; *) states=2 ;; esac
+    printf 'every schedule holds\\nstates %s\\n' "$states" ;;
+esac
 """
 
 

@@ -2,11 +2,16 @@
 from __future__ import annotations
 
 import json
+import os
+import signal
+import subprocess
+import sys
 import tempfile
+import time
 import unittest
 from pathlib import Path
 
-from script_runs import result_line, run_script, stub_program
+from script_runs import SCRIPTS, result_line, run_script, stub_program
 from common import Refused, Unusable, read_answer
 from results import names_in, read_line, read_results
 
@@ -95,6 +100,27 @@ class Sweeps(unittest.TestCase):
         status, out, err = self.sweep(*words)
         self.assertEqual((status, out), (0, "nm: 6 programs: every 6; most states 2, most steps 1\n"))
         self.assertIn("2 of 2, 4 were there", err)
+
+    def test_an_interrupted_sweep_ends_in_one_line_and_keeps_what_is_done(self) -> None:
+        words = ["--out", "r.jsonl", "--trees", "nm", "--program", self.program]
+        command = [sys.executable, str(SCRIPTS / "sweep.py"), *map(str, words)]
+        process = subprocess.Popen(
+            command,
+            cwd=self.folder,
+            stderr=subprocess.PIPE,
+            text=True,
+            start_new_session=True,
+            preexec_fn=lambda: signal.signal(signal.SIGINT, signal.SIG_DFL),
+        )
+        results = self.folder / "r.jsonl"
+        while not results.exists() or not results.read_bytes():
+            time.sleep(0.05)
+        os.killpg(process.pid, signal.SIGINT)
+        _, err = process.communicate(timeout=60)
+        self.assertEqual(process.returncode, 130)
+        self.assertNotIn("Traceback", err)
+        self.assertEqual(err.splitlines()[-1], "sweep: interrupted; the same command goes on from here")
+        self.assertTrue(names_in(results))
 
     def test_another_program_names_no_commit(self) -> None:
         self.sweep("--out", "r.jsonl", *FAMILY, "--program", self.program)
