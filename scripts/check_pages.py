@@ -50,7 +50,7 @@ MOST_SECONDS = 60
 # What needs more than a folder with the program: the kit, the history, other machines, or minutes of compiling.
 NOT_RUN = re.compile(
     r"(?:^|[|;&(]\s*)(?:rt|git|parallel|sbatch|curl|tar|sha256sum"
-    r"|scripts/release\.sh|\./treesched --(?:unproved|version))\b"
+    r"|scripts/release\.sh|\./treesched --(?:unproved|version|build))\b"
 )
 
 
