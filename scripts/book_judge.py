@@ -1,7 +1,7 @@
 """A judge of book files, written from docs/FORMATS.md and docs/MACHINES.md, for scripts/mutate_books.py.
 
-It shares nothing with the program: the form of a file, the order of the refusals and their lines are judged here, and states are
-stepped by scripts/place_tables.py. It is slow, and meant for small books.
+It shares nothing with the program: the form of a file, the order of the refusals and their lines are judged here, and
+states are stepped by scripts/place_tables.py. It is slow, and meant for small books.
 """
 from __future__ import annotations
 
@@ -11,9 +11,10 @@ from dataclasses import dataclass
 from pathlib import Path
 from typing import Any
 
-from place_tables import MACHINES, Astray, told
+from common import MOST_STATES as MOST_ENTRIES
+from place_tables import MACHINES, Astray, reply_on
+from programs import Operation
 
-MOST_ENTRIES = 2_000_000
 HEAD = re.compile(rb"treesched book 1 entries ([1-9][0-9]*)")
 START = b"- - -"
 ENTRY = re.compile(rb"(0|[1-9][0-9]*) ([0-9]) (-|[0-9]\.[0-9](?:,[0-9]\.[0-9])*)")
@@ -22,18 +23,9 @@ Name = tuple[int, int]
 
 
 @dataclass(frozen=True)
-class Operation:
-    """An operation, and what it waits for: a thread and a number of its operations."""
-
-    word: str
-    key: int
-    after: tuple[int, int] | None
-
-
-@dataclass(frozen=True)
 class State:
-    """A state of a program: the memory, the place of each thread that is in an operation, and for each operation that began how
-    many operations each thread had finished then, and its reply if it has one."""
+    """A state of a program: the memory, the place of each thread that is in an operation, and for each operation that
+    began how many operations each thread had finished then, and its reply if it has one."""
 
     memory: Any
     places: tuple[Any, ...]
@@ -63,7 +55,7 @@ class Program:
 
         def operation(item: dict[str, Any]) -> Operation:
             after = item.get("after") if value["version"] == 2 else None
-            return Operation(item["op"], item["key"], tuple(after) if after else None)
+            return Operation(item["op"], item["key"], (after[0], after[1]) if after else None)
 
         self.machine = MACHINES[value["tree"]]
         self.initial: list[int] = value["initial"]
@@ -118,7 +110,7 @@ class Program:
         keys = frozenset(self.initial)
         for thread, index in order:
             operation = self.threads[thread][index]
-            reply, keys = told(operation.word, operation.key, keys)
+            reply, keys = reply_on(operation.word, operation.key, keys)
             if state.replies.get((thread, index), reply) != reply:
                 return False
         return True

@@ -1,42 +1,42 @@
 #!/usr/bin/env python3
-"""Compares docs/program.schema.json with the program: what the schema refuses the program refuses, and what the program
-accepts the schema accepts.
+"""Compares the schemas of programs with the program: what a schema refuses the program refuses, and what the program
+accepts docs/program.schema.json accepts.
 
 usage: scripts/check_schema.py [--program PROGRAM]
 
-Without PROGRAM the script `treesched` at the top is meant. Needed is the Python package jsonschema (python3-jsonschema in
-Debian).
+Without PROGRAM the script `treesched` at the top is meant. Needed is the Python package jsonschema
+(python3-jsonschema in Debian).
 
-Both judge: the files of examples/, which both accept; texts at the limits, which both accept; texts with one fault each,
-which both refuse, the program by the name told here; texts whose fault only the program sees; and each text that comes of
-one program of each version by leaving out one part of it or putting another value in its place, of which both say the same.
+Both judge: the files of examples/, which both accept; texts at the limits, which both accept; texts with one
+fault each, which both refuse, the program by the name that stands here; texts whose fault only the program
+sees; and each text that comes of one program of each version by leaving out one part of it or putting another
+value in its place, on which both agree. The strict schema, for editors, accepts those programs of which
+scripts/lint_program.py finds no member that is ignored.
 
-Each text of which the two say something else than is told here is shown, and at the end comes 'N texts, M wrong'. The status
-is 0 if none is wrong, 1 if one is, and 2 where jsonschema is missing or PROGRAM doesn't run.
+Each text on which they answer something else than stands here is shown, and at the end comes 'N texts, M
+wrong'. The status is 0 if none is wrong, 1 if one is, and 2 where jsonschema is missing or PROGRAM doesn't
+run.
 """
-import argparse
+from __future__ import annotations
+
 import json
-import subprocess
-import sys
 import tempfile
 from collections.abc import Callable, Iterator
 from pathlib import Path
 from typing import Any
 
-try:
-    from jsonschema import Draft202012Validator
-except ImportError:
-    print("check_schema: the Python package jsonschema is missing (in Debian, python3-jsonschema)", file=sys.stderr)
-    sys.exit(2)
+from common import EXAMPLES, PROGRAM, RIGHT, TOP, WRONG, Unusable, end, refusal_of, run_program, runnable, words_of
+from lint_program import ignored_members
+from programs import TREES
 
-TOP = Path(__file__).resolve().parent.parent
 SCHEMA = TOP / "docs" / "program.schema.json"
-TREES = ["atomic", "ellen", "ellen-no-mark", "ellen-no-iflag", "nm", "nm-no-tag"]
+STRICT = TOP / "docs" / "program.strict.schema.json"
 ACCEPTED = ""
 
 # Beginnings and ends of programs, which the tables put together.
 START = '{"version": 1, "tree": "atomic", "initial": [7], '
 THREADS = '"threads": [[{"op": "find", "key": 7}]]}'
+FIND = {"op": "find", "key": 3}
 
 
 def with_version(text: str) -> str:
@@ -76,7 +76,7 @@ def with_member(text: str) -> str:
 
 def of_lengths(*lengths: int) -> str:
     """A program whose threads have so many operations."""
-    return with_threads(json.dumps([[{"op": "find", "key": 3}] * length for length in lengths]))
+    return with_threads(json.dumps([[FIND] * length for length in lengths]))
 
 
 def of_version_2(text: str) -> str:
@@ -85,8 +85,8 @@ def of_version_2(text: str) -> str:
 
 
 def ignoring(thread: int, text: str, key: str = "7") -> str:
-    """A program of version 1, four threads of two operations each, where the last of this thread has this key and an `after`
-    of this text, which is ignored."""
+    """A program of version 1, four threads of two operations each, where the last of this thread has this key and an
+    `after` of this text, which is ignored."""
     both = '{"op": "insert", "key": 1}, {"op": "delete", "key": 1}'
     waits = f'{{"op": "find", "key": 2}}, {{"op": "find", "key": {key}, "after": {text}}}'
     return with_threads("[" + ", ".join(f"[{waits if other == thread else both}]" for other in range(4)) + "]")
@@ -118,7 +118,7 @@ LAWFUL += [
     *(waiting(1, text) for text in ("[0, 1]", "[0, 2]", "[ 0,1 ]")),
     *(waiting(2, text) for text in ("[0, 1]", "[1, 2]")),
     *(waiting(3, text) for text in ("[0, 2]", "[1, 1]", "[2, 2]")),
-    of_version_2(with_threads(json.dumps([[{"op": "find", "key": 3}] * 6, [{"after": [0, 6], "op": "find", "key": 3}]]))),
+    of_version_2(with_threads(json.dumps([[FIND] * 6, [{"after": [0, 6], **FIND}]]))),
     *(ignoring(1, text) for text in ("null", "[1, 1]", "[0, 9]", '"thread 0"', "[0, 1]", "[0, 1.0]")),
     ignoring(0, "[3, 1]"),
 ]
@@ -162,8 +162,9 @@ SEEN: dict[str, list[str]] = {
     ],
     "P12 After": [
         *(waiting(1, text) for text in ("null", "true", "0", '"[0, 1]"', "{}", '{"0": 1}')),
-        *(waiting(1, text) for text in ("[]", "[0]", "[0, 1, 1]", "[[0, 1]]", "[null, 1]", '["0", 1]', '[0, "1"]', "[0, null]")),
-        *(waiting(1, text) for text in ("[0, 0]", "[0, -1]", "[-1, 1]", "[0.5, 1]", "[0, 1.5]", "[true, 1]", "[0, true]", "[0, 7]")),
+        *(waiting(1, text) for text in ("[]", "[0]", "[0, 1, 1]", "[[0, 1]]", "[null, 1]")),
+        *(waiting(1, text) for text in ('["0", 1]', '[0, "1"]', "[0, null]", "[true, 1]", "[0, true]")),
+        *(waiting(1, text) for text in ("[0, 0]", "[0, -1]", "[-1, 1]", "[0.5, 1]", "[0, 1.5]", "[0, 7]")),
         *(waiting(thread, f"[{other}, 1]") for thread in range(4) for other in range(thread, 5)),
         waiting(0, "null"),
     ],
@@ -190,7 +191,7 @@ OTHERS: list[Any] = [
     {"op": "find", "key": 1, "after": [0, 1]},
 ]
 
-# Threads of version 2 that wait. Those waited for have two operations: with 2 for the 1 of an `after`, there is no fault.
+# Threads of version 2 that wait. Those waited for have two operations: with 2 for the 1 of an `after` all is right.
 WAITING: list[Any] = [
     [{"op": "insert", "key": 1}, {"op": "delete", "key": 7}],
     [{"op": "find", "key": 1, "after": [0, 1]}, {"op": "find", "key": 2}],
@@ -211,84 +212,80 @@ def variants(value: Any) -> Iterator[Any]:
             yield from ([*value[:place], changed, *value[place + 1 :]] for changed in variants(part))
 
 
+def validator_of(schema: dict[str, Any]) -> Any:
+    """A judge of values by a schema."""
+    try:
+        from jsonschema import Draft202012Validator  # type: ignore[import]
+    except ImportError:
+        raise Unusable("the Python package jsonschema is missing (in Debian, python3-jsonschema)") from None
+    Draft202012Validator.check_schema(schema)
+    return Draft202012Validator(schema)
+
+
 class Judges:
-    """The schema and the program, and a count of the texts that they judged."""
+    """The schemas and the program, and a count of the texts that they judged."""
 
     def __init__(self, program: Path, file: Path) -> None:
         self.program = program
         self.file = file
-        schema = json.loads(SCHEMA.read_text(encoding="utf-8"))
-        Draft202012Validator.check_schema(schema)
-        self.validator = Draft202012Validator(schema)
+        self.validator = validator_of(json.loads(SCHEMA.read_text(encoding="utf-8")))
+        strict = json.loads(STRICT.read_text(encoding="utf-8"))
+        if strict.pop("$ref") != SCHEMA.name:
+            raise Unusable(f"{STRICT} does not stand on {SCHEMA.name}")
+        self.strict = validator_of(strict)
         self.texts = 0
         self.wrong = 0
 
-    def does_schema_accept(self, text: str) -> bool:
-        """Whether the value of the text meets the schema."""
-        return bool(self.validator.is_valid(json.loads(text)))
-
     def fault_of(self, text: str) -> str:
-        """The number and the name of the fault that the program tells of the text, or that it accepts it."""
+        """The number and the name of the program's refusal of the text, or that it accepts it."""
         self.file.write_text(text, encoding="utf-8")
-        words = [self.program, "explore", self.file, "--steps", "0"]
-        ended = subprocess.run(words, capture_output=True, text=True, check=False)
+        ended = run_program(self.program, "explore", self.file, "--steps", 0)
         if ended.returncode == 0 and not ended.stderr:
             return ACCEPTED
-        if ended.returncode == 3:
-            return ended.stderr.removeprefix("treesched: ").removesuffix("\n")
-        return f"status {ended.returncode}: {ended.stderr}"
+        return refusal_of(ended.stderr) or f"status {ended.returncode}: {ended.stderr}"
 
     def judge(self, text: str, is_right: Callable[[bool, str], bool]) -> None:
-        """Has a text judged by both, and shows it where what they say is not right."""
-        accepts = self.does_schema_accept(text)
+        """Has a text judged by all, and shows it where what they answer is not right."""
+        value = json.loads(text)
+        accepts = bool(self.validator.is_valid(value))
+        is_strict = accepts and bool(self.strict.is_valid(value))
         fault = self.fault_of(text)
         self.texts += 1
-        if not is_right(accepts, fault):
+        if not is_right(accepts, fault) or is_strict != (accepts and not ignored_members(value)):
             self.wrong += 1
-            print(f"{text}\n    the schema {'accepts' if accepts else 'refuses'} it, the program: {fault or 'accepted'}")
+            words = {True: "accepts", False: "refuses"}
+            schemas = f"the schema {words[accepts]} it, the strict one {words[is_strict]} it"
+            print(f"{text}\n    {schemas}, the program: {fault or 'accepted'}")
 
 
 def judge_all(judges: Judges) -> None:
     """Has all texts judged."""
-    examples = [path.read_text(encoding="utf-8") for path in sorted((TOP / "examples").glob("*.json"))]
+    examples = [path.read_text(encoding="utf-8") for path in sorted(EXAMPLES.glob("*.json"))]
     for text in [*examples, *LAWFUL]:
         judges.judge(text, lambda accepts, fault: accepts and fault == ACCEPTED)
     for name, texts in SEEN.items():
         for text in texts:
-            judges.judge(text, lambda accepts, fault, name=name: not accepts and fault == name)
+            judges.judge(text, lambda accepts, fault, name=name: not accepts and fault == name)  # type: ignore[misc]
     for name, texts in UNSEEN.items():
         for text in texts:
-            judges.judge(text, lambda accepts, fault, name=name: accepts and fault == name)
+            judges.judge(text, lambda accepts, fault, name=name: accepts and fault == name)  # type: ignore[misc]
     programs = [with_operation('{"op": "delete", "key": 7}'), of_version_2(with_threads(json.dumps(WAITING)))]
     names = {*SEEN, ACCEPTED}
     for text in sorted({json.dumps(value) for program in programs for value in variants(json.loads(program))}):
         judges.judge(text, lambda accepts, fault: fault in names and accepts == (fault == ACCEPTED))
 
 
-def does_run(program: Path) -> bool:
-    """Whether the program runs. The script at the top builds the program here, so that no text waits for that."""
-    try:
-        return subprocess.run([program, "--help"], stdout=subprocess.DEVNULL, check=False).returncode == 0
-    except OSError:
-        return False
-
-
 def main() -> int:
-    """Compares the two, and answers the status."""
-    parser = argparse.ArgumentParser(
-        description=__doc__, formatter_class=argparse.RawDescriptionHelpFormatter, usage=argparse.SUPPRESS
-    )
-    parser.add_argument("--program", type=Path, default=TOP / "treesched", help="the program that is compared")
-    program = parser.parse_args().program.resolve()
-    if not does_run(program):
-        print(f"check_schema: {program} does not run", file=sys.stderr)
-        return 2
+    """Compares them, and answers the status."""
+    parser = words_of(__doc__)
+    parser.add_argument("--program", type=Path, default=PROGRAM, help="the program that is compared")
+    program = runnable(parser.parse_args().program)
     with tempfile.TemporaryDirectory() as folder:
         judges = Judges(program, Path(folder) / "program.json")
         judge_all(judges)
     print(f"{judges.texts} texts, {judges.wrong} wrong")
-    return 1 if judges.wrong else 0
+    return WRONG if judges.wrong else RIGHT
 
 
 if __name__ == "__main__":
-    sys.exit(main())
+    end(main)

@@ -1,17 +1,23 @@
 #!/usr/bin/env python3
-"""Tells where the time of a check went, by function and by kind of module.
+"""Shows where the time of a check went, by function and by kind of module.
+
+usage: scripts/check_times.py FOLDER [ROWS]
 
     rm -r crates/NAME/out/incremental; (cd crates/NAME && rt check --jobs 1)
-    scripts/check_times.py crates/NAME/out/incremental [ROWS]
+    scripts/check_times.py crates/NAME/out/incremental
 
 A check writes a file for each module when it is done with it. With one job it takes them one after the other, so the
-time from one file to the next is what the module took. With several jobs these times mean little.
+time from one file to the next is what the module took. With several jobs these times mean little. ROWS is how many
+functions are shown, 30 without it.
 """
+from __future__ import annotations
 
 import re
-import sys
-from collections import Counter
+from collections import defaultdict
+from collections.abc import Iterator
 from pathlib import Path
+
+from common import RIGHT, Unusable, end, number_from, words_of
 
 # What a module of a function holds, by the last part of its name.
 KINDS = {
@@ -25,46 +31,57 @@ KINDS = {
 DERIVED = re.compile(r"\w(Hash\.hash|Debug\.fmt|PartialEq\.eq|Clone\.clone)(\.|$)")
 
 
-def modules(folder):
-    """Gives the modules in the order in which they were done, each with its seconds."""
-    written = sorted((it.stat().st_mtime, it.name) for it in Path(folder).rglob("*.oantt"))
-    before = written[0][0] if written else 0
+def modules(folder: Path) -> Iterator[tuple[str, float]]:
+    """The modules in the order in which they were done, each with its seconds."""
+    written = sorted((file.stat().st_mtime, file.name) for file in folder.rglob("*.oantt"))
+    before = written[0][0] if written else 0.0
     for moment, file in written:
         yield file.removesuffix(".oantt").removesuffix(".decls"), moment - before
         before = moment
 
 
-def function_of(module):
-    """Gives the function that a module is of, or the module itself where it is of none."""
+def function_of(module: str) -> str:
+    """The function that a module belongs to, or the module itself where it belongs to none."""
     head, _, last = module.rpartition(".")
     return head if "-proofs." in module and last[:1].isupper() and head else module
 
 
-def kind_of(module):
+def kind_of(module: str) -> str:
+    """What a module holds."""
     if "-specs" in module:
         return "definitions, laws and contracts"
     return KINDS.get(module.rpartition(".")[2], "other modules of proofs")
 
 
-def main(words):
-    if not words or len(words) > 2 or len(words) == 2 and not words[1].isdigit():
-        sys.exit(__doc__)
-    rows = int(words[1]) if len(words) == 2 else 30
-    functions, kinds, derived, total = Counter(), Counter(), 0.0, 0.0
-    for module, seconds in modules(words[0]):
+def main() -> int:
+    """Prints the times, and answers the status."""
+    parser = words_of(__doc__)
+    parser.add_argument("folder", metavar="FOLDER", type=Path, help="out/incremental of a crate")
+    parser.add_argument("rows", metavar="ROWS", type=number_from(1, 10**6), nargs="?", default=30)
+    words = parser.parse_args()
+    functions: defaultdict[str, float] = defaultdict(float)
+    kinds: defaultdict[str, float] = defaultdict(float)
+    derived = total = 0.0
+    for module, seconds in modules(words.folder):
         functions[function_of(module)] += seconds
         kinds[kind_of(module)] += seconds
         derived += seconds if DERIVED.search(module) else 0
         total += seconds
     if not functions:
-        sys.exit(f"{words[0]}: no module of a check is there")
-    print(f"{total:8.1f} all modules, of which {derived:.1f} functions that are derived")
-    for kind, seconds in kinds.most_common():
+        raise Unusable(f"{words.folder} has no module of a check")
+    print(f"{total:8.1f} all modules, {derived:.1f} of them of derived functions")
+    for kind, seconds in by_seconds(kinds):
         print(f"{seconds:8.1f} {kind}")
     print("by function")
-    for name, seconds in functions.most_common(rows):
+    for name, seconds in by_seconds(functions)[: words.rows]:
         print(f"{seconds:8.1f} {name}")
+    return RIGHT
+
+
+def by_seconds(times: dict[str, float]) -> list[tuple[str, float]]:
+    """The names with their seconds, the most first."""
+    return sorted(times.items(), key=lambda item: -item[1])
 
 
 if __name__ == "__main__":
-    main(sys.argv[1:])
+    end(main)

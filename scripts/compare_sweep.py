@@ -3,17 +3,18 @@
 
 usage: scripts/compare_sweep.py [--sample N] [--seed N] [--processes P] RESULTS ..
 
-The explorer here shares nothing with treesched: its machines are scripts/place_tables.py, written from docs/MACHINES.md. For each
-line of RESULTS, which scripts/sweep.py wrote, it tells the verdict and the number of steps, and where every schedule holds the
-number of states. With --sample N, only N lines are drawn. It takes some twenty times as long as treesched.
+The explorer here shares nothing with treesched: its machines are scripts/place_tables.py, written from
+docs/MACHINES.md. For each line of RESULTS, which scripts/sweep.py wrote, it finds the verdict and the number
+of steps, and where every schedule holds the number of states. With --sample N, only N lines are drawn. It
+takes some twenty times as long as treesched. Lines whose verdict is `holds` or `stopped` bound the
+exploration, and are left out.
 
-Each program of which the two say something else is shown, and at the end comes 'N programs, M differ'. The status is 0 if none
-differs, 1 if one does.
+Each program for which the two differ is shown, and at the end comes 'N programs, M differ'. The status is 0
+if none differs, 1 if one does or none was compared, and 2 where a file can't be used.
 """
 from __future__ import annotations
 
 import argparse
-import json
 import sys
 from concurrent.futures import ProcessPoolExecutor
 from dataclasses import dataclass
@@ -22,16 +23,17 @@ from random import Random
 from typing import Any
 
 from book_judge import Name, Program, State
-from place_tables import told
-from sweep import program_text
+from common import MOST_PROCESSES, RIGHT, WRONG, end, number_from, words_of
+from place_tables import reply_on
+from results import Result, read_results
 
 LINES_BETWEEN = 500
 
 
 @dataclass(frozen=True)
 class Outcome:
-    """What came of a program: `every` with the fewest steps after which each state was reached and the states, or the kinds of the
-    shortest faults with their steps."""
+    """What came of a program: `every` with the fewest steps after which each state was reached and the states, or the
+    kinds of the shortest faults with their steps."""
 
     verdicts: frozenset[str]
     steps: int
@@ -52,7 +54,7 @@ def has_order(program: Program, state: State) -> bool:
             if name in placed or any(note[thread] > index for thread, index in left):
                 continue
             operation = program.threads[name[0]][name[1]]
-            reply, after = told(operation.word, operation.key, keys)
+            reply, after = reply_on(operation.word, operation.key, keys)
             if state.replies.get(name, reply) == reply and extends(placed | {name}, after):
                 return True
         refuted.add((placed, keys))
@@ -88,11 +90,13 @@ class Explorer:
         return len(self.seen) > count
 
     def outcome(self) -> Outcome:
+        """Explores layer by layer, to the first that is empty or has a fault."""
         layer = [self.program.start()]
         self.is_new(layer[0])
         steps = 0
         while True:
-            after = (self.program.step(state, thread) for state in layer for thread in range(len(self.program.threads)))
+            threads = range(len(self.program.threads))
+            after = (self.program.step(state, thread) for state in layer for thread in threads)
             layer = [state for state in after if state and self.is_new(state)]
             if not layer:
                 return Outcome(frozenset({"every"}), steps, len(self.seen))
@@ -102,36 +106,45 @@ class Explorer:
                 return Outcome(faults, steps, None)
 
 
-def difference(line: str) -> str | None:
-    """How a line of results differs from what is found here, if it does."""
-    value = json.loads(line)
-    found = Explorer(Program(program_text(value["program"]).encode())).outcome()
-    is_same = value["verdict"] in found.verdicts and value["steps"] == found.steps and found.states in (None, value["states"])
-    return None if is_same else f"{value['program']}: {line.strip()}, and here {found}"
+def difference(result: Result) -> str | None:
+    """How a result differs from what is found here, if it does."""
+    found = Explorer(Program(result.named.text.encode())).outcome()
+    is_same = result.verdict in found.verdicts and result.steps == found.steps
+    if is_same and found.states in (None, result.states):
+        return None
+    return f"{result.program}: {result.line()}, and here {found}"
+
+
+def read_words() -> argparse.Namespace:
+    """The words of the command line."""
+    parser = words_of(__doc__)
+    parser.add_argument("--sample", metavar="N", type=number_from(1, 10**8), help="how many lines are drawn")
+    parser.add_argument("--seed", metavar="N", type=int, default=1, help="with which the drawing begins")
+    parser.add_argument("--processes", metavar="P", type=number_from(1, MOST_PROCESSES), default=1)
+    parser.add_argument("results", metavar="RESULTS", type=Path, nargs="+")
+    return parser.parse_args()
 
 
 def main() -> int:
     """Compares the lines, and answers the status."""
-    parser = argparse.ArgumentParser(description=__doc__, formatter_class=argparse.RawDescriptionHelpFormatter, usage=argparse.SUPPRESS)
-    parser.add_argument("--sample", metavar="N", type=int, help="how many lines are drawn")
-    parser.add_argument("--seed", metavar="N", type=int, default=1, help="with which the drawing begins")
-    parser.add_argument("--processes", metavar="P", type=int, default=1)
-    parser.add_argument("results", metavar="RESULTS", type=Path, nargs="+")
-    words = parser.parse_args()
-    lines = [line for file in words.results for line in file.read_text(encoding="utf-8").splitlines()]
+    words = read_words()
+    lines = [result for file in words.results for result in read_results(file)]
+    results = [result for result in lines if result.verdict not in ("holds", "stopped")]
+    if len(results) < len(lines):
+        print(f"compare_sweep: {len(lines) - len(results)} lines without a verdict to compare", file=sys.stderr)
     if words.sample is not None:
-        lines = Random(words.seed).sample(lines, min(words.sample, len(lines)))
+        results = Random(words.seed).sample(results, min(words.sample, len(results)))
     differing = 0
     with ProcessPoolExecutor(words.processes) as pool:
-        for count, told_difference in enumerate(pool.map(difference, lines, chunksize=8), start=1):
-            if told_difference:
+        for count, differs in enumerate(pool.map(difference, results, chunksize=8), start=1):
+            if differs:
                 differing += 1
-                print(told_difference)
+                print(differs)
             if count % LINES_BETWEEN == 0:
-                print(f"compare_sweep: {count} of {len(lines)}, {differing} differ", file=sys.stderr)
-    print(f"{len(lines)} programs, {differing} differ")
-    return 1 if differing else 0
+                print(f"compare_sweep: {count} of {len(results)}, {differing} differ", file=sys.stderr)
+    print(f"{len(results)} programs, {differing} differ")
+    return WRONG if differing or not results else RIGHT
 
 
 if __name__ == "__main__":
-    sys.exit(main())
+    end(main)

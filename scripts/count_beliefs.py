@@ -3,103 +3,143 @@
 
 usage: scripts/count_beliefs.py [--names] [--check | --write]
 
-A contract is a `requires`, an `ensures` or a ghost member. Those counted are what a crate shows to others: of the functions,
-traits and types that its `lib.rt` lends out, with what they implement; of a program those of its `main.rt` and of each
-`pub fn`. From the names that they cite the script goes on to the names that those definitions cite, over all crates, until
-there are no more. A name that only a ghost member cites counts if it is a definition (`abbrev` or `record`), and not if it
-is a law, since there the member is the proof that its trait asks for.
+A contract is a `requires`, an `ensures` or a ghost member. Those counted are what a crate shows to others: of the
+functions, traits and types that its `lib.rt` lends out, with what they implement; of a program those of its
+`main.rt` and of each `pub fn`. From the names that they cite the script goes on to the names that those
+definitions cite, over all crates, until there are no more. A name that only a ghost member cites counts if it is a
+definition (`abbrev` or `record`), and not if it is a law, since there the member is the proof that its trait asks
+for.
 
-A definition's lines are those of its block, from the comment above it to the next blank line; the lines of imports and blank
-lines are not counted, nor are types, which stand in `src/`. Without an option the tables are printed; with --names each file's definitions
-too. --write puts the tables into docs/BELIEFS.md, and --check says whether they are the ones that stand there.
+A definition's lines are those of its block, from the comment above it to the next blank line; the lines of imports
+and blank lines are not counted, nor are types, which stand in `src/`. Without an option the tables are printed;
+with --names each file's definitions too. --write puts the tables into docs/BELIEFS.md, and --check says by its
+status whether they are the ones that stand there: 0 if so, 1 if not.
 """
-import os
+from __future__ import annotations
+
 import re
 import sys
+from collections.abc import Iterator
+from dataclasses import dataclass
+from pathlib import Path
 
-ROOT = os.path.dirname(os.path.dirname(os.path.abspath(__file__)))
-PAGE = os.path.join(ROOT, "docs", "BELIEFS.md")
+from common import RIGHT, TOP, WRONG, Unusable, end, words_of
+
+PAGE = TOP / "docs" / "BELIEFS.md"
 BEGIN, END = "<!-- counted -->", "<!-- end of what is counted -->"
+MODULES = ("use ", "pub use ", "pub mod ", "mod ")
 WORD = re.compile(r"[A-Za-z_][A-Za-z0-9_'-]*(?:\.[A-Za-z_][A-Za-z0-9_'-]*)*")
 IMPORT = re.compile(r"(?:ghost )?(?:pub )?use Rattle\.([\w.]+)(?:\.\{(.*?)\}| as (\w+))?;?\s*$")
-DECLARES = re.compile(r"^(?:  )*(abbrev |record |data |unfoldable )?(?:pub )?(abbrev |record |data |unfoldable )?([A-Za-z_][\w'-]*)(?: :| \(| \{| where|$)")
+KIND = "abbrev |record |data |unfoldable "
+DECLARES = re.compile(rf"^(?:  )*({KIND})?(?:pub )?({KIND})?([A-Za-z_][\w'-]*)(?: :| \(| \{{| where|$)")
+PUBLIC = r"(?:pub(?:\([a-z]+\))? )?"
+
+# A name that is brought in stands for a name of another module.
+Place = tuple[str, str]
 
 
-def crates():
+@dataclass
+class Imports:
+    """What lines bring in: names with where they are from, and short names of whole modules."""
+
+    names: dict[str, Place]
+    modules: dict[str, str]
+
+
+def crates() -> list[str]:
     """The crates but those of tests, lowest first."""
-    with open(os.path.join(ROOT, "crates.txt"), encoding="utf-8") as file:
-        names = [line.split(":")[0].split()[0] for line in file if line.strip() and not line.startswith("#")]
+    lines = (TOP / "crates.txt").read_text(encoding="utf-8").splitlines()
+    names = [line.split(":")[0].split()[0] for line in lines if line.strip() and not line.startswith("#")]
     return [name for name in names if not name.endswith("_tests")]
 
 
-def imports(lines):
-    """What the lines bring in: names with where they are from, and short names of whole files."""
-    names, files = {}, {}
+def imports(lines: list[str]) -> Imports:
+    """What the lines bring in."""
+    brought = Imports({}, {})
     for line in lines:
         found = IMPORT.match(line.strip())
         if not found:
             continue
         where, group, short = found.groups()
         if short:
-            files[short] = where
+            brought.modules[short] = where
         for item in (group or "").split(","):
             if item.strip():
                 name, _, other = item.strip().partition(" as ")
-                names[other or name] = (where, name)
-    return names, files
+                brought.names[other or name] = (where, name)
+    return brought
+
+
+def depth_of(line: str) -> int:
+    """How far a line is indented."""
+    return len(line) - len(line.lstrip())
+
+
+def is_comment(line: str) -> bool:
+    """Whether a line is a comment and nothing else."""
+    return line.lstrip().startswith("--")
 
 
 class Block:
     """Lines of a file of definitions between two blank ones."""
 
-    def __init__(self, lines, header):
+    def __init__(self, lines: list[str], header: list[str]) -> None:
         self.lines = lines
         self.header = header  # the modules around it, whose parameters its definitions speak of
-        self.names = []
+        self.names: list[str] = []
         self.is_definition = False
         for line in lines:
             found = DECLARES.match(line)
-            depth = len(line) - len(line.lstrip())
-            if found and depth <= 2 * len(header) and not line.lstrip().startswith(("--", "module", "where")):
+            is_declared = not line.lstrip().startswith(("--", "module", "where"))
+            if found and depth_of(line) <= 2 * len(header) and is_declared:
                 self.names.append(found.group(3))
                 self.is_definition |= bool(found.group(1) or found.group(2))
 
-    def text(self):
+    def text(self) -> str:
+        """What is not a comment, with the modules around it."""
         return "\n".join(line.split("--")[0] for line in self.header + self.lines)
 
-    def comments(self):
-        return sum(line.lstrip().startswith("--") for line in self.lines)
+    def comments(self) -> int:
+        """How many lines are comments."""
+        return sum(map(is_comment, self.lines))
 
 
 class File:
     """A file of definitions."""
 
-    def __init__(self, crate, path):
+    def __init__(self, crate: str, path: Path) -> None:
         self.crate, self.path = crate, path
-        with open(path, encoding="utf-8") as file:
-            lines = file.read().split("\n")
-        self.names, self.files = imports(lines)
-        self.head = []
+        lines = path.read_text(encoding="utf-8").split("\n")
+        self.imports = imports(lines)
+        self.head: list[str] = []
         while lines and lines[0].startswith("--"):
             self.head.append(lines.pop(0))
-        self.blocks, self.where = [], {}
-        block, header = [], []
+        self.blocks: list[Block] = []
+        self.where: dict[str, list[Block]] = {}
+        self.divide(lines)
+        own = [line for line in lines if line.strip() and not line.startswith(MODULES)]
+        self.all = len(self.head) + len(own)
+
+    def divide(self, lines: list[str]) -> None:
+        """Divides the lines into blocks."""
+        block: list[str] = []
+        header: list[str] = []
         for line in [*lines, ""]:
-            if line.startswith(("use ", "pub use ", "pub mod ", "mod ")):
+            if line.startswith(MODULES):
                 continue
-            if line.strip() and not line.lstrip().startswith("--"):
-                header = header[: (len(line) - len(line.lstrip())) // 2]
+            if line.strip() and not is_comment(line):
+                header = header[: depth_of(line) // 2]
             if re.match(r"\s*module _", line):
                 self.add(block, header)
                 block, header = [], [*header, line]
             elif line.strip():
                 block.append(line)
-            elif any(not it.lstrip().startswith("--") for it in block):
+            elif not all(map(is_comment, block)):
                 self.add(block, header)
                 block = []
-        self.all = len(self.head) + sum(bool(it.strip()) for it in lines if not it.startswith(("use ", "pub use ", "pub mod ", "mod ")))
 
-    def add(self, lines, header):
+    def add(self, lines: list[str], header: list[str]) -> None:
+        """Adds a block, if it has lines."""
         if lines:
             block = Block(lines, list(header))
             self.blocks.append(block)
@@ -108,21 +148,27 @@ class File:
                     self.where[name].append(block)
 
 
-def specs(names):
+def specs(names: list[str]) -> dict[str, File]:
     """All files of definitions, by the name that imports give them."""
-    files = {}
+    files: dict[str, File] = {}
     for name in names:
-        top = os.path.join(ROOT, "crates", name, "specs")
-        for folder, _, inside in sorted(os.walk(top)):
-            for entry in sorted(inside):
-                if entry.endswith(".antt") and entry != "Lib.antt":
-                    path = os.path.join(folder, entry)
-                    module = os.path.relpath(path, top)[:-5].replace(os.sep, ".")
-                    files[f"{name}.specs.{module}"] = File(name, path)
+        top = TOP / "crates" / name / "specs"
+        for path in in_order(top, ".antt"):
+            if path.name != "Lib.antt":
+                module = ".".join(path.relative_to(top).with_suffix("").parts)
+                files[f"{name}.specs.{module}"] = File(name, path)
     return files
 
 
-def braced(text, start):
+def in_order(folder: Path, suffix: str) -> Iterator[Path]:
+    """The files of a folder with this suffix: those that stand in it, by name, and then those of each folder in it."""
+    for path in sorted(folder.glob(f"*{suffix}")):
+        yield path
+    for path in sorted(path for path in folder.glob("*") if path.is_dir()):
+        yield from in_order(path, suffix)
+
+
+def braced(text: str, start: int) -> str:
     """The text between the brace at `start` and the one that closes it."""
     depth = 0
     for at in range(start, len(text)):
@@ -132,90 +178,89 @@ def braced(text, start):
     return text[start + 1 :]
 
 
-def sources_of(crate):
-    """The crate's sources, without its tests, and whether it is a library."""
-    top = os.path.join(ROOT, "crates", crate, "src")
-    sources = {}
-    for folder, _, inside in sorted(os.walk(top)):
-        for entry in sorted(inside):
-            if entry.endswith(".rt") and "tests" not in os.path.relpath(folder, top).split(os.sep):
-                path = os.path.join(folder, entry)
-                with open(path, encoding="utf-8") as file:
-                    sources[path] = file.read()
-    return sources, os.path.exists(os.path.join(top, "lib.rt"))
-
-
-def lent_out(sources):
-    """The names that a library's modules lend out."""
-    lent = set()
-    for text in sources.values():
-        for group in re.findall(r"^pub use [\w:]*?(\{[^}]*\}|\w+);", text, re.M | re.S):
-            lent.update(re.findall(r"\w+", group))
-    return lent
-
-
-def without_parameters(text):
+def without_parameters(text: str) -> str:
     """The text without what stands between angle brackets."""
     shorter = re.sub(r"<[^<>]*>", "", text)
     return text if shorter == text else without_parameters(shorter)
 
 
-def cited(crate):
-    """The names that the crate's public contracts cite, each with its imports and whether only a ghost member cites it."""
-    sources, is_library = sources_of(crate)
-    lent = lent_out(sources)
-    for path, text in sources.items():
+@dataclass
+class Cited:
+    """A name that a contract cites, what its file brings in, and whether a ghost member cites it."""
+
+    word: str
+    imports: Imports
+    is_member: bool
+
+
+class Sources:
+    """The sources of a crate, without its tests."""
+
+    def __init__(self, crate: str) -> None:
+        top = TOP / "crates" / crate / "src"
+        paths = [path for path in in_order(top, ".rt") if "tests" not in path.relative_to(top).parts[:-1]]
+        self.texts = {path: path.read_text(encoding="utf-8") for path in paths}
+        self.is_library = (top / "lib.rt").exists()
+        self.lent: set[str] = set()
+        for text in self.texts.values():
+            for group in re.findall(r"^pub use [\w:]*?(\{[^}]*\}|\w+);", text, re.M | re.S):
+                self.lent.update(re.findall(r"\w+", group))
+
+    def is_lent(self, name: str) -> bool:
+        """Whether others see a name: of a library only what it lends out."""
+        return name in self.lent or not self.is_library
+
+    def cited(self) -> Iterator[Cited]:
+        """The names that the public contracts cite."""
+        for path, text in self.texts.items():
+            yield from self.cited_in(text, path.name == "main.rt")
+
+    def cited_in(self, text: str, in_main: bool) -> Iterator[Cited]:
+        """The names that the public contracts of one file cite."""
         lines = text.split("\n")
-        names, files = imports(lines)
-        in_main = os.path.basename(path) == "main.rt"
-        owner, is_shown, is_open = "", False, False
-        at = 0
+        brought = imports(lines)
+        owner, is_shown, is_open, at = "", False, False, 0
         for line in lines:
             start, at = at, at + len(line) + 1
-            found = re.match(r"(?:pub(?:\([a-z]+\))? )?(?:impl|trait|struct|enum)\b(.*)", line)
-            if found and not line.startswith(" "):
-                kind = re.match(r"(?:pub(?:\([a-z]+\))? )?(\w+)", line).group(1)
-                rest = without_parameters(found.group(1))
+            item = re.match(PUBLIC + r"(impl|trait|struct|enum)\b(.*)", line)
+            if item:
+                rest = without_parameters(item.group(2))
                 subject = re.findall(r"\w+", rest.split(" for ")[-1])
                 owner = subject[0] if subject else ""
-                is_shown = (kind == "trait" or " for " in rest) and (owner in lent or not is_library)
+                is_shown = (item.group(1) == "trait" or " for " in rest) and self.is_lent(owner)
                 is_open = False
-            found = re.match(r"(\s*)(pub(?:\([a-z]+\))? )?(?:const )?fn (\w+)", line)
-            if found:
-                is_free = not found.group(1)
-                name = found.group(3) if is_free else owner
-                is_open = found.group(2) == "pub " and (name in lent or not is_library) or is_free and in_main
-                if is_free:
-                    is_shown = False
-            found = re.match(r"\s*(?:requires|ensures)\*?(?: \w+)? \{|\s*ghost \w+(?: =|:) \{", line)
-            if found and (is_shown or is_open):
-                is_member = "=" in found.group(0)
-                for word in WORD.findall(braced(text, start + found.end() - 1)):
-                    yield word, names, files, is_member
+            function = re.match(r"(\s*)(pub(?:\([a-z]+\))? )?(?:const )?fn (\w+)", line)
+            if function:
+                is_free = not function.group(1)
+                name = function.group(3) if is_free else owner
+                is_open = function.group(2) == "pub " and self.is_lent(name) or is_free and in_main
+                is_shown = is_shown and not is_free
+            clause = re.match(r"\s*(?:requires|ensures)\*?(?: \w+)? \{|\s*ghost \w+(?: =|:) \{", line)
+            if clause and (is_shown or is_open):
+                for word in WORD.findall(braced(text, start + clause.end() - 1)):
+                    yield Cited(word, brought, "=" in clause.group(0))
 
 
-def place(word, names, files, module, known):
-    """The file and name that a word stands for, if it is one of the definitions."""
+def place(word: str, brought: Imports, module: str, known: dict[str, File]) -> Place | None:
+    """The module and name that a word stands for, if it is one of the definitions."""
     first, _, rest = word.partition(".")
     if module and first in known[module].where:
         return module, first
-    if first in names:
-        where, name = names[first]
+    if first in brought.names:
+        where, name = brought.names[first]
         if where in known and name in known[where].where:
             return where, name
-    if first in files and files[first] in known:
-        name = rest.split(".")[0]
-        if name in known[files[first]].where:
-            return files[first], name
-    return None
+    where = brought.modules.get(first, "")
+    name = rest.split(".")[0]
+    return (where, name) if where in known and name in known[where].where else None
 
 
-def believed(names):
-    """The blocks that are reached, by file."""
-    known = specs(names)
-    reached, todo = {}, []
+def believed(names: list[str], known: dict[str, File]) -> dict[str, list[Block]]:
+    """The blocks that are reached from public contracts, by module."""
+    reached: dict[str, list[Block]] = {}
+    todo: list[tuple[str, Block]] = []
 
-    def reach(found):
+    def reach(found: Place) -> None:
         where, name = found
         for block in known[where].where[name]:
             if block not in reached.setdefault(where, []):
@@ -223,67 +268,100 @@ def believed(names):
                 todo.append((where, block))
 
     for crate in names:
-        for word, brought, files, is_member in cited(crate):
-            found = place(word, brought, files, "", known)
-            if found and (not is_member or any(it.is_definition for it in known[found[0]].where[found[1]])):
+        for cited in Sources(crate).cited():
+            found = place(cited.word, cited.imports, "", known)
+            if found and (not cited.is_member or any(it.is_definition for it in known[found[0]].where[found[1]])):
                 reach(found)
     while todo:
         where, block = todo.pop()
-        file = known[where]
         for word in WORD.findall(block.text()):
-            found = place(word, file.names, file.files, where, known)
+            found = place(word, known[where].imports, where, known)
             if found:
                 reach(found)
-    return known, reached
+    return reached
 
 
-def tables(with_names):
+@dataclass
+class Count:
+    """Lines, and those of these that are comments."""
+
+    lines: int = 0
+    comments: int = 0
+
+    def add(self, other: Count) -> None:
+        """Adds another count to it."""
+        self.lines += other.lines
+        self.comments += other.comments
+
+
+def count_of(file: File, blocks: list[Block]) -> Count:
+    """What a reader reads of a file: its head, these blocks, and the modules around them."""
+    headers = {id(line) for block in blocks for line in block.header}
+    lines = len(file.head) + sum(len(block.lines) for block in blocks) + len(headers)
+    return Count(lines, len(file.head) + sum(block.comments() for block in blocks))
+
+
+def crate_table(crate: str, files: list[tuple[File, list[Block]]], with_names: bool) -> tuple[Count, list[str]]:
+    """The lines of a crate, and the table of its files."""
+    mine, rows = Count(), []
+    for file, blocks in files:
+        count = count_of(file, blocks)
+        mine.add(count)
+        path = file.path.relative_to(TOP / "crates" / crate)
+        rows.append(f"| `{path}` | {count.lines} | {count.comments} | {file.all - count.lines or ''} |")
+        if with_names:
+            names = dict.fromkeys(name for block in blocks for name in block.names)
+            rows.append(f"|   {' '.join(names)} ||||")
+    heads = ["| File | Lines | of these comments | not cited |", "|---|---|---|---|"]
+    return mine, [f"### `{crate}`: {mine.lines} lines", "", *heads, *rows, ""]
+
+
+def tables(with_names: bool) -> str:
+    """The tables of the page."""
     names = crates()
-    known, reached = believed(names)
-    out, total, rows = [], [0, 0], []
-    for crate in names:
-        files = [(where, known[where]) for where in known if known[where].crate == crate and where in reached]
-        mine = [0, 0]
-        part = []
-        for where, file in files:
-            blocks = [it for it in file.blocks if it in reached[where]]
-            lines = len(file.head) + sum(len(it.lines) for it in blocks) + len({id(h): h for it in blocks for h in it.header})
-            comments = len(file.head) + sum(it.comments() for it in blocks)
-            mine = [mine[0] + lines, mine[1] + comments]
-            path = os.path.relpath(file.path, os.path.join(ROOT, "crates", crate))
-            part.append(f"| `{path}` | {lines} | {comments} | {file.all - lines or ''} |")
-            if with_names:
-                part.append(f"|   {' '.join(dict.fromkeys(name for it in blocks for name in it.names))} ||||")
-        if not files:
-            continue
-        rows.append((crate, len(files), mine))
-        total = [total[0] + mine[0], total[1] + mine[1]]
-        out += [f"### `{crate}`: {mine[0]} lines", "", "| File | Lines | of these comments | not cited |", "|---|---|---|---|", *part, ""]
+    known = specs(names)
+    reached = believed(names, known)
+    parts: list[str] = []
+    total, all_files = Count(), 0
     head = ["| Crate | Files | Lines | of these comments |", "|---|---|---|---|"]
-    head += [f"| `{crate}` | {count} | {mine[0]} | {mine[1]} |" for crate, count, mine in rows]
-    head += [f"| in all | {sum(count for _, count, _ in rows)} | {total[0]} | {total[1]} |", ""]
-    return "\n".join(head + out)
+    for crate in names:
+        mine = {where: file for where, file in known.items() if file.crate == crate and where in reached}
+        if not mine:
+            continue
+        files = [(file, [block for block in file.blocks if block in reached[where]]) for where, file in mine.items()]
+        count, part = crate_table(crate, files, with_names)
+        head.append(f"| `{crate}` | {len(files)} | {count.lines} | {count.comments} |")
+        total.add(count)
+        all_files += len(files)
+        parts += part
+    return "\n".join([*head, f"| in all | {all_files} | {total.lines} | {total.comments} |", "", *parts])
 
 
-def main():
-    words = sys.argv[1:]
-    if any(word not in ("--names", "--check", "--write") for word in words):
-        sys.exit(__doc__)
-    text = tables("--names" in words)
-    if "--check" not in words and "--write" not in words:
+def main() -> int:
+    """Prints, writes or compares the tables, and answers the status."""
+    parser = words_of(__doc__)
+    parser.add_argument("--names", action="store_true", help="each file's definitions too")
+    mode = parser.add_mutually_exclusive_group()
+    mode.add_argument("--check", action="store_true", help="whether docs/BELIEFS.md has these tables")
+    mode.add_argument("--write", action="store_true", help="put the tables into docs/BELIEFS.md")
+    words = parser.parse_args()
+    text = tables(words.names)
+    if not words.check and not words.write:
         print(text)
-        return
-    with open(PAGE, encoding="utf-8") as file:
-        page = file.read()
-    before, rest = page.split(BEGIN)
-    after = rest.split(END)[1]
-    new = f"{before}{BEGIN}\n\n{text}\n{END}{after}"
-    if "--write" in words:
-        with open(PAGE, "w", encoding="utf-8") as file:
-            file.write(new)
+        return RIGHT
+    page = PAGE.read_text(encoding="utf-8")
+    if page.count(BEGIN) != 1 or page.count(END) != 1 or page.index(BEGIN) > page.index(END):
+        raise Unusable(f"{PAGE} has not one line {BEGIN} and after it one line {END}")
+    new = f"{page[: page.index(BEGIN)]}{BEGIN}\n\n{text}\n{page[page.index(END) :]}"
+    if words.write:
+        PAGE.write_text(new, encoding="utf-8")
     elif new != page:
-        sys.exit("docs/BELIEFS.md is not what the contracts cite: scripts/count_beliefs.py --write puts it right")
+        message = "docs/BELIEFS.md is not what the contracts cite: scripts/count_beliefs.py --write puts it right"
+        print(f"count_beliefs: {message}", file=sys.stderr)
+        return WRONG
+    print(f"docs/BELIEFS.md has what the contracts cite{' now' if words.write else ''}")
+    return RIGHT
 
 
 if __name__ == "__main__":
-    main()
+    end(main)

@@ -3,23 +3,21 @@
 
 usage: scripts/mutate_books.py [PROGRAM] [--count N] [--seed N] [--keep FOLDER]
 
-Without PROGRAM the script `treesched` at the top is meant. The books are those that PROGRAM writes of small programs: of the
-machine `atomic`, of both trees, and of programs of version 2; and one that follows a schedule with a fault, step by step. Each
-is damaged N times in all (2000 without --count): bytes changed, put in and left out, lines left out, repeated and moved, other
-parents, threads, orders and numbers of entries, spaces, zeros, files cut off or with something after their end; and changes
-that do no harm. scripts/book_judge.py says which answer is right.
+Without PROGRAM the script `treesched` at the top is meant. The books are those that PROGRAM writes of small
+programs: of the machine `atomic`, of both trees, and of programs of version 2; and one that follows a
+schedule with a fault, step by step. They are damaged N times in all (2000 without --count): bytes changed,
+put in and left out, lines left out, repeated and moved, other parents, threads, orders and numbers of
+entries, spaces, zeros, files cut off or with something after their end; and changes that do no harm.
+scripts/book_judge.py says which answer is right.
 
-Each book of which PROGRAM says something else is shown, and kept in FOLDER where one is given. At the end come how often each
-kind of answer was given, and 'N books, M wrong'. The status is 0 if none is wrong and each kind of answer was seen, 1 if not, and 2
-where PROGRAM doesn't run.
+Each book on which PROGRAM answers something else is shown, and kept in FOLDER where one is given. At the end
+come how often each kind of answer was given, and 'N books, M wrong'. The status is 0 if none is wrong and
+each kind of answer was seen, 1 if not, and 2 where PROGRAM doesn't run.
 """
 from __future__ import annotations
 
-import argparse
 import json
 import re
-import subprocess
-import sys
 import tempfile
 from collections import Counter
 from collections.abc import Callable
@@ -28,11 +26,14 @@ from pathlib import Path
 from random import Random
 
 from book_judge import Program, judge, passing, read_book
+from common import EXAMPLES, MOST_STEPS, PROGRAM, RIGHT, WRONG
+from common import Unusable, end, number_from, refusal_of, run_program, runnable, words_of
 
-TOP = Path(__file__).resolve().parent.parent
-EXAMPLES = TOP / "examples"
 FAULTY = "nm_no_tag_order.json"
-CLOSED = ["two_inserts.json", "delete_and_find.json", "three_threads.json", "two_finds.json", "nm.json", "nm_after.json"]
+CLOSED = [
+    *("two_inserts.json", "delete_and_find.json", "three_threads.json"),
+    *("two_finds.json", "nm.json", "nm_after.json"),
+]
 KINDS = ["passes", "C1", "C2", "C3", "C4", "C5", "C6"]
 
 # Programs that no example is: the machine `atomic` in version 2, and a tree with few states.
@@ -63,29 +64,25 @@ class Base:
     book: bytes
 
 
-def run(treesched: Path, *words: object) -> subprocess.CompletedProcess[str]:
-    """One run of the program."""
-    return subprocess.run([treesched, *map(str, words)], capture_output=True, text=True, check=False)
-
-
 def closed_base(treesched: Path, file: Path, folder: Path) -> Base:
-    """A program of which every schedule holds, and its book."""
+    """A program whose every schedule holds, and its book."""
     out = folder / f"{file.stem}.book"
-    ended = run(treesched, "explore", file, "--steps", 400, "--merge", "names", "--book", out)
+    ended = run_program(treesched, "explore", file, "--steps", MOST_STEPS, "--merge", "names", "--book", out)
     if ended.returncode or not ended.stdout.startswith("holds for every schedule\n"):
-        raise SystemExit(f"mutate_books: no book of {file}: {ended.stdout}{ended.stderr}")
+        raise Unusable(f"no book of {file}: {(ended.stdout + ended.stderr).strip()}")
     return Base(file, Program(file.read_bytes()), out.read_bytes())
 
 
 def faulty_base(treesched: Path, file: Path) -> Base:
     """A program with a fault, and a book that follows the schedule to it."""
-    found = re.search(r"^schedule (.+)$", run(treesched, "explore", file, "--steps", 400).stdout, re.MULTILINE)
+    explored = run_program(treesched, "explore", file, "--steps", MOST_STEPS).stdout
+    found = re.search(r"^schedule (.+)$", explored, re.MULTILINE)
     if not found:
-        raise SystemExit(f"mutate_books: no fault of {file}")
+        raise Unusable(f"no fault of {file}")
     threads = found[1].split(",")
     lines = [f"treesched book 1 entries {len(threads) + 1}", "- - -"]
     for count, thread in enumerate(threads):
-        replay = run(treesched, "replay", file, "--schedule", ",".join(threads[: count + 1])).stdout
+        replay = run_program(treesched, "replay", file, "--schedule", ",".join(threads[: count + 1])).stdout
         order = re.search(r"^order (.+)$", replay, re.MULTILINE)
         lines.append(f"{count} {thread} {order[1].replace(' ', ',') if order else '-'}")
     return Base(file, Program(file.read_bytes()), ("\n".join(lines) + "\n").encode())
@@ -103,7 +100,8 @@ def bases(treesched: Path, folder: Path) -> list[Base]:
 def other_byte(random: Random, data: bytes) -> bytes:
     """One byte changed, put in or left out."""
     place = random.randrange(len(data) + 1)
-    put = random.choice([b"", bytes([random.randrange(256)]), random.choice([b"0", b"9", b" ", b"\n", b"-", b".", b",", b"\r", b"\0"])])
+    telling = random.choice([b"0", b"9", b" ", b"\n", b"-", b".", b",", b"\r", b"\0"])
+    put = random.choice([b"", bytes([random.randrange(256)]), telling])
     return data[:place] + put + data[place + random.randrange(2) :]
 
 
@@ -115,7 +113,7 @@ def other_end(random: Random, data: bytes) -> bytes:
 
 
 def with_lines(change: Callable[[Random, list[bytes]], None]) -> Callable[[Random, bytes], bytes]:
-    """A change of the lines of the entries after the first. Most of the time the first line then tells how many there are."""
+    """A change of the lines of the entries after the first. Most of the time the first line then has their number."""
 
     def changed(random: Random, data: bytes) -> bytes:
         head, *lines = data.removesuffix(b"\n").split(b"\n")
@@ -150,7 +148,7 @@ def swap_lines(random: Random, lines: list[bytes]) -> None:
 
 
 def with_fields(change: Callable[[Random, list[bytes], int], None]) -> Callable[[Random, bytes], bytes]:
-    """A change of the fields of one line, which is told its number among the entries."""
+    """A change of the fields of one line, which gets its number among the entries too."""
 
     def changed(random: Random, data: bytes) -> bytes:
         lines = data.split(b"\n")
@@ -167,7 +165,8 @@ def with_fields(change: Callable[[Random, list[bytes], int], None]) -> Callable[
 
 def other_parent(random: Random, fields: list[bytes], entry: int) -> None:
     """Another parent: an earlier entry, one near by, or one of no file."""
-    numbers = [random.randrange(max(entry, 1)), entry, entry + 1, max(entry - 1, 0), 2_000_000, 10**30, 2**64, 2**32 + entry - 1]
+    near = [entry, entry + 1, max(entry - 1, 0)]
+    numbers = [random.randrange(max(entry, 1)), *near, 2_000_000, 10**30, 2**64, 2**32 + entry - 1]
     fields[0] = b"%d" % random.choice([numbers[0], random.choice(numbers)])
 
 
@@ -195,9 +194,9 @@ def other_shape(random: Random, fields: list[bytes], entry: int) -> None:
     """Spaces, zeros and signs where none belong, a field too many or too few."""
     place = random.randrange(len(fields))
     field = fields[place]
-    fields[place : place + 1] = random.choice(
-        [[field, b""], [b"", field], [b"0" + field], [b"+" + field], [field, field], [], [field + b","], [b"-"], [field + b"\r"], [b"\t" + field]]
-    )
+    spaced = [[field, b""], [b"", field], [field + b"\r"], [b"\t" + field]]
+    other: list[list[bytes]] = [[b"0" + field], [b"+" + field], [field, field], [], [field + b","], [b"-"]]
+    fields[place : place + 1] = random.choice([*spaced, *other])
 
 
 def other_head(random: Random, data: bytes) -> bytes:
@@ -206,15 +205,17 @@ def other_head(random: Random, data: bytes) -> bytes:
     words, _, count = head.rpartition(b" ")
     number = int(count) if count.isdigit() and len(count) < 10 else 1
     counts = [number + 1, max(number - 1, 0), 0, 2_000_000, 2_000_001, 2**32 + number, 2**64 + number, 10**30]
-    texts = [b"%d" % random.choice(counts), b"0" + count, b"+" + count, count + b" ", count + b"\r", b"", b"five", count[:-1]]
-    heads = [b"treesched book 2 entries", b"Treesched book 1 entries", words + b" ", b"\xef\xbb\xbf" + words, b"treesched book 1 entry"]
+    texts = [b"%d" % random.choice(counts), b"0" + count, b"+" + count, count + b" ", count + b"\r"]
+    texts += [b"", b"five", count[:-1]]
+    heads = [b"treesched book 2 entries", b"Treesched book 1 entries", b"treesched book 1 entry"]
+    heads += [words + b" ", b"\xef\xbb\xbf" + words]
     if random.randrange(3):
         return words + b" " + random.choice(texts) + b"\n" + rest
     return random.choice(heads) + b" " + count + b"\n" + rest
 
 
 def harmless(random: Random, data: bytes) -> bytes:
-    """Changes after which a book that passes still does: its entries in another order, with parents first, and one repeated."""
+    """Changes after which a book that passes still does: other order of entries, parents first, and one repeated."""
     lines = read_book(data)
     if isinstance(lines, int) or not lines:
         return data
@@ -251,13 +252,13 @@ def damaged(random: Random, book: bytes) -> bytes:
 
 def answer(treesched: Path, file: Path, book: Path) -> str:
     """What the program says of a book."""
-    ended = run(treesched, "check", file, book)
+    ended = run_program(treesched, "check", file, book)
     passed = re.fullmatch(r"every schedule holds\nstates (\d+)\n", ended.stdout)
     if ended.returncode == 0 and passed and not ended.stderr:
         return passing(int(passed[1]))
-    refused = re.fullmatch(r"treesched: book refused: (C[1-6] at line \d+)\n", ended.stderr)
+    refused = refusal_of(ended.stderr)
     if ended.returncode == 3 and refused and not ended.stdout:
-        return refused[1]
+        return refused
     return f"status {ended.returncode}: {ended.stdout}{ended.stderr}"
 
 
@@ -283,23 +284,17 @@ def compare(treesched: Path, count: int, random: Random, keep: Path | None) -> t
 
 def main() -> int:
     """Compares the two, and answers the status."""
-    parser = argparse.ArgumentParser(description=__doc__, formatter_class=argparse.RawDescriptionHelpFormatter, usage=argparse.SUPPRESS)
-    parser.add_argument("program", metavar="PROGRAM", type=Path, nargs="?", default=TOP / "treesched")
-    parser.add_argument("--count", type=int, default=2000, help="how many books are made")
-    parser.add_argument("--seed", type=int, default=1, help="with which the choices begin")
-    parser.add_argument("--keep", type=Path, help="a folder for the books of which the program says something else")
+    parser = words_of(__doc__)
+    parser.add_argument("program", metavar="PROGRAM", type=Path, nargs="?", default=PROGRAM)
+    parser.add_argument("--count", metavar="N", type=number_from(1, 10**6), default=2000, help="how many books")
+    parser.add_argument("--seed", metavar="N", type=int, default=1, help="with which the choices begin")
+    parser.add_argument("--keep", metavar="FOLDER", type=Path, help="a folder for the books that are judged otherwise")
     words = parser.parse_args()
-    treesched = words.program.resolve()
-    try:
-        run(treesched, "--help").check_returncode()
-    except (OSError, subprocess.CalledProcessError):
-        print(f"mutate_books: {treesched} does not run", file=sys.stderr)
-        return 2
-    seen, wrong = compare(treesched, words.count, Random(words.seed), words.keep)
+    seen, wrong = compare(runnable(words.program), words.count, Random(words.seed), words.keep)
     print(", ".join(f"{kind} {seen[kind]}" for kind in sorted(seen)))
     print(f"{words.count} books, {wrong} wrong")
-    return 0 if not wrong and all(seen[kind] for kind in KINDS) else 1
+    return RIGHT if not wrong and all(seen[kind] for kind in KINDS) else WRONG
 
 
 if __name__ == "__main__":
-    sys.exit(main())
+    end(main)

@@ -1,9 +1,10 @@
 """The machines of docs/MACHINES.md in Python, for judges that share nothing with the program.
 
-A machine has a `start` memory for the initial keys, the `first` place of each operation, and `act`, which does one access: it
-answers the memory after it and where the operation goes, which is a place, or its reply. `Astray` is raised where the access is
-one that the table does not have. Memories and places are nested tuples, in which `Node` and `Record` are numbers of nodes and
-records: by `form`, memories with places that differ in nothing but these numbers are equal.
+A machine has a `start` memory for the initial keys, the `first` place of each operation, and `act`, which does one
+access: it answers the memory after it and where the operation goes, which is a place, or its reply. `Astray` is raised
+where the access is one that the table does not have. Memories and places are nested tuples, in which `Node` and
+`Record` are numbers of nodes and records: by `form`, memories with places that differ in nothing but these numbers
+are equal.
 """
 from __future__ import annotations
 
@@ -30,7 +31,7 @@ class Astray(Exception):
     """An access that the place table does not have."""
 
 
-def told(word: str, key: int, keys: frozenset[int]) -> tuple[bool, frozenset[int]]:
+def reply_on(word: str, key: int, keys: frozenset[int]) -> tuple[bool, frozenset[int]]:
     """The reply of an operation on a set of keys, and the keys after it."""
     if word == "find":
         return key in keys, keys
@@ -54,7 +55,7 @@ class Atomic:
         return ("do",)
 
     def act(self, word: str, key: int, place: Value, memory: Any) -> tuple[Any, Value | bool]:
-        reply, after = told(word, key, memory)
+        reply, after = reply_on(word, key, memory)
         return after, reply
 
     def is_ordered(self, memory: Any) -> bool:
@@ -65,7 +66,8 @@ class Atomic:
 
 
 class Tree:
-    """What both trees have in common. A node is `(key,)`, a leaf, or `(key, .., left, right)`; `child_of` reads a child word."""
+    """What both trees have in common. A node is `(key,)`, a leaf, or `(key, .., left, right)`; `child_of` reads a
+    child word."""
 
     roots: list[Node]
 
@@ -73,7 +75,8 @@ class Tree:
         raise NotImplementedError
 
     def key(self, memory: Memory, node: Node) -> int:
-        return memory[0][node][0]
+        key: int = memory[0][node][0]
+        return key
 
     def is_leaf(self, memory: Memory, node: Node) -> bool:
         return len(memory[0][node]) == 1
@@ -100,7 +103,9 @@ class Tree:
             if self.is_leaf(memory, node):
                 return low <= key < high
             left, right = (self.child_of(self.word(memory, node, side)) for side in (LEFT, RIGHT))
-            return levels > 0 and between(left, low, min(key, high), levels - 1) and between(right, max(key, low), high, levels - 1)
+            if levels == 0 or not between(left, low, min(key, high), levels - 1):
+                return False
+            return between(right, max(key, low), high, levels - 1)
 
         return between(Node(0), 0, NO_KEY_ABOVE, len(memory[0]))
 
@@ -141,7 +146,8 @@ class Ellen(Tree):
     roots = [Node(0)]
 
     def child_of(self, word: Any) -> Node:
-        return word
+        node: Node = word
+        return node
 
     def start(self, initial: list[int]) -> Memory:
         memory: Memory = (((INF2, CLEAN, Node(1), Node(2)), (INF1,), (INF2,)), ())
@@ -165,7 +171,8 @@ class Ellen(Tree):
     def update(self, memory: Memory, node: Node) -> Value:
         if self.is_leaf(memory, node):
             raise Astray
-        return memory[0][node][1]
+        update: Value = memory[0][node][1]
+        return update
 
     def exchanged(self, memory: Memory, node: Node, old: Value, new: Value) -> tuple[Memory, Value]:
         """An exchange of an update word: the memory after it, and the word found."""
@@ -188,20 +195,29 @@ class Ellen(Tree):
                 return memory, ("child", above, p, self.update(memory, p))
             case ("child", above, p, u):
                 c = self.word(memory, p, self.side(memory, p, key))
-                return memory, self.decide(word, key, memory, above, p, u, c) if self.is_leaf(memory, c) else ("update", (p, u), c)
+                if not self.is_leaf(memory, c):
+                    return memory, ("update", (p, u), c)
+                return memory, self.decide(word, key, memory, above, p, u, c)
             case ("iflag", p, u, l):
                 grown, new = self.with_new(memory, key, l)
                 record = Record(len(memory[1]))
                 after, found = self.exchanged((grown[0], (*memory[1], ("ins", p, l, new))), p, u, ("IFLAG", record))
-                return (after, ("inschild", record, (), "insert")) if found == u else (memory, self.help(found, (), "again"))
+                if found != u:
+                    return memory, self.help(found, (), "again")
+                return after, ("inschild", record, (), "insert")
             case ("insonly", p, l):
                 grown, new = self.with_new(memory, key, l)
                 after, is_done = self.child_exchanged(grown, p, l, new)
-                return (after, True) if is_done else (memory, AGAIN)
+                if not is_done:
+                    return memory, AGAIN
+                return after, True
             case ("dflag", gp, gpu, p, u, l):
                 record = Record(len(memory[1]))
-                after, found = self.exchanged((memory[0], (*memory[1], ("del", gp, p, l, u))), gp, gpu, ("DFLAG", record))
-                return (after, self.marking(record, (), "delete")) if found == gpu else (memory, self.help(found, (), "again"))
+                grown = (memory[0], (*memory[1], ("del", gp, p, l, u)))
+                after, found = self.exchanged(grown, gp, gpu, ("DFLAG", record))
+                if found != gpu:
+                    return memory, self.help(found, (), "again")
+                return after, self.marking(record, (), "delete")
         return self.act_help(place, memory)
 
     def decide(self, word: str, key: int, memory: Memory, above: Any, p: Node, u: Value, l: Node) -> Value | bool:
@@ -246,7 +262,8 @@ class Ellen(Tree):
             case "inschild", (_, p, l, new):
                 return self.child_exchanged(memory, p, l, new)[0], ("insclean", record, stack, base)
             case "insclean", (_, p, _, _):
-                return self.exchanged(memory, p, ("IFLAG", record), ("CLEAN", record))[0], self.returned(True, stack, base)
+                after, _ = self.exchanged(memory, p, ("IFLAG", record), ("CLEAN", record))
+                return after, self.returned(True, stack, base)
             case "mark", (_, _, p, _, pupdate):
                 after, found = self.exchanged(memory, p, pupdate, ("MARK", record))
                 is_marked = found in (pupdate, ("MARK", record))
@@ -258,7 +275,8 @@ class Ellen(Tree):
             case "splice", (_, gp, p, _, _):
                 return self.child_exchanged(memory, gp, p, others[0])[0], ("delclean", record, stack, base)
             case _, (_, gp, _, _, _):
-                return self.exchanged(memory, gp, ("DFLAG", record), ("CLEAN", record))[0], self.returned(name == "delclean", stack, base)
+                after, _ = self.exchanged(memory, gp, ("DFLAG", record), ("CLEAN", record))
+                return after, self.returned(name == "delclean", stack, base)
         raise Astray
 
 
@@ -273,7 +291,8 @@ class NatMit(Tree):
     roots = [Node(0), Node(1)]
 
     def child_of(self, word: Any) -> Node:
-        return word[2]
+        node: Node = word[2]
+        return node
 
     def start(self, initial: list[int]) -> Memory:
         def internal(key: int, left: int, right: int) -> Value:
@@ -295,13 +314,17 @@ class NatMit(Tree):
         """The memory with a new internal node for a key at a leaf."""
         count, other = len(memory[0]), self.key(memory, leaf)
         new, old = (0, 0, Node(count)), (0, 0, leaf)
-        return ((*memory[0], (key,), (max(key, other), *((new, old) if key < other else (old, new)))), memory[1]), Node(count + 1)
+        internal = (max(key, other), *((new, old) if key < other else (old, new)))
+        return ((*memory[0], (key,), internal), memory[1]), Node(count + 1)
 
     def own_word(self, memory: Memory, node: Node, key: int) -> Value:
         """The child word of a node on a key's side."""
-        return self.word(memory, node, self.side(memory, node, key))
+        word: Value = self.word(memory, node, self.side(memory, node, key))
+        return word
 
-    def exchanged(self, memory: Memory, grown: Memory, node: Node, key: int, old: Value, new: Value) -> tuple[Memory, bool]:
+    def exchanged(
+        self, memory: Memory, grown: Memory, node: Node, key: int, old: Value, new: Value
+    ) -> tuple[Memory, bool]:
         """An exchange of the word of a node, in the grown memory if it succeeds."""
         side = self.side(memory, node, key)
         if self.word(memory, node, side) != old:
@@ -323,14 +346,17 @@ class NatMit(Tree):
                 return after, is_done or ("look", anc, suc, par, leaf)
             case ("flag", anc, suc, par, leaf):
                 after, is_done = self.exchanged(memory, memory, par, key, (0, 0, leaf), (1, 0, leaf))
-                return after, ("cleanread", anc, suc, par, ("owner", leaf)) if is_done else ("look", anc, suc, par, leaf)
+                if not is_done:
+                    return after, ("look", anc, suc, par, leaf)
+                return after, ("cleanread", anc, suc, par, ("owner", leaf))
             case ("look", anc, suc, par, leaf):
                 flag, tag, node = self.own_word(memory, par, key)
                 is_under_way = node == leaf and (flag or tag)
                 return memory, ("cleanread", anc, suc, par, PLAIN) if is_under_way else ("begin", PLAIN)
             case ("cleanread", anc, suc, par, mode):
                 is_flagged, side = self.own_word(memory, par, key)[0], self.side(memory, par, key)
-                return memory, ("tag" if self.tag else "sibling", anc, suc, par, 1 - side if is_flagged else side, mode)
+                other = 1 - side if is_flagged else side
+                return memory, ("tag" if self.tag else "sibling", anc, suc, par, other, mode)
             case ("tag", anc, suc, par, side, mode):
                 flag, _, node = self.word(memory, par, side)
                 return self.with_word(memory, par, side, (flag, 1, node)), ("sibling", anc, suc, par, side, mode)

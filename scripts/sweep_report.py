@@ -1,16 +1,21 @@
 #!/usr/bin/env python3
 """Makes a page of what sweeps came to, from the lines that scripts/sweep.py wrote.
 
-usage: scripts/sweep_report.py [--note TEXT].. [--command TEXT].. RESULTS .. > docs/RESULTS.md
+usage: scripts/sweep_report.py [--note TEXT].. [--command TEXT].. [--out PAGE] RESULTS ..
 
-The lines are told by family: the trees, initial keys, keys, numbers of threads and of operations that stand in a file of results.
-Each program of the family has to have one line, and each answer has to have been judged anew; else nothing is printed and the
-status is 1. The notes, a paragraph each, say where the runs were made; the commands are those that made the files.
+Without --out the page is printed. PAGE, as docs/RESULTS.md, is written only when all is well; `>
+docs/RESULTS.md` would empty it before anything is read.
+
+Each file of results is one family: the trees, initial keys, keys, numbers of threads and of operations that
+stand in it. Each program of the family has to have one line, each answer has to have been judged anew, and
+each line has to name the commit by whose sources it was made. The notes, a paragraph each, stand at the end,
+after the commands that made the files. The status is 0 if the page was made, 1 if the results are incomplete,
+and 2 where a file can't be used.
 """
 from __future__ import annotations
 
 import argparse
-import json
+import os
 import sys
 from collections import Counter
 from collections.abc import Callable
@@ -18,111 +23,117 @@ from dataclasses import dataclass
 from pathlib import Path
 from textwrap import wrap
 
-from sweep import MOST_STEPS, TREES, WORDS, Family
+from common import MOST_STEPS, RIGHT, WRONG, Unusable, end, words_of
+from programs import TREES, VARIANTS, WORDS, Family
+from results import FAULTS, Result, read_results
 
-WIDTH = 190
+WIDTH = 100
 LISTED = 6
 NUMBERS = ["no", "one", "two", "three", "four", "five", "six"]
-KINDS = ["history", "order", "astray"]
-VARIANTS = ["ellen-no-mark", "ellen-no-iflag", "nm-no-tag"]
 
-HEAD = f"""# Results
+HEAD = [
+    "# Results",
+    "What the program answered for every program of some families. `scripts/sweep_report.py` makes this page; its last"
+    " section has the commands.",
+    f"The sweep explores each program by names to {MOST_STEPS} steps.",
+    "- *Every schedule holds*: `treesched explore` printed `holds for every schedule` and wrote the book, and"
+    " `treesched check` passed that book with the same number of states. So no schedule of the program, of any length,"
+    " leaves replies that no order explains, a memory that is no search tree, or a thread at a place that its table"
+    " lacks.\n"
+    "- *Fault*: the program printed a shortest schedule with a fault, and `treesched replay` found the same fault on"
+    " that schedule.",
+    "Threads are alike, so of programs that differ in the order of their threads alone there is one. States are"
+    " counted by names: states that differ in nothing but the numbers of nodes, of records and of steps are one."
+    " [MACHINES.md](MACHINES.md) has the place tables, those of the variants too.",
+    "A name is short for a program file. `ellen:10,20:i5,d10:f15` is the tree `ellen` with the initial keys 10 and 20,"
+    " inserted in this order, a thread that inserts 5 and then deletes 10, and a thread that finds 15. In"
+    " `nm:10:i5:f5@0.0`, of version 2, the find waits until the operation `0.0`, the insert of 5, has ended."
+    " `scripts/sweep.py --show NAME` prints the file.",
+]
 
-What the program answered for every program of some families. This page is made by `scripts/sweep_report.py`; the end of it has the commands that make it again.
-
-Each program was explored by names to {MOST_STEPS} steps. *Every schedule holds* means that `treesched explore` printed `holds for every schedule` and wrote the book of the program, and that
-`treesched check` judged that book and printed `every schedule holds` with the same number of states: no schedule of the program, of whatever length, leaves replies that no order explains, or a
-memory that is no search tree, or a thread at what the place table does not have. A *fault* means that the program told the shortest schedule to it, and that `treesched replay` told the same fault
-of that schedule. Of programs that differ in the order of their threads alone one was taken, as threads are alike. The place tables are those of [MACHINES.md](MACHINES.md), variants included.
-
-A program's name is short for its file: `ellen:10,20:i5,d10:f15` is the tree `ellen` with the initial keys 10 and 20, put in in this order, a thread that inserts 5 and then deletes 10, and a thread
-that finds 15. `scripts/sweep.py --show NAME` prints the file. States are counted by names: those that differ in nothing but the numbers of nodes, of records and of steps are one.
-"""
-
-LIMITS = """## What is not covered
-
-Any other number of threads or of operations, other numbers of keys or of initial keys, initial keys put in in another order, keys that lie otherwise between the initial keys, and programs of version
-2, in which operations wait. That all programs of these families hold says nothing of a greater one, and is no proof of either tree; that no program of a family goes wrong on a variant in some way
-does not say that none does.
-"""
+LIMITS = [
+    "## What is not covered",
+    "Other numbers of threads, of operations, of keys or of initial keys; initial keys inserted in another order; keys"
+    " that lie otherwise between the initial keys; and operations that wait for anything but one insert. That all"
+    " programs of these families hold says nothing of a greater program, and proves neither tree. That no program of a"
+    " family shows some fault of a variant does not exclude that fault.",
+]
 
 
 class Incomplete(Exception):
-    """Results from which no page can be made."""
-
-
-@dataclass(frozen=True)
-class Run:
-    """A line of results."""
-
-    name: str
-    verdict: str
-    states: int
-    steps: int
-    seconds: float
-    seconds_all: float
-    schedule: str
-
-    @property
-    def tree(self) -> str:
-        return self.name.partition(":")[0]
-
-    @property
-    def threads(self) -> list[list[str]]:
-        return [thread.split(",") for thread in self.name.split(":")[2:]]
-
-    @property
-    def operations(self) -> int:
-        return sum(map(len, self.threads))
+    """Results from which no page can be made. The text says what is missing."""
 
 
 @dataclass(frozen=True)
 class Swept:
-    """A family and its runs."""
+    """A family and its results."""
 
     family: Family
-    runs: list[Run]
+    results: list[Result]
 
-    def of(self, tree: str) -> list[Run]:
-        return [run for run in self.runs if run.tree == tree]
+    def of(self, tree: str) -> list[Result]:
+        """The results on a tree."""
+        return [result for result in self.results if result.tree == tree]
 
 
-def read_run(line: str) -> Run:
-    """A line of results whose answer was judged anew."""
-    value = json.loads(line)
-    if not value["checked"] or value["verdict"] in ("holds", "stopped"):
-        raise Incomplete(f"{value['program']}: the verdict {value['verdict']} was not judged anew, or judged otherwise")
-    return Run(
-        value["program"], value["verdict"], value["states"], value["steps"], value["seconds"], value["seconds_all"], value.get("schedule", "")
+def operations_in(result: Result) -> int:
+    """How many operations a program has."""
+    return sum(map(len, result.named.threads))
+
+
+def family_of(results: list[Result]) -> Family:
+    """The smallest family that has these programs."""
+    programs = [result.named for result in results]
+    operations = {operation for program in programs for thread in program.threads for operation in thread}
+    initials = {",".join(map(str, program.initial)) or "-" for program in programs}
+    return Family(
+        [tree for tree in TREES if any(program.tree == tree for program in programs)],
+        sorted(initials, key=lambda text: (len(text), text)),
+        sorted({operation.key for operation in operations}),
+        len(programs[0].threads),
+        max(len(thread) for program in programs for thread in program.threads),
+        any(operation.after for operation in operations),
     )
 
 
 def read_sweep(file: Path) -> Swept:
-    """A file of results as a family, each program of which has one line."""
-    runs = [read_run(line) for line in file.read_text(encoding="utf-8").splitlines()]
-    parts = [run.name.split(":") for run in runs]
-    operations = {word for run in runs for thread in run.threads for word in thread}
-    family = Family(
-        [tree for tree in TREES if any(part[0] == tree for part in parts)],
-        sorted({part[1] or "-" for part in parts}, key=lambda text: (len(text), text)),
-        sorted({int(word[1:]) for word in operations}),
-        len(parts[0]) - 2,
-        max(len(thread) for run in runs for thread in run.threads),
-    )
-    counts = Counter(run.name for run in runs)
+    """A file of results as a family: each of its programs has one line, whose answer was judged anew."""
+    results = read_results(file)
+    if not results:
+        raise Incomplete(f"{file} has no line")
+    for result in results:
+        if not result.checked or result.verdict in ("holds", "stopped"):
+            raise Incomplete(f"{file}: {result.program}: {result.verdict} was not judged anew, or judged otherwise")
+        if not result.commit:
+            raise Incomplete(f"{file}: the line of {result.program} names no commit (sweep.py --commit names it)")
+    family = family_of(results)
+    counts = Counter(result.program for result in results)
     names = set(family.names())
-    if counts.keys() != names or max(counts.values()) > 1:
-        missing, strange = len(names - counts.keys()), len(counts.keys() - names)
-        raise Incomplete(f"{file}: {missing} programs of the family have no line, {strange} of another family or more than one")
-    return Swept(family, runs)
+    missing, strange = len(names - counts.keys()), len(counts.keys() - names)
+    twice = sum(count > 1 for count in counts.values())
+    if missing or strange or twice:
+        counted = f"{missing} programs of the family have no line, {twice} have more than one"
+        raise Incomplete(f"{file}: {counted}, and {strange} lines are of another family")
+    return Swept(family, results)
 
 
 def count(number: int) -> str:
+    """A number as pages show it."""
     return f"{number:,}"
 
 
 def listed(items: list[str], last: str = "and") -> str:
+    """A list in words."""
     return f" {last} ".join([", ".join(items[:-1]), items[-1]] if len(items) > 1 else items)
+
+
+def filled(text: str) -> str:
+    """A paragraph, or items of a list, in lines of the page's width."""
+    lines = []
+    for line in text.split("\n"):
+        indent = "  " if line.startswith("- ") else ""
+        lines += wrap(line, WIDTH, subsequent_indent=indent, break_long_words=False, break_on_hyphens=False)
+    return "\n".join(lines) + "\n"
 
 
 def operations_of(family: Family) -> str:
@@ -132,20 +143,33 @@ def operations_of(family: Family) -> str:
     return f"one {'or' if family.most == 2 else 'to'} {NUMBERS[family.most]} operations"
 
 
-def in_words(family: Family) -> str:
-    """A family in words."""
+def title_of(family: Family) -> str:
+    """A family in few words."""
+    title = f"{NUMBERS[family.threads].capitalize()} threads of {operations_of(family)}"
+    return f"{title}, each find waiting for an insert" if family.waits else title
+
+
+def in_words(swept: Swept) -> str:
+    """A family in words, with how many programs it has."""
+    family = swept.family
     initials = listed([f"[{initial.strip('-').replace(',', ', ')}]" for initial in family.initials])
     keys = listed([str(key) for key in family.keys])
-    return f"{NUMBERS[family.threads].capitalize()} threads of {operations_of(family)} each, every operation an {listed(list(WORDS.values()), 'or')} of one of the keys {keys}, on the initial lists {initials}"
+    threads = f"{NUMBERS[family.threads].capitalize()} threads have {operations_of(family)} each."
+    words = f"Every operation is an {listed(list(WORDS.values()), 'or')} of one of the keys {keys};"
+    words += f" the initial lists are {initials}."
+    waits = " The programs are of version 2: there is a find, and each find waits for one insert of another thread."
+    programs = f"That is {count(len(swept.results) // len(family.trees))} programs of each tree, and all were run."
+    return f"{threads} {words}{waits if family.waits else ''} {programs}"
 
 
-def greatest(runs: list[Run], measure: Callable[[Run], int]) -> str:
+def greatest(results: list[Result], measure: Callable[[Result], int]) -> str:
     """The greatest measure, and the first program that has it."""
-    run = max(runs, key=measure)
-    return f"{count(measure(run))} (`{run.name}`)"
+    result = max(results, key=measure)
+    return f"{count(measure(result))} (`{result.program}`)"
 
 
 def table(heads: list[str], rows: list[list[str]]) -> str:
+    """A table of the page."""
     lines = [f"| {' | '.join(line)} |" for line in (heads, *rows)]
     return "\n".join([lines[0], "|---" * len(heads) + "|", *lines[1:]]) + "\n"
 
@@ -154,12 +178,14 @@ def published(swept: Swept) -> str:
     """The table of the trees as published."""
     rows = []
     for tree in swept.family.trees:
-        runs = swept.of(tree)
+        results = swept.of(tree)
         if tree not in VARIANTS:
-            holding = [run for run in runs if run.verdict == "every"]
-            row = [f"`{tree}`", count(len(runs)), count(len(holding)), count(len(runs) - len(holding))]
-            rows.append([*row, greatest(runs, lambda run: run.states), greatest(runs, lambda run: run.steps), count(sum(run.states for run in runs))])
-    heads = ["Tree", "Programs", "Every schedule holds", "Fault", "Most states", "Most steps to a state", "States of all"]
+            holding = sum(result.verdict == "every" for result in results)
+            row = [f"`{tree}`", *map(count, (len(results), holding, len(results) - holding))]
+            most = [greatest(results, lambda result: result.states), greatest(results, lambda result: result.steps)]
+            rows.append([*row, *most, count(sum(result.states for result in results))])
+    heads = ["Tree", "Programs", "Every schedule holds", "Fault"]
+    heads += ["Most states", "Most steps to a state", "States of all"]
     return table(heads, rows) if rows else ""
 
 
@@ -167,66 +193,93 @@ def variants(swept: Swept) -> str:
     """The table of the variants, and the smallest programs of each that go wrong."""
     rows, paragraphs = [], []
     for tree in swept.family.trees:
-        runs = swept.of(tree)
-        wrong = [run for run in runs if run.verdict != "every"]
+        results = swept.of(tree)
+        wrong = [result for result in results if result.verdict != "every"]
         if tree in VARIANTS:
-            kinds = Counter(run.verdict for run in wrong)
-            rows.append([f"`{tree}`", *map(count, (len(runs), len(runs) - len(wrong), len(wrong))), *(count(kinds[kind]) for kind in KINDS)])
+            kinds = Counter(result.verdict for result in wrong)
+            numbers = [len(results), len(results) - len(wrong), len(wrong), *(kinds[kind] for kind in FAULTS)]
+            rows.append([f"`{tree}`", *map(count, numbers)])
             paragraphs.append(smallest(tree, wrong))
-    heads = ["Variant", "Programs", "Every schedule holds", "Go wrong", *(f"`fault {kind}`" for kind in KINDS)]
+    heads = ["Variant", "Programs", "Every schedule holds", "Go wrong", *(f"`fault {kind}`" for kind in FAULTS)]
     return "\n".join([table(heads, rows), *paragraphs]) if rows else ""
 
 
-def smallest(tree: str, wrong: list[Run]) -> str:
-    """The programs of a variant that go wrong with the fewest operations, and of these the ones with the shortest fault."""
+def smallest(tree: str, wrong: list[Result]) -> str:
+    """The programs of a variant that go wrong with the fewest operations, of these those with the shortest fault."""
     if not wrong:
         return f"No program of the family goes wrong on `{tree}`.\n"
-    operations = min(run.operations for run in wrong)
-    fewest = [run for run in wrong if run.operations == operations]
-    steps = min(run.steps for run in fewest)
-    shortest = sorted((run for run in fewest if run.steps == steps), key=lambda run: run.name)
-    overall = min(run.steps for run in wrong)
-    words = f"`{tree}`: the fewest operations of a program of the family that goes wrong are {operations}, and {count(len(fewest))} of so many do. Their shortest fault takes {steps} steps, in {len(shortest)} of them"
-    words += "; no program of the family has a shorter one." if overall == steps else f"; with more operations there are faults of {overall} steps."
-    lines = [f"- `{run.name}`: `fault {run.verdict}`, schedule `{run.schedule}`" for run in shortest[:LISTED]]
+    operations = min(map(operations_in, wrong))
+    fewest = [result for result in wrong if operations_in(result) == operations]
+    steps = min(result.steps for result in fewest)
+    shortest = sorted((result for result in fewest if result.steps == steps), key=lambda result: result.program)
+    overall = min(result.steps for result in wrong)
+    go = "programs go" if len(fewest) > 1 else "program goes"
+    words = f"On `{tree}` {count(len(fewest))} {go} wrong with {operations} operations, and none with fewer."
+    words += f" The shortest fault of these takes {steps} steps, in {len(shortest)} of them;"
+    if overall == steps:
+        words += " no program of the family has a shorter one."
+    else:
+        words += f" with more operations there are faults of {overall}."
+    first = shortest[:LISTED]
+    lines = [f"- `{result.program}`: `fault {result.verdict}`, schedule `{result.schedule}`" for result in first]
     more = [f"- and {len(shortest) - LISTED} more"] if len(shortest) > LISTED else []
-    return "\n".join(["\n".join(wrap(words, WIDTH)), "", *lines, *more, ""])
+    return "\n".join([filled(words), *lines, *more, ""])
 
 
 def section(swept: Swept) -> str:
     """What a family came to."""
-    family = swept.family
-    head = f"## {NUMBERS[family.threads].capitalize()} threads of {operations_of(family)}\n"
-    words = f"{in_words(family)}: {count(len(swept.runs) // len(family.trees))} programs of each tree, all of which were run."
-    parts = [head, "\n".join(wrap(words, WIDTH)) + "\n", published(swept), variants(swept)]
+    parts = [f"## {title_of(swept.family)}\n", filled(in_words(swept)), published(swept), variants(swept)]
     return "\n".join(part for part in parts if part)
 
 
 def page(sweeps: list[Swept], notes: list[str], commands: list[str]) -> str:
     """The whole page."""
     again = "## Again\n\n" + "\n".join(f"    {command}" for command in commands) + "\n"
-    runs = [run for swept in sweeps for run in swept.runs]
-    explored, whole = (f"{sum(getattr(run, name) for run in runs) / 60:.0f}" for name in ("seconds", "seconds_all"))
-    time = f"One after the other the {count(len(runs))} programs would have taken {whole} minutes, {explored} of them to explore."
-    wrapped = ["\n".join(wrap(note, WIDTH)) + "\n" for note in [*notes, time]]
-    return "\n".join([HEAD, *map(section, sweeps), LIMITS, again, *wrapped])
+    results = [result for swept in sweeps for result in swept.results]
+    commits = sorted({f"`{result.commit}`" for result in results})
+    sources = f"The sources are those of commit {listed(commits)}."
+    explored = sum(result.seconds for result in results) / 60
+    whole = sum(result.seconds_all for result in results) / 60
+    programs = f"One after the other the {count(len(results))} programs took {whole:.0f} minutes"
+    ending = map(filled, [*notes, f"{programs}, {explored:.0f} of them to explore."])
+    head = map(filled, [*HEAD, sources])
+    return "\n".join([*head, *map(section, sweeps), *map(filled, LIMITS), again, *ending])
+
+
+def write_whole(file: Path, text: str) -> None:
+    """Writes a file at once or not at all."""
+    beside = file.with_name(f".{file.name}.new")
+    try:
+        beside.write_text(text, encoding="utf-8")
+        os.replace(beside, file)
+    except OSError as fault:
+        raise Unusable(f"can't write {file}: {fault.strerror}") from None
+
+
+def read_words() -> argparse.Namespace:
+    """The words of the command line."""
+    parser = words_of(__doc__)
+    parser.add_argument("--note", metavar="TEXT", action="append", default=[], help="how the runs were made")
+    parser.add_argument("--command", metavar="TEXT", action="append", default=[], help="a command that made the files")
+    parser.add_argument("--out", metavar="PAGE", type=Path, help="the page, which else is printed")
+    parser.add_argument("results", metavar="RESULTS", type=Path, nargs="+")
+    return parser.parse_args()
 
 
 def main() -> int:
-    """Prints the page, and answers the status."""
-    parser = argparse.ArgumentParser(description=__doc__, formatter_class=argparse.RawDescriptionHelpFormatter, usage=argparse.SUPPRESS)
-    parser.add_argument("--note", action="append", default=[], help="where and how the runs were made")
-    parser.add_argument("--command", action="append", default=[], help="a command that made the files")
-    parser.add_argument("results", metavar="RESULTS", type=Path, nargs="+")
-    words = parser.parse_args()
+    """Makes the page, and answers the status."""
+    words = read_words()
     try:
-        sweeps = [read_sweep(file) for file in words.results]
-    except (Incomplete, OSError) as fault:
+        text = page([read_sweep(file) for file in words.results], words.note, words.command)
+    except Incomplete as fault:
         print(f"sweep_report: {fault}", file=sys.stderr)
-        return 1
-    print(page(sweeps, words.note, words.command), end="")
-    return 0
+        return WRONG
+    if words.out:
+        write_whole(words.out, text)
+    else:
+        print(text, end="")
+    return RIGHT
 
 
 if __name__ == "__main__":
-    sys.exit(main())
+    end(main)
