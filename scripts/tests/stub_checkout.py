@@ -35,9 +35,10 @@ class StubCheckout(unittest.TestCase):
         for name, text in MADE.items():
             self.put(name, text)
         (self.folder / "f.json").write_text("{}\n", encoding="utf-8")
-        (self.folder / "kit").mkdir()
-        shutil.copy(STUB, self.folder / "kit" / "rt")
-        self.env = {**os.environ, "PATH": f"{self.folder / 'kit'}:{os.environ['PATH']}", "STUB_CALLS": str(self.calls)}
+        kit = self.folder / "kit" / "bin"
+        kit.mkdir(parents=True)
+        shutil.copy(STUB, kit / "rt")
+        self.env = {**os.environ, "PATH": f"{kit}:{os.environ['PATH']}", "STUB_CALLS": str(self.calls)}
         for name in ("RT_JOBS", "TREESCHED_KEEP"):
             self.env.pop(name, None)
 

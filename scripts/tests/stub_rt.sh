@@ -2,12 +2,13 @@
 # Stands for the kit's command rt in tests: it proves nothing, and leaves the files that the kit would leave.
 #
 # It writes each call as a line `FOLDER WORD ..` to the file $STUB_CALLS. A check takes $STUB_SECONDS, and fails in the
-# crate $STUB_FAILS. The program that it makes answers with its words, and ends with the status $STUB_STATUS.
+# crate $STUB_FAILS. The program that it makes answers with its words, and ends with the status $STUB_STATUS. With
+# $STUB_DIFFERS set, each build of the program differs.
 set -euo pipefail
 
 program() {
     # shellcheck disable=SC2016
-    printf '#!/bin/sh\n# %s\necho "answer $*"\necho "remark" >&2\nexit "${STUB_STATUS:-0}"\n' "$(cat src/*.rt)"
+    printf '#!/bin/sh\n# %s\necho "answer $*"\necho "remark" >&2\nexit "${STUB_STATUS:-0}"\n' "${STUB_DIFFERS:+$PWD}"
 }
 
 # Runs the program unproved: it answers with its words, what is in the files that it is given, and the standard input.
@@ -44,6 +45,7 @@ run)
     mkdir -p out
     program >out/treesched
     chmod +x out/treesched
+    echo "logic=proved cpu=stub sum=0"
     STUB_STATUS=0 out/treesched --help
     ;;
 try) try "$@" ;;

@@ -206,10 +206,8 @@ class OwnFailures(StubCheckout):
     """The script's own failures."""
 
     def test_no_kit(self) -> None:
-        (self.folder / "kit" / "rt").unlink()
-        path = f"{self.folder / 'kit'}:/usr/bin:/bin"
         for words in (EXPLORE, ("--unproved", *EXPLORE), ("--build",)):
-            ended = self.run_wrapper(*words, PATH=path)
+            ended = self.run_wrapper(*words, PATH="/usr/bin:/bin")
             self.assertEqual((ended.returncode, ended.stdout), (OWN_FAILURE, ""))
             self.assertIn("the Rattle kit is missing", ended.stderr)
 
