@@ -25,14 +25,17 @@ Usage: treesched explore [OPTIONS] --steps <N> <FILE>
 
 Options of explore: --workers <W>, --states <M>, --merge <exact or names>, --ledger, --book <OUT>
 
-The program is not built yet: this is the help of its script. docs/FORMATS.md has all words, and
-docs/REFUSALS.md all exit statuses. The script has words of its own, which stand first:
+This is the help of the script, since the program is not built yet. Words of the script, which stand first:
 
   --unproved WORD ..  runs the sources with nothing proved
   --build             proves and builds the program, and runs nothing
   --version           the commit, the kit, and whether the program is proved
 
 Example: treesched explore examples/ellen.json --steps 400 --merge names
+
+Exit status: 0 it holds, 1 a fault, 2 stopped at the most states, 3 the program or the book is refused, 4 the words
+are refused, 5 memory was refused, 6 a file can't be read or written, 70 there is no program to run.
+docs/FORMATS.md has all words, and docs/REFUSALS.md all that is printed.
 END
 }
 
