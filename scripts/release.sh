@@ -3,12 +3,13 @@
 #
 # usage: scripts/release.sh [--anew]
 #
-# The program is built in this checkout, which must have no change, and once more in a clone in another folder. The two are
-# compared byte by byte. For the second build the kit takes over the libraries that it proved before on this machine. With
-# --anew it takes over nothing, and proves everything once more, which takes as long as a first build. The archive holds the
-# program, the licences, and RELEASE.txt, which says what the program is, what it needs, and whether the builds were equal.
+# The program is built in this checkout, which must have no change, and once more in a clone in another folder. The
+# two are compared byte by byte. For the second build the kit takes over the libraries that it proved before on this
+# machine. With --anew it takes over nothing, and proves everything once more, which takes as long as a first build.
+# The archive holds the program, the licences, and RELEASE.txt: what the program is, what it needs, and if the builds
+# were equal.
 #
-# The path of the archive goes to standard output, all else to standard error. The status is 1 where no archive is made.
+# The path of the archive goes to standard output, all else to standard error. The status is 1 where none is made.
 set -euo pipefail
 
 top=$(dirname "$(dirname "$(readlink -f "${BASH_SOURCE[0]}")")")
@@ -42,7 +43,7 @@ build_again() {
     git clone -q "$top" "$clone"
     if [ -n "$1" ]; then
         link_kit
-        PATH=$room/kit/bin:$PATH "$clone/treesched" --build || fail "the second build failed"
+        PATH=$room/apart/kit/bin:$PATH "$clone/treesched" --build || fail "the second build failed"
         cp "$clone/crates/treesched/out/build.log" "$room/log"
     elif ! (cd "$clone/crates/treesched" && rt run "${jobs[@]}" -- --help </dev/null >"$room/log" 2>&1); then
         tail -n 20 "$room/log" >&2
@@ -51,11 +52,14 @@ build_again() {
     mv "$clone/crates/treesched/out/treesched" "$room/second"
 }
 
-# Gives the second build a kit of its own, since the kit keeps what it proved in a folder beside it.
+# Gives the second build a kit in a folder of its own, since a kit keeps what it proved in a folder beside it.
 link_kit() {
     local kit
     kit=$(dirname "$(dirname "$(readlink -f "$(command -v rt)")")")
-    cp -al "$kit" "$room/kit" || fail "the kit can't be linked to: let TMPDIR name a folder of its file system"
+    mkdir -p "$room/apart/kit"
+    ln -s "$kit"/* "$room/apart/kit/"
+    rm "$room/apart/kit/bin"
+    cp -r "$kit/bin" "$room/apart/kit/"
 }
 
 sum_of() {
@@ -65,7 +69,7 @@ sum_of() {
 # What the program needs of the system: the libraries that it is linked with, and the C library's version.
 needed() {
     local names version
-    names=$(ldd "$program" 2>/dev/null | sed -n 's/^[[:space:]]*\([^ ]*\).*/\1/p' | grep -v vdso | paste -sd ' ') || true
+    names=$(ldd "$program" 2>/dev/null | awk '!/vdso/ { print $1 }' | paste -sd ' ') || true
     version=$(grep -ao 'GLIBC_[0-9.]*' "$program" | sort -uV | tail -n 1) || true
     echo "${names:-nothing that is linked dynamically}${version:+, with $version}"
 }
@@ -83,6 +87,9 @@ sha256    $(sum_of "$program")
 target    Linux, a processor of the level ${cpu:-x86-64 (the kit named none)} or higher
 linked    $(needed)
 builds    two, in two folders: $equal; for the second $way
+
+It needs nothing but this. Here it judges the book file of a claim: ./treesched check claim.json claim.book
+All its words are in ./treesched --help, and in the documents of the commit.
 
 The program was built from sources that are proved as a whole. Nothing in this archive shows that: whoever wants
 to know it gets the commit and the kit, and in the checkout runs
