@@ -236,7 +236,7 @@ class Unproved(StubCheckout):
         """The standard output of a run, with the folder of the tests as ."""
         ended = self.run_command(["bash", "-c", f"checkout/treesched --unproved {command}"], stdin, STUB_STATUS="3")
         self.assertEqual(ended.returncode, 3)
-        self.assertRegex(ended.stderr, r"^treesched: nothing is proved .*, which takes .* minutes\nremark\n$")
+        self.assertRegex(ended.stderr, r"^treesched: nothing is proved .*, which takes .*\nremark\n$")
         self.assertEqual(len(self.taken_calls()), 1)
         return ended.stdout.replace(str(self.folder), ".")
 
