@@ -8,7 +8,18 @@ use clap::{Arg, ArgAction, Command, value_parser};
 use std::alloc::{AllocError, Global};
 
 /// What stands below the help for the whole command.
-const EXAMPLE: &str = "Example: treesched explore examples/ellen.json --steps 400 --merge names";
+const BELOW: &str = "Example: treesched explore examples/ellen.json --steps 400 --merge names
+
+Exit status:
+  0  it holds, the replay has no fault, the book passes, or help was asked for
+  1  a schedule has a fault
+  2  more states were reached than --states allows
+  3  the program or the book is refused
+  4  the words are refused
+  5  memory was refused
+  6  a file can't be read, or a file or the standard output can't be written
+
+docs/REFUSALS.md has each line that is printed, with its repair.";
 
 /// The words for the ways to merge states.
 static MERGES: [&str; 2] = ["exact", "names"];
@@ -68,9 +79,7 @@ fn merge<'a>(alloc: Global) -> Arg<'a>
         .value_name("STATES")
         .default_value("exact")
         .value_parser(MERGES.as_slice())
-        .help(
-            "Which states count as one: equal ones, or those that differ in the numbers of nodes and records",
-        )
+        .help("Which states count as one; 'holds for every schedule' needs names")
 }
 
 fn ledger<'a>(alloc: Global) -> Arg<'a>
@@ -157,7 +166,7 @@ pub fn treesched_command<'a>(alloc: Global) -> Result<Command<'a>, AllocError>
 {
     Command::new(alloc, "treesched")
         .about("Explores the schedules of concurrent tree programs")
-        .after_help(EXAMPLE)
+        .after_help(BELOW)
         .subcommand_required(true)
         .subcommand(explore(alloc)?)?
         .subcommand(replay(alloc)?)?
