@@ -1,0 +1,249 @@
+"""The page: everything that changes from step to step is a number in a table of texts, which a short script looks up."""
+from __future__ import annotations
+
+import json
+from dataclasses import dataclass
+from html import escape
+from pathlib import Path
+from typing import Any
+
+from place_tables import Ellen, NatMit, Tree
+from viewer.clash import Run
+from viewer.lanes import LEFT, Lanes, quoted
+from viewer.panels import act, changes, key_item, line_of, plural, record_items, thread_item
+from viewer.replays import show_list
+from viewer.steps import Mark, Walk, key_states, marks
+from viewer.tree import picture_of, tree_words
+
+FOLDER = Path(__file__).resolve().parent
+LANES_WIDTH = 1200
+MOST_HEIGHT = 600
+
+
+@dataclass(frozen=True)
+class Shown:
+    """A run, as the program tells it and as the place tables in Python do."""
+
+    run: Run
+    walked: Walk
+
+
+class Texts:
+    """Texts, each kept once, by their numbers."""
+
+    def __init__(self) -> None:
+        self.numbers: dict[str, int] = {}
+
+    def number(self, text: str) -> int:
+        return self.numbers.setdefault(text, len(self.numbers))
+
+    def all(self, texts: list[str]) -> list[int]:
+        return [self.number(text) for text in texts]
+
+
+def own_file(name: str) -> str:
+    return (FOLDER / name).read_text(encoding="utf-8")
+
+
+class RunPage:
+    """What the page needs of one run."""
+
+    def __init__(self, shown: Shown, texts: Texts) -> None:
+        self.run, self.walked = shown.run, shown.walked
+        self.keys = key_states(shown.walked)
+        self.picture = picture_of(shown.walked, self.keys)
+        self.marks: list[Mark] = marks(shown.walked, self.keys)
+        self.frames = [self.frame(count, texts) for count in range(len(shown.walked.states))]
+
+    def frame(self, count: int, texts: Texts) -> list[Any]:
+        walked = self.walked
+        return [
+            texts.all([act(walked, count), changes(walked, self.keys, count)]),
+            texts.all([part.text for part in self.picture.parts(count)]),
+            texts.all([key_item(each) for each in self.keys[count]]),
+            texts.all([thread_item(walked, thread, count) for thread in range(len(walked.source.threads))]),
+            texts.all(record_items(walked, count)),
+            texts.number(tree_words(walked, self.picture, count)),
+            texts.number(line_of(walked, count)) if count else texts.number("Start"),
+        ]
+
+    def lanes(self) -> tuple[str, float]:
+        """The lanes as an SVG with the line that shows the moment, and how wide a step is there."""
+        count = max(1, len(self.run.schedule))
+        cell = max(11.0, min(34.0, (LANES_WIDTH - LEFT) / count))
+        drawn = Lanes(self.run, cell, count, 1 if cell > 24 else 5)
+        parts, bottom = drawn.all_blocks(30)
+        width, height = round(drawn.right + 16), round(bottom)
+        told = "; ".join(f"{operation.label}, {operation.span}" for operation in self.run.operations) or "no operation"
+        return (
+            f'<svg class="lanes" width="{width}" height="{height}" viewBox="0 0 {width} {height}" role="img" '
+            f'aria-label="{escape(told)}">{"".join(parts)}'
+            f'<g class="moment"><rect x="{LEFT}" y="0" width="{cell:g}" height="{height - 6}"/></g></svg>'
+        ), cell
+
+    def finding(self) -> str:
+        kind = "bad" if self.run.fault else "good"
+        lines = [quoted(text) for text in self.run.finding]
+        return f'<p class="finding {kind}"><b>{escape(lines[0])}</b> {escape(" ".join(lines[1:]))}</p>'
+
+    def order(self) -> str:
+        """A linearization, as the order of points."""
+        if not self.run.order:
+            return ""
+        named = {operation.name: operation for operation in self.run.operations}
+        items = []
+        for name in self.run.order:
+            each = named[name]
+            reply = "no reply yet" if each.reply is None else f"replied {str(each.reply).lower()}"
+            items.append(f'<li><span class="who thread{each.thread}">{name}</span> {each.word} {each.key}, {reply}</li>')
+        return (
+            '<section class="order"><h3>An order that explains the replies</h3>'
+            f'<p>The diamonds in the lanes, from left to right.</p><ol>{"".join(items)}</ol></section>'
+        )
+
+    def article(self, index: int, head: str) -> str:
+        lanes, cell = self.lanes()
+        width, height = self.picture.width, self.picture.height
+        # larger where there is room, but no higher than a screen
+        scale = max(1.0, min(1.6, MOST_HEIGHT / height))
+        records = '<section class="records"><h3>Records</h3><ul></ul></section>'
+        noun = "tree" if isinstance(self.walked.machine, Tree) else "list"
+        return f"""<article class="run" data-run="{index}" data-cell="{cell:g}">
+{head}<section class="timeline"><div class="scroll" tabindex="0" role="group"
+ aria-label="Lanes of operations">{lanes}</div></section>
+<div class="views">
+<figure class="tree"><div class="scroll" tabindex="0" role="group" aria-label="The {noun} after this step">
+<svg class="memory" viewBox="0 0 {width} {height}" style="min-width:{width}px;max-width:{round(scale * width)}px" role="img"
+></svg></div></figure>
+<div class="side">
+<section class="act"></section>
+<section class="keys"><h3>What a reader finds now</h3><ul></ul></section>
+<section class="threads"><h3>Threads</h3><ul></ul></section>
+{records if isinstance(self.walked.machine, Ellen) else ""}
+</div></div>
+{self.order()}</article>"""
+
+
+def legend(pages: list[RunPage]) -> str:
+    """What the signs of the trees mean, of those that are drawn in some step."""
+    drawn = "".join(part.text for page in pages for count in range(len(page.frames)) for part in page.picture.parts(count))
+    machine = pages[0].walked.machine
+    is_tree = isinstance(machine, Tree)
+    signs = [
+        ('class="node inner', "Rounded box: an internal node, with its key and its number n."),
+        ('class="node leaf', "Square box: a leaf." if is_tree else "Box: a key; dashed where the list does not hold it."),
+        ("∞", "∞₀, ∞₁, ∞₂: the keys above all others."),
+        ('class="word', "Plate in a node: its update word, with the record r that it names."),
+        ("flag", "Plate on an edge: the flag or the tag of that child word.") if isinstance(machine, NatMit) else ("\0", ""),
+        ("edge out", "Dashed: what the root does not reach, and its words."),
+        ("chip read", "“T0 read”, “changed” or “failed”: the access of this step, by that thread."),
+        ("chip thread", "T0, T1 .. beside a node: where the thread does its next access."),
+    ]
+    items = [f"<li>{escape(text)}</li>" for sign, text in signs if sign in drawn]
+    lanes = "Lanes: a dot is a step; a dashed bar has not ended"
+    lanes += "; thick bars are replies that no order explains" if any(page.run.clash for page in pages) else ""
+    lanes += "; diamonds from left to right are the order" if any(page.run.order for page in pages) else ""
+    columns = "Columns are keys, so that a search tree is in order from left to right." if is_tree else ""
+    return f"<ul>{''.join(items)}<li>{escape(lanes)}.</li>{f'<li>{columns}</li>' if columns else ''}</ul>"
+
+
+def parting(pages: list[RunPage]) -> int | None:
+    """The first step at which two schedules differ."""
+    if len(pages) < 2:
+        return None
+    first, second = (page.run.schedule for page in pages)
+    for index in range(max(len(first), len(second))):
+        if first[index : index + 1] != second[index : index + 1]:
+            return index + 1
+    return None
+
+
+def parting_words(pages: list[RunPage], step: int | None) -> str:
+    if step is None:
+        return "The two schedules are equal."
+    told = []
+    for side, page in zip(("left", "right"), pages):
+        schedule = page.run.schedule
+        told.append(f"on the {side} {f'thread {schedule[step - 1]} moves' if step <= len(schedule) else 'it has ended'}")
+    before = f"Both begin with the same {plural(step - 1, 'step')}" if step > 1 else "They differ from the first step on"
+    return f"{before}; at step {step} {', '.join(told)}."
+
+
+def mark_items(pages: list[RunPage], step: int | None) -> list[tuple[int, str, str]]:
+    """The marks of the slider: step, kind and text."""
+    sides = ["left: ", "right: "] if len(pages) > 1 else [""]
+    found = [(mark.step, "bad", side + mark.text) for side, page in zip(sides, pages) for mark in page.marks]
+    if step is not None:
+        found.append((step, "part", "the schedules part"))
+    return sorted(found)
+
+
+def html_page(all_shown: list[Shown], command: str) -> str:
+    texts = Texts()
+    pages = [RunPage(shown, texts) for shown in all_shown]
+    most = max(len(page.run.schedule) for page in pages)
+    step = parting(pages)
+    data = {"s": list(texts.numbers), "runs": [page.frames for page in pages]}
+    items = mark_items(pages, step)
+    tips = "".join(
+        f'<span class="tip {kind}" style="--at:{at / most if most else 0:.4f}"></span>' for at, kind, _ in items
+    )
+    links = "".join(
+        f'<li class="{kind}"><a href="#step={at}">{"▲" if kind == "bad" else "◆"} step {at}: {escape(text)}</a></li>'
+        for at, kind, text in items
+    )
+    heads = [""] if len(pages) == 1 else [
+        f"<h2>{side}: {escape(plural(len(page.run.schedule), 'step'))}</h2>{page.finding()}"
+        f'<p class="schedule"><code>{show_list(page.run.schedule)}</code></p>'
+        for side, page in zip(("Left", "Right"), pages)
+    ]  # fmt: skip
+    steps = plural(most, "step") if len(pages) == 1 else "two schedules"
+    lead = pages[0].finding() if len(pages) == 1 else f'<p class="finding">{escape(parting_words(pages, step))}</p>'
+    fields = {
+        "TITLE": escape(f"{pages[0].run.title.rsplit(',', 1)[0]}, {steps}"),
+        "TREE": escape(pages[0].walked.source.tree),
+        "LEAD": lead,
+        "MOST": str(most),
+        "TIPS": tips,
+        "LINKS": f'<ul class="marks">{links}</ul>' if links else "",
+        "RUNS": "\n".join(page.article(index, head) for index, (page, head) in enumerate(zip(pages, heads))),
+        "COUNT": "two" if len(pages) > 1 else "one",
+        "LEGEND": legend(pages),
+        "COMMAND": escape(command),
+        "STYLE": own_file("colours.css") + own_file("picture.css") + own_file("page.css"),
+        "DATA": json.dumps(data, ensure_ascii=False, separators=(",", ":")).replace("</", "<\\/"),
+        "SCRIPT": own_file("page.js"),
+    }
+    text = own_file("page.html")
+    for name, value in fields.items():
+        text = text.replace(f"@{name}@", value)
+    return text
+
+
+def still_picture(shown: Shown, step: int) -> str:
+    """The tree after a step as an SVG that stands alone."""
+    keys = key_states(shown.walked)
+    picture = picture_of(shown.walked, keys)
+    told = line_of(shown.walked, step) if step else "no operation has begun"
+    lines = [f"{shown.run.title.rsplit(',', 1)[0]}, step {step}", *wrapped(told, max(picture.width, 460) // 8)]
+    width, top = max(picture.width, 480), 22 * len(lines) + 10
+    height = picture.height + top
+    heads = "".join(
+        f'<text class="{"title" if index == 0 else "line"}" x="14" y="{24 + 22 * index}">{escape(line)}</text>'
+        for index, line in enumerate(lines)
+    )
+    parts = "".join(part.text for part in picture.parts(step))
+    return (
+        f'<svg xmlns="http://www.w3.org/2000/svg" class="memory still" width="{width}" height="{height}" '
+        f'viewBox="0 0 {width} {height}" role="img">\n<title>{escape("; ".join(lines))}</title>\n'
+        f"<desc>{escape(tree_words(shown.walked, picture, step))}</desc>\n"
+        f"<style>{own_file('colours.css')}{own_file('picture.css')}</style>\n"
+        f'<rect class="paper" width="{width}" height="{height}"/>{heads}\n'
+        f'<g transform="translate({(width - picture.width) // 2},{top})">{parts}</g>\n</svg>\n'
+    )
+
+
+def wrapped(text: str, columns: int) -> list[str]:
+    from textwrap import wrap
+
+    return wrap(text, columns) or [""]
