@@ -1,23 +1,26 @@
 #!/usr/bin/env python3
-"""Draws a schedule: as lanes on the terminal, and where it is asked for as a picture or as a page that shows the tree at every step.
+"""Draws a schedule: as lanes on the terminal, and where it is asked for as a picture or as a page that shows the
+tree at every step.
 
     scripts/show_schedule.py FILE SCHEDULE
     scripts/show_schedule.py FILE SCHEDULE --html page.html
     scripts/show_schedule.py FILE SCHEDULE --compare SCHEDULE2 --html page.html
     ./treesched explore FILE --steps 20 | scripts/show_schedule.py FILE -
 
-Lanes: one for each thread, one bar for each operation, from its first step to its last. What stands in them is learnt from
-`PROGRAM replay` alone, called for every beginning of the schedule: an operation begins with the first beginning that lists it,
-and has ended with the first that gives its reply. Where the last replay tells an order, each of its operations gets a point
-inside its bar, from left to right. Where it tells `fault history`, the fewest operations whose replies no order explains are
-named.
+Lanes: one for each thread, one bar for each operation, from its first step to its last. What stands in them is
+learnt from `PROGRAM replay` alone, called for every beginning of the schedule: an operation begins with the
+first beginning that lists it, and has ended with the first that gives its reply. Where the last replay tells an
+order, each of its operations gets a point inside its bar, from left to right. Where it tells `fault history`,
+the fewest operations whose replies no order explains are named.
 
-A page, and a still picture of the tree, come from the place tables in Python (scripts/place_tables.py), which are apart from the
-proved program. Their replies and their verdict after each step are compared with PROGRAM's, and a run that differs is refused.
+A page, and a still picture of the tree, come from the place tables in Python (scripts/place_tables.py), which
+are apart from the proved program. Their replies and their verdict after each step are compared with PROGRAM's,
+and a run that differs is refused.
 
 The text is as wide as the variable COLUMNS says, else as the terminal is, else 80 columns.
 
-Status 0: drawn, whether there is a fault or not. 1: FILE or the schedule is refused, or an output failed. 2: usage.
+Status 0: drawn, whether there is a fault or not. 1: FILE or the schedule is refused, or an output failed. 2:
+usage.
 """
 from __future__ import annotations
 
@@ -30,12 +33,14 @@ from pathlib import Path
 
 from viewer.clash import Run, examine
 from viewer.lanes import svg_picture
+from viewer.nearest import nearest
 from viewer.page import Shown, html_page, still_picture
 from viewer.replays import Asker, Refusal, Source, read_file, read_schedule, read_source, schedule_in, show_list
 from viewer.steps import compare, walk
 from viewer.text import text_picture
 from viewer.tikz import tikz_picture
 
+NEAREST = "nearest"
 DEFAULT_PROGRAM = Path(__file__).resolve().parent.parent / "treesched"
 
 
@@ -43,14 +48,25 @@ def read_words() -> argparse.Namespace:
     parser = argparse.ArgumentParser(description=__doc__, formatter_class=argparse.RawDescriptionHelpFormatter)
     parser.add_argument("file", metavar="FILE", help="a program, as docs/FORMATS.md says, or - for standard input")
     parser.add_argument(
-        "schedule", metavar="SCHEDULE", help="thread numbers joined by commas, or nothing, or - for standard input, which may be what explore printed"
+        "schedule",
+        metavar="SCHEDULE",
+        help="thread numbers joined by commas, or nothing, or - for standard input, which may be what explore printed",
     )
     parser.add_argument("--svg", metavar="OUT", help="write the lanes there as a picture")
     parser.add_argument("--tikz", metavar="OUT", help="write the lanes there as a TikZ picture for LaTeX")
     parser.add_argument("--html", metavar="OUT", help="write a page there that shows the tree at every step")
-    parser.add_argument("--compare", metavar="SCHEDULE2", help="of the same FILE, beside the first on the page")
-    parser.add_argument("--still", nargs=2, metavar=("STEP", "OUT"), help="write the tree after STEP there as a picture")
-    parser.add_argument("--program", default=str(DEFAULT_PROGRAM), metavar="PROGRAM", help="the program that replays")
+    parser.add_argument(
+        "--compare",
+        metavar="SCHEDULE2",
+        help="another schedule of FILE, beside the first on the page, or the word 'nearest': one without a fault "
+        "that has the longest beginning in common with SCHEDULE",
+    )
+    parser.add_argument(
+        "--still", nargs=2, metavar=("STEP", "OUT"), help="write the tree after STEP there as a picture"
+    )
+    parser.add_argument(
+        "--program", default=str(DEFAULT_PROGRAM), metavar="PROGRAM", help="the program that replays"
+    )
     words = parser.parse_args()
     if words.file == "-" and "-" in (words.schedule, words.compare):
         parser.error("FILE and a schedule can't both come from standard input")
@@ -88,6 +104,8 @@ def draw(words: argparse.Namespace, file: str, text: bytes, schedules: list[list
     asker = Asker(words.program, file, name)
     asker.replay(schedules[0])
     source = read_source(text, name)
+    if words.compare == NEAREST:
+        schedules = [*schedules, nearest(source, schedules[0])]
     runs = [examine(asker, schedule, source) for schedule in schedules]
     if words.svg:
         Path(words.svg).write_text(svg_picture(runs[0]), encoding="utf-8")
@@ -109,7 +127,8 @@ def draw(words: argparse.Namespace, file: str, text: bytes, schedules: list[list
 def main() -> int:
     words = read_words()
     try:
-        schedules = [schedule_of(word) for word in (words.schedule, words.compare) if word is not None]
+        given = [word for word in (words.schedule, words.compare) if word not in (None, NEAREST)]
+        schedules = [schedule_of(word) for word in given]
         text = read_file(words.file)
         # the program reads FILE many times, and what is no plain file gives its text once
         with tempfile.NamedTemporaryFile(suffix=".json") as copy:

@@ -1,7 +1,8 @@
-"""The access of a place: which word of which node it reads or exchanges, what it finds, and what it would put there.
+"""The access of a place: which word of which node it reads or exchanges, what it finds, and what it would put
+there.
 
-The accesses stand here once more beside scripts/place_tables.py, which does the steps: `Access.is_done` is learnt by comparing
-words, and scripts/tests/test_viewer_steps.py holds it against the memory after each step.
+The accesses stand here once more beside scripts/place_tables.py, which does the steps: `Access.is_done` is
+learnt by comparing words, and scripts/tests/test_viewer_steps.py holds it against the memory after each step.
 """
 from __future__ import annotations
 
@@ -30,7 +31,7 @@ def record_text(record: int) -> str:
 
 def update_text(update: Value) -> str:
     """An update word of `ellen`."""
-    return update[0] if update[1] is None else f"{update[0]} {record_text(update[1])}"
+    return str(update[0]) if update[1] is None else f"{update[0]} {record_text(update[1])}"
 
 
 def child_text(word: Any) -> str:
@@ -40,8 +41,8 @@ def child_text(word: Any) -> str:
 
 @dataclass(frozen=True)
 class Access:
-    """One access. `kind` is read, exchange, set or do; `word` is update, left or right. Where it exchanges, `is_done` says
-    whether the word found was the word wanted. `node` is none for `atomic`."""
+    """One access. `kind` is read, exchange, set or do; `word` is update, left or right. Where it exchanges,
+    `is_done` says whether the word found was the word wanted. `node` is none for `atomic`."""
 
     kind: str
     node: int | None = None

@@ -79,7 +79,8 @@ class Browser:
                 raise BrowserFault("the browser has ended")
             self.rest += piece
         text, self.rest = self.rest.split(b"\0", 1)
-        return json.loads(text)
+        found: dict[str, Any] = json.loads(text)
+        return found
 
     def call(self, method: str, **values: Any) -> dict[str, Any]:
         self.number += 1
@@ -94,7 +95,8 @@ class Browser:
             if answer.get("id") == self.number:
                 if "error" in answer:
                     raise BrowserFault(f"{method}: {answer['error']['message']}")
-                return answer["result"]
+                found: dict[str, Any] = answer["result"]
+                return found
             self.events.append(answer)
 
     def evaluate(self, expression: str) -> Any:
@@ -124,10 +126,15 @@ class Browser:
             self.call("Input.dispatchKeyEvent", **values)
 
     def resize(self, width: int, height: int) -> None:
-        self.call("Emulation.setDeviceMetricsOverride", width=width, height=height, deviceScaleFactor=1, mobile=False)
+        self.call(
+            "Emulation.setDeviceMetricsOverride", width=width, height=height, deviceScaleFactor=1, mobile=False
+        )
 
     def prefer(self, scheme: str, motion: str = "no-preference") -> None:
-        features = [{"name": "prefers-color-scheme", "value": scheme}, {"name": "prefers-reduced-motion", "value": motion}]
+        features = [
+            {"name": "prefers-color-scheme", "value": scheme},
+            {"name": "prefers-reduced-motion", "value": motion},
+        ]
         self.call("Emulation.setEmulatedMedia", features=features)
 
     def picture(self, out: Path, whole: bool = True) -> None:

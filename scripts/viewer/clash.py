@@ -9,8 +9,8 @@ from viewer.replays import Asker, Operation, Refusal, Source, trace
 
 
 def is_explained(operations: list[Operation], initial: frozenset[int]) -> bool:
-    """Whether some order of the operations gives every known reply and keeps 'ended before'. It holds every operation whose
-    reply is known; any other may stand in it or not."""
+    """Whether some order of the operations gives every known reply and keeps 'ended before'. It holds every
+    operation whose reply is known; any other may stand in it or not."""
     refuted: set[tuple[tuple[Operation, ...], frozenset[int]]] = set()
 
     def extends(rest: tuple[Operation, ...], keys: frozenset[int]) -> bool:
@@ -35,24 +35,27 @@ def is_explained(operations: list[Operation], initial: frozenset[int]) -> bool:
 
 
 def only_known(operations: list[Operation], chosen: list[Operation]) -> list[Operation]:
-    """The operations, but of those not chosen the reply is not known: each keeps its steps, and may have taken effect."""
+    """The operations, but of those not chosen the reply is not known: each keeps its steps, and may have taken
+    effect."""
     return [operation if operation in chosen else replace(operation, reply=None) for operation in operations]
 
 
 def smallest_clash(operations: list[Operation], initial: frozenset[int]) -> list[Operation]:
-    """The fewest operations, the first such in the order of lists, whose replies alone no order explains. As what operations on
-    one key reply does not depend on other keys, all of them have one key. A pending one has no reply and is never among them."""
+    """The fewest operations, the first such in the order of lists, whose replies alone no order explains. As
+    what operations on one key reply does not depend on other keys, all of them have one key. A pending one has
+    no reply and is never among them."""
     finished = [operation for operation in operations if operation.reply is not None]
     for size in range(1, len(finished) + 1):
-        for chosen in map(list, combinations(finished, size)):
+        for combination in combinations(finished, size):
+            chosen = list(combination)
             if not is_explained(only_known(operations, chosen), initial):
                 return chosen
     raise Refusal("the program found no order of the operations, but there is one")
 
 
 def reply_clause(operation: Operation, clash: list[Operation]) -> str:
-    """The reply, and the last operations of the clash that ended before this one began; the others ended before one of those
-    began."""
+    """The reply, and the last operations of the clash that ended before this one began; the others ended before
+    one of those began."""
     before = [other for other in clash if other.ended_before(operation)]
     last = [other for other in before if not any(other.ended_before(later) for later in before)]
     after = f", and began after {' and '.join(f'`{other.name}`' for other in last)} ended" if last else ""
@@ -60,7 +63,8 @@ def reply_clause(operation: Operation, clash: list[Operation]) -> str:
 
 
 def reasons(clash: list[Operation], operations: list[Operation], source: Source) -> list[str]:
-    """What else the contradiction rests on: facts without which an order would be found, and what plays no part in it."""
+    """What else the contradiction rests on: facts without which an order would be found, and what plays no part
+    in it."""
     key, known = clash[0].key, only_known(operations, clash)
     matters = is_explained(known, source.initial ^ {key})
     told = [f"{key} is {'an' if key in source.initial else 'no'} initial key"] if matters else []
@@ -72,7 +76,9 @@ def reasons(clash: list[Operation], operations: list[Operation], source: Source)
         elif would_help and not any((other.word, other.key) == (word, key) for other in operations):
             told.append(f"no operation that began {word}s {key}")
     others = [
-        f"`{other.text}`" for other in operations if other.key == key and other.word != "find" and other not in clash
+        f"`{other.text}`"
+        for other in operations
+        if other.key == key and other.word != "find" and other not in clash
     ]
     if others:
         told.append(f"whether {' and '.join(others)} took effect or not makes no difference")

@@ -13,14 +13,25 @@ from viewer.replays import Operation
 LEFT, BAR, LABEL, GAP, LETTER, LINE = 84, 32, 18, 16, 7.4, 20
 STYLE = """
   text { font: 13px system-ui, "Segoe UI", "DejaVu Sans", Arial, sans-serif }
-  .head { font-weight: 600 } .step { text-anchor: middle; font-size: 12px } .label { paint-order: stroke; stroke-width: 4 }
+  .head { font-weight: 600 } .step { text-anchor: middle; font-size: 12px }
+  .label { paint-order: stroke; stroke-width: 4 }
   .bar { stroke-width: 1.5 } .pending { stroke-dasharray: 6 4 } .clash { stroke-width: 3 }
 """
 COLOURS = """
   .paper { fill: %s } .label { stroke: %s } text { fill: %s } .grid { stroke: %s }
   .bar { fill: %s; stroke: %s } .mark { fill: %s } .clash { stroke: %s } .point { fill: %s }
 """
-LIGHT = COLOURS % ("#ffffff", "#ffffff", "#1f2328", "#d5dae0", "#d8e6f7", "#3f6fa8", "#3f6fa8", "#c62828", "#8a4b00")
+LIGHT = COLOURS % (
+    "#ffffff",
+    "#ffffff",
+    "#1f2328",
+    "#d5dae0",
+    "#d8e6f7",
+    "#3f6fa8",
+    "#3f6fa8",
+    "#c62828",
+    "#8a4b00",
+)
 DARK = COLOURS % ("#14181d", "#14181d", "#e6edf3", "#363d46", "#20354f", "#79aae3", "#79aae3", "#ff8379", "#ffb454")
 
 
@@ -47,8 +58,9 @@ def blocks(count: int, size: int) -> list[tuple[int, int]]:
 
 
 def points(run: Run) -> list[tuple[Operation, float]]:
-    """The operations of the order, each with its place in steps, which ascend. The last of the first steps up to an operation is
-    a step of its bar, as none of them began after it ended; the points with one such step share its cell evenly."""
+    """The operations of the order, each with its place in steps, which ascend. The last of the first steps up to
+    an operation is a step of its bar, as none of them began after it ended; the points with one such step share
+    its cell evenly."""
     named = {operation.name: operation for operation in run.operations}
     ordered = [named[name] for name in run.order]
     cells = [max(operation.first for operation in ordered[: index + 1]) for index in range(len(ordered))]
@@ -72,7 +84,9 @@ def labelled(run: Run, thread: int, low: int, high: int) -> list[Labelled]:
     for operation in run.in_lane(thread):
         if operation.first <= high and run.end(operation) > low:
             goes_on = operation.first <= low
-            found.append(Labelled(operation, max(operation.first, low + 1), ("… " if goes_on else "") + operation.label))
+            found.append(
+                Labelled(operation, max(operation.first, low + 1), ("… " if goes_on else "") + operation.label)
+            )
     return found
 
 
@@ -92,21 +106,23 @@ def svg_text(x: float, y: float, kind: str, text: str) -> str:
 
 @dataclass
 class Lanes:
-    """The lanes of a run, whose rows have at most `size` steps of `cell` pixels each."""
+    """The lanes of a run, whose rows have at most `size` steps of `cell` pixels, behind names as wide as `left`."""
 
     run: Run
     cell: float = 34
     size: int = 30
     ticks: int = 1
+    left: int = LEFT
+    thread: str = "thread "
 
     def edge(self, step: float, low: int) -> float:
         """The place on the paper where so many steps have been done."""
-        return LEFT + self.cell * (step - low)
+        return self.left + self.cell * (step - low)
 
     @property
     def right(self) -> float:
         """Where the longest row ends, labels with it."""
-        ends = [LEFT + self.cell * min(len(self.run.schedule), self.size)]
+        ends = [self.left + self.cell * min(len(self.run.schedule), self.size)]
         for low, high in blocks(len(self.run.schedule), self.size):
             for thread in range(self.run.lanes):
                 for each in labelled(self.run, thread, low, high):
@@ -124,7 +140,9 @@ class Lanes:
         parts = [svg_text(left + 3, base, "label", each.text)]
         if row:
             parts.append(f'<path class="grid" d="M{left:g} {base - 10:g}V{top:g}"/>')
-        parts.append(f'<rect class="{kind}" x="{left:g}" y="{top:g}" width="{right - left:g}" height="{BAR}" rx="5"/>')
+        parts.append(
+            f'<rect class="{kind}" x="{left:g}" y="{top:g}" width="{right - left:g}" height="{BAR}" rx="5"/>'
+        )
         radius = min(4.5, self.cell * 0.36)
         for step in range(each.first, last + 1):
             if run.schedule[step - 1] == operation.thread:
@@ -142,7 +160,7 @@ class Lanes:
             lane = labelled(run, thread, low, high)
             rows = label_rows(lane, lambda step: self.edge(step - 1, low), LETTER, 8)
             tops[thread] = y + LABEL * (1 + max(rows, default=0))
-            bars.append(svg_text(12, tops[thread] + 21, "head", f"thread {thread}"))
+            bars.append(svg_text(12, tops[thread] + 21, "head", f"{self.thread}{thread}"))
             for each, row in zip(lane, rows):
                 bars += self.operation(each, row, tops[thread], low, high)
             y = tops[thread] + BAR + GAP

@@ -1,14 +1,14 @@
 """Where the nodes of a tree stand at every step of a run.
 
-Every key has a column, first for the internal nodes of that key and then for its leaves, so that from left to right a search
-tree is in the order of its keys, and a node keeps its column through the whole run. A row is a level. What the root does not
-reach stands in rows below the tree.
+Every key has a column, first for the internal nodes of that key and then for its leaves, so that from left to
+right a search tree is in the order of its keys, and a node keeps its column through the whole run. A row is a
+level. What the root does not reach stands in rows below the tree.
 """
 from __future__ import annotations
 
 from dataclasses import dataclass
 
-from place_tables import Ellen
+from place_tables import Ellen, Memory, Value
 from viewer.steps import Walk, children, reached
 
 HEIGHT, ROW, MARGIN, TOP, BAND = 38, 78, 40, 22, 30
@@ -66,17 +66,17 @@ class Layout:
         self.has_outside = any(self.outside)
 
     @staticmethod
-    def kind(cells: tuple[tuple[int, ...], ...], node: int) -> tuple[int, bool]:
+    def kind(cells: tuple[Value, ...], node: int) -> tuple[int, bool]:
         """The key of a node, and whether it is a leaf: by these columns are ordered."""
         return cells[node][0], len(cells[node]) == 1
 
-    def column(self, memory: tuple[tuple[tuple[int, ...], ...], object], node: int) -> int:
+    def column(self, memory: Memory, node: int) -> int:
         return self.columns[self.kind(memory[0], node)]
 
     def node_width(self, is_leaf: bool) -> int:
         return LEAF if is_leaf else self.sizes.inner
 
-    def from_roots(self, memory: tuple, nodes: list[int]) -> list[int]:
+    def from_roots(self, memory: Memory, nodes: list[int]) -> list[int]:
         """Nodes that the root does not reach, each behind one that names it, where there is one."""
         own = set(nodes)
 
@@ -95,7 +95,7 @@ class Layout:
         parts.sort(key=lambda part: (part[0] in named, -len(part)))
         return list(dict.fromkeys(node for part in parts for node in part))
 
-    def placed(self, memory: tuple, nodes: list[int], base: int, taken: dict[int, int]) -> dict[int, int]:
+    def placed(self, memory: Memory, nodes: list[int], base: int, taken: dict[int, int]) -> dict[int, int]:
         """The row of each node: below its parent, and so far down that nothing stands there."""
         rows: dict[int, int] = {}
         wanted: dict[int, int] = {}
@@ -105,7 +105,9 @@ class Layout:
             column = self.column(memory, node) * self.sizes.pitch
             half = self.node_width(len(memory[0][node]) == 1) / 2
             row = wanted.get(node, base)
-            while any(column - half < right + GAP and left - GAP < column + half for left, right in lines.get(row, [])):
+            while any(
+                column - half < right + GAP and left - GAP < column + half for left, right in lines.get(row, [])
+            ):
                 row += 1
             lines.setdefault(row, []).append((column - half, column + half))
             rows[node] = row

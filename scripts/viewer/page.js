@@ -7,8 +7,8 @@ const slider = document.getElementById("slider"), where = document.getElementByI
 const said = document.getElementById("said"), playButton = document.querySelector("[data-go=play]");
 const articles = [...document.querySelectorAll("article.run")];
 const still = matchMedia("(prefers-reduced-motion: reduce)");
-const LANES_LEFT = 84, GLIDE = 260, PACE = 1100;
-let now = -1, timer = 0, glide = 0;
+const LANES_LEFT = 48, GLIDE = 260, PACE = 1100, NAMING = 150;
+let now = -1, timer = 0, glide = 0, naming = 0;
 
 const joined = ids => ids.map(id => texts[id]).join("");
 
@@ -33,7 +33,8 @@ function draw(svg, ids, isNext) {
   const moved = [];
   for (const part of svg.querySelectorAll("[data-k]")) {
     const from = before.get(part.dataset.k), to = numbersOf(part);
-    if (from && to && part.dataset.k !== "access" && from.some((number, i) => number !== to[i])) moved.push([part, from, to]);
+    if (!from || !to || part.dataset.k === "access") continue;
+    if (from.some((number, i) => number !== to[i])) moved.push([part, from, to]);
   }
   return moved;
 }
@@ -75,7 +76,8 @@ function showRun(article, frames, step, isNext) {
   moment.style.transform = `translateX(${Math.max(0, at - 1) * cell}px)`;
   bringIn(part(".tree .scroll"), svg.querySelector("[data-k=access]"));
   const lanes = part(".timeline .scroll"), x = LANES_LEFT + at * cell;
-  if (x < lanes.scrollLeft + 60 || x > lanes.scrollLeft + lanes.clientWidth - 20) lanes.scrollLeft = x - lanes.clientWidth / 2;
+  const isSeen = x >= lanes.scrollLeft + 60 && x <= lanes.scrollLeft + lanes.clientWidth - 20;
+  if (!isSeen) lanes.scrollLeft = x - lanes.clientWidth / 2;
   return moved;
 }
 
@@ -88,16 +90,22 @@ function show(step) {
   where.textContent = `step ${step} of ${most}`;
   slider.setAttribute("aria-valuetext", where.textContent);
   glideAll(articles.flatMap((article, i) => showRun(article, runs[i], step, isNext)));
-  said.textContent = `Step ${step}. ` + runs.map(frames => texts[frames[Math.min(step, frames.length - 1)][6]]).join(". ");
+  const lines = runs.map(frames => texts[frames[Math.min(step, frames.length - 1)][6]]);
+  said.textContent = `Step ${step}. ${lines.join(". ")}`;
   document.body.dataset.step = step;
   for (const link of document.querySelectorAll(".lists a")) {
     if (link.getAttribute("href") === `#step=${step}`) link.setAttribute("aria-current", "step");
     else link.removeAttribute("aria-current");
   }
-  if (location.hash !== `#step=${step}`) {
-    try { history.replaceState(null, "", `#step=${step}`); } catch (fault) { /* a page that may not name its step */ }
-  }
+  clearTimeout(naming);
+  naming = setTimeout(nameStep, NAMING);
   if (step === most) stop();
+}
+
+// Names the step in the address once it stays: browsers stop pages that name many in short time.
+function nameStep() {
+  if (location.hash === `#step=${now}`) return;
+  try { history.replaceState(null, "", `#step=${now}`); } catch (fault) { /* a page that may not name its step */ }
 }
 
 function stop() {
@@ -131,7 +139,9 @@ document.addEventListener("keydown", event => {
   event.preventDefault();
   moves[keys[event.key]]();
 });
-for (const button of document.querySelectorAll("[data-go]")) button.addEventListener("click", moves[button.dataset.go]);
+for (const button of document.querySelectorAll("[data-go]")) {
+  button.addEventListener("click", moves[button.dataset.go]);
+}
 slider.addEventListener("input", () => { stop(); show(+slider.value); });
 
 function fromAddress() {
@@ -141,6 +151,13 @@ function fromAddress() {
 addEventListener("hashchange", () => { const step = fromAddress(); if (step !== null) { stop(); show(step); } });
 
 articles.forEach((article, i) => {
+  // the names of the lanes stay where they can be seen
+  const lanes = article.querySelector(".timeline .scroll");
+  const names = [article.querySelector(".lanes .names"), ...article.querySelectorAll(".lanes .head")];
+  article.querySelector("svg.lanes").append(...names);
+  lanes.addEventListener("scroll", () => {
+    for (const name of names) name.setAttribute("transform", `translate(${lanes.scrollLeft},0)`);
+  });
   article.querySelector("svg.lanes").addEventListener("click", event => {
     const box = event.currentTarget.getBoundingClientRect();
     const step = Math.ceil((event.clientX - box.left - LANES_LEFT) / +article.dataset.cell);

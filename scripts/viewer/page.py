@@ -1,22 +1,24 @@
-"""The page: everything that changes from step to step is a number in a table of texts, which a short script looks up."""
+"""The page: everything that changes from step to step is a number in a table of texts, which a short script
+looks up."""
 from __future__ import annotations
 
 import json
 from dataclasses import dataclass
 from html import escape
 from pathlib import Path
+from textwrap import wrap
 from typing import Any
 
-from place_tables import Ellen, NatMit, Tree
+from place_tables import Ellen, Tree
 from viewer.clash import Run
-from viewer.lanes import LEFT, Lanes, quoted
-from viewer.panels import act, changes, key_item, line_of, plural, record_items, thread_item
+from viewer.lanes import Lanes, quoted
+from viewer.panels import act, changes, key_item, line_of, plural, record_items, thread_pieces
 from viewer.replays import show_list
 from viewer.steps import Mark, Walk, key_states, marks
 from viewer.tree import picture_of, tree_words
 
 FOLDER = Path(__file__).resolve().parent
-LANES_WIDTH = 1200
+LEFT, ROOM = 48, 1200
 MOST_HEIGHT = 600
 
 
@@ -57,28 +59,32 @@ class RunPage:
 
     def frame(self, count: int, texts: Texts) -> list[Any]:
         walked = self.walked
+        threads = range(len(walked.source.threads))
         return [
-            texts.all([act(walked, count), changes(walked, self.keys, count)]),
+            texts.all([*act(walked, count), changes(walked, self.keys, count)]),
             texts.all([part.text for part in self.picture.parts(count)]),
             texts.all([key_item(each) for each in self.keys[count]]),
-            texts.all([thread_item(walked, thread, count) for thread in range(len(walked.source.threads))]),
+            texts.all([piece for thread in threads for piece in thread_pieces(walked, thread, count)]),
             texts.all(record_items(walked, count)),
             texts.number(tree_words(walked, self.picture, count)),
             texts.number(line_of(walked, count)) if count else texts.number("Start"),
         ]
 
-    def lanes(self) -> tuple[str, float]:
+    def lanes(self, room: int) -> tuple[str, float]:
         """The lanes as an SVG with the line that shows the moment, and how wide a step is there."""
         count = max(1, len(self.run.schedule))
-        cell = max(11.0, min(34.0, (LANES_WIDTH - LEFT) / count))
-        drawn = Lanes(self.run, cell, count, 1 if cell > 24 else 5)
+        cell = max(9.0, min(34.0, (room - LEFT) / count))
+        drawn = Lanes(self.run, cell, count, 1 if cell > 24 else 5, LEFT, "T")
         parts, bottom = drawn.all_blocks(30)
         width, height = round(drawn.right + 16), round(bottom)
-        told = "; ".join(f"{operation.label}, {operation.span}" for operation in self.run.operations) or "no operation"
+        told = (
+            "; ".join(f"{operation.label}, {operation.span}" for operation in self.run.operations) or "no operation"
+        )
         return (
             f'<svg class="lanes" width="{width}" height="{height}" viewBox="0 0 {width} {height}" role="img" '
             f'aria-label="{escape(told)}">{"".join(parts)}'
-            f'<g class="moment"><rect x="{LEFT}" y="0" width="{cell:g}" height="{height - 6}"/></g></svg>'
+            f'<g class="moment"><rect x="{LEFT}" y="0" width="{cell:g}" height="{height - 6}"/></g>'
+            f'<path class="names" d="M0 0H{LEFT - 4}V{height}H0z"/></svg>'
         ), cell
 
     def finding(self) -> str:
@@ -95,14 +101,16 @@ class RunPage:
         for name in self.run.order:
             each = named[name]
             reply = "no reply yet" if each.reply is None else f"replied {str(each.reply).lower()}"
-            items.append(f'<li><span class="who thread{each.thread}">{name}</span> {each.word} {each.key}, {reply}</li>')
+            items.append(
+                f'<li><span class="who thread{each.thread}">{name}</span> {each.word} {each.key}, {reply}</li>'
+            )
         return (
             '<section class="order"><h3>An order that explains the replies</h3>'
             f'<p>The diamonds in the lanes, from left to right.</p><ol>{"".join(items)}</ol></section>'
         )
 
     def article(self, index: int, head: str) -> str:
-        lanes, cell = self.lanes()
+        lanes, cell = self.lanes(ROOM if not head else ROOM // 2 - 50)
         width, height = self.picture.width, self.picture.height
         # larger where there is room, but no higher than a screen
         scale = max(1.0, min(1.6, MOST_HEIGHT / height))
@@ -113,8 +121,8 @@ class RunPage:
  aria-label="Lanes of operations">{lanes}</div></section>
 <div class="views">
 <figure class="tree"><div class="scroll" tabindex="0" role="group" aria-label="The {noun} after this step">
-<svg class="memory" viewBox="0 0 {width} {height}" style="min-width:{width}px;max-width:{round(scale * width)}px" role="img"
-></svg></div></figure>
+<svg class="memory" viewBox="0 0 {width} {height}" role="img"
+ style="min-width:{width}px;max-width:{round(scale * width)}px"></svg></div></figure>
 <div class="side">
 <section class="act"></section>
 <section class="keys"><h3>What a reader finds now</h3><ul></ul></section>
@@ -126,21 +134,32 @@ class RunPage:
 
 def legend(pages: list[RunPage]) -> str:
     """What the signs of the trees mean, of those that are drawn in some step."""
-    drawn = "".join(part.text for page in pages for count in range(len(page.frames)) for part in page.picture.parts(count))
+    drawn = "".join(
+        part.text for page in pages for count in range(len(page.frames)) for part in page.picture.parts(count)
+    )
     machine = pages[0].walked.machine
     is_tree = isinstance(machine, Tree)
-    signs = [
+    tree_signs = [
         ('class="node inner', "Rounded box: an internal node, with its key and its number n."),
-        ('class="node leaf', "Square box: a leaf." if is_tree else "Box: a key; dashed where the list does not hold it."),
+        ('class="node leaf', "Square box: a leaf."),
         ("∞", "∞₀, ∞₁, ∞₂: the keys above all others."),
         ('class="word', "Plate in a node: its update word, with the record r that it names."),
-        ("flag", "Plate on an edge: the flag or the tag of that child word.") if isinstance(machine, NatMit) else ("\0", ""),
+        ('class="chip flag', "Plate “flag” on an edge: the flag of that child word."),
+        ("tag</text>", "Plate “tag” on an edge: the tag of that child word."),
         ("edge out", "Dashed: what the root does not reach, and its words."),
-        ("chip read", "“T0 read”, “changed” or “failed”: the access of this step, by that thread."),
-        ("chip thread", "T0, T1 .. beside a node: where the thread does its next access."),
+        ('data-k="access"', "“T0 read”, “changed” or “failed”: the access of this step, by that thread."),
+        ("chip thread", "T0, T1 .. beside a node: where that thread does its next access."),
     ]
+    list_signs = [
+        ('class="node leaf"', "Box: a key of the list."),
+        ("leaf out", "Dashed box: a key that the list does not hold."),
+        ('data-k="access"', "“T0 true”: thread 0 did its operation on that key and replied true."),
+    ]
+    signs = tree_signs if is_tree else list_signs
     items = [f"<li>{escape(text)}</li>" for sign, text in signs if sign in drawn]
-    lanes = "Lanes: a dot is a step; a dashed bar has not ended"
+    lanes = "Lanes: a dot is a step"
+    is_open = any(operation.last is None for page in pages for operation in page.run.operations)
+    lanes += "; a dashed bar has not ended" if is_open else ""
     lanes += "; thick bars are replies that no order explains" if any(page.run.clash for page in pages) else ""
     lanes += "; diamonds from left to right are the order" if any(page.run.order for page in pages) else ""
     columns = "Columns are keys, so that a search tree is in order from left to right." if is_tree else ""
@@ -164,8 +183,12 @@ def parting_words(pages: list[RunPage], step: int | None) -> str:
     told = []
     for side, page in zip(("left", "right"), pages):
         schedule = page.run.schedule
-        told.append(f"on the {side} {f'thread {schedule[step - 1]} moves' if step <= len(schedule) else 'it has ended'}")
-    before = f"Both begin with the same {plural(step - 1, 'step')}" if step > 1 else "They differ from the first step on"
+        told.append(
+            f"on the {side} {f'thread {schedule[step - 1]} moves' if step <= len(schedule) else 'it has ended'}"
+        )
+    before = (
+        f"Both begin with the same {plural(step - 1, 'step')}" if step > 1 else "They differ from the first step on"
+    )
     return f"{before}; at step {step} {', '.join(told)}."
 
 
@@ -225,7 +248,7 @@ def still_picture(shown: Shown, step: int) -> str:
     keys = key_states(shown.walked)
     picture = picture_of(shown.walked, keys)
     told = line_of(shown.walked, step) if step else "no operation has begun"
-    lines = [f"{shown.run.title.rsplit(',', 1)[0]}, step {step}", *wrapped(told, max(picture.width, 460) // 8)]
+    lines = [f"{shown.run.title.rsplit(',', 1)[0]}, step {step}", *wrap(told, max(picture.width, 460) // 8)]
     width, top = max(picture.width, 480), 22 * len(lines) + 10
     height = picture.height + top
     heads = "".join(
@@ -241,9 +264,3 @@ def still_picture(shown: Shown, step: int) -> str:
         f'<rect class="paper" width="{width}" height="{height}"/>{heads}\n'
         f'<g transform="translate({(width - picture.width) // 2},{top})">{parts}</g>\n</svg>\n'
     )
-
-
-def wrapped(text: str, columns: int) -> list[str]:
-    from textwrap import wrap
-
-    return wrap(text, columns) or [""]

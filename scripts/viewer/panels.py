@@ -1,4 +1,5 @@
-"""What the page says of a step in words: the access, what it changed, keys, threads and records, as pieces of HTML."""
+"""What the page says of a step in words: the access, what it changed, keys, threads and records, as pieces of
+HTML."""
 from __future__ import annotations
 
 from html import escape
@@ -30,20 +31,22 @@ def goes_words(step: Step) -> str:
     return f"goes to <code>{escape(place_text(step.goes))}</code>"
 
 
-def act(walked: Walk, count: int) -> str:
+def act(walked: Walk, count: int) -> list[str]:
     """The access of a step, and what came of it."""
     if not count:
         initial = ", ".join(map(str, walked.program.initial)) or "no key"
-        return f"<h3>Start</h3><p>The tree holds {initial}. No operation has begun.</p>"
+        noun = "tree" if isinstance(walked.machine, Tree) else "list"
+        return [f"<h3>Start</h3><p>The {noun} holds {initial}. No operation has begun.</p>"]
     step = walked.steps[count - 1]
     operation = f"{step.operation.name} {step.operation.word} {step.operation.key}"
     begins = " begins, and" if step.begins else ""
-    sentence = "" if step.access is None else f" {step.access.sentence}."
-    return (
-        f"<h3>{thread_chip(step.thread)} {escape(operation)}</h3>"
-        f'<p>Thread {step.thread}{begins} stands at <code>{escape(place_text(step.place))}</code>. '
-        f'It <b class="access">{escape(sentence.strip().rstrip("."))}</b>; then it {goes_words(step)}.</p>'
-    )
+    sentence = "" if step.access is None else step.access.sentence
+    return [
+        f"<h3>{thread_chip(step.thread)} {escape(operation)}</h3>",
+        f"<p>Thread {step.thread}{begins} stands at <code>{escape(place_text(step.place))}</code>. ",
+        f"It <b>{escape(sentence)}</b>; then it " if sentence else "There ",
+        f"{goes_words(step)}.</p>",
+    ]
 
 
 def line_of(walked: Walk, count: int) -> str:
@@ -108,7 +111,7 @@ def key_item(each: KeyState) -> str:
     return f'<li class="{kind}" data-key="{each.key}" data-found="{found}"><b>{each.key}</b> {text}</li>'
 
 
-def thread_item(walked: Walk, thread: int, count: int) -> str:
+def thread_pieces(walked: Walk, thread: int, count: int) -> list[str]:
     """A thread's operations with their replies, and what it does next."""
     state = walked.states[count]
     begun = {each.name: each for each in operations_at(walked, count)}
@@ -132,7 +135,7 @@ def thread_item(walked: Walk, thread: int, count: int) -> str:
         access = access_of(walked.machine, key, place, state.memory)
         intent = f": {access.intent}" if access is not None else ""
         coming = f"<p>next <code>{escape(place_text(place))}</code>{escape(intent)}</p>"
-    return f"<li>{thread_chip(thread)}<div><ul>{''.join(lines)}</ul>{coming}</div></li>"
+    return [f"<li>{thread_chip(thread)}<div><ul>{''.join(lines)}</ul>", coming, "</div></li>"]
 
 
 def record_items(walked: Walk, count: int) -> list[str]:
@@ -142,8 +145,13 @@ def record_items(walked: Walk, count: int) -> list[str]:
     nodes, records = walked.states[count].memory
     items = []
     for record, fields in enumerate(records):
-        words = [(node, cells[1][0]) for node, cells in enumerate(nodes) if len(cells) == 4 and cells[1][1] == record]
+        words = [
+            (node, cells[1][0]) for node, cells in enumerate(nodes) if len(cells) == 4 and cells[1][1] == record
+        ]
         used = [f"{state} in {node_text(node)}" for node, state in words if state != "CLEAN"]
         told = f": <b>{', '.join(used)}</b>" if used else ""
-        items.append(f'<li{" class=used" if used else ""}>{record_text(record)} = {escape(record_words(record, fields))}{told}</li>')
+        items.append(
+            f'<li{" class=used" if used else ""}>{record_text(record)} = '
+            f"{escape(record_words(record, fields))}{told}</li>"
+        )
     return items

@@ -1,4 +1,5 @@
-"""A schedule as `PROGRAM replay` tells it: the operations with where they begin and end, an order of them or a fault."""
+"""A schedule as `PROGRAM replay` tells it: the operations with where they begin and end, an order of them or a
+fault."""
 from __future__ import annotations
 
 import json
@@ -51,7 +52,8 @@ class Operation:
 
 @dataclass(frozen=True)
 class Replay:
-    """The output of one replay: its operations, where they begin and end left open, then an order of them or a fault."""
+    """The output of one replay: its operations, where they begin and end left open, then an order of them or a
+    fault."""
 
     listed: list[Operation]
     order: list[str] | None
@@ -153,7 +155,9 @@ class Asker:
     def ask(self, schedule: str) -> Replay:
         words = [self.program, "replay", self.file, "--schedule", schedule]
         try:
-            with subprocess.Popen(words, stdin=subprocess.DEVNULL, stdout=subprocess.PIPE, stderr=subprocess.PIPE) as run:
+            with subprocess.Popen(
+                words, stdin=subprocess.DEVNULL, stdout=subprocess.PIPE, stderr=subprocess.PIPE
+            ) as run:
                 refused = self.told_apart(run)
                 assert run.stdout is not None
                 output = run.stdout.read().decode("utf-8", "replace")
@@ -168,7 +172,8 @@ class Asker:
         return read_replay(output, self.program)
 
     def told_apart(self, run: subprocess.Popen[bytes]) -> str:
-        """Hands on at once what the program has to say, but for the line by which it refuses, which is the answer."""
+        """Hands on at once what the program has to say, but for the line by which it refuses, which is the
+        answer."""
         refused = ""
         assert run.stderr is not None
         for line in run.stderr:

@@ -16,8 +16,8 @@ Name = tuple[int, int]
 
 @dataclass(frozen=True)
 class Step:
-    """One step of a thread: its operation, the place it stood at, the access, and the state after it. `goes` is the next place,
-    the reply, or none where the thread went astray."""
+    """One step of a thread: its operation, the place it stood at, the access, and the state after it. `goes` is
+    the next place, the reply, or none where the thread went astray."""
 
     number: int
     thread: int
@@ -98,7 +98,9 @@ def compare(walked: Walk, asker: Asker) -> None:
         told = asker.replay(schedule[:count])
         shown = [(each.name, each.word, each.key, each.reply) for each in operations_at(walked, count)]
         if shown != [(each.name, each.word, each.key, each.reply) for each in told.listed]:
-            raise Refusal(f"the place tables in Python and {asker.program} differ in the replies after {count} steps")
+            raise Refusal(
+                f"the place tables in Python and {asker.program} differ in the replies after {count} steps"
+            )
         fault = verdict(walked, count)
         if fault != told.fault:
             words = f"{fault or 'no fault'} and {told.fault or 'no fault'}"
@@ -125,8 +127,8 @@ def finds(machine: Any, memory: Any, key: int) -> bool:
 
 @dataclass(frozen=True)
 class KeyState:
-    """A key after a step: whether a find that begins then and runs alone finds it, and which replies of it some order would
-    explain."""
+    """A key after a step: whether a find that begins then and runs alone finds it, and which replies of it some
+    order would explain."""
 
     key: int
     is_found: bool
@@ -149,8 +151,8 @@ class KeyJudge:
         self.due = lru_cache(maxsize=None)(self.due_anew)
 
     def due_anew(self, operations: tuple[Operation, ...], key: int) -> tuple[bool, bool]:
-        """Whether a find that begins after all these operations began or ended may be told true, and false. As replies on one
-        key do not depend on other keys, the operations on this key are enough."""
+        """Whether a find that begins after all these operations began or ended may be told true, and false. As
+        replies on one key do not depend on other keys, the operations on this key are enough."""
         initial = self.walked.source.initial
         late = 1 + max((each.last or each.first for each in operations), default=0)
         on_key = [each for each in operations if each.key == key]
@@ -193,8 +195,8 @@ class Mark:
 
 
 def marks(walked: Walk, keys: list[list[KeyState]]) -> list[Mark]:
-    """The first steps after which a key is lost or too many, search order is broken, a thread is astray, and no order explains
-    the replies."""
+    """The first steps after which a key is lost or too many, search order is broken, a thread is astray, and no
+    order explains the replies."""
     first: dict[str, int] = {}
     for count in range(len(walked.states)):
         for each in keys[count]:

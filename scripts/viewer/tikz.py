@@ -20,7 +20,9 @@ def tex(text: str) -> str:
 def block_lines(run: Run, low: int, high: int, y: float) -> tuple[list[str], float]:
     """The lanes of a row of steps, and where it ends."""
     lines = [rf"  \node[anchor=east] at (-0.2,{y:.2f}) {{step}};"]
-    heads = [(step, CELL * (step - 0.5 - low)) for step in range(low + 1, high + 1) if step % 5 == 1 or high - low <= 20]
+    heads = [
+        (step, CELL * (step - 0.5 - low)) for step in range(low + 1, high + 1) if step % 5 == 1 or high - low <= 20
+    ]
     lines += [rf"  \node at ({x:.2f},{y:.2f}) {{{step}}};" for step, x in heads]
     y -= 0.3
     tops = {}
@@ -37,19 +39,29 @@ def block_lines(run: Run, low: int, high: int, y: float) -> tuple[list[str], flo
             looks += ["dashed"] if operation.last is None else []
             looks += ["line width=1.2pt"] if operation in run.clash else []
             if row:
-                lines.append(rf"  \draw[black!40] ({left:.2f},{top + LABEL * (row + 0.2):.2f}) -- ({left:.2f},{top:.2f});")
-            lines.append(rf"  \draw[{', '.join(looks)}] ({left:.2f},{top:.2f}) rectangle ({right:.2f},{top - BAR:.2f});")
+                lines.append(
+                    rf"  \draw[black!40] ({left:.2f},{top + LABEL * (row + 0.2):.2f}) -- ({left:.2f},{top:.2f});"
+                )
+            lines.append(
+                rf"  \draw[{', '.join(looks)}] ({left:.2f},{top:.2f}) rectangle ({right:.2f},{top - BAR:.2f});"
+            )
             name = rf"{{{tex(each.text)}}}"
-            lines.append(rf"  \node[anchor=west, inner sep=0pt] at ({left:.2f},{top + LABEL * (row + 0.5):.2f}) {name};")
+            lines.append(
+                rf"  \node[anchor=west, inner sep=0pt] at ({left:.2f},{top + LABEL * (row + 0.5):.2f}) {name};"
+            )
             for step in range(each.first, last + 1):
                 if run.schedule[step - 1] == operation.thread:
-                    lines.append(rf"  \fill ({CELL * (step - 0.5 - low):.2f},{top - 0.14:.2f}) circle[radius=1.3pt];")
+                    lines.append(
+                        rf"  \fill ({CELL * (step - 0.5 - low):.2f},{top - 0.14:.2f}) circle[radius=1.3pt];"
+                    )
         y = top - BAR - GAP
     for operation, place in points(run):
         if low < place <= high:
             x, middle = CELL * (place - low), tops[operation.thread] - 0.3
             corners = [(x, middle + 0.08), (x + 0.07, middle), (x, middle - 0.08), (x - 0.07, middle)]
-            lines.append(r"  \fill[black!60] " + " -- ".join(f"({a:.2f},{b:.2f})" for a, b in corners) + " -- cycle;")
+            lines.append(
+                r"  \fill[black!60] " + " -- ".join(f"({a:.2f},{b:.2f})" for a, b in corners) + " -- cycle;"
+            )
     return lines, y
 
 

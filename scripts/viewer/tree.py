@@ -1,5 +1,5 @@
-"""The picture of the memory after a step, as parts of an SVG. Each part has a name by which the page finds it again in the next
-step: a node that moves and a word that changes are then seen to do so."""
+"""The picture of the memory after a step, as parts of an SVG. Each part has a name by which the page finds it
+again in the next step: a node that moves and a word that changes are then seen to do so."""
 from __future__ import annotations
 
 from dataclasses import dataclass
@@ -83,14 +83,19 @@ class TreePicture:
             kinds.append(self.walked.steps[count - 1].access.badge)  # type: ignore[union-attr]
         name, (x1, y1, x2, y2) = f"e{node}{letter}", line
         edges.append(
-            Part(name, f'<line data-k="{name}" class="{" ".join(kinds + marks)}" x1="{x1}" y1="{y1}" x2="{x2}" y2="{y2}"/>')
+            Part(
+                name,
+                f'<line data-k="{name}" class="{" ".join(kinds + marks)}" x1="{x1}" y1="{y1}" x2="{x2}" y2="{y2}"/>',
+            )
         )
         if marks:
-            share = 0.7 if kinds[-1] in ("read", "changed", "failed") else 0.4
-            plates.append(chip(f"w{node}{letter}", marks[0], *along(line, share), " ".join(marks)))
+            share = 0.75 if kinds[-1] in ("read", "changed", "failed") else 0.4
+            x, y = along(line, share)
+            plates.append(chip(f"w{node}{letter}", marks[0], x + (-7 if side == -2 else 7), y, " ".join(marks)))
 
     def line(self, node: int, side: int, child: int, spots: dict[int, Spot]) -> tuple[int, int, int, int]:
-        """From the lower side of a node to the upper side of its child, or the other way round where the child stands higher."""
+        """From the lower side of a node to the upper side of its child, or the other way round where the child
+        stands higher."""
         start, end = spots[node], spots[child]
         shift = round(start.width / 4) * (-1 if side == -2 else 1)
         half = HEIGHT // 2 if end.y > start.y else -HEIGHT // 2
@@ -109,11 +114,14 @@ class TreePicture:
         kinds += [self.fault(count, node)] if self.fault(count, node) else []
         if self.touched(count)[0] == node and step is not None and step.access is not None:
             kinds.append(f"at-{step.access.badge}")
-        shape = f'<rect x="{-half:g}" y="{-HEIGHT // 2}" width="{spot.width}" height="{HEIGHT}" rx="{2 if is_leaf else 13}"/>'
+        size = f'width="{spot.width}" height="{HEIGHT}" rx="{2 if is_leaf else 13}"'
+        shape = f'<rect x="{-half:g}" y="{-HEIGHT // 2}" {size}/>'
         key, number = escape(key_text(cells[0])), node_text(node)
         if isinstance(self.machine, Ellen) and not is_leaf:
             update = cells[1]
-            texts = f'<text class="key" x="-18" y="-3">{key}</text><text class="number" x="16" y="-3">{number}</text>'
+            texts = (
+                f'<text class="key" x="-18" y="-3">{key}</text><text class="number" x="16" y="-3">{number}</text>'
+            )
             plate = "" if update[0] == "CLEAN" else f'<rect class="word {update[0].lower()}" x="{4 - half:g}" y="2" ' \
                 f'width="{spot.width - 8}" height="15" rx="4"/>'  # fmt: skip
             texts += f'{plate}<text class="update" y="14">{update_text(update)}</text>'
@@ -122,7 +130,8 @@ class TreePicture:
         name = f"n{node}"
         return Part(
             name,
-            f'<g data-k="{name}" class="{" ".join(kinds)}" transform="translate({spot.x},{spot.y})">{shape}{texts}</g>',
+            f'<g data-k="{name}" class="{" ".join(kinds)}" transform="translate({spot.x},{spot.y})">'
+            f"{shape}{texts}</g>",
         )
 
     def fault(self, count: int, node: int) -> str:
@@ -144,7 +153,9 @@ class TreePicture:
         side = -2 if access.word == "left" else -1
         word = step.state.memory[0][access.node][side]
         line = self.line(access.node, side, int(self.machine.child_of(word)), spots)
-        return [chip("access", access.badge, *along(line, 0.3), text)]
+        x, y = along(line, 0.25)
+        away = LETTER * len(text) / 2 - 8
+        return [chip("access", access.badge, x + (-away if side == -2 else away), y, text)]
 
     def news(self, count: int, spots: dict[int, Spot]) -> list[Part]:
         """Which nodes are new, were cut off, came in, or hold a key that is lost."""
@@ -154,23 +165,27 @@ class TreePicture:
         known = set(self.layout.rows[count - 1])
         parts = []
         for node, spot in spots.items():
-            text = ""
+            told = []
             if node not in known:
-                text = "new"
+                told.append("new")
             elif node in before and node not in after:
-                text = "cut off"
+                told.append("cut off")
             elif node in after and node not in before:
-                text = "comes in"
-            elif self.fault(count, node):
-                text = "lost" if self.fault(count, node) == "lost" else "should be gone"
-            if text:
+                told.append("comes in")
+            if self.fault(count, node):
+                told.append("lost" if self.fault(count, node) == "lost" else "should be gone")
+            if told:
+                text = ", ".join(told)
                 x, y = spot.x, spot.y - HEIGHT / 2 - 5
-                parts.append(Part(f"s{node}", f'<text data-k="s{node}" class="news" x="{x}" y="{y:g}">{text}</text>'))
+                parts.append(
+                    Part(f"s{node}", f'<text data-k="s{node}" class="news" x="{x}" y="{y:g}">{text}</text>')
+                )
         return parts
 
     def standing(self, count: int, spots: dict[int, Spot]) -> list[Part]:
         """Where each thread that is in an operation does its next access."""
-        state, at_node = self.walked.states[count], {}
+        state = self.walked.states[count]
+        at_node: dict[int, list[int]] = {}
         for thread, place in enumerate(state.places):
             if place is not None:
                 index = state.finished(thread)
@@ -192,24 +207,30 @@ class ListPicture:
     def __init__(self, walked: Walk, keys: list[list[KeyState]]) -> None:
         self.walked = walked
         self.slots = walked.source.keys
-        self.width, self.height = 60 * max(1, len(self.slots)) + 20, 100
+        self.width, self.height = 74 * max(1, len(self.slots)) + 20, 104
 
     def parts(self, count: int) -> list[Part]:
         memory = self.walked.states[count].memory
         before = self.walked.states[max(0, count - 1)].memory
         parts: list[Part] = []
         for index, key in enumerate(self.slots):
-            x, kind = 40 + 60 * index, "leaf" if key in memory else "leaf out"
+            x, kind = 47 + 74 * index, "leaf" if key in memory else "leaf out"
             text = f'<text class="key" y="5">{key}</text>'
             shape = f'<rect x="-22" y="-19" width="44" height="{HEIGHT}" rx="2"/>'
-            parts.append(Part(f"n{key}", f'<g data-k="n{key}" class="node {kind}" transform="translate({x},52)">{shape}{text}</g>'))
+            parts.append(
+                Part(
+                    f"n{key}",
+                    f'<g data-k="n{key}" class="node {kind}" transform="translate({x},52)">{shape}{text}</g>',
+                )
+            )
             news = "put in" if key in memory - before else "taken out" if key in before - memory else ""
             if news:
                 parts.append(Part(f"s{key}", f'<text data-k="s{key}" class="news" x="{x}" y="26">{news}</text>'))
         if count:
             step = self.walked.steps[count - 1]
-            x = 40 + 60 * self.slots.index(step.operation.key)
-            parts.append(chip("access", "changed" if memory != before else "read", x, 84, f"T{step.thread}"))
+            x = 47 + 74 * self.slots.index(step.operation.key)
+            kind = "changed" if memory != before else "read"
+            parts.append(chip("access", kind, x, 84, f"T{step.thread} {str(step.goes).lower()}"))
         return parts
 
 
@@ -227,6 +248,8 @@ def tree_words(walked: Walk, picture: Any, count: int) -> str:
         cells = memory[0][node]
         if len(cells) > 1:
             left, right = (int(walked.machine.child_of(word)) for word in cells[-2:])
-            told.append(f"{node_text(node)} of key {key_text(cells[0])} has {node_text(left)} and {node_text(right)}")
+            told.append(
+                f"{node_text(node)} of key {key_text(cells[0])} has {node_text(left)} and {node_text(right)}"
+            )
     outside = ", ".join(map(node_text, picture.layout.outside[count]))
     return "; ".join(told) + (f"; outside: {outside}" if outside else "")
