@@ -35,7 +35,8 @@ from viewer.clash import Run, examine
 from viewer.lanes import svg_picture
 from viewer.nearest import nearest
 from viewer.page import Shown, html_page, still_picture
-from viewer.replays import Asker, Refusal, Source, read_file, read_schedule, read_source, schedule_in, show_list
+from viewer.replays import Asker, Refusal, Source, read_schedule, read_source, schedule_in, show_list
+from viewer.replays import read_file, write_file
 from viewer.steps import compare, walk
 from viewer.text import text_picture
 from viewer.tikz import tikz_picture
@@ -100,7 +101,13 @@ def shown_of(asker: Asker, source: Source, run: Run) -> Shown:
 
 def draw(words: argparse.Namespace, file: str, text: bytes, schedules: list[list[int]]) -> Run:
     """Writes every picture that is asked for."""
-    name = "standard input" if words.file == "-" else words.file
+    name = words.file
+    if file != words.file:
+        name = "standard input" if words.file == "-" else "the program"
+    if words.still and int(words.still[0]) > len(schedules[0]):
+        raise Refusal(
+            f"the schedule has {len(schedules[0])} steps, so there is no tree after step {words.still[0]}"
+        )
     asker = Asker(words.program, file, name)
     asker.replay(schedules[0])
     source = read_source(text, name)
@@ -108,20 +115,26 @@ def draw(words: argparse.Namespace, file: str, text: bytes, schedules: list[list
         schedules = [*schedules, nearest(source, schedules[0])]
     runs = [examine(asker, schedule, source) for schedule in schedules]
     if words.svg:
-        Path(words.svg).write_text(svg_picture(runs[0]), encoding="utf-8")
+        write_file(words.svg, svg_picture(runs[0]))
     if words.tikz:
-        Path(words.tikz).write_text(tikz_picture(runs[0]), encoding="utf-8")
+        write_file(words.tikz, tikz_picture(runs[0]))
     if words.html or words.still:
         shown = [shown_of(asker, source, run) for run in runs]
         if words.html:
-            page = html_page(shown, command_of(words, schedules, words.file))
-            Path(words.html).write_text(page, encoding="utf-8")
+            write_file(words.html, html_page(shown, command_of(words, schedules, words.file)))
         if words.still:
-            step, out = int(words.still[0]), words.still[1]
-            if step > len(schedules[0]):
-                raise Refusal(f"the schedule has {len(schedules[0])} steps, so there is no tree after step {step}")
-            Path(out).write_text(still_picture(shown[0], step), encoding="utf-8")
+            write_file(words.still[1], still_picture(shown[0], int(words.still[0])))
     return runs[0]
+
+
+def show(text: str) -> None:
+    try:
+        sys.stdout.write(text)
+        sys.stdout.flush()
+    except OSError as fault:
+        # what could not be written is not tried again at the end
+        sys.stdout = None  # type: ignore[assignment]
+        raise Refusal(f"can't write standard output: {fault.strerror}") from fault
 
 
 def main() -> int:
@@ -137,12 +150,9 @@ def main() -> int:
                 copy.write(text)
                 copy.flush()
             run = draw(words, words.file if is_plain else copy.name, text, schedules)
-        sys.stdout.write(text_picture(run, shutil.get_terminal_size((80, 24)).columns))
-        sys.stdout.flush()
+        show(text_picture(run, shutil.get_terminal_size((80, 24)).columns))
     except (Refusal, OSError) as fault:
         print(f"show_schedule: {fault}", file=sys.stderr)
-        # what could not be written is not tried again at the end
-        sys.stdout = None  # type: ignore[assignment]
         return 1
     return 0
 

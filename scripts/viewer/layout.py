@@ -49,9 +49,10 @@ class Layout:
         # leaves that the initial keys replaced before the run, which nothing names
         unseen = set(range(len(start[0]))) - set(reached(self.machine, start))
         self.inside = [reached(self.machine, memory) for memory in memories]
+        self.is_inside = [set(nodes) for nodes in self.inside]
         self.outside = [
-            [node for node in range(len(memory[0])) if node not in unseen and node not in set(inside)]
-            for memory, inside in zip(memories, self.inside)
+            [node for node in range(len(memory[0])) if node not in unseen and node not in inside]
+            for memory, inside in zip(memories, self.is_inside)
         ]
         last = memories[-1][0]
         kinds = {self.kind(last, node) for node in range(len(last)) if node not in unseen}
@@ -133,7 +134,7 @@ class Layout:
     def spot(self, count: int, node: int) -> Spot:
         memory = self.walked.states[count].memory
         row = self.rows[count][node]
-        is_outside = row >= self.main_rows and node not in set(self.inside[count])
+        is_outside = row >= self.main_rows and node not in self.is_inside[count]
         y = TOP + HEIGHT // 2 + ROW * row + (BAND if is_outside else 0)
         x = MARGIN + self.sizes.pitch * self.column(memory, node)
         return Spot(x, y, self.node_width(len(memory[0][node]) == 1), is_outside)

@@ -151,7 +151,7 @@ def record_items(walked: Walk, count: int) -> list[str]:
         used = [f"{state} in {node_text(node)}" for node, state in words if state != "CLEAN"]
         told = f": <b>{', '.join(used)}</b>" if used else ""
         items.append(
-            f'<li{" class=used" if used else ""}>{record_text(record)} = '
+            f'<li class="{"used" if used else "unused"}">{record_text(record)} = '
             f"{escape(record_words(record, fields))}{told}</li>"
         )
     return items

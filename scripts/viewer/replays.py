@@ -125,6 +125,8 @@ def schedule_in(output: str) -> str:
     found = re.search(r"^schedule (.*)$", output, re.MULTILINE)
     if found:
         return found[1].strip()
+    if not output.strip():
+        raise Refusal("standard input has no schedule: it is empty")
     lines = output.split("\n")
     if re.fullmatch(r"[\d,]*", lines[0], re.ASCII) and not any(lines[1:]):
         return lines[0]
@@ -220,6 +222,13 @@ def trace(asker: Asker, steps: list[int]) -> tuple[list[Operation], Replay]:
         replace(operation, first=first[operation.name], last=last.get(operation.name)) for operation in whole.listed
     ]
     return operations, whole
+
+
+def write_file(path: str, text: str) -> None:
+    try:
+        Path(path).write_text(text, encoding="utf-8")
+    except OSError as fault:
+        raise Refusal(f"can't write {path}: {fault.strerror}") from fault
 
 
 def read_file(path: str) -> bytes:
