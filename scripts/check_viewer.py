@@ -3,8 +3,8 @@
 
 usage: scripts/check_viewer.py [--program PROGRAM] [--browser PATH] [--shots FOLDER]
 
-The pages: the four faults of docs/FAULTS.md, which have to be the files of docs/pictures byte by byte; a
-schedule of 120 steps of `ellen` with four threads; one of `atomic`; and two schedules beside each other.
+The pages: the four faults of docs/FAULTS.md, and one of them beside a schedule without a fault, all of which have to
+be the files of docs/pictures byte by byte; a schedule of 120 steps of `ellen` with four threads; and one of `atomic`.
 
 Of each page: every step is reached by the keyboard, forwards and backwards, shows its number and names it in the
 address; the replies shown after the last step are those of `PROGRAM replay`; the keys shown there are those that
@@ -73,6 +73,12 @@ FAULTS = [
     Case("ellen_no_iflag", "examples/ellen_no_iflag.json", [digits("0000011100001111")], True),
     Case("nm_no_tag", "examples/nm_no_tag.json", [digits("0000001101111")], True),
     Case("nm_no_tag_order", "examples/nm_no_tag_order.json", [digits("00000001111110000001")], True),
+    Case(
+        "ellen_no_mark_beside",
+        "examples/ellen_no_mark.json",
+        [digits("00000001101111111"), digits("000000010011111111111111")],
+        True,
+    ),
 ]
 
 
@@ -83,9 +89,6 @@ def cases(folder: Path) -> list[Case]:
         *FAULTS,
         Case("four_threads", str(four), [digits(LONG)]),
         Case("atomic", "examples/three_threads.json", [digits("021012")]),
-        Case(
-            "beside", "examples/ellen_no_mark.json", [digits("00000001101111111"), digits("000000010011111111111111")]
-        ),
     ]
 
 

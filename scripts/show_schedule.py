@@ -60,7 +60,7 @@ def read_words() -> argparse.Namespace:
         "--compare",
         metavar="SCHEDULE2",
         help="another schedule of FILE, beside the first on the page, or the word 'nearest': one without a fault "
-        "that has the longest beginning in common with SCHEDULE",
+        "is looked for, with as long a beginning in common as can be",
     )
     parser.add_argument(
         "--still", nargs=2, metavar=("STEP", "OUT"), help="write the tree after STEP there as a picture"

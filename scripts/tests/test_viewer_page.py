@@ -6,14 +6,16 @@ import re
 import unittest
 import xml.etree.ElementTree as ElementTree
 from typing import Any
+from unittest import mock
 
 from viewer_cases import FAULTS, TREES, by_chance, made, run_of, source_of
 
+from place_tables import MACHINES, Astray, NatMit
 from viewer.clash import Run
 from viewer.layout import HEIGHT, Layout
 from viewer.nearest import nearest
 from viewer.page import Shown, html_page, still_picture
-from viewer.steps import key_states, walk
+from viewer.steps import key_states, operations_at, walk
 from viewer.tree import TreePicture, picture_of, tree_words
 
 SPACE = "{http://www.w3.org/2000/svg}"
@@ -83,6 +85,22 @@ class Pages(unittest.TestCase):
         page = html_page([Shown(odd, walked)], "</code><script>")
         self.assertNotIn("</script><b>", page)
         self.assertNotIn("</code><script>", page)
+
+    def test_a_thread_that_is_astray(self) -> None:
+        class Broken(NatMit):
+            def act(self, word: str, key: int, place: Any, memory: Any) -> Any:
+                if place[0] == "down":
+                    raise Astray
+                return super().act(word, key, place, memory)
+
+        with mock.patch.dict(MACHINES, nm=Broken()):
+            walked = walk(source_of("nm"), [0, 0])
+        run = Run(
+            "nm.json, 2 steps", [0, 0], 2, operations_at(walked, 2), [], [], ["fault astray", "It met .."], "astray"
+        )
+        page = html_page([Shown(run, walked)], "it")
+        self.assertIn("the thread is astray", page)
+        self.assertIn("step 2: a thread is astray", page)
 
     def test_no_step(self) -> None:
         page = html_page([shown("nm", [])], "it")

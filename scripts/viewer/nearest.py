@@ -1,4 +1,7 @@
-"""For a schedule with a fault, one without, with the longest beginning in common: then another thread moves."""
+"""For a schedule with a fault, one without: it begins alike for as long as can be, then another thread moves.
+
+After each beginning two ways to go on are tried, so that a longer one may have been overlooked.
+"""
 from __future__ import annotations
 
 from collections.abc import Iterator

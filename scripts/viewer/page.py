@@ -3,6 +3,7 @@ looks up."""
 from __future__ import annotations
 
 import json
+import re
 from dataclasses import dataclass
 from html import escape
 from pathlib import Path
@@ -109,9 +110,10 @@ class RunPage:
             f'<p>The diamonds in the lanes, from left to right.</p><ol>{"".join(items)}</ol></section>'
         )
 
-    def article(self, index: int, head: str) -> str:
-        lanes, cell = self.lanes(ROOM if not head else ROOM // 2 - 50)
-        width, height = self.picture.width, self.picture.height
+    def article(self, index: int, head: str, is_alone: bool, size: tuple[int, int]) -> str:
+        lanes, cell = self.lanes(ROOM if is_alone else ROOM // 2 - 50)
+        width, height = size
+        left = (self.picture.width - width) // 2
         # larger where there is room, but no higher than a screen
         scale = max(1.0, min(1.6, MOST_HEIGHT / height))
         records = '<section class="records"><h3>Records</h3><ul></ul></section>'
@@ -121,7 +123,7 @@ class RunPage:
  aria-label="Lanes of operations">{lanes}</div></section>
 <div class="views">
 <figure class="tree"><div class="scroll" tabindex="0" role="group" aria-label="The {noun} after this step">
-<svg class="memory" viewBox="0 0 {width} {height}" role="img"
+<svg class="memory" viewBox="{left} 0 {width} {height}" role="img"
  style="min-width:{width}px;max-width:{round(scale * width)}px"></svg></div></figure>
 <div class="side">
 <section class="act"></section>
@@ -201,6 +203,15 @@ def mark_items(pages: list[RunPage], step: int | None) -> list[tuple[int, str, s
     return sorted(found)
 
 
+def side_head(side: str, page: RunPage) -> str:
+    """What stands above one of two runs."""
+    schedule = page.run.schedule
+    return (
+        f"<h2>{side}: {escape(plural(len(schedule), 'step'))}</h2>{page.finding()}"
+        f'<p class="schedule"><code>{show_list(schedule)}</code></p>'
+    )
+
+
 def html_page(all_shown: list[Shown], command: str) -> str:
     texts = Texts()
     pages = [RunPage(shown, texts) for shown in all_shown]
@@ -215,13 +226,12 @@ def html_page(all_shown: list[Shown], command: str) -> str:
         f'<li class="{kind}"><a href="#step={at}">{"▲" if kind == "bad" else "◆"} step {at}: {escape(text)}</a></li>'
         for at, kind, text in items
     )
-    heads = [""] if len(pages) == 1 else [
-        f"<h2>{side}: {escape(plural(len(page.run.schedule), 'step'))}</h2>{page.finding()}"
-        f'<p class="schedule"><code>{show_list(page.run.schedule)}</code></p>'
-        for side, page in zip(("Left", "Right"), pages)
-    ]  # fmt: skip
-    steps = plural(most, "step") if len(pages) == 1 else "two schedules"
-    lead = pages[0].finding() if len(pages) == 1 else f'<p class="finding">{escape(parting_words(pages, step))}</p>'
+    is_alone = len(pages) == 1
+    heads = ['<h2 class="heard">The schedule</h2>'] if is_alone else list(map(side_head, ("Left", "Right"), pages))
+    size = (max(page.picture.width for page in pages), max(page.picture.height for page in pages))
+    articles = [page.article(index, head, is_alone, size) for index, (page, head) in enumerate(zip(pages, heads))]
+    steps = plural(most, "step") if is_alone else "two schedules"
+    lead = pages[0].finding() if is_alone else f'<p class="finding">{escape(parting_words(pages, step))}</p>'
     fields = {
         "TITLE": escape(f"{pages[0].run.title.rsplit(',', 1)[0]}, {steps}"),
         "TREE": escape(pages[0].walked.source.tree),
@@ -229,18 +239,15 @@ def html_page(all_shown: list[Shown], command: str) -> str:
         "MOST": str(most),
         "TIPS": tips,
         "LINKS": f'<ul class="marks">{links}</ul>' if links else "",
-        "RUNS": "\n".join(page.article(index, head) for index, (page, head) in enumerate(zip(pages, heads))),
-        "COUNT": "two" if len(pages) > 1 else "one",
+        "RUNS": "\n".join(articles),
+        "COUNT": "one" if is_alone else "two",
         "LEGEND": legend(pages),
         "COMMAND": escape(command),
         "STYLE": own_file("colours.css") + own_file("picture.css") + own_file("page.css"),
         "DATA": json.dumps(data, ensure_ascii=False, separators=(",", ":")).replace("</", "<\\/"),
         "SCRIPT": own_file("page.js"),
     }
-    text = own_file("page.html")
-    for name, value in fields.items():
-        text = text.replace(f"@{name}@", value)
-    return text
+    return re.sub(r"@([A-Z]+)@", lambda found: fields[found[1]], own_file("page.html"))
 
 
 def still_picture(shown: Shown, step: int) -> str:

@@ -64,7 +64,7 @@ def walk(source: Source, schedule: list[int]) -> Walk:
         reply = after.replies.get((thread, index))
         goes = None if after.astray is not None else after.places[thread] if reply is None else reply
         operation = Operation(f"{thread}.{index}", word, key, reply)
-        access = access_of(program.machine, key, place, state.memory)
+        access = None if after.astray is not None else access_of(program.machine, key, place, state.memory)
         steps.append(Step(number, thread, operation, begins, place, access, goes, after))
         states.append(after)
         state = after
