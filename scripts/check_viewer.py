@@ -38,7 +38,7 @@ TOP = Path(__file__).resolve().parent.parent
 PICTURES = TOP / "docs" / "pictures"
 WIDTHS = {1280: 900, 390: 844}
 LEAST_LETTER, LEAST_CONTRAST, MOST_BYTES = 12.0, 4.5, 200_000
-MOST_FIND_STEPS = 60
+MOST_FIND_STEPS, MOST_SECONDS = 60, 10
 
 FOUR_THREADS = {
     "version": 1,
@@ -168,8 +168,11 @@ class Checker:
         return found
 
     def at(self, step: int, how: str) -> dict[str, Any]:
-        """What is shown, which has to be this step."""
-        shown = self.shown()
+        """What is shown, which has to be this step, at once or soon."""
+        shown, end = self.shown(), time.monotonic() + MOST_SECONDS
+        while shown["step"] != step and time.monotonic() < end:
+            time.sleep(0.02)
+            shown = self.shown()
         wanted = (step, step, f"step {step} of {self.last}")
         found = (shown["step"], shown["slider"], shown["where"])
         self.expect(found == wanted, f"{how}: it shows {found} and not {wanted}")
@@ -177,7 +180,7 @@ class Checker:
 
     def named(self, step: int, how: str) -> dict[str, Any]:
         """What is shown, which has to be this step, and the address has to name it soon."""
-        shown, end = self.at(step, how), time.monotonic() + 5
+        shown, end = self.at(step, how), time.monotonic() + MOST_SECONDS
         while shown["hash"] != f"#step={step}" and time.monotonic() < end:
             time.sleep(0.03)
             shown = self.shown()
@@ -218,7 +221,7 @@ class Checker:
     def play(self) -> None:
         browser = self.browser
         browser.press(" ")
-        end = time.monotonic() + 10
+        end = time.monotonic() + MOST_SECONDS
         while self.shown()["step"] == 0 and time.monotonic() < end:
             time.sleep(0.05)
         self.expect(self.shown()["step"] > 0, "Space does not play")
@@ -290,10 +293,8 @@ class Checker:
         self.named(middle, f"opened at #step={middle}")
         count = self.browser.evaluate("document.querySelectorAll('.marks a').length")
         for index in range(count):
-            step = self.browser.evaluate(
-                f"(() => {{ const link = document.querySelectorAll('.marks a')[{index}]; link.click();"
-                " return new Promise(done => setTimeout(() => done(+link.hash.slice(6)), 60)); })()"
-            )
+            link = f"document.querySelectorAll('.marks a')[{index}]"
+            step = self.browser.evaluate(f"{link}.click(), +{link}.hash.slice(6)")
             self.named(step, f"mark {index + 1}")
 
     def looks(self, shots: Path | None) -> None:
@@ -312,6 +313,7 @@ class Checker:
                 stride = 1 if self.last <= 40 else 7
                 for step in sorted({*range(0, self.last + 1, stride), pictured, self.last}):
                     browser.evaluate(f"location.hash = '#step={step}'")
+                    self.at(step, f"address {step}")
                     self.measure(f"{width} pixels, {scheme}, step {step}")
         moving = "document.getAnimations().length + (getComputedStyle(document.querySelector('.moment'))"
         moving += ".transitionDuration === '0s' ? 0 : 1)"

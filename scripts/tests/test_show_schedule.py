@@ -36,17 +36,16 @@ class Words(unittest.TestCase):
         self.assertIn("fault history\n", done.stdout)
 
     def test_columns(self) -> None:
-        narrow = run(NM, SCHEDULE, columns="30").stdout
-        self.assertEqual(narrow.count("step   "), 2)
-        self.assertLessEqual(
-            max(len(line) for line in narrow.split("\n") if line.startswith(("step", "thread"))), 30
-        )
+        narrow = run(NM, "0,0,0,0,0,0", columns="24").stdout
+        self.assertEqual(narrow.count("step   "), 1)
+        self.assertLessEqual(max(map(len, narrow.split("\n"))), 24)
+        self.assertEqual(run(NM, "0,0,0,0,0,0", columns="20").stdout.count("step   "), 2)
 
     def test_standard_input(self) -> None:
         text = Path(NM).read_text(encoding="utf-8")
-        self.assertIn("standard input, 13 steps", run("-", SCHEDULE, given=text).stdout)
-        explored = f"fault history after 13 steps\nschedule {SCHEDULE}\nstates 133\n"
-        self.assertIn("nm_no_tag.json, 13 steps", run(NM, "-", given=explored).stdout)
+        self.assertIn("standard input, 2 steps", run("-", "0,1", given=text).stdout)
+        explored = "fault history after 3 steps\nschedule 0,1,0\nstates 133\n"
+        self.assertIn("nm_no_tag.json, 3 steps", run(NM, "-", given=explored).stdout)
         self.refused(run(NM, "-", given="holds to 12 steps\nstates 116\n"), "'holds to 12 steps'")
         self.refused(run(NM, "-"), "it is empty")
 

@@ -1,7 +1,6 @@
 """Lanes as an SVG: one for each thread, one bar for each operation, in rows of so many steps."""
 from __future__ import annotations
 
-from collections.abc import Callable
 from dataclasses import dataclass
 from textwrap import wrap
 from typing import NamedTuple
@@ -90,12 +89,13 @@ def labelled(run: Run, thread: int, low: int, high: int) -> list[Labelled]:
     return found
 
 
-def label_rows(lane: list[Labelled], left_of: Callable[[int], float], letter: float, gap: float) -> list[int]:
-    """For each label its row, counted up from the bars: above every label to the right that it would run into."""
-    rows = [0] * len(lane)
-    for index in reversed(range(len(lane))):
-        end = left_of(lane[index].first) + letter * len(lane[index].text) + gap
-        met = [rows[other] + 1 for other in range(index + 1, len(lane)) if left_of(lane[other].first) < end]
+def label_rows(spans: list[tuple[float, float]], gap: float) -> list[int]:
+    """For each label, which begins and is as wide as its span says, its row, counted up from the bars: above every
+    label to the right that it would run into."""
+    rows = [0] * len(spans)
+    for index in reversed(range(len(spans))):
+        end = sum(spans[index]) + gap
+        met = [rows[other] + 1 for other in range(index + 1, len(spans)) if spans[other][0] < end]
         rows[index] = max(met, default=0)
     return rows
 
@@ -158,7 +158,7 @@ class Lanes:
         start = y
         for thread in range(run.lanes):
             lane = labelled(run, thread, low, high)
-            rows = label_rows(lane, lambda step: self.edge(step - 1, low), LETTER, 8)
+            rows = label_rows([(self.edge(each.first - 1, low), LETTER * len(each.text)) for each in lane], 8)
             tops[thread] = y + LABEL * (1 + max(rows, default=0))
             bars.append(svg_text(12, tops[thread] + 21, "head", f"{self.thread}{thread}"))
             for each, row in zip(lane, rows):

@@ -83,6 +83,8 @@ function showRun(article, frames, step, isNext) {
 
 function show(step) {
   step = Math.max(0, Math.min(most, step));
+  clearTimeout(naming);
+  naming = setTimeout(nameStep, NAMING);
   if (step === now) return;
   const isNext = Math.abs(step - now) === 1 && now >= 0;
   now = step;
@@ -97,8 +99,6 @@ function show(step) {
     if (link.getAttribute("href") === `#step=${step}`) link.setAttribute("aria-current", "step");
     else link.removeAttribute("aria-current");
   }
-  clearTimeout(naming);
-  naming = setTimeout(nameStep, NAMING);
   if (step === most) stop();
 }
 
@@ -144,11 +144,15 @@ for (const button of document.querySelectorAll("[data-go]")) {
 }
 slider.addEventListener("input", () => { stop(); show(+slider.value); });
 
-function fromAddress() {
-  const found = /^#step=(\d+)$/.exec(location.hash);
+function stepIn(address) {
+  const found = /#step=(\d+)$/.exec(address);
   return found ? +found[1] : null;
 }
-addEventListener("hashchange", () => { const step = fromAddress(); if (step !== null) { stop(); show(step); } });
+// the address of the event, as the step before may have been named in the meantime
+addEventListener("hashchange", event => {
+  const step = stepIn(event.newURL);
+  if (step !== null) { stop(); show(step); }
+});
 
 articles.forEach((article, i) => {
   // the names of the lanes stay where they can be seen
@@ -180,6 +184,6 @@ runs.forEach((frames, i) => {
   lists.append(list);
 });
 
-const first = fromAddress();
+const first = stepIn(location.href);
 show(first === null ? 0 : first);
 })();

@@ -28,7 +28,7 @@ def block_lines(run: Run, low: int, high: int, y: float) -> tuple[list[str], flo
     tops = {}
     for thread in range(run.lanes):
         lane = labelled(run, thread, low, high)
-        rows = label_rows(lane, lambda step: CELL * (step - 1 - low), LETTER, 0.1)
+        rows = label_rows([(CELL * (each.first - 1 - low), LETTER * len(each.text)) for each in lane], 0.1)
         top = y - LABEL * (1 + max(rows, default=0))
         tops[thread] = top
         lines.append(rf"  \node[anchor=east] at (-0.2,{top - BAR / 2:.2f}) {{thread {thread}}};")
