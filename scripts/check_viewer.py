@@ -8,7 +8,7 @@ be the files of docs/pictures byte by byte; a schedule of 120 steps of `ellen` w
 
 Of each page: every step is reached by the keyboard, forwards and backwards, shows its number and names it in the
 address; the replies shown after the last step are those of `PROGRAM replay`; the keys shown there are those that
-PROGRAM itself finds, told by a replay of the program with one find more, which runs alone after the schedule;
+PROGRAM itself finds, by a replay of the program with one find more, which runs alone after the schedule;
 the marks of the slider lead to their steps; `#step=` opens a step; nothing is written to the console and nothing
 is fetched; at 1,280 and at 390 pixels, light and dark, the page is no wider than the window, no text is smaller
 than 12 pixels and none has less than 4.5 to 1 of contrast; with reduced motion nothing moves by itself.
@@ -233,14 +233,14 @@ class Checker:
     def compare(self, end: dict[str, Any]) -> None:
         """The replies and the keys at the end, against the program."""
         for run, schedule in enumerate(self.case.schedules):
-            told = self.replay(self.case.file, schedule)
+            answer = self.replay(self.case.file, schedule)
             wanted = [
-                [each.name, "pending" if each.reply is None else str(each.reply).lower()] for each in told.listed
+                [each.name, "pending" if each.reply is None else str(each.reply).lower()] for each in answer.listed
             ]
             self.expect(end["replies"][run] == wanted, f"replies {end['replies'][run]} and not {wanted}")
             held = [key for key in self.keys() if self.finds(schedule, key)]
             self.expect(end["keys"][run] == held, f"keys {end['keys'][run]} and not {held}")
-            if told.fault != "order":
+            if answer.fault != "order":
                 leaves = sorted(int(key) for key in end["leaves"][run] if key.isdecimal())
                 self.expect(leaves == held, f"leaves {leaves} and not {held}")
 
@@ -280,8 +280,8 @@ class Checker:
             json.dump(value, file)
             file.flush()
             for steps in range(1, MOST_FIND_STEPS):
-                told = self.replay(file.name, [*schedule, *[reader] * steps])
-                reply = next(each.reply for each in told.listed if each.name == name)
+                answer = self.replay(file.name, [*schedule, *[reader] * steps])
+                reply = next(each.reply for each in answer.listed if each.name == name)
                 if reply is not None:
                     return bool(reply)
         raise BrowserFault(f"a find of {key} does not end")

@@ -9,9 +9,9 @@ tree at every step.
 
 Lanes: one for each thread, one bar for each operation, from its first step to its last. What stands in them is
 learnt from `PROGRAM replay` alone, called for every beginning of the schedule: an operation begins with the
-first beginning that lists it, and has ended with the first that gives its reply. Where the last replay tells an
-order, each of its operations gets a point inside its bar, from left to right. Where it tells `fault history`,
-the fewest operations whose replies no order explains are named.
+first beginning that lists it, and has ended with the first that gives its reply. Where the last replay has an
+order, each of its operations gets a point inside its bar, from left to right. Where it has `fault history`, the
+fewest operations whose replies no order explains are named.
 
 A page, and a still picture of the tree, come from the place tables in Python (scripts/place_tables.py), which
 are apart from the proved program. Their replies and their verdict after each step are compared with PROGRAM's,
@@ -42,7 +42,10 @@ from viewer.text import text_picture
 from viewer.tikz import tikz_picture
 
 NEAREST = "nearest"
-DEFAULT_PROGRAM = Path(__file__).resolve().parent.parent / "treesched"
+HERE = Path(__file__)
+# the program that lies beside the script as it was called, where there is one, else beside the script itself
+PROGRAMS = [path.parent.parent / "treesched" for path in (HERE.absolute(), HERE.resolve())]
+DEFAULT_PROGRAM = next((path for path in PROGRAMS if path.exists()), PROGRAMS[-1])
 
 
 def read_words() -> argparse.Namespace:
@@ -132,7 +135,7 @@ def show(text: str) -> None:
         sys.stdout.write(text)
         sys.stdout.flush()
     except OSError as fault:
-        # what could not be written is not tried again at the end
+        # Python would try at its end to write once more what could not be written
         sys.stdout = None  # type: ignore[assignment]
         raise Refusal(f"can't write standard output: {fault.strerror}") from fault
 

@@ -28,13 +28,13 @@ def long_run(steps: int) -> Run:
 
 class Text(unittest.TestCase):
     def test_a_fault(self) -> None:
-        told = text_picture(run_of("ellen_no_mark", FAULTS["ellen_no_mark"]), 80).split("\n")
-        self.assertEqual(told[2], "step       1         6         11        16")
-        self.assertEqual(told[3], "          0.0 delete 10")
-        self.assertEqual(told[4], "thread 0  |x-x-x-x-x-x-x-----x-------------->")
-        self.assertEqual(told[5], "                        1.0 insert 5    1.1 find 5")
-        self.assertEqual(told[6], "thread 1                |x-x---x-x-x-x-x|x-x|")
-        self.assertIn("1.0 insert 5 true, steps 8 to 15", told)
+        answer = text_picture(run_of("ellen_no_mark", FAULTS["ellen_no_mark"]), 80).split("\n")
+        self.assertEqual(answer[2], "step       1         6         11        16")
+        self.assertEqual(answer[3], "          0.0 delete 10")
+        self.assertEqual(answer[4], "thread 0  |x-x-x-x-x-x-x-----x-------------->")
+        self.assertEqual(answer[5], "                        1.0 insert 5    1.1 find 5")
+        self.assertEqual(answer[6], "thread 1                |x-x---x-x-x-x-x|x-x|")
+        self.assertIn("1.0 insert 5 true, steps 8 to 15", answer)
 
     def test_no_line_is_wider_than_the_columns(self) -> None:
         for columns in (40, 80, 132):
@@ -43,17 +43,17 @@ class Text(unittest.TestCase):
                     self.assertLessEqual(len(line), columns, line)
 
     def test_every_step_stands_in_some_row(self) -> None:
-        told = text_picture(long_run(120), 60)
-        self.assertEqual(told.count("x"), 120)
-        self.assertIn("… 0.0 insert 5", told)
+        answer = text_picture(long_run(120), 60)
+        self.assertEqual(answer.count("x"), 120)
+        self.assertIn("… 0.0 insert 5", answer)
 
     def test_nothing_to_draw(self) -> None:
         self.assertIn("no fault", text_picture(run_of("nm", []), 80))
 
     def test_bars_of_one_step_are_named_in_rows(self) -> None:
-        told = text_picture(run_of("three_threads", [0, 2, 1, 0, 1, 2]), 80)
+        answer = text_picture(run_of("three_threads", [0, 2, 1, 0, 1, 2]), 80)
         for name in ("0.0 insert 1", "0.1 delete 5", "1.1 find 5", "2.1 find 1"):
-            self.assertRegex(told, rf"(?m)^ +.*{re.escape(name)}")
+            self.assertRegex(answer, rf"(?m)^ +.*{re.escape(name)}")
 
 
 class Pictures(unittest.TestCase):
@@ -89,10 +89,10 @@ class Pictures(unittest.TestCase):
     def test_legend_of_what_is_drawn(self) -> None:
         self.assertEqual(legend(run_of("nm", [])), "")
         self.assertEqual(legend(run_of("nm_no_tag_order", FAULTS["nm_no_tag_order"])), "Dot: a step of the thread.")
-        told = legend(run_of("ellen_no_mark", FAULTS["ellen_no_mark"]))
-        self.assertIn("Dashed", told)
-        self.assertIn("Thick", told)
-        self.assertNotIn("Diamonds", told)
+        answer = legend(run_of("ellen_no_mark", FAULTS["ellen_no_mark"]))
+        self.assertIn("Dashed", answer)
+        self.assertIn("Thick", answer)
+        self.assertNotIn("Diamonds", answer)
         self.assertIn("Diamonds", legend(run_of("three_threads", [0, 2, 1, 0, 1, 2])))
 
     def test_points_ascend_in_their_bars(self) -> None:

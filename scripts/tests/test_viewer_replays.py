@@ -15,9 +15,9 @@ from viewer.replays import Asker, Operation, Refusal, read_replay, read_schedule
 
 class Reading(unittest.TestCase):
     def test_replays(self) -> None:
-        told = read_replay("0.0 delete 10 pending\n1.0 insert 5 true\nfault history\n", "it")
-        self.assertEqual([each.label for each in told.listed], ["0.0 delete 10 pending", "1.0 insert 5 true"])
-        self.assertEqual((told.order, told.fault), (None, "history"))
+        answer = read_replay("0.0 delete 10 pending\n1.0 insert 5 true\nfault history\n", "it")
+        self.assertEqual([each.label for each in answer.listed], ["0.0 delete 10 pending", "1.0 insert 5 true"])
+        self.assertEqual((answer.order, answer.fault), (None, "history"))
         self.assertEqual(read_replay("order -\nno fault\n", "it").order, [])
         for text in ("", "order -\n", "0.0 delete ten true\norder -\nno fault\n", "fault history\nmore\n"):
             with self.assertRaises(Refusal):

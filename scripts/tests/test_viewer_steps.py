@@ -47,10 +47,10 @@ class Accesses(unittest.TestCase):
 
     def test_sentences(self) -> None:
         walked = walk(source_of("ellen_no_mark"), FAULTS["ellen_no_mark"])
-        told = [step.access.sentence for step in walked.steps if step.access]
-        self.assertEqual(told[0], "reads n0’s update word: CLEAN")
-        self.assertEqual(told[4], "exchanges n0’s update word, CLEAN → DFLAG r0: succeeds")
-        self.assertEqual(told[9], "exchanges n0’s left child, n5 → n4: succeeds")
+        answer = [step.access.sentence for step in walked.steps if step.access]
+        self.assertEqual(answer[0], "reads n0’s update word: CLEAN")
+        self.assertEqual(answer[4], "exchanges n0’s update word, CLEAN → DFLAG r0: succeeds")
+        self.assertEqual(answer[9], "exchanges n0’s left child, n5 → n4: succeeds")
         self.assertEqual(place_text(walked.steps[9].place), "Splice(r0, n4, base Delete)")
         self.assertEqual(record_words(0, walked.states[-1].memory[1][0]), "Del(gp n0, p n5, l n3, pupdate CLEAN)")
         self.assertEqual([key_text(key) for key in (99, 100, 102)], ["99", "∞₀", "∞₂"])

@@ -1,9 +1,9 @@
 #!/usr/bin/env python3
 """Replays as treesched does, by the place tables in Python, for tests that have no program to call.
 
-The variable STUB changes what it does: `reply` turns every reply, `verdict` turns the verdict, `chatter` tells a line
-of progress first, `nonsense` prints what is no replay, `refuse LINE` refuses with that line and status 3, and `die`
-ends it by a signal.
+The variable STUB changes what it does: `reply` turns every reply, `verdict` turns the verdict, `chatter` writes
+a line of progress first, `nonsense` prints what is no replay, `refuse LINE` refuses with that line and status 3,
+and `die` ends it by a signal.
 """
 from __future__ import annotations
 
@@ -38,8 +38,8 @@ def replay(file: str, schedule: str, mood: str) -> str:
         itertools.permutations(names, size) for size in range(len(names), -1, -1)
     )
     order = next((each for each in orders if walked.program.explains(walked.states[count], list(each))), ())
-    told = " ".join(f"{thread}.{index}" for thread, index in order) or "-"
-    return "\n".join([*lines, f"order {told}", "no fault", ""])
+    shown = " ".join(f"{thread}.{index}" for thread, index in order) or "-"
+    return "\n".join([*lines, f"order {shown}", "no fault", ""])
 
 
 def main() -> int:

@@ -67,22 +67,22 @@ def reasons(clash: list[Operation], operations: list[Operation], source: Source)
     in it."""
     key, known = clash[0].key, only_known(operations, clash)
     matters = is_explained(known, source.initial ^ {key})
-    told = [f"{key} is {'an' if key in source.initial else 'no'} initial key"] if matters else []
+    facts = [f"{key} is {'an' if key in source.initial else 'no'} initial key"] if matters else []
     for word in ("insert", "delete"):
         # an operation that is imagined, at any time: where it would help, that there is none is a reason
         would_help = is_explained([*known, Operation("", word, key, None)], source.initial)
         if would_help and not any((word, key) in thread for thread in source.threads):
-            told.append(f"no operation of this program {word}s {key}")
+            facts.append(f"no operation of this program {word}s {key}")
         elif would_help and not any((other.word, other.key) == (word, key) for other in operations):
-            told.append(f"no operation that began {word}s {key}")
+            facts.append(f"no operation that began {word}s {key}")
     others = [
         f"`{other.text}`"
         for other in operations
         if other.key == key and other.word != "find" and other not in clash
     ]
     if others:
-        told.append(f"whether {' and '.join(others)} took effect or not makes no difference")
-    return told
+        facts.append(f"whether {' and '.join(others)} took effect or not makes no difference")
+    return facts
 
 
 def clash_words(clash: list[Operation], operations: list[Operation], source: Source) -> str:

@@ -192,17 +192,17 @@ def svg_picture(run: Run) -> str:
     finding = [quoted(text) for text in run.finding]
     texts = [line for text in (*finding, legend(run)) for line in wrap(text, int((width - 24) / LETTER))]
     height = round(bottom + LINE * len(texts) + 12)
-    told = [f"{operation.label}, {operation.span}" for operation in run.operations] + finding
+    spoken = [f"{operation.label}, {operation.span}" for operation in run.operations] + finding
     lines = [
         f'<svg xmlns="http://www.w3.org/2000/svg" width="{width}" height="{height}" '
         f'viewBox="0 0 {width} {height}" role="img">',
         f"<title>{escape(run.title)}</title>",
-        "<desc>" + escape("\n".join(told)) + "</desc>",
+        "<desc>" + escape("\n".join(spoken)) + "</desc>",
         f"<style>{STYLE}{LIGHT}  @media (prefers-color-scheme: dark) {{{DARK}  }}</style>",
         f'<rect class="paper" width="{width}" height="{height}"/>',
         svg_text(12, 24, "head", run.title),
         *parts,
-        *(svg_text(12, bottom + LINE * (row + 0.6), "told", line) for row, line in enumerate(texts)),
+        *(svg_text(12, bottom + LINE * (row + 0.6), "finding", line) for row, line in enumerate(texts)),
         "</svg>",
     ]
     return "\n".join(lines) + "\n"

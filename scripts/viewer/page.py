@@ -25,7 +25,7 @@ MOST_HEIGHT = 600
 
 @dataclass(frozen=True)
 class Shown:
-    """A run, as the program tells it and as the place tables in Python do."""
+    """A run by the program, and by the place tables in Python."""
 
     run: Run
     walked: Walk
@@ -78,12 +78,12 @@ class RunPage:
         drawn = Lanes(self.run, cell, count, 1 if cell > 24 else 5, LEFT, "T")
         parts, bottom = drawn.all_blocks(30)
         width, height = round(drawn.right + 16), round(bottom)
-        told = (
+        spoken = (
             "; ".join(f"{operation.label}, {operation.span}" for operation in self.run.operations) or "no operation"
         )
         return (
             f'<svg class="lanes" width="{width}" height="{height}" viewBox="0 0 {width} {height}" role="img" '
-            f'aria-label="{escape(told)}">{"".join(parts)}'
+            f'aria-label="{escape(spoken)}">{"".join(parts)}'
             f'<g class="moment"><rect x="{LEFT}" y="0" width="{cell:g}" height="{height - 6}"/></g>'
             f'<path class="names" d="M0 0H{LEFT - 4}V{height}H0z"/></svg>'
         ), cell
@@ -182,16 +182,16 @@ def parting(pages: list[RunPage]) -> int | None:
 def parting_words(pages: list[RunPage], step: int | None) -> str:
     if step is None:
         return "The two schedules are equal."
-    told = []
+    clauses = []
     for side, page in zip(("left", "right"), pages):
         schedule = page.run.schedule
-        told.append(
+        clauses.append(
             f"on the {side} {f'thread {schedule[step - 1]} moves' if step <= len(schedule) else 'it has ended'}"
         )
     before = (
         f"Both begin with the same {plural(step - 1, 'step')}" if step > 1 else "They differ from the first step on"
     )
-    return f"{before}; at step {step} {', '.join(told)}."
+    return f"{before}; at step {step} {', '.join(clauses)}."
 
 
 def mark_items(pages: list[RunPage], step: int | None) -> list[tuple[int, str, str]]:
@@ -254,8 +254,8 @@ def still_picture(shown: Shown, step: int) -> str:
     """The tree after a step as an SVG that stands alone."""
     keys = key_states(shown.walked)
     picture = picture_of(shown.walked, keys)
-    told = line_of(shown.walked, step) if step else "no operation has begun"
-    lines = [f"{shown.run.title.rsplit(',', 1)[0]}, step {step}", *wrap(told, max(picture.width, 460) // 8)]
+    sentence = line_of(shown.walked, step) if step else "no operation has begun"
+    lines = [f"{shown.run.title.rsplit(',', 1)[0]}, step {step}", *wrap(sentence, max(picture.width, 460) // 8)]
     width, top = max(picture.width, 480), 22 * len(lines) + 10
     height = picture.height + top
     heads = "".join(

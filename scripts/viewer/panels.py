@@ -61,14 +61,14 @@ def line_of(walked: Walk, count: int) -> str:
 def word_changes(walked: Walk, count: int) -> list[str]:
     """The words of a tree that a step changed."""
     before, after = walked.states[count - 1].memory, walked.states[count].memory
-    told = []
+    lines = []
     for node, (old, new) in enumerate(zip(before[0], after[0])):
         names = ("update word", "left child", "right child") if len(old) == 4 else ("left child", "right child")
         for name, first, second in zip(names, old[1:], new[1:]):
             if first != second:
                 text = update_text if name == "update word" else child_text
-                told.append(f"{node_text(node)}’s {name}: {text(first)} {ARROW} {text(second)}")
-    return told
+                lines.append(f"{node_text(node)}’s {name}: {text(first)} {ARROW} {text(second)}")
+    return lines
 
 
 def changes(walked: Walk, keys: list[list[KeyState]], count: int) -> str:
@@ -76,27 +76,27 @@ def changes(walked: Walk, keys: list[list[KeyState]], count: int) -> str:
     if not count:
         return ""
     before, after, step = walked.states[count - 1].memory, walked.states[count].memory, walked.steps[count - 1]
-    told: list[str] = []
+    lines: list[str] = []
     if isinstance(walked.machine, Tree):
-        told += word_changes(walked, count)
+        lines += word_changes(walked, count)
         was, now = reached(walked.machine, before), reached(walked.machine, after)
         new = list(range(len(before[0]), len(after[0])))
         gone = [node for node in was if node not in now]
         came = [node for node in now if node not in was and node not in new]
-        told += [f"new: {named_nodes(after, new)}"] if new else []
-        told += [f"record {record_text(len(before[1]))} is made"] if len(after[1]) > len(before[1]) else []
-        told += [f"the root no longer reaches {named_nodes(after, gone)}"] if gone else []
-        told += [f"the root now reaches {named_nodes(after, came)} too"] if came else []
+        lines += [f"new: {named_nodes(after, new)}"] if new else []
+        lines += [f"record {record_text(len(before[1]))} is made"] if len(after[1]) > len(before[1]) else []
+        lines += [f"the root no longer reaches {named_nodes(after, gone)}"] if gone else []
+        lines += [f"the root now reaches {named_nodes(after, came)} too"] if came else []
         if walked.machine.is_ordered(before) and not walked.machine.is_ordered(after):
-            told.append("search order breaks")
+            lines.append("search order breaks")
     for old, fresh in zip(keys[count - 1], keys[count]):
         if fresh.fault and not old.fault:
-            told.append(f"key {fresh.key} {FAULTS[fresh.fault]}")
+            lines.append(f"key {fresh.key} {FAULTS[fresh.fault]}")
         elif old.is_found != fresh.is_found:
-            told.append(f"a reader now {'finds' if fresh.is_found else 'does not find'} {fresh.key}")
-    told += [f"{step.operation.name} has ended"] if isinstance(step.goes, bool) else []
-    told = told or ["nothing in memory"]
-    return "<h4>Changed</h4><ul>" + "".join(f"<li>{escape(text)}</li>" for text in told) + "</ul>"
+            lines.append(f"a reader now {'finds' if fresh.is_found else 'does not find'} {fresh.key}")
+    lines += [f"{step.operation.name} has ended"] if isinstance(step.goes, bool) else []
+    lines = lines or ["nothing in memory"]
+    return "<h4>Changed</h4><ul>" + "".join(f"<li>{escape(text)}</li>" for text in lines) + "</ul>"
 
 
 def key_item(each: KeyState) -> str:
@@ -121,12 +121,12 @@ def thread_pieces(walked: Walk, thread: int, count: int) -> list[str]:
         each = begun.get(name)
         if each is not None:
             reply = "pending" if each.reply is None else str(each.reply).lower()
-            told = f'<b data-op="{name}">{reply}</b>, {each.span}'
+            status = f'<b data-op="{name}">{reply}</b>, {each.span}'
         elif operation.after:
-            told = f"not begun, waits for {plural(operation.after[1], 'operation')} of T{operation.after[0]}"
+            status = f"not begun, waits for {plural(operation.after[1], 'operation')} of T{operation.after[0]}"
         else:
-            told = "not begun"
-        lines.append(f"<li>{name} {operation.word} {operation.key}: {told}</li>")
+            status = "not begun"
+        lines.append(f"<li>{name} {operation.word} {operation.key}: {status}</li>")
     place, coming = state.places[thread], ""
     if state.astray == thread:
         coming = "<p>astray</p>"
@@ -149,9 +149,9 @@ def record_items(walked: Walk, count: int) -> list[str]:
             (node, cells[1][0]) for node, cells in enumerate(nodes) if len(cells) == 4 and cells[1][1] == record
         ]
         used = [f"{state} in {node_text(node)}" for node, state in words if state != "CLEAN"]
-        told = f": <b>{', '.join(used)}</b>" if used else ""
+        uses = f": <b>{', '.join(used)}</b>" if used else ""
         items.append(
             f'<li class="{"used" if used else "unused"}">{record_text(record)} = '
-            f"{escape(record_words(record, fields))}{told}</li>"
+            f"{escape(record_words(record, fields))}{uses}</li>"
         )
     return items

@@ -1,5 +1,4 @@
-"""A schedule as `PROGRAM replay` tells it: the operations with where they begin and end, an order of them or a
-fault."""
+"""A schedule by `PROGRAM replay`: the operations with where they begin and end, and an order of them or a fault."""
 from __future__ import annotations
 
 import json

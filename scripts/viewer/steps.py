@@ -95,17 +95,17 @@ def compare(walked: Walk, asker: Asker) -> None:
     """Refuses a run whose replies or verdict are others than those of the program, after any of its steps."""
     schedule = [step.thread for step in walked.steps]
     for count in range(len(schedule) + 1):
-        told = asker.replay(schedule[:count])
+        answer = asker.replay(schedule[:count])
         shown = [(each.name, each.word, each.key, each.reply) for each in operations_at(walked, count)]
-        if shown != [(each.name, each.word, each.key, each.reply) for each in told.listed]:
+        if shown != [(each.name, each.word, each.key, each.reply) for each in answer.listed]:
             raise Refusal(
                 f"the place tables in Python and {asker.program} differ in the replies after {count} steps"
             )
         fault = verdict(walked, count)
-        if fault != told.fault:
-            words = f"{fault or 'no fault'} and {told.fault or 'no fault'}"
+        if fault != answer.fault:
+            words = f"{fault or 'no fault'} and {answer.fault or 'no fault'}"
             raise Refusal(f"the place tables in Python and {asker.program} differ after {count} steps: {words}")
-        order = [(int(name[0]), int(name[2])) for name in told.order or []]
+        order = [(int(name[0]), int(name[2])) for name in answer.order or []]
         if fault is None and not walked.program.explains(walked.states[count], order):
             raise Refusal(f"after {count} steps the order of {asker.program} is none by the place tables in Python")
 
@@ -151,7 +151,7 @@ class KeyJudge:
         self.due = lru_cache(maxsize=None)(self.due_anew)
 
     def due_anew(self, operations: tuple[Operation, ...], key: int) -> tuple[bool, bool]:
-        """Whether a find that begins after all these operations began or ended may be told true, and false. As
+        """Whether a find that begins after all these operations began or ended may reply true, and false. As
         replies on one key do not depend on other keys, the operations on this key are enough."""
         initial = self.walked.source.initial
         late = 1 + max((each.last or each.first for each in operations), default=0)
@@ -204,8 +204,8 @@ def marks(walked: Walk, keys: list[list[KeyState]]) -> list[Mark]:
                 first.setdefault(f"key {each.key} {FAULTS[each.fault]}", count)
         fault = verdict(walked, count)
         if fault:
-            told = {"order": "search order breaks", "history": "no order explains the replies"}
-            first.setdefault(told.get(fault, "a thread is astray"), count)
+            names = {"order": "search order breaks", "history": "no order explains the replies"}
+            first.setdefault(names.get(fault, "a thread is astray"), count)
     return sorted((Mark(step, text) for text, step in first.items()), key=lambda mark: mark.step)
 
 

@@ -165,17 +165,17 @@ class TreePicture:
         known = set(self.layout.rows[count - 1])
         parts = []
         for node, spot in spots.items():
-            told = []
+            signs = []
             if node not in known:
-                told.append("new")
+                signs.append("new")
             elif node in before and node not in after:
-                told.append("cut off")
+                signs.append("cut off")
             elif node in after and node not in before:
-                told.append("comes in")
+                signs.append("comes in")
             if self.fault(count, node):
-                told.append("lost" if self.fault(count, node) == "lost" else "should be gone")
-            if told:
-                text = ", ".join(told)
+                signs.append("lost" if self.fault(count, node) == "lost" else "should be gone")
+            if signs:
+                text = ", ".join(signs)
                 x, y = spot.x, spot.y - HEIGHT / 2 - 5
                 parts.append(
                     Part(f"s{node}", f'<text data-k="s{node}" class="news" x="{x}" y="{y:g}">{text}</text>')
@@ -243,13 +243,13 @@ def tree_words(walked: Walk, picture: Any, count: int) -> str:
     memory = walked.states[count].memory
     if isinstance(picture, ListPicture):
         return "The list holds " + (", ".join(map(str, sorted(memory))) or "no key")
-    told = []
+    clauses = []
     for node in picture.layout.inside[count]:
         cells = memory[0][node]
         if len(cells) > 1:
             left, right = (int(walked.machine.child_of(word)) for word in cells[-2:])
-            told.append(
+            clauses.append(
                 f"{node_text(node)} of key {key_text(cells[0])} has {node_text(left)} and {node_text(right)}"
             )
     outside = ", ".join(map(node_text, picture.layout.outside[count]))
-    return "; ".join(told) + (f"; outside: {outside}" if outside else "")
+    return "; ".join(clauses) + (f"; outside: {outside}" if outside else "")
