@@ -71,8 +71,8 @@ class RunPage:
             texts.number(line_of(walked, count)) if count else texts.number("Start"),
         ]
 
-    def lanes(self, room: int) -> tuple[str, float]:
-        """The lanes as an SVG with the line that shows the moment, and how wide a step is there."""
+    def lanes(self, room: int, parting: int | None) -> tuple[str, float]:
+        """The lanes as an SVG with the marked steps and the moment, and how wide a step is there."""
         count = max(1, len(self.run.schedule))
         cell = max(9.0, min(34.0, (room - LEFT) / count))
         drawn = Lanes(self.run, cell, count, 1 if cell > 24 else 5, LEFT, "T")
@@ -81,10 +81,16 @@ class RunPage:
         spoken = (
             "; ".join(f"{operation.label}, {operation.span}" for operation in self.run.operations) or "no operation"
         )
+        steps = sorted({mark.step for mark in self.marks if mark.step})
+        signs = "".join(
+            f'<path class="alarm" d="M{drawn.edge(step - 0.5, 0):g} {height - 13}l6 11h-12z"/>' for step in steps
+        )
+        if parting is not None and parting <= count:
+            signs += f'<path class="parting" d="M{drawn.edge(parting - 1, 0):g} 4V{height - 6}"/>'
         return (
             f'<svg class="lanes" width="{width}" height="{height}" viewBox="0 0 {width} {height}" role="img" '
-            f'aria-label="{escape(spoken)}">{"".join(parts)}'
-            f'<g class="moment"><rect x="{LEFT}" y="0" width="{cell:g}" height="{height - 6}"/></g>'
+            f'aria-label="{escape(spoken)}">{"".join(parts)}{signs}'
+            f'<g class="moment"><rect x="{LEFT}" y="0" width="{cell:g}" height="{height - 16}"/></g>'
             f'<path class="names" d="M0 0H{LEFT - 4}V{height}H0z"/></svg>'
         ), cell
 
@@ -110,8 +116,8 @@ class RunPage:
             f'<p>The diamonds in the lanes, from left to right.</p><ol>{"".join(items)}</ol></section>'
         )
 
-    def article(self, index: int, head: str, is_alone: bool, size: tuple[int, int]) -> str:
-        lanes, cell = self.lanes(ROOM if is_alone else ROOM // 2 - 50)
+    def article(self, index: int, head: str, size: tuple[int, int], room: int, parting: int | None) -> str:
+        lanes, cell = self.lanes(room, parting)
         width, height = size
         left = (self.picture.width - width) // 2
         # larger where there is room, but no higher than a screen
@@ -164,6 +170,8 @@ def legend(pages: list[RunPage]) -> str:
     lanes += "; a dashed bar has not ended" if is_open else ""
     lanes += "; thick bars are replies that no order explains" if any(page.run.clash for page in pages) else ""
     lanes += "; diamonds from left to right are the order" if any(page.run.order for page in pages) else ""
+    lanes += "; a triangle below is a marked step" if any(page.marks for page in pages) else ""
+    lanes += "; the dashed line is where the schedules part" if len(pages) > 1 else ""
     columns = "Columns are keys, so that a search tree is in order from left to right." if is_tree else ""
     return f"<ul>{''.join(items)}<li>{escape(lanes)}.</li>{f'<li>{columns}</li>' if columns else ''}</ul>"
 
@@ -229,7 +237,10 @@ def html_page(all_shown: list[Shown], command: str) -> str:
     is_alone = len(pages) == 1
     heads = ['<h2 class="heard">The schedule</h2>'] if is_alone else list(map(side_head, ("Left", "Right"), pages))
     size = (max(page.picture.width for page in pages), max(page.picture.height for page in pages))
-    articles = [page.article(index, head, is_alone, size) for index, (page, head) in enumerate(zip(pages, heads))]
+    articles = [
+        page.article(index, head, size, ROOM if is_alone else ROOM // 2 - 90, step)
+        for index, (page, head) in enumerate(zip(pages, heads))
+    ]
     steps = plural(most, "step") if is_alone else "two schedules"
     lead = pages[0].finding() if is_alone else f'<p class="finding">{escape(parting_words(pages, step))}</p>'
     fields = {

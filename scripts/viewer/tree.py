@@ -166,14 +166,15 @@ class TreePicture:
         parts = []
         for node, spot in spots.items():
             signs = []
+            fault = self.fault(count, node)
             if node not in known:
                 signs.append("new")
             elif node in before and node not in after:
                 signs.append("cut off")
-            elif node in after and node not in before:
+            elif node in after and node not in before and not fault:
                 signs.append("comes in")
-            if self.fault(count, node):
-                signs.append("lost" if self.fault(count, node) == "lost" else "should be gone")
+            if fault:
+                signs.append("lost" if fault == "lost" else "should be gone")
             if signs:
                 text = ", ".join(signs)
                 x, y = spot.x, spot.y - HEIGHT / 2 - 5
