@@ -1,0 +1,2 @@
+"""What scripts/show_schedule.py is made of: replays, the contradiction in words, pictures of lanes and trees,
+and the page."""
