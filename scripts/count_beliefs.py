@@ -10,8 +10,8 @@ there are no more. A name that only a ghost member cites counts if it is a defin
 is a law, since there the member is the proof that its trait asks for.
 
 A definition's lines are those of its block, from the comment above it to the next blank line; the lines of imports and blank
-lines are not counted, nor are types, which stand in `src/`. Without an option the tables are printed; with --names each file's definitions
-too. --write puts the tables into docs/BELIEFS.md, and --check says whether they are the ones that stand there.
+lines are not counted, nor are types, which stand in `src/`. The same is counted from the program's own clauses alone, those of the
+functions named in PROGRAM. Without an option the tables are printed; with --names each file's definitions too. --write puts the tables into docs/BELIEFS.md, and --check says whether they are the ones that stand there.
 """
 import os
 import re
@@ -20,6 +20,7 @@ import sys
 ROOT = os.path.dirname(os.path.dirname(os.path.abspath(__file__)))
 PAGE = os.path.join(ROOT, "docs", "BELIEFS.md")
 BEGIN, END = "<!-- counted -->", "<!-- end of what is counted -->"
+PROGRAM = ("answer", "serve", "ended")  # the functions whose clauses say what the program does
 WORD = re.compile(r"[A-Za-z_][A-Za-z0-9_'-]*(?:\.[A-Za-z_][A-Za-z0-9_'-]*)*")
 IMPORT = re.compile(r"(?:ghost )?(?:pub )?use Rattle\.([\w.]+)(?:\.\{(.*?)\}| as (\w+))?;?\s*$")
 DECLARES = re.compile(r"^(?:  )*(abbrev |record |data |unfoldable )?(?:pub )?(abbrev |record |data |unfoldable )?([A-Za-z_][\w'-]*)(?: :| \(| \{| where|$)")
@@ -160,15 +161,18 @@ def without_parameters(text):
     return text if shorter == text else without_parameters(shorter)
 
 
-def cited(crate):
-    """The names that the crate's public contracts cite, each with its imports and whether only a ghost member cites it."""
+def cited(crate, only):
+    """The names that the crate's public contracts cite, each with its imports and whether only a ghost member cites it.
+
+    Where functions are named, those of their clauses alone.
+    """
     sources, is_library = sources_of(crate)
     lent = lent_out(sources)
     for path, text in sources.items():
         lines = text.split("\n")
         names, files = imports(lines)
         in_main = os.path.basename(path) == "main.rt"
-        owner, is_shown, is_open = "", False, False
+        owner, function, is_shown, is_open = "", "", False, False
         at = 0
         for line in lines:
             start, at = at, at + len(line) + 1
@@ -183,12 +187,13 @@ def cited(crate):
             found = re.match(r"(\s*)(pub(?:\([a-z]+\))? )?(?:const )?fn (\w+)", line)
             if found:
                 is_free = not found.group(1)
+                function = found.group(3)
                 name = found.group(3) if is_free else owner
                 is_open = found.group(2) == "pub " and (name in lent or not is_library) or is_free and in_main
                 if is_free:
                     is_shown = False
             found = re.match(r"\s*(?:requires|ensures)\*?(?: \w+)? \{|\s*ghost \w+(?: =|:) \{", line)
-            if found and (is_shown or is_open):
+            if found and (is_shown or is_open) and (not only or function in only):
                 is_member = "=" in found.group(0)
                 for word in WORD.findall(braced(text, start + found.end() - 1)):
                     yield word, names, files, is_member
@@ -210,9 +215,8 @@ def place(word, names, files, module, known):
     return None
 
 
-def believed(names):
-    """The blocks that are reached, by file."""
-    known = specs(names)
+def believed(names, known, only=()):
+    """The blocks that are reached, by file; where functions are named, from their clauses alone."""
     reached, todo = {}, []
 
     def reach(found):
@@ -223,7 +227,7 @@ def believed(names):
                 todo.append((where, block))
 
     for crate in names:
-        for word, brought, files, is_member in cited(crate):
+        for word, brought, files, is_member in cited(crate, only):
             found = place(word, brought, files, "", known)
             if found and (not is_member or any(it.is_definition for it in known[found[0]].where[found[1]])):
                 reach(found)
@@ -234,34 +238,45 @@ def believed(names):
             found = place(word, file.names, file.files, where, known)
             if found:
                 reach(found)
-    return known, reached
+    return reached
+
+
+def counted(file, blocks):
+    """The lines of the blocks of a file, with the head of the file and of the modules around them, and those of comments."""
+    if not blocks:
+        return 0, 0
+    headers = {id(header): header for block in blocks for header in block.header}
+    lines = len(file.head) + sum(len(it.lines) for it in blocks) + len(headers)
+    return lines, len(file.head) + sum(it.comments() for it in blocks)
 
 
 def tables(with_names):
     names = crates()
-    known, reached = believed(names)
-    out, total, rows = [], [0, 0], []
+    known = specs(names)
+    reached, needed = believed(names, known), believed(names, known, PROGRAM)
+    out, total, rows = [], [0, 0, 0], []
     for crate in names:
         files = [(where, known[where]) for where in known if known[where].crate == crate and where in reached]
-        mine = [0, 0]
+        mine = [0, 0, 0]
         part = []
         for where, file in files:
             blocks = [it for it in file.blocks if it in reached[where]]
-            lines = len(file.head) + sum(len(it.lines) for it in blocks) + len({id(h): h for it in blocks for h in it.header})
-            comments = len(file.head) + sum(it.comments() for it in blocks)
-            mine = [mine[0] + lines, mine[1] + comments]
+            lines, comments = counted(file, blocks)
+            own, _ = counted(file, [it for it in file.blocks if it in needed.get(where, [])])
+            mine = [mine[0] + lines, mine[1] + comments, mine[2] + own]
             path = os.path.relpath(file.path, os.path.join(ROOT, "crates", crate))
-            part.append(f"| `{path}` | {lines} | {comments} | {file.all - lines or ''} |")
+            part.append(f"| `{path}` | {lines} | {comments} | {own or ''} | {file.all - lines or ''} |")
             if with_names:
-                part.append(f"|   {' '.join(dict.fromkeys(name for it in blocks for name in it.names))} ||||")
+                part.append(f"|   {' '.join(dict.fromkeys(name for it in blocks for name in it.names))} |||||")
         if not files:
             continue
         rows.append((crate, len(files), mine))
-        total = [total[0] + mine[0], total[1] + mine[1]]
-        out += [f"### `{crate}`: {mine[0]} lines", "", "| File | Lines | of these comments | not cited |", "|---|---|---|---|", *part, ""]
-    head = ["| Crate | Files | Lines | of these comments |", "|---|---|---|---|"]
-    head += [f"| `{crate}` | {count} | {mine[0]} | {mine[1]} |" for crate, count, mine in rows]
-    head += [f"| in all | {sum(count for _, count, _ in rows)} | {total[0]} | {total[1]} |", ""]
+        total = [total[it] + mine[it] for it in range(3)]
+        out += [f"### `{crate}`: {mine[0]} lines, {mine[2]} of them for the program", ""]
+        out += ["| File | Lines | of these comments | for the program | not cited |", "|---|---|---|---|---|", *part, ""]
+    head = ["| Crate | Files | Lines | of these comments | for the program |", "|---|---|---|---|---|"]
+    head += [f"| `{crate}` | {count} | {mine[0]} | {mine[1]} | {mine[2]} |" for crate, count, mine in rows]
+    head += [f"| in all | {sum(count for _, count, _ in rows)} | {total[0]} | {total[1]} | {total[2]} |", ""]
     return "\n".join(head + out)
 
 
