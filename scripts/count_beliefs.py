@@ -1,7 +1,7 @@
 #!/usr/bin/env python3
 """Counts what a reader has to believe: the definitions that public contracts cite.
 
-usage: scripts/count_beliefs.py [--names] [--check | --write]
+usage: scripts/count_beliefs.py [--files | --names] [--check | --write]
 
 A contract is a `requires`, an `ensures` or a ghost member. Those counted are what a crate shows to others: of the
 functions, traits and types that its `lib.rt` lends out, with what they implement; of a program those of its
@@ -11,9 +11,12 @@ definition (`abbrev` or `record`), and not if it is a law, since there the membe
 for.
 
 A definition's lines are those of its block, from the comment above it to the next blank line; the lines of imports
-and blank lines are not counted, nor are types, which stand in `src/`. Without an option the tables are printed;
-with --names each file's definitions too. --write puts the tables into docs/BELIEFS.md, and --check says by its
-status whether they are the ones that stand there: 0 if so, 1 if not.
+and blank lines are not counted, nor are types, which stand in `src/`. The same is counted from the clauses of the
+functions in PROGRAM alone, which say what the program does.
+
+Without an option the table of crates is printed; with --files a table of each crate's files too, and with --names
+each file's definitions. --write puts the table of crates into docs/BELIEFS.md, and --check says by its status whether
+it is the one that stands there: 0 if so, 1 if not.
 """
 from __future__ import annotations
 
@@ -27,6 +30,7 @@ from common import RIGHT, TOP, WRONG, Unusable, end, words_of
 
 PAGE = TOP / "docs" / "BELIEFS.md"
 BEGIN, END = "<!-- counted -->", "<!-- end of what is counted -->"
+PROGRAM = frozenset({"answer", "serve", "ended"})
 MODULES = ("use ", "pub use ", "pub mod ", "mod ")
 WORD = re.compile(r"[A-Za-z_][A-Za-z0-9_'-]*(?:\.[A-Za-z_][A-Za-z0-9_'-]*)*")
 IMPORT = re.compile(r"(?:ghost )?(?:pub )?use Rattle\.([\w.]+)(?:\.\{(.*?)\}| as (\w+))?;?\s*$")
@@ -168,6 +172,10 @@ def in_order(folder: Path, suffix: str) -> Iterator[Path]:
         yield from in_order(path, suffix)
 
 
+# The blocks that are reached, by module.
+Reached = dict[str, list[Block]]
+
+
 def braced(text: str, start: int) -> str:
     """The text between the brace at `start` and the one that closes it."""
     depth = 0
@@ -186,10 +194,11 @@ def without_parameters(text: str) -> str:
 
 @dataclass
 class Cited:
-    """A name that a contract cites, what its file brings in, and whether a ghost member cites it."""
+    """A name that a contract cites, what its file brings in, the function, and whether a ghost member cites it."""
 
     word: str
     imports: Imports
+    function: str
     is_member: bool
 
 
@@ -219,7 +228,7 @@ class Sources:
         """The names that the public contracts of one file cite."""
         lines = text.split("\n")
         brought = imports(lines)
-        owner, is_shown, is_open, at = "", False, False, 0
+        owner, of, is_shown, is_open, at = "", "", False, False, 0
         for line in lines:
             start, at = at, at + len(line) + 1
             item = re.match(PUBLIC + r"(impl|trait|struct|enum)\b(.*)", line)
@@ -231,14 +240,14 @@ class Sources:
                 is_open = False
             function = re.match(r"(\s*)(pub(?:\([a-z]+\))? )?(?:const )?fn (\w+)", line)
             if function:
-                is_free = not function.group(1)
-                name = function.group(3) if is_free else owner
+                is_free, of = not function.group(1), function.group(3)
+                name = of if is_free else owner
                 is_open = function.group(2) == "pub " and self.is_lent(name) or is_free and in_main
                 is_shown = is_shown and not is_free
             clause = re.match(r"\s*(?:requires|ensures)\*?(?: \w+)? \{|\s*ghost \w+(?: =|:) \{", line)
             if clause and (is_shown or is_open):
                 for word in WORD.findall(braced(text, start + clause.end() - 1)):
-                    yield Cited(word, brought, "=" in clause.group(0))
+                    yield Cited(word, brought, of, "=" in clause.group(0))
 
 
 def place(word: str, brought: Imports, module: str, known: dict[str, File]) -> Place | None:
@@ -255,9 +264,9 @@ def place(word: str, brought: Imports, module: str, known: dict[str, File]) -> P
     return (where, name) if where in known and name in known[where].where else None
 
 
-def believed(names: list[str], known: dict[str, File]) -> dict[str, list[Block]]:
-    """The blocks that are reached from public contracts, by module."""
-    reached: dict[str, list[Block]] = {}
+def believed(names: list[str], known: dict[str, File], only: frozenset[str] = frozenset()) -> Reached:
+    """The blocks that are reached from public contracts, by module; where functions are named, from theirs alone."""
+    reached: Reached = {}
     todo: list[tuple[str, Block]] = []
 
     def reach(found: Place) -> None:
@@ -269,6 +278,8 @@ def believed(names: list[str], known: dict[str, File]) -> dict[str, list[Block]]
 
     for crate in names:
         for cited in Sources(crate).cited():
+            if only and cited.function not in only:
+                continue
             found = place(cited.word, cited.imports, "", known)
             if found and (not cited.is_member or any(it.is_definition for it in known[found[0]].where[found[1]])):
                 reach(found)
@@ -283,72 +294,92 @@ def believed(names: list[str], known: dict[str, File]) -> dict[str, list[Block]]
 
 @dataclass
 class Count:
-    """Lines, and those of these that are comments."""
+    """Lines, those of these that are comments, and those that the program's own clauses lead to."""
 
     lines: int = 0
     comments: int = 0
+    program: int = 0
 
     def add(self, other: Count) -> None:
         """Adds another count to it."""
         self.lines += other.lines
         self.comments += other.comments
+        self.program += other.program
 
 
-def count_of(file: File, blocks: list[Block]) -> Count:
-    """What a reader reads of a file: its head, these blocks, and the modules around them."""
+def lines_of(file: File, blocks: list[Block]) -> int:
+    """How many lines a reader reads of a file: its head, these blocks, and the modules around them."""
     headers = {id(line) for block in blocks for line in block.header}
-    lines = len(file.head) + sum(len(block.lines) for block in blocks) + len(headers)
-    return Count(lines, len(file.head) + sum(block.comments() for block in blocks))
+    return len(file.head) + sum(len(block.lines) for block in blocks) + len(headers) if blocks else 0
 
 
-def crate_table(crate: str, files: list[tuple[File, list[Block]]], with_names: bool) -> tuple[Count, list[str]]:
-    """The lines of a crate, and the table of its files."""
-    mine, rows = Count(), []
-    for file, blocks in files:
-        count = count_of(file, blocks)
-        mine.add(count)
-        path = file.path.relative_to(TOP / "crates" / crate)
-        rows.append(f"| `{path}` | {count.lines} | {count.comments} | {file.all - count.lines or ''} |")
+@dataclass
+class Counted:
+    """A file, those of its blocks that are reached, and what is counted of it."""
+
+    file: File
+    blocks: list[Block]
+    count: Count
+
+    def rows(self, crate: str, with_names: bool) -> Iterator[str]:
+        """Its row in the table of the crate's files, and behind it the names of its definitions."""
+        path = self.file.path.relative_to(TOP / "crates" / crate)
+        count = self.count
+        cells = [f"`{path}`", count.lines, count.comments, count.program or "", self.file.all - count.lines or ""]
+        yield "| " + " | ".join(map(str, cells)) + " |"
         if with_names:
-            names = dict.fromkeys(name for block in blocks for name in block.names)
-            rows.append(f"|   {' '.join(names)} ||||")
-    heads = ["| File | Lines | of these comments | not cited |", "|---|---|---|---|"]
-    return mine, [f"### `{crate}`: {mine.lines} lines", "", *heads, *rows, ""]
+            yield f"|   {' '.join(dict.fromkeys(name for block in self.blocks for name in block.names))} |||||"
 
 
-def tables(with_names: bool) -> str:
-    """The tables of the page."""
+def files_of(crate: str, known: dict[str, File], reached: Reached, own: Reached) -> list[Counted]:
+    """What is counted of each file of a crate from which a definition is reached."""
+    counted = []
+    for where, file in known.items():
+        if file.crate == crate and where in reached:
+            blocks = [block for block in file.blocks if block in reached[where]]
+            program = [block for block in blocks if block in own.get(where, [])]
+            comments = len(file.head) + sum(block.comments() for block in blocks)
+            counted.append(Counted(file, blocks, Count(lines_of(file, blocks), comments, lines_of(file, program))))
+    return counted
+
+
+def tables(with_files: bool, with_names: bool) -> str:
+    """The table of the crates, and where it is asked for that of each crate's files."""
     names = crates()
     known = specs(names)
-    reached = believed(names, known)
-    parts: list[str] = []
+    reached, own = believed(names, known), believed(names, known, PROGRAM)
     total, all_files = Count(), 0
-    head = ["| Crate | Files | Lines | of these comments |", "|---|---|---|---|"]
+    rows = ["| Crate | Files | Lines | of these comments | for the program |", "|---|---|---|---|---|"]
+    parts: list[str] = []
     for crate in names:
-        mine = {where: file for where, file in known.items() if file.crate == crate and where in reached}
-        if not mine:
-            continue
-        files = [(file, [block for block in file.blocks if block in reached[where]]) for where, file in mine.items()]
-        count, part = crate_table(crate, files, with_names)
-        head.append(f"| `{crate}` | {len(files)} | {count.lines} | {count.comments} |")
-        total.add(count)
-        all_files += len(files)
-        parts += part
-    return "\n".join([*head, f"| in all | {all_files} | {total.lines} | {total.comments} |", "", *parts])
+        mine, files = Count(), files_of(crate, known, reached, own)
+        for file in files:
+            mine.add(file.count)
+        if files:
+            rows.append(f"| `{crate}` | {len(files)} | {mine.lines} | {mine.comments} | {mine.program or ''} |")
+            total.add(mine)
+            all_files += len(files)
+        if files and (with_files or with_names):
+            heads = ["| File | Lines | of these comments | for the program | not cited |", "|---|---|---|---|---|"]
+            table = [row for file in files for row in file.rows(crate, with_names)]
+            parts += ["", f"### `{crate}`: {mine.lines} lines", "", *heads, *table]
+    rows.append(f"| in all | {all_files} | {total.lines} | {total.comments} | {total.program} |")
+    return "\n".join([*rows, *parts, ""])
 
 
 def main() -> int:
     """Prints, writes or compares the tables, and answers the status."""
     parser = words_of(__doc__)
+    parser.add_argument("--files", action="store_true", help="a table of each crate's files too")
     parser.add_argument("--names", action="store_true", help="each file's definitions too")
     mode = parser.add_mutually_exclusive_group()
     mode.add_argument("--check", action="store_true", help="whether docs/BELIEFS.md has these tables")
     mode.add_argument("--write", action="store_true", help="put the tables into docs/BELIEFS.md")
     words = parser.parse_args()
-    text = tables(words.names)
     if not words.check and not words.write:
-        print(text)
+        print(tables(words.files, words.names))
         return RIGHT
+    text = tables(False, False)
     page = PAGE.read_text(encoding="utf-8")
     if page.count(BEGIN) != 1 or page.count(END) != 1 or page.index(BEGIN) > page.index(END):
         raise Unusable(f"{PAGE} has not one line {BEGIN} and after it one line {END}")

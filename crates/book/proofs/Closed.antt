@@ -3,7 +3,7 @@ use Rattle.std.proofs.Common.{◌≡◌, ℕ, Bool, true, not, Some, None, List,
 use Rattle.std.proofs.lemmas.Bool.{true≢false}
 use Rattle.std.proofs.lemmas.Option.{option_and_then_some}
 use Rattle.book.specs.declared.finding.Finding.{Finding}
-use Rattle.book.specs.Schedule.{StepMachine, IsMachine, Merges, run, after}
+use Rattle.book.specs.Schedule.{AreOneBy, StepMachine, IsMachine, Merges, run, after}
 use Rattle.book.specs.Entries.{Entry, At, is_expanded, states}
 use Rattle.book.specs.Law.{IsLawful}
 use Rattle.book.specs.Findings.{IsSound}
@@ -50,7 +50,7 @@ left_out {S} es i first out =
 module _ {S : Type 0} (m : StepMachine S) (same : S → S → Bool) (right : S → Finding → Type 0)
     (machine : IsMachine m) (merges : Merges m same)
     (alike : (a b : S) → m.Fits a → m.Fits b → same a b ≡ true → IsSound right a → IsSound right b)
-    (es : List (Entry S)) (law : IsLawful m same right es) where
+    (es : List (Entry S)) (law : IsLawful m (AreOneBy same) right es) where
   -- an entry that stands for a state is alike to it
   among_states : (s : S) → (i : ℕ) × (e : Entry S) × At es i e × (same e.state s ≡ true)
       → IsAlikeToOneOf (λ a b. same a b ≡ true) (states es) s

@@ -9,7 +9,7 @@ use Rattle.std.proofs.lemmas.List.Sums.{sum_by-cons, count_by-le-length}
 use Rattle.std.proofs.lemmas.Option.{option_and_then_some}
 use Rattle.book.specs.declared.finding.Finding.{Finding}
 use Rattle.book.specs.declared.entry.Mark.TheVariants.{Expanded}
-use Rattle.book.specs.Schedule.{StepMachine, IsMachine, Merges, run, after}
+use Rattle.book.specs.Schedule.{StepMachine, AreOneBy, IsMachine, Merges, run, after}
 use Rattle.book.specs.Entries.{Entry, At, states}
 use Rattle.book.specs.Law.{IsLawful}
 use Rattle.book.specs.Counts.{IsCount}
@@ -53,7 +53,7 @@ module _ {S : Type 0} (m : StepMachine S) where
       ap (λ o. option_and_then (λ (y : S). run m y (c ++ t ∷ [])) o) first ∙ run_stops c x u t rest stuck)
 
 module _ {S : Type 0} (m : StepMachine S) (same : S → S → Bool) (right : S → Finding → Type 0)
-    (machine : IsMachine m) (merges : Merges m same) (es : List (Entry S)) (law : IsLawful m same right es) where
+    (machine : IsMachine m) (merges : Merges m same) (es : List (Entry S)) (law : IsLawful m (AreOneBy same) right es) where
   recorded_by : (n i : ℕ) (e : Entry S) → At es i e → i < n → (c : List ℕ) × (after m c ≡ Some e.state)
       × (length c ≡ m.steps e.state)
   recorded_by zero i e at less = absurd (omega arith)
@@ -93,7 +93,7 @@ module _ {S : Type 0} (m : StepMachine S) (same : S → S → Bool) (right : S �
       → k ≤ length es → ((i : ℕ) (e : Entry S) → At es i e → i < k → m.steps e.state ≤ n)
       → ((i : ℕ) (e : Entry S) → At es i e → m.steps e.state ≤ n → i < k)
       → ((s : S) (c : List ℕ) → after m c ≡ Some s → m.steps s ≡ length c)
-      → IsCount m same n k
+      → IsCount m (AreOneBy same) n k
   count_is n k done few below above steps_of = record {
     states = take k (states es);
     many = length-take-le k (states es)
@@ -184,12 +184,12 @@ count_upto {X} p (w ∷ xs) (suc k) within below above =
     omega arith
 
 module _ {S : Type 0} (m : StepMachine S) (same : S → S → Bool) (right : S → Finding → Type 0)
-    (machine : IsMachine m) (merges : Merges m same) (es : List (Entry S)) (law : IsLawful m same right es) where
+    (machine : IsMachine m) (merges : Merges m same) (es : List (Entry S)) (law : IsLawful m (AreOneBy same) right es) where
   -- the entries of at most n steps are as many as the states that schedules of at most n steps lead to, once all of
   -- fewer are expanded
   pub count_to_is : (n : ℕ) → ((i : ℕ) (e : Entry S) → At es i e → m.steps e.state < n → e.mark ≡ Expanded)
       → ((s : S) (c : List ℕ) → after m c ≡ Some s → m.steps s ≡ length c)
-      → IsCount m same n (count_by (λ (e : Entry S). leb (m.steps e.state) n) es)
+      → IsCount m (AreOneBy same) n (count_by (λ (e : Entry S). leb (m.steps e.state) n) es)
   count_to_is n done steps_of =
       let first = count_first (λ (e : Entry S). leb (m.steps e.state) n) es
       (λ i j e f le at_i at_j h.

@@ -3,14 +3,14 @@ use Rattle.std.proofs.Common.{◌≡◌, ℕ, ◌+◌, ◌<◌, ◌≤◌, Bool,
 use Rattle.std.proofs.lemmas.Option.{option_and_then_some}
 use Rattle.book.specs.declared.finding.Finding.{Finding}
 use Rattle.book.specs.declared.entry.Mark.TheVariants.{Expanded}
-use Rattle.book.specs.Schedule.{StepMachine, IsMachine, Merges, run, after}
+use Rattle.book.specs.Schedule.{AreOneBy, StepMachine, IsMachine, Merges, run, after}
 use Rattle.book.specs.Entries.{Entry, At}
 use Rattle.book.specs.Law.{StandsFor, StandsForReached, IsLawful}
 
 module _ {S : Type 0} (m : StepMachine S) (same : S → S → Bool) (right : S → Finding → Type 0)
     (machine : IsMachine m) (merges : Merges m same) where
   -- where each entry of less than n steps is expanded, what a schedule of at most n steps leads to is stood for
-  pub stands_along : (entries : List (Entry S)) → IsLawful m same right entries → StandsForReached m same entries
+  pub stands_along : (entries : List (Entry S)) → IsLawful m (AreOneBy same) right entries → StandsForReached m (AreOneBy same) entries
   stands_along entries law n done [] r s fits here leads short = let e : r ≡ s = cc in rw (← e) here
   stands_along entries law n done (t ∷ c) r s fits here leads short =
       option_and_then_some (λ (u : S). run m u c) (m.step r t) s leads
@@ -20,7 +20,7 @@ module _ {S : Type 0} (m : StepMachine S) (same : S → S → Bool) (right : S �
       let next = law.stands here.0 t here.1 alike.0 here.2 (done here.0 here.1 here.2 less) alike.1 in
       let up : m.steps u ≡ m.steps r + 1 = machine.one_more r u t first in
       let over : m.steps alike.0 ≡ m.steps here.1.state + 1 = machine.one_more here.1.state alike.0 t alike.1 in
-      let stood : StandsFor m same entries u = (
+      let stood : StandsFor m (AreOneBy same) entries u = (
         next.0,
         next.1,
         next.2,
@@ -31,10 +31,10 @@ module _ {S : Type 0} (m : StepMachine S) (same : S → S → Bool) (right : S �
       stands_along entries law n done c u s (machine.step_fits r u t fits first) stood rest (omega arith))
 
   -- so a schedule of at most n steps leads to a state that is stood for
-  pub stands_after : (entries : List (Entry S)) → IsLawful m same right entries → (n : ℕ)
+  pub stands_after : (entries : List (Entry S)) → IsLawful m (AreOneBy same) right entries → (n : ℕ)
       → ((i : ℕ) (e : Entry S) → At entries i e → m.steps e.state < n → e.mark ≡ Expanded)
       → (c : List ℕ) (s : S) → length c ≤ n → after m c ≡ Some s
-      → StandsFor m same entries s
+      → StandsFor m (AreOneBy same) entries s
   stands_after entries law n done c s short leads =
       let first = law.start in
       let zero_steps : m.steps m.start ≡ 0 = machine.from_zero in

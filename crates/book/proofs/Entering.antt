@@ -12,7 +12,7 @@ use Rattle.book.specs.declared.book.EnterFault.TheVariants.{NotTaken, Stranger, 
 use Rattle.book.specs.declared.finding.Finding.{Finding}
 use Rattle.book.specs.declared.entry.Mark.{Mark}
 use Rattle.book.specs.declared.entry.Mark.TheVariants.{Taken, Expanded}
-use Rattle.book.specs.Schedule.{StepMachine, IsMachine, Merges}
+use Rattle.book.specs.Schedule.{AreOneBy, StepMachine, IsMachine, Merges}
 use Rattle.book.specs.Entries.{Entry, Successor, Steps, Contents, At, Enters, IsOwn, IsTaken, Refuses, with_mark}
 use Rattle.book.specs.Entries.{with_successors, knows, unknown, opened, states}
 use Rattle.book.specs.Law.{IsLawfulBook, IsExpansion}
@@ -49,7 +49,7 @@ with_mark-append (e ∷ es) fs (suc i) k h = ap (λ xs. e ∷ xs) (with_mark-app
 
 module _ {X S : Type 0} (m : StepMachine S) (same : S → S → Bool) (right : S → Finding → Type 0) (machine : IsMachine m)
     (merges : Merges m same)
-    (b : Contents X S) (book : IsLawfulBook m same right b) (i : ℕ) (e : Entry S) (at : At b.entries i e)
+    (b : Contents X S) (book : IsLawfulBook m (AreOneBy same) right b) (i : ℕ) (e : Entry S) (at : At b.entries i e)
     (taken : e.mark ≡ Taken)
     (xs : List (Successor S)) (expansion : IsExpansion m right e.state xs)
     (appended : List (Entry S)) (is : appended ≡ b.entries ++ map (opened i) (unknown same (states b.entries) xs)) where
@@ -96,7 +96,7 @@ module _ {X S : Type 0} (m : StepMachine S) (same : S → S → Bool) (right : S
   pub lawful_entered : (new : List (Entry S)) (entered met : ℕ) → new ≡ with_mark appended i Expanded
       → entered ≡ length (unknown same (states b.entries) xs)
       → entered + met ≡ length xs → length appended ≤ b.limit
-      → IsLawfulBook m same right
+      → IsLawfulBook m (AreOneBy same) right
       (record {
         machine = b.machine;
         program = b.program;

@@ -7,7 +7,7 @@ use Rattle.std.proofs.lemmas.List.Sums.{sum_by-cons, sum_by-append}
 use Rattle.book.specs.declared.finding.Finding.{Finding}
 use Rattle.book.specs.declared.entry.Mark.{Mark}
 use Rattle.book.specs.declared.entry.Mark.TheVariants.{Open, Taken, Expanded}
-use Rattle.book.specs.Schedule.{StepMachine, IsMachine, Merges}
+use Rattle.book.specs.Schedule.{AreOneBy, StepMachine, IsMachine, Merges}
 use Rattle.book.specs.Entries.{Entry, Successor, Takes, At, IsNext, with_mark, with_successors, unknown, opened, states}
 use Rattle.book.specs.Entries.{is_expanded}
 use Rattle.book.specs.Law.{IsLawful, IsExpansion}
@@ -20,7 +20,7 @@ use Rattle.book.proofs.Marks.{expanded_from, not_expanded_from, open_between}
 
 -- ---- which entries are left
 module _ {S : Type 0} (m : StepMachine S) (same : S → S → Bool) (right : S → Finding → Type 0) (machine : IsMachine m)
-    (es : List (Entry S)) (law : IsLawful m same right es) where
+    (es : List (Entry S)) (law : IsLawful m (AreOneBy same) right es) where
   -- an entry has no more steps than its number
   few_by : (n i : ℕ) (e : Entry S) → At es i e → i < n → m.steps e.state ≤ i
   few_by zero i e at less = absurd (omega arith)
@@ -235,7 +235,7 @@ pub record IsAdvance {S : Type 0} (steps : S → ℕ) (old new : List (Entry S))
 module _ {S : Type 0} (m : StepMachine S) (same : S → S → Bool) (right : S → Finding → Type 0) (machine : IsMachine m)
     (merges : Merges m same) where
   pub advances : (a b c : List (Entry S)) (i : ℕ) (s : S) (d : Entry S) (xs : List (Successor S))
-      → Takes m.steps a b i s → IsLawful m same right b
+      → Takes m.steps a b i s → IsLawful m (AreOneBy same) right b
       → At b i d → d.mark ≡ Taken → IsExpansion m right d.state xs → c ≡ with_successors same b i xs → NoneTaken a
       → IsAdvance m.steps a c
   advances a b c i s d xs takes law at taken expansion is none =

@@ -10,15 +10,16 @@ use Rattle.tree_machine.specs.declared.state.State.{State}
 use Rattle.tree_machine.proofs.Lists.{get_at}
 use Rattle.book.specs.declared.entry.Mark.TheVariants.{Taken}
 use Rattle.book.specs.declared.entry.Origin.{Origin}
-use Rattle.book.specs.Books.{machine_in, right_in, counted_as_one, IsBook}
+use Rattle.book.specs.Books.{machine_in, right_in, counted_as_one, CountsAsOne, IsBook, IsLawfulIn}
 use Rattle.book.specs.Entries.{Entry, Contents, At, IsNext, Takes, TakesLayer, TakesRange, is_expanded, is_open}
 use Rattle.book.specs.Entries.{with_mark, with_marks}
-use Rattle.book.specs.Law.{StandsForReached}
+use Rattle.book.specs.Law.{FindsAlike, StandsForReached}
 use Rattle.book.specs.Labels.{Kept}
 use Rattle.book.specs.Slots.{AllStates, AreStatesOf, IsOpenFrom}
 use Rattle.book.specs.Layers.{IsExpandedTo, IsLeftTo}
 use Rattle.book.specs.Ways.{IsWay}
-use Rattle.book.specs.Schedule.{after}
+use Rattle.book.specs.Schedule.{after, AreOneBy}
+use Rattle.book.proofs.Agreeing.{Agree, book_as, finds_as, reached_as}
 use Rattle.book.proofs.Coverage.{stands_along}
 use Rattle.book.proofs.Growth.{all_expanded, few_steps, is_left, none_left}
 use Rattle.book.proofs.LawfulBooks.{taken_book}
@@ -233,9 +234,26 @@ module _ {Machine Memory Place Form : Type 0} {rules : Machine → Rules Memory 
         at_a.1 n (omega arith)
 
   -- each state that a stood-for one leads to is stood for
-  pub stands_for_reached : StandsForReached (machine_in rules b) same_in b.entries
+  pub stands_for_reached : StandsForReached (machine_in rules b) (AreOneBy same_in) b.entries
   stands_for_reached =
       stands_along (machine_in rules b) same_in (right_in rules b) book.machine book.merges b.entries book.law.law
+
+  -- what is known by the test is so by what counts as one
+  module _ (counts : Agree (machine_in rules b) (AreOneBy same_in) (CountsAsOne (rules b.machine) b.merge)) where
+    pub lawful_in : IsLawfulIn rules b
+    lawful_in =
+        book_as (machine_in rules b) book.machine (AreOneBy same_in) (CountsAsOne (rules b.machine) b.merge) counts
+        (right_in rules b) b book.law
+
+    pub finds_in : FindsAlike (machine_in rules b) (CountsAsOne (rules b.machine) b.merge) (right_in rules b)
+    finds_in =
+        finds_as (machine_in rules b) book.machine (AreOneBy same_in) (CountsAsOne (rules b.machine) b.merge) counts
+        (right_in rules b) book.findings
+
+    pub reached_in : StandsForReached (machine_in rules b) (CountsAsOne (rules b.machine) b.merge) b.entries
+    reached_in =
+        reached_as (machine_in rules b) book.machine (AreOneBy same_in) (CountsAsOne (rules b.machine) b.merge) counts
+        b.entries book.law.law.fit stands_for_reached
 
   -- the way to an entry, followed back
   module _ (now : Contents Machine (State Machine Memory Place Form)) (view : b ≡ now) where

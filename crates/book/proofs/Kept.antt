@@ -5,7 +5,7 @@ use Rattle.std.proofs.lemmas.Bool.{true≢false}
 use Rattle.tree_machine.proofs.Lists.{get-append_cases, get-append_left, get-append_right, get-map, map-get}
 use Rattle.book.specs.declared.finding.Finding.{Finding}
 use Rattle.book.specs.declared.entry.Mark.TheVariants.{Open, Taken, Expanded}
-use Rattle.book.specs.Schedule.{StepMachine, IsMachine, Merges}
+use Rattle.book.specs.Schedule.{AreOneBy, StepMachine, IsMachine, Merges}
 use Rattle.book.specs.Entries.{Entry, Successor, At, IsNext, with_mark, with_successors, unknown, opened, states}
 use Rattle.book.specs.Layers.{GrowsFrom, NoneTaken}
 use Rattle.book.specs.Law.{StandsFor, IsStep, IsLawful, IsExpansion}
@@ -26,9 +26,9 @@ module _ {S : Type 0} (m : StepMachine S) (same : S → S → Bool) (right : S �
   same_of_same a b c d p q h = cc
 
   -- ---- one entry is taken
-  module _ (es : List (Entry S)) (law : IsLawful m same right es) (i : ℕ) (e : Entry S)
+  module _ (es : List (Entry S)) (law : IsLawful m (AreOneBy same) right es) (i : ℕ) (e : Entry S)
       (next : IsNext m.steps es i e) where
-    stands_taken : (s : S) → StandsFor m same es s → StandsFor m same (with_mark es i Taken) s
+    stands_taken : (s : S) → StandsFor m (AreOneBy same) es s → StandsFor m (AreOneBy same) (with_mark es i Taken) s
     stands_taken s h =
         let w = with_mark-at es i Taken h.0 h.1 h.2 in
         (h.0, w.0, w.1, rw w.2.state h.3, rw w.2.state h.4)
@@ -47,7 +47,7 @@ module _ {S : Type 0} (m : StepMachine S) (same : S → S → Bool) (right : S �
         let same_entry : d ≡ e = (let a : slice_get es i ≡ Some e = next.entry in let b : i ≡ j = l.0 in cc) in cc
     was_not j d f at (inr r) h = λ (x : d.mark ≡ Expanded). h (ap (λ (q : Entry S). q.mark) r.1 ∙ x)
 
-    pub taken_keeps : IsLawful m same right (with_mark es i Taken)
+    pub taken_keeps : IsLawful m (AreOneBy same) right (with_mark es i Taken)
     taken_keeps = record {
       start = (let w = with_mark-at es i Taken 0 law.start.0 law.start.1 in
           (w.0, w.1, w.2.state ∙ law.start.2, w.2.origin ∙ law.start.3));
@@ -105,7 +105,7 @@ module _ {S : Type 0} (m : StepMachine S) (same : S → S → Bool) (right : S �
     }
 
   -- ---- the steps of an entry are entered
-  module _ (es : List (Entry S)) (law : IsLawful m same right es) (i : ℕ) (e : Entry S) (at_i : At es i e)
+  module _ (es : List (Entry S)) (law : IsLawful m (AreOneBy same) right es) (i : ℕ) (e : Entry S) (at_i : At es i e)
       (is_taken : e.mark ≡ Taken) (xs : List (Successor S)) (expansion : IsExpansion m right e.state xs) where
     pub fresh : List (Successor S)
     fresh = unknown same (states es) xs
@@ -166,7 +166,7 @@ module _ {S : Type 0} (m : StepMachine S) (same : S → S → Bool) (right : S �
     not_expanded : e.mark ≢ Expanded
     not_expanded = λ h. cc
 
-    stands_entered : (s : S) → StandsFor m same es s → StandsFor m same all s
+    stands_entered : (s : S) → StandsFor m (AreOneBy same) es s → StandsFor m (AreOneBy same) all s
     stands_entered s h = let w = kept_at h.0 h.1 h.2 in (h.0, w.0, w.1, rw w.2.state h.3, rw w.2.state h.4)
 
     among : (t : ℕ) (s : S) → m.step e.state t ≡ Some s → (k : ℕ) × (x : Successor S) × (slice_get xs k ≡ Some x)
@@ -178,7 +178,7 @@ module _ {S : Type 0} (m : StepMachine S) (same : S → S → Bool) (right : S �
         (j.0, o.0, o.1, sym o.2)
 
     -- the steps of e are stood for
-    stands_for_steps : (t : ℕ) (s : S) → m.step e.state t ≡ Some s → StandsFor m same all s
+    stands_for_steps : (t : ℕ) (s : S) → m.step e.state t ≡ Some s → StandsFor m (AreOneBy same) all s
     unfolding fresh
     stands_for_steps t s leads =
         let x = among t s leads in
@@ -216,7 +216,7 @@ module _ {S : Type 0} (m : StepMachine S) (same : S → S → Bool) (right : S �
         let w = kept_at p d at in
         (w.0, w.1, w.2.state, elim w.3 [ inl l ↦ l.1 | inr r ↦ ap (λ (q : Entry S). q.mark) r.1 ∙ x ])
 
-    origin_of : (j : ℕ) (f : Entry S) → Where j f → 0 < j → IsStep m same right all j f
+    origin_of : (j : ℕ) (f : Entry S) → Where j f → 0 < j → IsStep m all j f
     origin_of j f (Old d at but which) pos =
         let old = law.origins j d at pos in
         let p = parent_of old.origin.parent old.parent old.entered old.expanded in
@@ -275,7 +275,7 @@ module _ {S : Type 0} (m : StepMachine S) (same : S → S → Bool) (right : S �
         subst m.Fits (sym (ap (λ (q : Entry S). q.state) opens)) (expansion.fit u.0.0 y u.0.1)
 
     stood : (j t : ℕ) (f : Entry S) (s : S) → Where j f → f.mark ≡ Expanded → m.step f.state t ≡ Some s
-        → StandsFor m same all s
+        → StandsFor m (AreOneBy same) all s
     stood j t f s (Old d at but (inl l)) x leads =
         let q : d ≡ e = (let a : slice_get es i ≡ Some e = at_i in let b : slice_get es j ≡ Some d = at in
         let c : i ≡ j = l.0 in cc) in
@@ -351,7 +351,7 @@ module _ {S : Type 0} (m : StepMachine S) (same : S → S → Bool) (right : S �
         let u : m.steps y.state ≡ m.steps e.state + 1 = fresh_steps n y at in
         let u' : m.steps y'.state ≡ m.steps e.state + 1 = fresh_steps n' y' at' in omega arith
 
-    pub entered_keeps : IsLawful m same right (with_successors same es i xs)
+    pub entered_keeps : IsLawful m (AreOneBy same) right (with_successors same es i xs)
     unfolding all new fresh
     entered_keeps = record {
       start = (let w = kept_at 0 law.start.0 law.start.1 in

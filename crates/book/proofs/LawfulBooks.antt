@@ -10,7 +10,7 @@ use Rattle.book.specs.declared.finding.Finding.{Finding}
 use Rattle.book.specs.declared.book.Merge.{Merge}
 use Rattle.book.specs.declared.entry.Mark.{Mark}
 use Rattle.book.specs.declared.entry.Mark.TheVariants.{Open, Taken, Expanded}
-use Rattle.book.specs.Schedule.{StepMachine, IsMachine, Merges, enabled_threads}
+use Rattle.book.specs.Schedule.{AreOneBy, StepMachine, IsMachine, Merges, enabled_threads}
 use Rattle.book.specs.Entries.{Entry, Successor, Contents, At, IsNext, with_mark, with_successors, unknown, opened}
 use Rattle.book.specs.Entries.{states, is_expanded}
 use Rattle.book.specs.Law.{IsExpansion, IsLawfulBook, steps_entered}
@@ -82,7 +82,7 @@ module _ {X S : Type 0} (m : StepMachine S) (same : S → S → Bool) (right : S
   -- a book with the start alone is lawful
   pub opened_book : (x : X) (p : Program) (k : Merge) (n : ℕ) (s : S) (f : Finding) → s ≡ m.start → right s f → m.Fits s
       → 1 ≤ n → n ≤ 2000000
-      → IsLawfulBook m same right
+      → IsLawfulBook m (AreOneBy same) right
       (record {
         machine = x;
         program = p;
@@ -129,9 +129,9 @@ module _ {X S : Type 0} (m : StepMachine S) (same : S → S → Bool) (right : S
       only e (suc i) d h = absurd (let q : None ≡ Some d = h in cc)
 
   -- one with an entry taken is lawful
-  pub taken_book : (b : Contents X S) → IsLawfulBook m same right b → (i : ℕ) (e : Entry S)
+  pub taken_book : (b : Contents X S) → IsLawfulBook m (AreOneBy same) right b → (i : ℕ) (e : Entry S)
       → IsNext m.steps b.entries i e
-      → IsLawfulBook m same right
+      → IsLawfulBook m (AreOneBy same) right
       (record {
         machine = b.machine;
         program = b.program;
@@ -154,7 +154,7 @@ module _ {X S : Type 0} (m : StepMachine S) (same : S → S → Bool) (right : S
             let c : length b.entries + b.met ≡ 1 + sum_by (steps_entered m) b.entries = book.counted in omega arith);
       }
 
-  module _ (b : Contents X S) (book : IsLawfulBook m same right b) (i : ℕ) (e : Entry S) (at_i : At b.entries i e)
+  module _ (b : Contents X S) (book : IsLawfulBook m (AreOneBy same) right b) (i : ℕ) (e : Entry S) (at_i : At b.entries i e)
       (is_taken : e.mark ≡ Taken)
       (xs : List (Successor S)) (expansion : IsExpansion m right e.state xs) where
     all_steps : length xs ≡ length (enabled_threads m e.state)
@@ -163,7 +163,7 @@ module _ {X S : Type 0} (m : StepMachine S) (same : S → S → Bool) (right : S
     -- one with an entry's steps entered is lawful, if they have room
     pub entered_book : (new old_steps : ℕ) → length (unknown same (states b.entries) xs) ≡ new
         → new + old_steps ≡ length xs → length b.entries + new ≤ b.limit
-        → IsLawfulBook m same right
+        → IsLawfulBook m (AreOneBy same) right
         (record {
           machine = b.machine;
           program = b.program;

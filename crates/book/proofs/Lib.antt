@@ -13,6 +13,7 @@ pub mod Growth
 pub mod Counts
 pub mod Closed
 pub mod Ways
+pub mod Agreeing
 mod Expanding
 mod SlotLemmas
 mod Labels

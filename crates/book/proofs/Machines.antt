@@ -24,11 +24,12 @@ use Rattle.book.specs.declared.book.Merge.TheVariants.{Exact, Names}
 use Rattle.book.specs.declared.entry.Mark.TheVariants.{Open}
 use Rattle.book.specs.declared.finding.Finding.{Finding}
 use Rattle.book.specs.declared.finding.Finding.TheVariants as found
-use Rattle.book.specs.Schedule.{StepMachine, IsMachine, Merges}
+use Rattle.book.specs.Schedule.{StepMachine, AreOneBy, IsMachine, Merges}
 use Rattle.book.specs.Law.{FindsAlike}
 use Rattle.book.specs.Findings.{machine_of, IsFindingOf}
 use Rattle.book.specs.Labels.{label_by, same_as}
-use Rattle.book.specs.Books.{counted_as_one, IsBook}
+use Rattle.book.specs.Books.{counted_as_one, CountsAsOne, IsBook}
+use Rattle.book.proofs.Agreeing.{Agree}
 use Rattle.book.proofs.EntryLemmas.{get_within}
 use Rattle.book.proofs.Exact.{exact_merges}
 use Rattle.book.proofs.LawfulBooks.{opened_book}
@@ -99,6 +100,17 @@ module _ {Machine Memory Place Form : Type 0} (place_eq : Place → Place → Bo
         subst (λ (f : FormContent Form). state_form_eq form_eq (form r) f ≡ true)
         ((forms_alike rules form_of forms program program r s r_fits s_fits).1 alike) (form_tests.refl (form r))
 
+    -- the test counts states as one exactly where they are equal, or alike
+    pub counts_by : (merge : Merge)
+        → Agree (machine_of {Machine = Machine} {Form = Form} rules program)
+        (AreOneBy (counted_as_one {Machine = Machine} place_eq memory_eq form_eq form_of merge))
+        (CountsAsOne {Machine = Machine} {Form = Form} rules merge)
+    counts_by Exact r s r_fits s_fits = (
+      states_exact r s,
+      λ e. subst (λ (v : State Machine Memory Place Form). state_eq place_eq memory_eq r v ≡ true) e (states.refl r),
+    )
+    counts_by Names r s r_fits s_fits = (alike_by r s r_fits s_fits, named_by r s r_fits s_fits)
+
     names_merge : IsMachine (machine_of {Machine = Machine} {Form = Form} rules program)
         → Merges (machine_of {Machine = Machine} {Form = Form} rules program)
         (λ r s. state_form_eq form_eq (form r) (form s))
@@ -146,7 +158,8 @@ module _ {Machine Memory Place Form : Type 0} (place_eq : Place → Place → Bo
     -- states that count as one have the same findings
     pub findings_alike : (merge : Merge)
         → FindsAlike (machine_of {Machine = Machine} {Form = Form} rules program)
-        (counted_as_one {Machine = Machine} place_eq memory_eq form_eq form_of merge) (IsFindingOf rules program)
+        (AreOneBy (counted_as_one {Machine = Machine} place_eq memory_eq form_eq form_of merge))
+        (IsFindingOf rules program)
     findings_alike Exact r s _ _ same finding is =
         subst (λ v. IsFindingOf rules program v finding) (states_exact r s same) is
     findings_alike Names r s r_fits s_fits same finding is =

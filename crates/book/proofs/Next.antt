@@ -10,7 +10,7 @@ use Rattle.tree_machine.proofs.Lists.{get_at}
 use Rattle.book.specs.declared.finding.Finding.{Finding}
 use Rattle.book.specs.declared.entry.Mark.{Mark}
 use Rattle.book.specs.declared.entry.Mark.TheVariants.{Open, Taken, Expanded}
-use Rattle.book.specs.Schedule.{StepMachine}
+use Rattle.book.specs.Schedule.{AreOneBy, StepMachine}
 use Rattle.book.specs.Entries.{Entry, At, IsNext, is_open, is_expanded}
 use Rattle.book.specs.Law.{IsLawful}
 use Rattle.book.proofs.EntryLemmas.{get_within}
@@ -58,7 +58,7 @@ open_from Taken h = absurd (true≢false (sym h))
 open_from Expanded h = absurd (true≢false (sym h))
 
 module _ {S : Type 0} (m : StepMachine S) (same : S → S → Bool) (right : S → Finding → Type 0) (es : List (Entry S))
-    (law : IsLawful m same right es) where
+    (law : IsLawful m (AreOneBy same) right es) where
   -- where no entry is open, or all are expanded, none is next
   pub no_next_open : position (λ (r : Entry S). is_open r.mark) es ≡ None → (i : ℕ) (e : Entry S)
       → IsNext m.steps es i e → ⊥

@@ -9,7 +9,7 @@ use Rattle.tree_machine.proofs.Lists.{get_at, get-append_cases}
 use Rattle.book.specs.declared.finding.Finding.{Finding}
 use Rattle.book.specs.declared.entry.Mark.{Mark}
 use Rattle.book.specs.declared.entry.Mark.TheVariants.{Open, Taken, Expanded}
-use Rattle.book.specs.Schedule.{StepMachine, IsMachine, Merges}
+use Rattle.book.specs.Schedule.{AreOneBy, StepMachine, IsMachine, Merges}
 use Rattle.book.specs.Entries.{Entry, Contents, At, IsNext, TakesLayer, TakesRange, is_open, with_mark, with_marks}
 use Rattle.book.specs.Law.{IsLawfulBook}
 use Rattle.book.specs.Slots.{AllStates, AreCursors, AreStatesOf, IsOpenFrom}
@@ -340,8 +340,8 @@ module _ {S : Type 0} (m : StepMachine S) (same : S → S → Bool) (right : S �
 module _ {X S : Type 0} (m : StepMachine S) (same : S → S → Bool) (right : S → Finding → Type 0) (machine : IsMachine m)
     (merges : Merges m same) where
   -- a book whose next entries are taken is lawful
-  pub range_book : (n a : ℕ) (b : Contents X S) → IsLawfulBook m same right b → IsRange m.steps b.entries a n
-      → IsLawfulBook m same right
+  pub range_book : (n a : ℕ) (b : Contents X S) → IsLawfulBook m (AreOneBy same) right b → IsRange m.steps b.entries a n
+      → IsLawfulBook m (AreOneBy same) right
       (record {
         machine = b.machine;
         program = b.program;

@@ -7,7 +7,7 @@ use Rattle.std.specs.Option.{option_and_then}
 use Rattle.std.proofs.lemmas.Option.{option_and_then_some, same_Some}
 use Rattle.book.specs.declared.finding.Finding.{Finding}
 use Rattle.book.specs.declared.entry.Origin.{Origin}
-use Rattle.book.specs.Schedule.{StepMachine, IsMachine, run, after}
+use Rattle.book.specs.Schedule.{AreOneBy, StepMachine, IsMachine, run, after}
 use Rattle.book.specs.Entries.{Entry, At}
 use Rattle.book.specs.Law.{IsLawful}
 use Rattle.book.specs.Ways.{IsWay}
@@ -28,7 +28,7 @@ module _ {S : Type 0} (m : StepMachine S) (machine : IsMachine m) where
       let z : m.steps m.start ≡ 0 = machine.from_zero in omega arith
 
   -- each state on the way is one of the machine
-  fits_along : (c : List ℕ) (r s : S) → m.Fits r → run m r c ≡ Some s → m.Fits s
+  pub fits_along : (c : List ℕ) (r s : S) → m.Fits r → run m r c ≡ Some s → m.Fits s
   fits_along [] r s fits h = let e : r ≡ s = cc in subst m.Fits e fits
   fits_along (t ∷ c) r s fits h =
       option_and_then_some (λ (u : S). run m u c) (m.step r t) s h
@@ -39,7 +39,7 @@ module _ {S : Type 0} (m : StepMachine S) (machine : IsMachine m) where
   fits_after c s h = fits_along c m.start s machine.start_fits h
 
 module _ {S : Type 0} (m : StepMachine S) (same : S → S → Bool) (right : S → Finding → Type 0) (es : List (Entry S))
-    (law : IsLawful m same right es) where
+    (law : IsLawful m (AreOneBy same) right es) where
   -- an entry that has an origin is the step that its origin tells
   pub step_of : (k : ℕ) (e : Entry S) (o : Origin) → At es k e → e.origin ≡ Some o
       → (parent : Entry S) × At es o.parent parent × (o.parent < k) × (m.step parent.state o.thread ≡ Some e.state)

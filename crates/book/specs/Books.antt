@@ -1,18 +1,24 @@
 -- A book of the states of a program on a machine.
-use Rattle.std.specs.Prelude.{◌-◌, Bool, List, Option, length, count_by}
+use Rattle.std.specs.Prelude.{◌≡◌, ◌-◌, Bool, List, Option, length, count_by}
 use Rattle.sched_program.specs.Program.{IsWithinLimits}
 use Rattle.tree_machine.specs.Rules.{Rules}
-use Rattle.tree_machine.specs.Alike.{state_form}
+use Rattle.tree_machine.specs.Alike.{AreStatesAlike, state_form}
 use Rattle.tree_machine.specs.StateEq.{state_eq, state_form_eq}
 use Rattle.tree_machine.specs.declared.state.State.{State}
 use Rattle.book.specs.declared.book.Merge.{Merge}
 use Rattle.book.specs.declared.book.Merge.TheVariants.{Exact, Names}
 use Rattle.book.specs.declared.book.Totals.{Totals}
 use Rattle.book.specs.declared.finding.Finding.{Finding}
-use Rattle.book.specs.Schedule.{StepMachine, IsMachine, Merges}
+use Rattle.book.specs.Schedule.{AreOneBy, StepMachine, IsMachine, Merges}
 use Rattle.book.specs.Findings.{machine_of, IsFindingOf}
 use Rattle.book.specs.Entries.{Contents, Steps, is_open, is_taken, is_expanded}
 use Rattle.book.specs.Law.{FindsAlike, IsLawfulBook, IsExpansion}
+
+-- which states count as one: equal ones with exact merging, and by names those that are alike
+abbrev pub CountsAsOne : {Machine Memory Place Form : Type 0} → Rules Memory Place → Merge
+    → State Machine Memory Place Form → State Machine Memory Place Form → Type 0
+CountsAsOne rules Exact state twin = state ≡ twin
+CountsAsOne rules Names state twin = AreStatesAlike rules state twin
 
 -- Whether two states count as one, given the tests of places, memories and forms, and what the machine's form is: with
 -- exact merging, whether they test equal; by names, whether their forms do
@@ -41,28 +47,27 @@ module _ {Machine Memory Place Form : Type 0} (rules : Machine → Rules Memory 
       IsExpansion (machine_of (rules x.machine) x.program) (IsFindingOf (rules x.machine) x.program) x.source
       x.successors
 
-  -- a book is lawful, given the tests of places, memories and forms, and what the machine's form is
-  abbrev pub IsLawfulIn : (Place → Place → Bool) → (Memory → Memory → Bool) → (Form → Form → Bool)
-      → (Machine → Memory → List (Option Place) → Form)
-      → Contents Machine (State Machine Memory Place Form) → Type 0
-  IsLawfulIn place_eq memory_eq form_eq form_of book =
-      IsLawfulBook (machine_in book) (counted_as_one place_eq memory_eq form_eq (form_of book.machine) book.merge)
-      (right_in book) book
+  -- a book is lawful, where states that count as one are the same
+  abbrev pub IsLawfulIn : Contents Machine (State Machine Memory Place Form) → Type 0
+  IsLawfulIn book =
+      IsLawfulBook (machine_in book) (CountsAsOne (rules book.machine) book.merge) (right_in book) book
 
--- A lawful book of a program that meets the limits, and what follows for its machine: it is a step machine, and states
--- of it that count as one step alike and have the same findings.
+-- A lawful book of a program that meets the limits, by the test that counts its states as one, and what follows for its
+-- machine: it is a step machine, and states of it that count as one step alike and have the same findings.
 pub record IsBook {Machine Memory Place Form : Type 0} (rules : Machine → Rules Memory Place)
     (place_eq : Place → Place → Bool)
     (memory_eq : Memory → Memory → Bool) (form_eq : Form → Form → Bool)
     (form_of : Machine → Memory → List (Option Place) → Form)
     (book : Contents Machine (State Machine Memory Place Form)) : Type 0 where
-  pub law : IsLawfulIn rules place_eq memory_eq form_eq form_of book
+  pub law : IsLawfulBook (machine_in rules book)
+      (AreOneBy (counted_as_one place_eq memory_eq form_eq (form_of book.machine) book.merge)) (right_in rules book)
+      book
   pub limits : IsWithinLimits book.program
   pub machine : IsMachine (machine_in rules book)
   pub merges : Merges (machine_in rules book)
       (counted_as_one place_eq memory_eq form_eq (form_of book.machine) book.merge)
   pub findings : FindsAlike (machine_in rules book)
-      (counted_as_one place_eq memory_eq form_eq (form_of book.machine) book.merge) (right_in rules book)
+      (AreOneBy (counted_as_one place_eq memory_eq form_eq (form_of book.machine) book.merge)) (right_in rules book)
 
 -- the totals of a book
 abbrev pub totals_of : {X S : Type 0} → Contents X S → Totals

@@ -39,6 +39,10 @@ pub record IsMachine {S : Type 0} (m : StepMachine S) : Type 0 where
   pub start_fits : m.Fits m.start
   pub step_fits : (s r : S) (t : ℕ) → m.Fits s → m.step s t ≡ Some r → m.Fits r
 
+-- the test counts the two states as one
+abbrev pub AreOneBy : {S : Type 0} → (S → S → Bool) → S → S → Type 0
+AreOneBy same r s = same r s ≡ true
+
 -- A test of states that counts two states as one: it is an equivalence, and states of the machine that it counts as one
 -- step alike
 pub record Merges {S : Type 0} (m : StepMachine S) (same : S → S → Bool) : Type 0 where

@@ -10,7 +10,7 @@ ghost use Rattle.book.specs.Findings.{IsFindingOf, IsSound};
 ghost use Rattle.book.specs.declared.finding.Finding.{Finding};
 ghost use Rattle.book.specs.Slots.{AllStates, IsLeft, IsOpenFrom};
 ghost use Rattle.book.specs.Labels.{label_by};
-ghost use Rattle.book.specs.Books.{machine_in, right_in, IsLawfulIn};
+ghost use Rattle.book.specs.Books.{machine_in, right_in, CountsAsOne, IsLawfulIn};
 ghost use Rattle.book.specs.Law.{FindsAlike, StandsForReached};
 ghost use Rattle.book.specs.Schedule.{IsMachine, Merges};
 
@@ -195,11 +195,12 @@ impl<M: Machine> Book<M> {
         })
     }
 
-    /// A book is lawful at every moment, its machine is a step machine, and states of its program that it counts as one
-    /// step alike and have the same findings, so where one of two such states is sound the other is. An entry that
-    /// stands for a state stands for all that this reaches within the steps that are worked out.
+    /// A book is lawful at every moment, and its machine is a step machine. It counts states of its program as one
+    /// exactly if they are equal, with exact merging, or alike, by names. States that it counts as one step alike and
+    /// have the same findings, so where one of two such states is sound the other is. An entry that stands for a state
+    /// stands for all that this reaches within the steps that are worked out.
     pub fn law(&self)
-        ensures law { IsLawfulIn M.rules M.Loc.PartialEq.eq M.Mem.PartialEq.eq M.Form.PartialEq.eq M.form_of self.now }
+        ensures law { IsLawfulIn M.rules self.now }
         ensures machine { IsMachine (machine_in M.rules self.now) }
         ensures merges { Merges (machine_in M.rules self.now)
             (⟦<M as Counting>⟧.counted self.now.machine self.now.merge) }
@@ -207,10 +208,14 @@ impl<M: Machine> Book<M> {
             → Fits (M.rules self.now.machine) self.now.program s
             → ⟦<M as Counting>⟧.counted self.now.machine self.now.merge r s ≡ true
             → IsSound (right_in M.rules self.now) r → IsSound (right_in M.rules self.now) s }
+        ensures counts { (r s : State M M.Mem M.Loc M.Form) → Fits (M.rules self.now.machine) self.now.program r
+            → Fits (M.rules self.now.machine) self.now.program s
+            → (⟦<M as Counting>⟧.counted self.now.machine self.now.merge r s ≡ true)
+            ↔ CountsAsOne (M.rules self.now.machine) self.now.merge r s }
         ensures findings { FindsAlike (machine_in M.rules self.now)
-            (⟦<M as Counting>⟧.counted self.now.machine self.now.merge) (right_in M.rules self.now) }
+            (CountsAsOne (M.rules self.now.machine) self.now.merge) (right_in M.rules self.now) }
         ensures reaches { StandsForReached (machine_in M.rules self.now)
-            (⟦<M as Counting>⟧.counted self.now.machine self.now.merge) self.now.entries }
+            (CountsAsOne (M.rules self.now.machine) self.now.merge) self.now.entries }
         ensures limits { IsWithinLimits self.now.program }
     {
         let _ = &self.table;

@@ -2,7 +2,7 @@
 use Rattle.std.proofs.Common.{◌≡◌, ℕ, ◌+◌, ◌<◌, ◌≤◌, inl, inr, Bool, true, Some, None, List, length, refl, arith}
 use Rattle.std.proofs.lemmas.Bool.{cases_lt}
 use Rattle.book.specs.declared.finding.Finding.{Finding}
-use Rattle.book.specs.Schedule.{StepMachine, IsMachine, Merges, after}
+use Rattle.book.specs.Schedule.{AreOneBy, StepMachine, IsMachine, Merges, after}
 use Rattle.book.specs.Entries.{Entry, Contents, At}
 use Rattle.book.specs.Law.{IsLawfulBook}
 use Rattle.book.specs.Layers.{IsExpandedBelow}
@@ -19,21 +19,21 @@ module _ {X S : Type 0} (m : StepMachine S) (same : S → S → Bool) (right : S
     (machine : IsMachine m) (merges : Merges m same)
     (alike : (a b : S) → m.Fits a → m.Fits b → same a b ≡ true → IsSound right a → IsSound right b)
     (agree : (s : S) (f g : Finding) → right s f → right s g → is_sound f ≡ true → is_sound g ≡ true)
-    (b : Contents X S) (book : IsLawfulBook m same right b) where
+    (b : Contents X S) (book : IsLawfulBook m (AreOneBy same) right b) where
   -- after so many steps every state is sound: then no shortest fault is within them
   sound_no_fault : (n : ℕ) → SoundTo m right n → (F : ℕ) → IsLeastFault m right F → n < F
   sound_no_fault n sound F least =
       let l : n < length least.schedule = fault_longer m right agree n sound least.schedule least.faulty in
       let e : length least.schedule ≡ F = least.long in omega arith
 
-  none_above : (n : ℕ) → IsExpandedBelow m.steps b.entries n → (j : ℕ) → j ≤ n → IsAbove m same b.limit j → ⊥
+  none_above : (n : ℕ) → IsExpandedBelow m.steps b.entries n → (j : ℕ) → j ≤ n → IsAbove m (AreOneBy same) b.limit j → ⊥
   none_above n done j le above =
       not_above m same right machine merges b.entries book.law n b.limit done book.within j le
       (above_more m same b.limit j above)
 
   abbrev pub IsHoldsDue : ℕ → Type 0
-  IsHoldsDue n = ((F : ℕ) → IsLeastFault m right F → n < F) × ((J : ℕ) → IsFirstAbove m same n b.limit J → ⊥)
-      × IsCount m same n (length b.entries)
+  IsHoldsDue n = ((F : ℕ) → IsLeastFault m right F → n < F) × ((J : ℕ) → IsFirstAbove m (AreOneBy same) n b.limit J → ⊥)
+      × IsCount m (AreOneBy same) n (length b.entries)
 
   pub holds_sound : (n : ℕ) → first_fault b.entries ≡ None → IsLastLayer m.steps b.entries n → SoundTo m right n
   holds_sound n none last = sound_by m same right machine merges alike b.entries book.law n none last.0
@@ -72,7 +72,8 @@ module _ {X S : Type 0} (m : StepMachine S) (same : S → S → Bool) (right : S
     }
 
     pub fault_due : (n : ℕ) → IsLastLayer m.steps b.entries (length c)
-        → ((J : ℕ) → IsFirstAbove m same n b.limit J → length c < J) × IsCount m same (length c) (length b.entries)
+        → ((J : ℕ) → IsFirstAbove m (AreOneBy same) n b.limit J → length c < J)
+        × IsCount m (AreOneBy same) (length c) (length b.entries)
     fault_due n last = (
       (λ J above. elim (cases_lt (length c) J) [
         | inl l ↦ l
@@ -95,7 +96,7 @@ module _ {X S : Type 0} (m : StepMachine S) (same : S → S → Bool) (right : S
     pub stopped_sound : SoundTo m right d
     stopped_sound = sound_to m same right machine merges alike b.entries book.law d below_taken sound
 
-    pub stopped_due : (n : ℕ) → d < n → IsFirstAbove m same n b.limit (d + 1)
+    pub stopped_due : (n : ℕ) → d < n → IsFirstAbove m (AreOneBy same) n b.limit (d + 1)
         × ((F : ℕ) → IsLeastFault m right F → d + 1 ≤ F)
     stopped_due n less = (
       record {

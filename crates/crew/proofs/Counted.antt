@@ -3,7 +3,7 @@ use Rattle.std.proofs.Common.{◌≡◌, ℕ, ◌+◌, ◌^◌, ◌<◌, Bool, l
 use Rattle.std.proofs.Math.ListN.{length-map}
 use Rattle.book.specs.declared.finding.Finding.{Finding}
 use Rattle.book.specs.declared.entry.Mark.TheVariants.{Expanded}
-use Rattle.book.specs.Schedule.{StepMachine, IsMachine, Merges}
+use Rattle.book.specs.Schedule.{AreOneBy, StepMachine, IsMachine, Merges}
 use Rattle.book.specs.Entries.{Entry, Contents, Enters, Steps, is_expanded, with_mark, unknown, opened, states}
 use Rattle.book.specs.Law.{IsLawfulBook, IsExpansion}
 use Rattle.book.proofs.EntryLemmas.{length-with_mark}
@@ -36,7 +36,7 @@ module _ {X S : Type 0} (m : StepMachine S) (same : S → S → Bool) (old new :
       omega arith
 
   module _ (right : S → Finding → Type 0) (machine : IsMachine m) (merges : Merges m same)
-      (law : IsLawfulBook m same right old)
+      (law : IsLawfulBook m (AreOneBy same) right old)
       (expansion : IsExpansion m right enters.taken.0.state x.successors) where
     -- the count of known states stays small
     pub small_met : old.met + met < 2 ^ 64

@@ -2,7 +2,7 @@
 use Rattle.std.proofs.Common.{◌≡◌, ◌≢◌, ℕ, zero, suc, ◌+◌, ◌<◌, ◌≤◌, inl, inr, Bool, true, Some, None, List, [], ◌∷◌}
 use Rattle.std.proofs.Common.{length, refl, ap, ◌∙◌, arith, slice_get}
 use Rattle.std.proofs.lemmas.Bool.{cases_eq}
-use Rattle.book.specs.Schedule.{StepMachine, Merges}
+use Rattle.book.specs.Schedule.{AreOneBy, StepMachine, Merges}
 use Rattle.book.specs.Counts.{IsCount, IsMoreThan}
 
 -- the list without its element i
@@ -55,7 +55,7 @@ module _ {S : Type 0} (m : StepMachine S) (same : S → S → Bool) (merges : Me
       omega arith
 
   -- where more than l states are reached, the number of states is more than l
-  pub count_above : (n k l : ℕ) → IsCount m same n k → IsMoreThan m same n l → l < k
+  pub count_above : (n k l : ℕ) → IsCount m (AreOneBy same) n k → IsMoreThan m (AreOneBy same) n l → l < k
   count_above n k l count more =
       let le : length more.states ≤ length count.states =
       crowd more.states count.states more.apart (λ j y at. count.all y (more.reached j y at)) in

@@ -5,7 +5,7 @@ use Rattle.std.proofs.Math.ListN.{length-map}
 use Rattle.std.proofs.lemmas.Bool.{cases_lt}
 use Rattle.book.specs.declared.finding.Finding.{Finding}
 use Rattle.book.specs.declared.entry.Mark.TheVariants.{Open, Taken, Expanded}
-use Rattle.book.specs.Schedule.{StepMachine, IsMachine, Merges}
+use Rattle.book.specs.Schedule.{AreOneBy, StepMachine, IsMachine, Merges}
 use Rattle.book.specs.Entries.{Entry, Successor, Contents, Takes, is_expanded, with_mark, with_successors, unknown}
 use Rattle.book.specs.Entries.{opened, states}
 use Rattle.book.specs.Law.{IsLawfulBook, IsExpansion}
@@ -20,7 +20,7 @@ use Rattle.crew.proofs.Growing.{not_expanded, fresh_entered, shallow_entered}
 
 module _ {X S : Type 0} (m : StepMachine S) (same : S → S → Bool) (right : S → Finding → Type 0)
     (machine : IsMachine m) (merges : Merges m same)
-    (b mid : Contents X S) (law : IsLawfulBook m same right mid) (i : ℕ) (s : S)
+    (b mid : Contents X S) (law : IsLawfulBook m (AreOneBy same) right mid) (i : ℕ) (s : S)
     (takes : Takes m.steps b.entries mid.entries i s)
     (xs : List (Successor S)) (of_state : IsExpansion m right s xs) where
   expansion : IsExpansion m right (taken_is m.steps b.entries mid.entries i s takes).0.state xs

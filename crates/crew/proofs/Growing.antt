@@ -8,7 +8,7 @@ use Rattle.tree_machine.proofs.Lists.{get-append_cases}
 use Rattle.book.specs.declared.finding.Finding.{Finding}
 use Rattle.book.specs.declared.entry.Mark.{Mark}
 use Rattle.book.specs.declared.entry.Mark.TheVariants.{Open, Taken, Expanded}
-use Rattle.book.specs.Schedule.{StepMachine, IsMachine, Merges, IsReachableWithin}
+use Rattle.book.specs.Schedule.{AreOneBy, StepMachine, IsMachine, Merges, IsReachableWithin}
 use Rattle.book.specs.Entries.{Entry, Successor, At, with_mark, with_successors, unknown, opened, states}
 use Rattle.book.specs.Law.{IsLawful, IsExpansion}
 use Rattle.book.specs.Layers.{IsShallow, IsExpandedBelow}
@@ -26,7 +26,7 @@ not_expanded k h e = let q : Taken ≡ Expanded = sym h ∙ e in cc
 
 module _ {S : Type 0} (m : StepMachine S) (same : S → S → Bool) (right : S → Finding → Type 0) (machine : IsMachine m)
     (merges : Merges m same)
-    (es : List (Entry S)) (law : IsLawful m same right es) (i : ℕ) (d : Entry S) (at : At es i d)
+    (es : List (Entry S)) (law : IsLawful m (AreOneBy same) right es) (i : ℕ) (d : Entry S) (at : At es i d)
     (taken : d.mark ≡ Taken)
     (xs : List (Successor S)) (expansion : IsExpansion m right d.state xs) (n : ℕ) (few : m.steps d.state ≤ n) where
   pub no_deeper : IsShallow m.steps es (n + 1)
@@ -105,7 +105,7 @@ module _ {S : Type 0} (m : StepMachine S) (same : S → S → Bool) (right : S �
 
   -- where the book has no room for the steps, more states are reached than it may have entries
   pub more_than : (limit : ℕ) → limit < length es + length (unknown same (states es) xs)
-      → IsMoreThan m same (n + 1) limit
+      → IsMoreThan m (AreOneBy same) (n + 1) limit
   more_than limit full = record {
     states = all_states;
     many = (let a : length all_states ≡ length (states es)
@@ -122,15 +122,15 @@ module _ {S : Type 0} (m : StepMachine S) (same : S → S → Bool) (right : S �
 
 module _ {S : Type 0} (m : StepMachine S) (same : S → S → Bool) (right : S → Finding → Type 0) (machine : IsMachine m)
     (merges : Merges m same)
-    (es : List (Entry S)) (law : IsLawful m same right es) where
+    (es : List (Entry S)) (law : IsLawful m (AreOneBy same) right es) where
   -- a book that is expanded below n has an entry for each state of at most n steps, so these are no more than its
   -- entries
   pub not_above : (n limit : ℕ) → IsExpandedBelow m.steps es n → length es ≤ limit → (j : ℕ) → j ≤ n
-      → IsMoreThan m same j limit → ⊥
+      → IsMoreThan m (AreOneBy same) j limit → ⊥
   not_above n limit done room j le more =
       let few : count_by (λ (e : Entry S). leb (m.steps e.state) j) es ≤ length es =
       count_by-le-length (λ (e : Entry S). leb (m.steps e.state) j) es in
-      let count : IsCount m same j (count_by (λ (e : Entry S). leb (m.steps e.state) j) es) =
+      let count : IsCount m (AreOneBy same) j (count_by (λ (e : Entry S). leb (m.steps e.state) j) es) =
       count_to_is m same right machine merges es law j (λ i e at less. done i e at (omega arith))
       (λ s c leads. steps_after m machine c s leads) in
       let above : limit < count_by (λ (e : Entry S). leb (m.steps e.state) j) es =
@@ -138,7 +138,8 @@ module _ {S : Type 0} (m : StepMachine S) (same : S → S → Bool) (right : S �
       omega arith
 
   -- where no entry has more than n steps, all entries count the states of at most n steps
-  pub count_all : (n : ℕ) → IsExpandedBelow m.steps es n → IsShallow m.steps es n → IsCount m same n (length es)
+  pub count_all : (n : ℕ) → IsExpandedBelow m.steps es n → IsShallow m.steps es n
+      → IsCount m (AreOneBy same) n (length es)
   count_all n done shallow =
       count_is m same right machine merges es law n (length es) done (omega arith)
       (λ i e at _. shallow i e at) (λ i e at _. get_within es i e at) (λ s c leads. steps_after m machine c s leads)

@@ -10,6 +10,7 @@ pub mod Drives
 pub mod NextEntry
 pub mod Counted
 pub mod Layer
+pub mod Agreeing
 pub mod Reports
 pub mod Room
 pub mod Shares

@@ -2,11 +2,12 @@
 use Rattle.std.proofs.Common.{◌≡◌, ℕ, ◌+◌, ◌^◌, ◌<◌, Bool, List, Option, length, sym, ap, ◌∙◌, subst, count_by}
 use Rattle.tree_machine.specs.Rules.{Rules}
 use Rattle.tree_machine.specs.declared.state.State.{State}
-use Rattle.book.specs.Schedule.{IsMachine, Merges}
+use Rattle.book.specs.Schedule.{AreOneBy, IsMachine, Merges}
 use Rattle.book.specs.Entries.{Entry, Contents, Steps, Takes, Enters, IsTaken, IsOwn, is_expanded, states, unknown}
 use Rattle.book.specs.Law.{IsLawfulBook, IsExpansion}
 use Rattle.book.specs.Layers.{IsLeftTo}
-use Rattle.book.specs.Books.{counted_as_one, machine_in, right_in, HoldsSteps, IsLawfulIn}
+use Rattle.book.specs.Books.{counted_as_one, CountsAsOne, machine_in, right_in, HoldsSteps, IsLawfulIn}
+use Rattle.book.proofs.Agreeing.{Agree, book_back}
 use Rattle.book.proofs.Entering.{own_from}
 use Rattle.book.proofs.Growth.{taken_is}
 use Rattle.crew.specs.declared.answer.Share.{Share}
@@ -34,17 +35,21 @@ module _ {X Memory Place Form : Type 0} (rules : X → Rules Memory Place) (plac
   same_in q = counted_as_one place_eq memory_eq form_eq (form_of q.machine) q.merge
 
   module _ (machine : IsMachine (machine_in rules b)) (merges : Merges (machine_in rules b) (same_in b))
-      (is : mid ≡ record b { entries = mid.entries }) (law : IsLawfulIn rules place_eq memory_eq form_eq form_of mid)
+      (is : mid ≡ record b { entries = mid.entries }) (keeps : IsMachine (machine_in rules mid))
+      (counts : Agree (machine_in rules mid) (AreOneBy (same_in mid)) (CountsAsOne (rules mid.machine) mid.merge))
+      (law : IsLawfulIn rules mid)
       (i : ℕ) (s : State X Memory Place Form) (takes : Takes (machine_in rules b).steps b.entries mid.entries i s)
       (x : Steps X (State X Memory Place Form)) (own : x.machine ≡ mid.machine) (program : x.program ≡ b.program)
       (source : x.source ≡ s) (holds : HoldsSteps rules x) where
     right_steps : IsExpansion (machine_in rules b) (right_in rules b) s x.successors
     right_steps = expansion_in rules b x s (own ∙ same_machine b mid is) program source holds
 
-    law_in : IsLawfulBook (machine_in rules b) (same_in b) (right_in rules b) mid
+    law_in : IsLawfulBook (machine_in rules b) (AreOneBy (same_in b)) (right_in rules b) mid
     law_in =
-        subst (λ (q : Contents X (State X Memory Place Form)). IsLawfulBook (machine_in rules q) (same_in q)
-        (right_in rules q) mid) is law
+        subst (λ (q : Contents X (State X Memory Place Form)). IsLawfulBook (machine_in rules q) (AreOneBy (same_in q))
+        (right_in rules q) mid) is
+        (book_back (machine_in rules mid) keeps (AreOneBy (same_in mid)) (CountsAsOne (rules mid.machine) mid.merge)
+        counts (right_in rules mid) mid law)
 
     -- so it is not refused as one that is not taken, or as that of a stranger
     pub there_it_is : IsTaken mid.entries i

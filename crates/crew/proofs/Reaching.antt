@@ -7,7 +7,7 @@ use Rattle.std.proofs.lemmas.List.{length_push}
 use Rattle.std.proofs.lemmas.Option.{option_and_then_some}
 use Rattle.tree_machine.proofs.Lists.{get-append_cases, get-append_left, get-append_right}
 use Rattle.book.specs.declared.finding.Finding.TheVariants.{Astray}
-use Rattle.book.specs.Schedule.{StepMachine, IsMachine, Merges, run, after}
+use Rattle.book.specs.Schedule.{AreOneBy, StepMachine, IsMachine, Merges, run, after}
 use Rattle.book.specs.Entries.{Successor, unknown}
 use Rattle.book.specs.Counts.{IsCount, IsMoreThan}
 use Rattle.book.proofs.Unknown.{unknown_is, unknown_apart, known_or_kept, list_any-true, list_any-false}
@@ -166,7 +166,7 @@ module _ {S : Type 0} (m : StepMachine S) where
       )
 
 module _ {S : Type 0} (m : StepMachine S) (same : S → S → Bool) (machine : IsMachine m) (merges : Merges m same) where
-  count_start : IsCount m same 0 1
+  count_start : IsCount m (AreOneBy same) 0 1
   count_start = record {
     states = m.start ∷ [];
     many = refl;
@@ -189,7 +189,7 @@ module _ {S : Type 0} (m : StepMachine S) (same : S → S → Bool) (machine : I
       at_start [] s le leads = cc
       at_start (t ∷ c) s le leads = absurd (omega arith)
 
-  module _ (n k : ℕ) (count : IsCount m same n k) where
+  module _ (n k : ℕ) (count : IsCount m (AreOneBy same) n k) where
     abbrev known : List S
     known = count.states
 
@@ -220,7 +220,7 @@ module _ {S : Type 0} (m : StepMachine S) (same : S → S → Bool) (machine : I
           )
         ]
 
-    count_more : IsCount m same (n + 1) (length together)
+    count_more : IsCount m (AreOneBy same) (n + 1) (length together)
     count_more = record {
       states = together;
       many = refl;
@@ -256,22 +256,23 @@ module _ {S : Type 0} (m : StepMachine S) (same : S → S → Bool) (machine : I
     }
 
   -- so many steps reach a number of states
-  pub count_exists : (n : ℕ) → (k : ℕ) × IsCount m same n k
+  pub count_exists : (n : ℕ) → (k : ℕ) × IsCount m (AreOneBy same) n k
   count_exists zero = (1, count_start)
   count_exists (suc n) =
       let before = count_exists n in
       let e : n + 1 ≡ suc n = omega arith in (
         length (together n before.0 before.1),
-        subst (λ d. IsCount m same d (length (together n before.0 before.1))) e (count_more n before.0 before.1),
+        subst (λ d. IsCount m (AreOneBy same) d (length (together n before.0 before.1))) e
+            (count_more n before.0 before.1),
       )
 
   -- where more than so many states are reached, their number is above
-  pub more_above : (limit n : ℕ) → IsMoreThan m same n limit → IsAbove m same limit n
+  pub more_above : (limit n : ℕ) → IsMoreThan m (AreOneBy same) n limit → IsAbove m (AreOneBy same) limit n
   more_above limit n more = let c = count_exists n in (c.0, c.1, count_above m same merges n c.0 limit c.1 more)
 
 -- and the other way round
-pub above_more : {S : Type 0} (m : StepMachine S) (same : S → S → Bool) (limit n : ℕ) → IsAbove m same limit n
-    → IsMoreThan m same n limit
+pub above_more : {S : Type 0} (m : StepMachine S) (same : S → S → Bool) (limit n : ℕ)
+    → IsAbove m (AreOneBy same) limit n → IsMoreThan m (AreOneBy same) n limit
 above_more m same limit n above =
     let count = above.1 in
     let many : length count.states ≡ above.0 = count.many in

@@ -4,19 +4,21 @@ use Rattle.std.proofs.Common.{arith, slice_get}
 use Rattle.tree_machine.specs.Rules.{Rules}
 use Rattle.tree_machine.specs.declared.state.State.{State}
 use Rattle.book.specs.declared.finding.Finding.{Finding}
-use Rattle.book.specs.Books.{machine_in, right_in}
+use Rattle.book.specs.Books.{CountsAsOne, IsLawfulIn, machine_in, right_in}
 use Rattle.book.specs.Closed.{IsClosed}
 use Rattle.book.specs.Correct.{HoldsAlways}
 use Rattle.book.specs.Counts.{IsCount}
 use Rattle.book.specs.Entries.{At, Contents, Entry}
 use Rattle.book.specs.Findings.{IsSound, is_sound}
 use Rattle.book.specs.Law.{IsLawfulBook}
-use Rattle.book.specs.Schedule.{IsMachine, Merges, after}
+use Rattle.book.specs.Schedule.{AreOneBy, IsMachine, Merges, after}
+use Rattle.book.proofs.Agreeing.{Agree, book_back, count_as, turned}
 use Rattle.crew.specs.Due.{IsDue, IsFirstAbove}
 use Rattle.crew.specs.Faults.{IsLeastFault, LeadsToFault}
 use Rattle.crew.specs.Headline.{HoldsTo, IsShortestFault}
 use Rattle.crew.specs.Reading.{IsAtRest, IsFullAt, IsLastLayer, IsWorkedOff, first_fault}
 use Rattle.crew.specs.declared.answer.Answer.TheVariants as answer
+use Rattle.crew.proofs.Agreeing.{due_as, first_above_as}
 use Rattle.crew.proofs.Answers.{fault_due, fault_sound, holds_due, holds_sound, leads_to_fault, least_fault}
 use Rattle.crew.proofs.Answers.{stopped_due, stopped_sound}
 use Rattle.crew.proofs.Findings.{findings_agree, sound_correct}
@@ -30,7 +32,13 @@ module _ {Machine Memory Place Form : Type 0} (rules : Machine → Rules Memory 
     (machine : IsMachine (machine_in rules b)) (merges : Merges (machine_in rules b) same)
     (alike : (r s : State Machine Memory Place Form) → (machine_in rules b).Fits r → (machine_in rules b).Fits s
     → same r s ≡ true → IsSound (right_in rules b) r → IsSound (right_in rules b) s)
-    (law : IsLawfulBook (machine_in rules b) same (right_in rules b) b) where
+    (counts : Agree (machine_in rules b) (AreOneBy same) (CountsAsOne (rules b.machine) b.merge))
+    (lawful : IsLawfulIn rules b) where
+  law : IsLawfulBook (machine_in rules b) (AreOneBy same) (right_in rules b) b
+  law =
+      book_back (machine_in rules b) machine (AreOneBy same) (CountsAsOne (rules b.machine) b.merge) counts
+      (right_in rules b) b lawful
+
   agree : (state : State Machine Memory Place Form) (f g : Finding) → right_in rules b state f
       → right_in rules b state g → is_sound f ≡ true → is_sound g ≡ true
   agree = findings_agree (rules b.machine) b.program
@@ -48,10 +56,13 @@ module _ {Machine Memory Place Form : Type 0} (rules : Machine → Rules Memory 
         state short leads)
 
     pub holds_is_due : (IsAtRest (machine_in rules b).steps b.entries b.merge k → ⊥)
-        → IsDue (machine_in rules b) same (right_in rules b) b.merge n b.limit (length b.entries) (answer.Holds n)
+        → IsDue (machine_in rules b) (CountsAsOne (rules b.machine) b.merge) (right_in rules b) b.merge n b.limit
+        (length b.entries) (answer.Holds n)
     holds_is_due moves =
         let due =
-        holds_due (machine_in rules b) same (right_in rules b) machine merges alike agree b law n none last in (
+        holds_due (machine_in rules b) same (right_in rules b) machine merges alike agree b law n none last in
+        due_as (machine_in rules b) machine (AreOneBy same) (CountsAsOne (rules b.machine) b.merge) counts
+        (right_in rules b) b.merge n b.limit (length b.entries) (answer.Holds n) (
           refl,
           due.0,
           due.1,
@@ -69,14 +80,16 @@ module _ {Machine Memory Place Form : Type 0} (rules : Machine → Rules Memory 
       rest : IsAtRest (machine_in rules b).steps b.entries b.merge n
       rest = subst (λ d. IsAtRest (machine_in rules b).steps b.entries b.merge d) is rests
 
-      pub every_is_due : IsDue (machine_in rules b) same (right_in rules b) b.merge n b.limit
-          (length b.entries) answer.Every
+      pub every_is_due : IsDue (machine_in rules b) (CountsAsOne (rules b.machine) b.merge) (right_in rules b) b.merge
+          n b.limit (length b.entries) answer.Every
       every_is_due =
           let due =
           holds_due (machine_in rules b) same (right_in rules b) machine merges alike agree b law n none last in
           let count =
           rest_count (machine_in rules b) same (right_in rules b) machine merges alike b.entries law.law n rest.1
           rest.2 last rest.3 in
+          due_as (machine_in rules b) machine (AreOneBy same) (CountsAsOne (rules b.machine) b.merge) counts
+          (right_in rules b) b.merge n b.limit (length b.entries) answer.Every
           (due.0, due.1, due.2, rest.0, (rest.1, rest.2, count))
 
       pub every_true : HoldsAlways Machine Form (rules b.machine) b.program
@@ -146,8 +159,9 @@ module _ {Machine Memory Place Form : Type 0} (rules : Machine → Rules Memory 
       pub fault_is_due : (n k : ℕ) → k ≡ length c → k ≤ n → IsLastLayer (machine_in rules b).steps b.entries k
           → LeadsToFault (machine_in rules b) (right_in rules b) c f
           × IsLeastFault (machine_in rules b) (right_in rules b) (length c) × (length c ≤ n)
-          × ((J : ℕ) → IsFirstAbove (machine_in rules b) same n b.limit J → length c < J)
-          × IsCount (machine_in rules b) same (length c) (length b.entries)
+          × ((J : ℕ) → IsFirstAbove (machine_in rules b) (CountsAsOne (rules b.machine) b.merge) n b.limit J
+          → length c < J)
+          × IsCount (machine_in rules b) (CountsAsOne (rules b.machine) b.merge) (length c) (length b.entries)
       fault_is_due n k is few layer =
           let last : IsLastLayer (machine_in rules b).steps b.entries (length c) =
           subst (λ d. IsLastLayer (machine_in rules b).steps b.entries d) is layer in
@@ -158,8 +172,12 @@ module _ {Machine Memory Place Form : Type 0} (rules : Machine → Rules Memory 
             least_fault (machine_in rules b) same (right_in rules b) machine merges alike agree b law id first way.0
                 way.1 c way.2 way.3,
             (omega arith),
-            due.0,
-            due.1,
+            (λ J above. due.0 J
+                (first_above_as (machine_in rules b) machine (CountsAsOne (rules b.machine) b.merge) (AreOneBy same)
+                (turned (machine_in rules b) machine (AreOneBy same) (CountsAsOne (rules b.machine) b.merge) counts) n
+                b.limit J above)),
+            count_as (machine_in rules b) machine (AreOneBy same) (CountsAsOne (rules b.machine) b.merge) counts
+                (length c) (length b.entries) due.1,
           )
 
   -- an entry for whose steps there is no room, with the schedule that is recorded of it
@@ -179,8 +197,14 @@ module _ {Machine Memory Place Form : Type 0} (rules : Machine → Rules Memory 
         (stopped_sound (machine_in rules b) same (right_in rules b) machine merges alike agree b law d id full layer
         sound schedule state short leads)
 
-    pub stopped_is_due : (n : ℕ) → d < n → IsFirstAbove (machine_in rules b) same n b.limit (d + 1)
+    pub stopped_is_due : (n : ℕ) → d < n
+        → IsFirstAbove (machine_in rules b) (CountsAsOne (rules b.machine) b.merge) n b.limit (d + 1)
         × ((F : ℕ) → IsLeastFault (machine_in rules b) (right_in rules b) F → d + 1 ≤ F)
     stopped_is_due n less =
+        let due =
         stopped_due (machine_in rules b) same (right_in rules b) machine merges alike agree b law d id full layer sound
-        n less
+        n less in (
+          first_above_as (machine_in rules b) machine (AreOneBy same) (CountsAsOne (rules b.machine) b.merge) counts
+              n b.limit (d + 1) due.0,
+          due.1,
+        )

@@ -1,22 +1,24 @@
 -- A report on a book that its answer was read off.
-use Rattle.std.proofs.Common.{◌≡◌, ◌+◌, Bool, List, Option, length, sym, ap, ◌∙◌, subst, arith, sum_by}
+use Rattle.std.proofs.Common.{◌≡◌, ℕ, ◌+◌, Bool, List, length, sym, ap, ◌∙◌, subst, arith, sum_by}
 use Rattle.sched_program.specs.Program.{Program}
 use Rattle.tree_machine.specs.Rules.{Rules}
 use Rattle.tree_machine.specs.declared.state.State.{State}
 use Rattle.book.specs.declared.book.Totals.{Totals}
-use Rattle.book.specs.Schedule.{Merges}
+use Rattle.book.specs.Schedule.{AreOneBy, IsMachine, Merges}
 use Rattle.book.specs.Entries.{Contents}
 use Rattle.book.specs.Findings.{machine_of, IsFindingOf}
-use Rattle.book.specs.Books.{counted_as_one, machine_in, right_in, totals_of}
+use Rattle.book.specs.Books.{CountsAsOne, machine_in, right_in, totals_of}
+use Rattle.book.proofs.Agreeing.{Agree, turned}
 use Rattle.crew.specs.declared.answer.Answer.{Answer}
 use Rattle.crew.specs.declared.answer.Share.{Share}
 use Rattle.crew.specs.Settings.{Settings}
 use Rattle.crew.specs.Driving.{IsLedgerOf}
-use Rattle.crew.specs.Due.{IsDue}
+use Rattle.crew.specs.Due.{IsDue, IsSameVerdict}
 use Rattle.crew.specs.Headline.{IsTrueOf}
 use Rattle.crew.specs.Ledger.{ledger}
 use Rattle.crew.specs.Reading.{TellsFirst, TellsClosed}
 use Rattle.crew.specs.Reporting.{IsBookOf, IsReport}
+use Rattle.crew.proofs.Agreeing.{due_as}
 use Rattle.crew.proofs.Ends.{given_own, given_merge}
 use Rattle.crew.proofs.Verdicts.{one_verdict}
 
@@ -35,48 +37,72 @@ sums_to book each counts =
     let met : sum_by (λ (s : Share). s.met) each ≡ (totals_of book).met = counts.met in
     cc
 
-module _ {X Memory Place Form : Type 0} (rules : X → Rules Memory Place) (place_eq : Place → Place → Bool)
-    (memory_eq : Memory → Memory → Bool)
-    (form_eq : Form → Form → Bool) (form_of : X → Memory → List (Option Place) → Form)
-    (machine : X) (program : Program) (settings : Settings) where
+module _ {X Memory Place Form : Type 0} (rules : X → Rules Memory Place) (machine : X) (program : Program)
+    (settings : Settings) where
+  -- the answer is due of the book, and so is no other verdict
+  module _ {same : State X Memory Place Form → State X Memory Place Form → Bool}
+      (book : Contents X (State X Memory Place Form)) (answer : Answer) (keeps : IsMachine (machine_in rules book))
+      (merges : Merges (machine_in rules book) same)
+      (counts : Agree (machine_in rules book) (AreOneBy same) (CountsAsOne (rules book.machine) book.merge))
+      (due : IsDue (machine_in rules book) (CountsAsOne (rules book.machine) book.merge) (right_in rules book)
+      book.merge settings.steps book.limit (length book.entries) answer) where
+    only_here : (count : ℕ) (other : Answer)
+        → IsDue (machine_in rules book) (CountsAsOne (rules book.machine) book.merge) (right_in rules book)
+        book.merge settings.steps book.limit count other
+        → IsSameVerdict (length book.entries) answer count other
+    only_here count other also =
+        let by_test = due_as (machine_in rules book) keeps (CountsAsOne (rules book.machine) book.merge) (AreOneBy same)
+        (turned (machine_in rules book) keeps (AreOneBy same) (CountsAsOne (rules book.machine) book.merge) counts)
+        (right_in rules book) book.merge settings.steps book.limit in
+        one_verdict (machine_in rules book) same merges (right_in rules book) book.merge settings.steps book.limit
+        (length book.entries) count answer other (by_test (length book.entries) answer due) (by_test count other also)
+
   -- what was read off the book that was asked for makes a report
-  pub reported : (book read : Contents X (State X Memory Place Form)) (answer : Answer) (told : Totals)
-      (each : List Share)
+  pub reported : {same : State X Memory Place Form → State X Memory Place Form → Bool}
+      (book read : Contents X (State X Memory Place Form)) (answer : Answer) (told : Totals) (each : List Share)
       → IsBookOf machine program settings book
-      → Merges (machine_in rules book) (counted_as_one place_eq memory_eq form_eq (form_of book.machine) book.merge)
-      → IsDue (machine_in rules book) (counted_as_one place_eq memory_eq form_eq (form_of book.machine) book.merge)
-      (right_in rules book) book.merge settings.steps book.limit (length book.entries) answer
+      → IsMachine (machine_in rules book) → Merges (machine_in rules book) same
+      → Agree (machine_in rules book) (AreOneBy same) (CountsAsOne (rules book.machine) book.merge)
+      → IsDue (machine_in rules book) (CountsAsOne (rules book.machine) book.merge) (right_in rules book)
+      book.merge settings.steps book.limit (length book.entries) answer
       → IsTrueOf X Form (rules book.machine) book.program answer
       → TellsFirst (machine_in rules book) book.entries answer
       → TellsClosed book answer
       → read ≡ book → told ≡ totals_of read → length each ≡ settings.workers → IsLedgerOf book (ledger each)
-      → IsReport rules place_eq memory_eq form_eq form_of machine program settings answer told each read
-  reported book read answer told each asked merges due headline first closed same totals workers counts =
-      let eq = λ (x : X). counted_as_one {Machine = X} place_eq memory_eq form_eq (form_of x) in
+      → IsReport rules machine program settings answer told each read
+  reported book read answer told each asked keeps merges counts due headline first closed same totals workers sums =
       let m = machine_of {Machine = X} {Form = Form} (rules machine) program in
       let right = IsFindingOf {Machine = X} {Form = Form} (rules machine) program in
+      let alike = CountsAsOne {Machine = X} {Form = Form} (rules machine) settings.merge in
       let all : told ≡ totals_of book = totals ∙ ap totals_of same in
       let entries : told.entries ≡ length book.entries = ap (λ (t : Totals). t.entries) all in
-      let merges_here : Merges m (eq machine settings.merge) =
-      given_merge (λ x p k. Merges (machine_of {Machine = X} {Form = Form} (rules x) p) (eq x k)) book.machine machine
-      book.program program book.merge settings.merge asked.machine asked.program asked.merge merges in
-      let due_of_book : IsDue m (eq machine settings.merge) right settings.merge settings.steps book.limit
-      (length book.entries) answer =
+      let due_of_book : IsDue m alike right settings.merge settings.steps book.limit (length book.entries) answer =
       given_merge
-      (λ x p k. IsDue (machine_of {Machine = X} {Form = Form} (rules x) p) (eq x k)
-      (IsFindingOf {Machine = X} {Form = Form} (rules x) p) k settings.steps book.limit (length book.entries)
-      answer)
+      (λ x p k. IsDue (machine_of {Machine = X} {Form = Form} (rules x) p)
+      (CountsAsOne {Machine = X} {Form = Form} (rules x) k)
+      (IsFindingOf {Machine = X} {Form = Form} (rules x) p) k settings.steps book.limit (length book.entries) answer)
       book.machine machine book.program program book.merge settings.merge asked.machine asked.program asked.merge due in
-      let due_here : IsDue m (eq machine settings.merge) right settings.merge settings.steps settings.limit told.entries
-      answer =
-      subst (λ k. IsDue m (eq machine settings.merge) right settings.merge settings.steps settings.limit k answer)
-      (sym entries)
-      (subst (λ l. IsDue m (eq machine settings.merge) right settings.merge settings.steps l (length book.entries)
-      answer) asked.limit due_of_book) in
+      let only_of_book : (count : ℕ) (other : Answer)
+      → IsDue m alike right settings.merge settings.steps book.limit count other
+      → IsSameVerdict (length book.entries) answer count other =
+      given_merge
+      (λ x p k. (count : ℕ) (other : Answer)
+      → IsDue (machine_of {Machine = X} {Form = Form} (rules x) p)
+      (CountsAsOne {Machine = X} {Form = Form} (rules x) k)
+      (IsFindingOf {Machine = X} {Form = Form} (rules x) p) k settings.steps book.limit count other
+      → IsSameVerdict (length book.entries) answer count other)
+      book.machine machine book.program program book.merge settings.merge asked.machine asked.program asked.merge
+      (only_here book answer keeps merges counts due) in
       record {
-        due = due_here;
-        only = (λ count other also. one_verdict m (eq machine settings.merge) merges_here right settings.merge
-            settings.steps settings.limit told.entries count answer other due_here also);
+        due = subst (λ k. IsDue m alike right settings.merge settings.steps settings.limit k answer) (sym entries)
+            (subst (λ l. IsDue m alike right settings.merge settings.steps l (length book.entries) answer) asked.limit
+            due_of_book);
+        only = subst (λ k. (count : ℕ) (other : Answer)
+            → IsDue m alike right settings.merge settings.steps settings.limit count other
+            → IsSameVerdict k answer count other) (sym entries)
+            (subst (λ l. (count : ℕ) (other : Answer)
+            → IsDue m alike right settings.merge settings.steps l count other
+            → IsSameVerdict (length book.entries) answer count other) asked.limit only_of_book);
         headline =
             given_own (λ x p. IsTrueOf X Form (rules x) p answer) book.machine machine book.program program
             asked.machine asked.program headline;
@@ -88,6 +114,6 @@ module _ {X Memory Place Form : Type 0} (rules : X → Rules Memory Place) (plac
             (sym same) asked;
         totals = totals;
         shares = workers;
-        sums = sums_to book each counts
+        sums = sums_to book each sums
             ∙ ap (λ (t : Totals). record { expanded = t.expanded; entered = t.entered; met = t.met }) (sym all);
       }

@@ -2,7 +2,7 @@
 use Rattle.std.proofs.Common.{◌≡◌, ℕ, ◌+◌, ◌≤◌, Bool, true, None, List, length, count_by, leb, arith}
 use Rattle.std.proofs.lemmas.Bool.{leb-true}
 use Rattle.book.specs.declared.finding.Finding.{Finding}
-use Rattle.book.specs.Schedule.{StepMachine, IsMachine, Merges}
+use Rattle.book.specs.Schedule.{AreOneBy, StepMachine, IsMachine, Merges}
 use Rattle.book.specs.Entries.{Entry}
 use Rattle.book.specs.Law.{IsLawful}
 use Rattle.book.specs.Layers.{IsExpandedBelow, IsShallow}
@@ -21,7 +21,7 @@ use Rattle.crew.proofs.Verdicts.{one_count}
 module _ {S : Type 0} (m : StepMachine S) (same : S → S → Bool) (right : S → Finding → Type 0)
     (machine : IsMachine m) (merges : Merges m same)
     (alike : (a b : S) → m.Fits a → m.Fits b → same a b ≡ true → IsSound right a → IsSound right b)
-    (es : List (Entry S)) (law : IsLawful m same right es) (n before : ℕ) (next : n ≡ before + 1)
+    (es : List (Entry S)) (law : IsLawful m (AreOneBy same) right es) (n before : ℕ) (next : n ≡ before + 1)
     (last : IsLastLayer m.steps es n) where
   done_before : IsExpandedBelow m.steps es before
   done_before i e at less = last.0 i e at (omega arith)
@@ -31,11 +31,11 @@ module _ {S : Type 0} (m : StepMachine S) (same : S → S → Bool) (right : S �
   rest_worked_out shallow i e at = last.0 i e at (let few : m.steps e.state ≤ before = shallow i e at in omega arith)
 
   -- and n steps reach as many states as one fewer
-  pub rest_count : IsShallow m.steps es before → IsCount m same before (length es)
+  pub rest_count : IsShallow m.steps es before → IsCount m (AreOneBy same) before (length es)
   rest_count shallow = count_all m same right machine merges es law before done_before shallow
 
   -- where n steps reach as many states as one fewer, no entry has n steps
-  pub count_rest : IsCount m same before (length es) → IsShallow m.steps es before
+  pub count_rest : IsCount m (AreOneBy same) before (length es) → IsShallow m.steps es before
   count_rest count i e at =
       let here =
       count_to_is m same right machine merges es law before done_before

@@ -6,7 +6,7 @@ use Rattle.std.specs.Option.{option_map}
 use Rattle.book.specs.declared.finding.Finding.{Finding}
 use Rattle.book.specs.declared.entry.Mark.{Mark}
 use Rattle.book.specs.declared.entry.Mark.TheVariants.{Open, Taken, Expanded}
-use Rattle.book.specs.Schedule.{StepMachine, IsMachine, Merges, after}
+use Rattle.book.specs.Schedule.{AreOneBy, StepMachine, IsMachine, Merges, after}
 use Rattle.book.specs.Entries.{Entry, At}
 use Rattle.book.specs.Law.{IsLawful}
 use Rattle.book.specs.Layers.{IsExpandedBelow}
@@ -56,7 +56,7 @@ found_at es i o first is =
 module _ {S : Type 0} (m : StepMachine S) (same : S → S → Bool) (right : S → Finding → Type 0)
     (machine : IsMachine m) (merges : Merges m same)
     (alike : (a b : S) → m.Fits a → m.Fits b → same a b ≡ true → IsSound right a → IsSound right b)
-    (es : List (Entry S)) (law : IsLawful m same right es) where
+    (es : List (Entry S)) (law : IsLawful m (AreOneBy same) right es) where
   pub sound_to : (n : ℕ) → IsExpandedBelow m.steps es n
       → ((i : ℕ) (e : Entry S) → At es i e → m.steps e.state ≤ n → is_sound e.finding ≡ true) → SoundTo m right n
   sound_to n done sound c s short leads =

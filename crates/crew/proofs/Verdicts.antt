@@ -3,7 +3,7 @@ use Rattle.std.proofs.Common.{◌≡◌, ℕ, ◌+◌, ◌<◌, ◌≤◌, Bool,
 use Rattle.std.proofs.lemmas.Bool.{cases_lt}
 use Rattle.book.specs.declared.finding.Finding.{Finding}
 use Rattle.book.specs.declared.book.Merge.{Merge}
-use Rattle.book.specs.Schedule.{StepMachine, Merges}
+use Rattle.book.specs.Schedule.{AreOneBy, StepMachine, Merges}
 use Rattle.book.specs.Counts.{IsCount}
 use Rattle.crew.specs.declared.answer.Answer.{Answer}
 use Rattle.crew.specs.declared.answer.Answer.TheVariants as answer
@@ -13,7 +13,7 @@ use Rattle.crew.proofs.Crowding.{count_above}
 use Rattle.crew.proofs.Reaching.{above_more}
 
 module _ {S : Type 0} (m : StepMachine S) (same : S → S → Bool) (merges : Merges m same) where
-  no_less : (n k l : ℕ) → IsCount m same n k → IsCount m same n l → k ≤ l
+  no_less : (n k l : ℕ) → IsCount m (AreOneBy same) n k → IsCount m (AreOneBy same) n l → k ≤ l
   no_less n k l count other =
       elim (cases_lt l k) [
         | inl less
@@ -23,7 +23,7 @@ module _ {S : Type 0} (m : StepMachine S) (same : S → S → Bool) (merges : Me
       ]
 
   -- so many steps reach one number of states
-  pub one_count : (n k l : ℕ) → IsCount m same n k → IsCount m same n l → k ≡ l
+  pub one_count : (n k l : ℕ) → IsCount m (AreOneBy same) n k → IsCount m (AreOneBy same) n l → k ≡ l
   one_count n k l count other =
       let a : k ≤ l = no_less n k l count other in
       let b : l ≤ k = no_less n l k other count in omega arith
@@ -36,8 +36,8 @@ module _ {S : Type 0} (m : StepMachine S) (same : S → S → Bool) (merges : Me
         let c : length least.schedule ≡ F = least.long in
         let d : length other.schedule ≡ G = other.long in omega arith
 
-    pub one_verdict : (c d : ℕ) (a b : Answer) → IsDue m same right merge n limit c a
-        → IsDue m same right merge n limit d b → IsSameVerdict c a d b
+    pub one_verdict : (c d : ℕ) (a b : Answer) → IsDue m (AreOneBy same) right merge n limit c a
+        → IsDue m (AreOneBy same) right merge n limit d b → IsSameVerdict c a d b
     one_verdict c d (answer.Stopped at holds_to) (answer.Stopped other other_holds_to) due also = (
       due.0 ∙ sym also.0,
       (let p : holds_to + 1 ≤ other_holds_to + 1 = due.1.first (other_holds_to + 1) also.1.above in
@@ -45,7 +45,7 @@ module _ {S : Type 0} (m : StepMachine S) (same : S → S → Bool) (merges : Me
     )
     one_verdict c d (answer.Fault finding schedule) (answer.Fault other_finding other) due also =
         let e = one_fault (length schedule.items) (length other.items) due.1 also.1 in
-        (e, one_count (length other.items) c d (subst (λ l. IsCount m same l c) e due.4) also.4)
+        (e, one_count (length other.items) c d (subst (λ l. IsCount m (AreOneBy same) l c) e due.4) also.4)
     one_verdict c d (answer.Holds steps) (answer.Holds other) due also =
         (due.0 ∙ sym also.0, one_count n c d due.3 also.3)
     one_verdict c d (answer.Stopped at holds_to) (answer.Fault finding schedule) due also =
@@ -69,10 +69,10 @@ module _ {S : Type 0} (m : StepMachine S) (same : S → S → Bool) (merges : Me
     one_verdict c d answer.Every answer.Every due also = one_count n c d due.2 also.2
     one_verdict c d answer.Every (answer.Holds steps) due also =
         let same_count : c ≡ d = one_count n c d due.2 also.3 in
-        also.4 due.3 due.4.0 due.4.1 (subst (λ k. IsCount m same due.4.0 k) same_count due.4.2)
+        also.4 due.3 due.4.0 due.4.1 (subst (λ k. IsCount m (AreOneBy same) due.4.0 k) same_count due.4.2)
     one_verdict c d (answer.Holds steps) answer.Every due also =
         let same_count : d ≡ c = one_count n d c also.2 due.3 in
-        due.4 also.3 also.4.0 also.4.1 (subst (λ k. IsCount m same also.4.0 k) same_count also.4.2)
+        due.4 also.3 also.4.0 also.4.1 (subst (λ k. IsCount m (AreOneBy same) also.4.0 k) same_count also.4.2)
     one_verdict c d (answer.Stopped at holds_to) answer.Every due also = also.1 (holds_to + 1) due.1
     one_verdict c d answer.Every (answer.Stopped at holds_to) due also = due.1 (holds_to + 1) also.1
     one_verdict c d (answer.Fault finding schedule) answer.Every due also =

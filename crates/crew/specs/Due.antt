@@ -1,5 +1,5 @@
 -- The answer that is due.
-use Rattle.std.specs.Prelude.{◌≡◌, ℕ, ◌+◌, ◌<◌, ◌≤◌, Bool, length}
+use Rattle.std.specs.Prelude.{◌≡◌, ℕ, ◌+◌, ◌<◌, ◌≤◌, length}
 use Rattle.book.specs.declared.finding.Finding.{Finding}
 use Rattle.book.specs.declared.book.Merge.{Merge}
 use Rattle.book.specs.declared.book.Merge.TheVariants.{Names}
@@ -9,10 +9,10 @@ use Rattle.crew.specs.declared.answer.Answer.{Answer}
 use Rattle.crew.specs.declared.answer.Answer.TheVariants as answer
 use Rattle.crew.specs.Faults.{LeadsToFault, IsLeastFault}
 
-module _ {S : Type 0} (m : StepMachine S) (same : S → S → Bool) where
+module _ {S : Type 0} (m : StepMachine S) (Same : S → S → Type 0) where
   -- the number of states that j steps reach is above the limit
   abbrev pub IsAbove : ℕ → ℕ → Type 0
-  IsAbove limit j = (k : ℕ) × IsCount m same j k × (limit < k)
+  IsAbove limit j = (k : ℕ) × IsCount m Same j k × (limit < k)
 
   -- j is the least number of steps, up to n, by which more states are reached than the limit
   pub record IsFirstAbove (n limit j : ℕ) : Type 0 where
@@ -21,31 +21,32 @@ module _ {S : Type 0} (m : StepMachine S) (same : S → S → Bool) where
     pub first : (i : ℕ) → IsAbove limit i → j ≤ i
 
 -- The answer that is due for schedules of at most n steps and a limit of states, with the number of states that it
--- tells of. Let F be the least length of a schedule that leads to a fault, and J the least number of steps, up to n, by
--- which more states are reached than the limit; either may not exist. The first case that fits decides.
-module _ {S : Type 0} (m : StepMachine S) (same : S → S → Bool) (right : S → Finding → Type 0) (merge : Merge)
+-- tells of; those that are the same count as one. Let F be the least length of a schedule that leads to a fault, and J
+-- the least number of steps, up to n, by which more states are reached than the limit; either may not exist. The first
+-- case that fits decides.
+module _ {S : Type 0} (m : StepMachine S) (Same : S → S → Type 0) (right : S → Finding → Type 0) (merge : Merge)
     (n limit : ℕ) where
   abbrev pub IsDue : ℕ → Answer → Type 0
   -- J exists, and F does not or J is at most F: stopped, one step before J
   IsDue count (answer.Stopped at holds_to) =
-      (at ≡ limit) × IsFirstAbove m same n limit (holds_to + 1) × ((F : ℕ) → IsLeastFault m right F → holds_to + 1 ≤ F)
+      (at ≡ limit) × IsFirstAbove m Same n limit (holds_to + 1) × ((F : ℕ) → IsLeastFault m right F → holds_to + 1 ≤ F)
   -- F exists and is at most n: a schedule of F steps that leads to a fault, with the number of states that F steps
   -- reach
   IsDue count (answer.Fault finding schedule) =
       LeadsToFault m right schedule.items finding × IsLeastFault m right (length schedule.items)
       × (length schedule.items ≤ n)
-      × ((J : ℕ) → IsFirstAbove m same n limit J → length schedule.items < J)
-      × IsCount m same (length schedule.items) count
+      × ((J : ℕ) → IsFirstAbove m Same n limit J → length schedule.items < J)
+      × IsCount m Same (length schedule.items) count
   -- else, states being merged by names, n steps reach no more states than one step fewer: every schedule holds
   IsDue count answer.Every =
-      ((F : ℕ) → IsLeastFault m right F → n < F) × ((J : ℕ) → IsFirstAbove m same n limit J → ⊥)
-      × IsCount m same n count
-      × (merge ≡ Names) × ((before : ℕ) × (n ≡ before + 1) × IsCount m same before count)
+      ((F : ℕ) → IsLeastFault m right F → n < F) × ((J : ℕ) → IsFirstAbove m Same n limit J → ⊥)
+      × IsCount m Same n count
+      × (merge ≡ Names) × ((before : ℕ) × (n ≡ before + 1) × IsCount m Same before count)
   -- otherwise: holds, with the number of states that n steps reach
   IsDue count (answer.Holds steps) =
-      (steps ≡ n) × ((F : ℕ) → IsLeastFault m right F → n < F) × ((J : ℕ) → IsFirstAbove m same n limit J → ⊥)
-      × IsCount m same n count
-      × (merge ≡ Names → (before : ℕ) → n ≡ before + 1 → IsCount m same before count → ⊥)
+      (steps ≡ n) × ((F : ℕ) → IsLeastFault m right F → n < F) × ((J : ℕ) → IsFirstAbove m Same n limit J → ⊥)
+      × IsCount m Same n count
+      × (merge ≡ Names → (before : ℕ) → n ≡ before + 1 → IsCount m Same before count → ⊥)
 
 -- The same answer but for the schedule of a fault: the verdict, its numbers, and how many states it tells of.
 abbrev pub IsSameVerdict : ℕ → Answer → ℕ → Answer → Type 0

@@ -1,11 +1,11 @@
 -- What a report says.
-use Rattle.std.specs.Prelude.{◌≡◌, ℕ, Bool, List, Option, length}
+use Rattle.std.specs.Prelude.{◌≡◌, ℕ, List, length}
 use Rattle.sched_program.specs.Program.{Program}
 use Rattle.tree_machine.specs.Rules.{Rules}
 use Rattle.tree_machine.specs.declared.state.State.{State}
 use Rattle.book.specs.declared.book.Totals.{Totals}
 use Rattle.book.specs.Entries.{Contents}
-use Rattle.book.specs.Books.{counted_as_one, totals_of}
+use Rattle.book.specs.Books.{CountsAsOne, totals_of}
 use Rattle.book.specs.Findings.{machine_of, IsFindingOf}
 use Rattle.crew.specs.declared.answer.Answer.{Answer}
 use Rattle.crew.specs.declared.answer.Share.{Share}
@@ -25,17 +25,15 @@ pub record IsBookOf {X S : Type 0} (asked : X) (text : Program) (settings : Sett
 
 -- The answer is the due one and true of all schedules, and no other verdict is due; a fault that is told is the first
 -- of the book; the book is the one that is asked for, its totals are told, and the workers' shares sum to them.
-pub record IsReport {X Memory Place Form : Type 0} (rules : X → Rules Memory Place) (place_eq : Place → Place → Bool)
-    (memory_eq : Memory → Memory → Bool)
-    (form_eq : Form → Form → Bool) (form_of : X → Memory → List (Option Place) → Form)
-    (machine : X) (program : Program) (settings : Settings) (answer : Answer) (told : Totals) (each : List Share)
+pub record IsReport {X Memory Place Form : Type 0} (rules : X → Rules Memory Place) (machine : X) (program : Program)
+    (settings : Settings) (answer : Answer) (told : Totals) (each : List Share)
     (book : Contents X (State X Memory Place Form)) : Type 0 where
   pub due : IsDue (machine_of {Machine = X} {Form = Form} (rules machine) program)
-      (counted_as_one place_eq memory_eq form_eq (form_of machine) settings.merge) (IsFindingOf (rules machine) program)
+      (CountsAsOne (rules machine) settings.merge) (IsFindingOf (rules machine) program)
       settings.merge settings.steps settings.limit told.entries answer
   pub only : (count : ℕ) (other : Answer)
       → IsDue (machine_of {Machine = X} {Form = Form} (rules machine) program)
-      (counted_as_one place_eq memory_eq form_eq (form_of machine) settings.merge) (IsFindingOf (rules machine) program)
+      (CountsAsOne (rules machine) settings.merge) (IsFindingOf (rules machine) program)
       settings.merge settings.steps settings.limit count other
       → IsSameVerdict told.entries answer count other
   pub headline : IsTrueOf X Form (rules machine) program answer

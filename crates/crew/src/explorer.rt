@@ -1,6 +1,6 @@
 //! The exploration by several workers, and anew on one thread where the book that they leave does not tell the answer.
 ghost use Rattle.std.specs.Prelude.{◌≡◌, ℕ, ◌+◌, ◌<◌, IfOk, IfSome, length};
-ghost use Rattle.book.specs.Books.{machine_in, totals_of};
+ghost use Rattle.book.specs.Books.{machine_in, totals_of, CountsAsOne};
 ghost use Rattle.book.specs.Findings.{machine_of, IsFindingOf};
 ghost use Rattle.crew.specs.declared.answer.Answer.{Answer};
 ghost use Rattle.crew.specs.Due.{IsDue, IsSameVerdict};
@@ -19,7 +19,7 @@ use crate::reporting::{let_go, report_of, told_of};
 use crate::settling::{merged, shares_of};
 use crate::tally::{Blanks, Desk, Ledgers, Pieces};
 use crate::working::Exploration;
-use book::{Book, Counting, Totals};
+use book::{Book, Totals};
 use sched_program::{OutOfMemory, Program};
 use std::alloc::Global;
 use std::marker::Brand;
@@ -87,8 +87,7 @@ fn explore_together<J: Ledgers + Send + Sync, M: Machine, G: Gate, R: Threads + 
     requires met { (blanks.met.name ≡ J.met_name) × (blanks.met.parts ≡ J.pieces) }
     requires pieces { J.pieces ≡ options.workers }
     ensures { IfOk result
-        (λ o. IfSome o (λ r. IsReport M.rules M.Loc.PartialEq.eq M.Mem.PartialEq.eq M.Form.PartialEq.eq M.form_of
-        machine program.now options r.answer r.totals r.shares.items r.book)) }
+        (λ o. IfSome o (λ r. IsReport M.rules machine program.now options r.answer r.totals r.shares.items r.book)) }
 {
     let book = opened(alloc, machine, program, options)?;
     let (desk, pieces) = Desk::<J, M>::new(book, blanks);
@@ -133,8 +132,7 @@ fn told_alone<M: Machine>(
     requires asked { IsBookOf machine program.now options book.old }
     requires stands { StandsAt (machine_in M.rules book.old).steps book.old.entries 0 }
     requires ledger { IsLedgerOf book.old (record { expanded = 0; entered = 0; met = 0 }) }
-    ensures { IfOk result (λ t. IsReport M.rules M.Loc.PartialEq.eq M.Mem.PartialEq.eq M.Form.PartialEq.eq M.form_of
-        machine program.now options t.0 t.1 t.2.items book.new) }
+    ensures { IfOk result (λ t. IsReport M.rules machine program.now options t.0 t.1 t.2.items book.new) }
 {
     let mut share = Share::none();
     let cut = drive(alloc, program, book, options.steps(), &mut share)?;
@@ -160,8 +158,7 @@ fn explore_alone<M: Machine>(
     program: &Program,
     options: Options,
 ) -> Result<Report<M>, OutOfMemory>
-    ensures { IfOk result (λ r. IsReport M.rules M.Loc.PartialEq.eq M.Mem.PartialEq.eq M.Form.PartialEq.eq M.form_of
-        machine program.now options r.answer r.totals r.shares.items r.book) }
+    ensures { IfOk result (λ r. IsReport M.rules machine program.now options r.answer r.totals r.shares.items r.book) }
 {
     let mut book = opened(alloc, machine, program, options)?;
     match told_alone(alloc, machine, program, options, &mut book) {
@@ -198,12 +195,12 @@ pub fn explore<M: Machine, G: Gate, R: Threads + Wait + Sync>(
     gate: &G,
 ) -> Result<Report<M>, OutOfMemory>
     ensures due { IfOk result (λ r. IsDue (machine_of {Machine = M} {Form = M.Form} (M.rules machine) program.now)
-        (⟦<M as Counting>⟧.counted machine options.merge)
+        (CountsAsOne (M.rules machine) options.merge)
         (IsFindingOf (M.rules machine) program.now)
         options.merge options.steps options.limit r.totals.entries r.answer) }
     ensures only { IfOk result (λ r. (count : ℕ) (other : Answer)
         → IsDue (machine_of {Machine = M} {Form = M.Form} (M.rules machine) program.now)
-        (⟦<M as Counting>⟧.counted machine options.merge)
+        (CountsAsOne (M.rules machine) options.merge)
         (IsFindingOf (M.rules machine) program.now)
         options.merge options.steps options.limit count other
         → IsSameVerdict r.totals.entries r.answer count other) }

@@ -1,7 +1,7 @@
 //! The due answer, read off the book in hand.
 ghost use Rattle.std.specs.Prelude.{◌≡◌, ℕ, ◌<◌, ◌≤◌, ◌↔◌};
 ghost use Rattle.std.specs.Prelude.{IsTrue, IsSome, IfOk, IfSome, Some, None, length, false, true};
-ghost use Rattle.book.specs.Books.{machine_in, right_in};
+ghost use Rattle.book.specs.Books.{machine_in, right_in, CountsAsOne};
 ghost use Rattle.tree_machine.specs.Step.{Fits};
 ghost use Rattle.tree_machine.specs.declared.state.State.{State};
 ghost use Rattle.book.specs.Entries.{At, Entry};
@@ -84,7 +84,7 @@ fn tell_fault<M: Machine>(
 ) -> Result<Option<Answer>, OutOfMemory>
     requires { first_fault book.now.entries ≡ Some id }
     ensures due { IfOk result (λ o. IfSome o
-        (IsDue (machine_in M.rules book.now) (⟦<M as Counting>⟧.counted book.now.machine book.now.merge)
+        (IsDue (machine_in M.rules book.now) (CountsAsOne (M.rules book.now.machine) book.now.merge)
         (right_in M.rules book.now) book.now.merge steps book.now.limit
         (length book.now.entries))) }
     ensures headline { IfOk result (λ o. IfSome o (IsTrueOf M M.Form (M.rules book.now.machine) book.now.program)) }
@@ -111,7 +111,7 @@ fn read_finished<M: Machine>(
     steps: u16,
 ) -> Result<Option<Answer>, OutOfMemory>
     ensures due { IfOk result (λ o. IfSome o
-        (IsDue (machine_in M.rules book.now) (⟦<M as Counting>⟧.counted book.now.machine book.now.merge)
+        (IsDue (machine_in M.rules book.now) (CountsAsOne (M.rules book.now.machine) book.now.merge)
         (right_in M.rules book.now) book.now.merge steps book.now.limit
         (length book.now.entries))) }
     ensures headline { IfOk result (λ o. IfSome o (IsTrueOf M M.Form (M.rules book.now.machine) book.now.program)) }
@@ -208,7 +208,7 @@ fn read_stopped<M: Machine>(
     requires program { program.now ≡ book.old.program }
     requires limit { book.old.limit ≡ options.limit }
     ensures due { IfOk result (λ o. IfSome o
-        (IsDue (machine_in M.rules book.old) (⟦<M as Counting>⟧.counted book.old.machine book.old.merge)
+        (IsDue (machine_in M.rules book.old) (CountsAsOne (M.rules book.old.machine) book.old.merge)
         (right_in M.rules book.old) book.old.merge options.steps book.old.limit (length book.old.entries))) }
     ensures headline { IfOk result (λ o. IfSome o (IsTrueOf M M.Form (M.rules book.old.machine) book.old.program)) }
     ensures first { IfOk result (λ o. IfSome o (TellsFirst (machine_in M.rules book.old) book.old.entries)) }
@@ -248,7 +248,7 @@ pub(crate) fn read_answer<M: Machine>(
     requires program { program.now ≡ book.old.program }
     requires limit { book.old.limit ≡ options.limit }
     ensures due { IfOk result (λ o. IfSome o
-        (IsDue (machine_in M.rules book.old) (⟦<M as Counting>⟧.counted book.old.machine book.old.merge)
+        (IsDue (machine_in M.rules book.old) (CountsAsOne (M.rules book.old.machine) book.old.merge)
         (right_in M.rules book.old) book.old.merge options.steps book.old.limit (length book.old.entries))) }
     ensures headline { IfOk result (λ o. IfSome o (IsTrueOf M M.Form (M.rules book.old.machine) book.old.program)) }
     ensures first { IfOk result (λ o. IfSome o (TellsFirst (machine_in M.rules book.old) book.old.entries)) }

@@ -38,8 +38,7 @@ pub fn told_of<M: Machine>(
     requires shares { length shares.now ≡ options.workers }
     requires ledger { IsLedgerOf book.old (ledger shares.now) }
     ensures report { IfOk result
-        (λ o. IfSome o (λ t. IsReport M.rules M.Loc.PartialEq.eq M.Mem.PartialEq.eq M.Form.PartialEq.eq M.form_of
-        machine program.now options t.0 t.1 shares.now book.new)) }
+        (λ o. IfSome o (λ t. IsReport M.rules machine program.now options t.0 t.1 shares.now book.new)) }
     ensures finished { IsBookOf machine program.now options book.old → cut ≡ None
         → IsWorkedOff (machine_in M.rules book.old).steps book.old.entries options.steps
         → IfOk result (λ o. IsSome o) }
@@ -74,8 +73,7 @@ pub fn report_of<M: Machine>(
     requires shares { length shares.items ≡ options.workers }
     requires ledger { IsLedgerOf book (ledger shares.items) }
     ensures report { IfOk result
-        (λ o. IfSome o (λ r. IsReport M.rules M.Loc.PartialEq.eq M.Mem.PartialEq.eq M.Form.PartialEq.eq M.form_of
-        machine program.now options r.answer r.totals r.shares.items r.book)) }
+        (λ o. IfSome o (λ r. IsReport M.rules machine program.now options r.answer r.totals r.shares.items r.book)) }
     ensures finished { IsBookOf machine program.now options book → cut ≡ None
         → IsWorkedOff (machine_in M.rules book).steps book.entries options.steps → IfOk result (λ o. IsSome o) }
     ensures stopped { IsBookOf machine program.now options book → IfSome cut (λ id. (d : ℕ) → d < options.steps

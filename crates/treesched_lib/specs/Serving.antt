@@ -1,5 +1,5 @@
 -- What the program answers to a request.
-use Rattle.std.specs.Prelude.{◌≡◌, ◌≢◌, ◌+◌, ◌++◌, ◌↔◌, ◌⊎◌, ℕ, Bool, true, false, List, [], Option, Some, None, IfSome}
+use Rattle.std.specs.Prelude.{◌≡◌, ◌≢◌, ◌+◌, ◌++◌, ◌⊎◌, ℕ, Bool, true, false, List, [], Option, Some, None, IfSome}
 use Rattle.std.specs.Prelude.{IsSome, IsSomeAnd, codes, is_some, length, slice_get, if◌then◌else◌}
 use Rattle.std.specs.Global.{Vec}
 use Rattle.std.specs.String.{string_bytes}
@@ -19,18 +19,17 @@ use Rattle.natmit.specs.declared.machine.NatMit.{NatMit}
 use Rattle.tree_machine.specs.Atomic.{atomic_rules}
 use Rattle.tree_machine.specs.History.{history_of}
 use Rattle.tree_machine.specs.Rules.{Rules}
-use Rattle.tree_machine.specs.Alike.{AreStatesAlike}
-use Rattle.tree_machine.specs.Step.{Fits}
 use Rattle.tree_machine.specs.declared.atomic.Atomic.{Atomic}
 use Rattle.tree_machine.specs.declared.atomic.AtomicForm.{AtomicForm}
 use Rattle.tree_machine.specs.declared.state.State.{State}
+use Rattle.book.specs.Books.{CountsAsOne, totals_of}
+use Rattle.book.specs.Entries.{Contents, Entry}
 use Rattle.book.specs.Findings.{IsFindingOf, is_sound, machine_of}
 use Rattle.book.specs.Replay.{StopsAt}
 use Rattle.book.specs.Schedule.{after}
-use Rattle.book.specs.declared.book.Merge.{Merge}
-use Rattle.book.specs.declared.book.Merge.TheVariants.{Exact, Names}
-use Rattle.book.specs.declared.book.Totals.{Totals}
+use Rattle.book.specs.Law.{IsLawfulBook}
 use Rattle.book.specs.BookFile.Checks.{IsRefusedFor, PassAs}
+use Rattle.book.specs.BookFile.Written.{IsFileOf}
 use Rattle.book.specs.Correct.{HoldsAlways}
 use Rattle.book.specs.declared.file.fault.CheckFault.{CheckFault}
 use Rattle.book.specs.declared.file.fault.CheckFault.TheVariants as check_fault
@@ -39,6 +38,8 @@ use Rattle.book.specs.declared.replayed.ReplayFault.TheVariants as replay_fault
 use Rattle.crew.specs.Due.{IsDue}
 use Rattle.crew.specs.Headline.{IsTrueOf}
 use Rattle.crew.specs.Ledger.{ledger}
+use Rattle.crew.specs.Reading.{TellsClosed, TellsFirst}
+use Rattle.crew.specs.Reporting.{IsBookOf}
 use Rattle.crew.specs.Settings.{Settings}
 use Rattle.crew.specs.declared.answer.Answer.{Answer}
 use Rattle.crew.specs.declared.answer.Answer.TheVariants as answer
@@ -56,43 +57,40 @@ use Rattle.treesched_lib.specs.declared.serving.BookRead.{BookRead}
 use Rattle.treesched_lib.specs.declared.serving.BookRead.TheVariants as book_read
 use Rattle.treesched_lib.specs.declared.serving.Output.{Output}
 
--- the test holds of equal values, and of these alone
-abbrev pub IsEquality : {S : Type 0} → (S → S → Bool) → Type 0
-IsEquality {S} same = (r s : S) → same r s ≡ true ↔ (r ≡ s)
-
 module _ (Machine Form : Type 0) {Memory Place : Type 0} (rules : Rules Memory Place) (program : Program) where
-  -- The test counts states as one: equal ones with exact merging; by names, of states that fit the program, those that
-  -- differ in nothing but the numbers of nodes, of records and of steps.
-  abbrev pub CountsAsOne : Merge → (State Machine Memory Place Form → State Machine Memory Place Form → Bool) → Type 0
-  CountsAsOne Exact same = IsEquality same
-  CountsAsOne Names same = (state twin : State Machine Memory Place Form) → Fits rules program state
-      → Fits rules program twin
-      → same state twin ≡ true ↔ AreStatesAlike rules state twin
+  -- a book file is due where one is asked for and the answer is for every schedule: that of the entries, which passes
+  -- with as many
+  abbrev pub IsBookDue : Bool → Answer → List (Entry (State Machine Memory Place Form)) → Option (Vec ℕ) → Type 0
+  IsBookDue true answer.Every entries file = IsSomeAnd file
+      (λ text. IsFileOf entries text.items × PassAs Machine Form rules program text.items (length entries))
+  IsBookDue asked answer entries file = file ≡ None
 
-  -- a book file is due where one is asked for and the answer is for every schedule: it passes, with an entry for each
-  -- state
-  abbrev pub IsBookDue : Bool → Answer → ℕ → Option (Vec ℕ) → Type 0
-  IsBookDue true answer.Every states book = IsSomeAnd book (λ text. PassAs Machine Form rules program text.items states)
-  IsBookDue asked answer states book = book ≡ None
-
-  -- The output tells an answer of all schedules of the program: the due one, where states count as one by the merge
-  -- that is asked for, and a true one, with the number of states; if it is asked for, also the share of each worker,
-  -- and the total, which is their sum; and it has the book file that is due.
+  -- The output tells an answer of all schedules of the program, which was read off a lawful book of what is asked for:
+  -- the due one, where the book has an entry for each state that counts, and a true one. If it is asked for, the output
+  -- also tells the share of each worker, and the totals of the book, to which they sum; and it has the book's file,
+  -- where one is due.
   pub record IsExplored (settings : Settings) (with_ledger asks_book : Bool) (output : Output) : Type 0 where
-    pub same : State Machine Memory Place Form → State Machine Memory Place Form → Bool
-    pub counts : CountsAsOne settings.merge same
+    pub book : Contents Machine (State Machine Memory Place Form)
+    pub law : IsLawfulBook (machine_of rules program) (CountsAsOne rules settings.merge) (IsFindingOf rules program)
+        book
+    pub asked : IsBookOf book.machine program settings book
     pub answer : Answer
-    pub totals : Totals
-    pub shares : List Share
-    pub due : IsDue (machine_of rules program) same (IsFindingOf rules program) settings.merge settings.steps
-        settings.limit totals.entries answer
+    pub due : IsDue (machine_of {Machine = Machine} {Form = Form} rules program) (CountsAsOne rules settings.merge)
+        (IsFindingOf rules program) settings.merge settings.steps settings.limit (length book.entries) answer
     pub headline : IsTrueOf Machine Form rules program answer
+    pub first : TellsFirst (machine_of rules program) book.entries answer
+    pub closed : TellsClosed book answer
+    pub shares : List Share
     pub workers : length shares ≡ settings.workers
-    pub sums : ledger shares ≡ record { expanded = totals.expanded; entered = totals.entered; met = totals.met }
+    pub sums : ledger shares ≡ record {
+      expanded = (totals_of book).expanded;
+      entered = (totals_of book).entered;
+      met = (totals_of book).met;
+    }
     pub status : output.status ≡ status_of answer
-    pub out : string_bytes output.out ≡ report_text with_ledger answer totals shares
+    pub out : string_bytes output.out ≡ report_text with_ledger answer (totals_of book) shares
     pub err : string_bytes output.err ≡ []
-    pub book : IsBookDue asks_book answer totals.entries output.book
+    pub file : IsBookDue asks_book answer book.entries output.book
 
   -- the output tells the history and the finding of the state that the schedule leads to
   pub record IsReplayed (schedule : List ℕ) (output : Output) : Type 0 where

@@ -8,14 +8,14 @@ ghost use Rattle.book.specs.Closed.{AreSound, IsClosed};
 ghost use Rattle.book.specs.Findings.{is_sound};
 ghost use Rattle.treesched_lib.specs.Devices.{LeavesBehind};
 ghost use Rattle.treesched_lib.specs.Lines as lines;
-ghost use Rattle.treesched_lib.specs.Serving.{CountsAsOne, IsAnswered, IsAnsweredBy, IsAsked, IsBookDue, IsBookRead};
+ghost use Rattle.treesched_lib.specs.Serving.{IsAnswered, IsAnsweredBy, IsAsked, IsBookDue, IsBookRead};
 ghost use Rattle.treesched_lib.specs.Serving.{IsChecked};
 ghost use Rattle.treesched_lib.specs.Serving.{IsExplored, IsReplayed, IsServed, IsServedFrom, IsStuck, IsUnopened};
 
 use crate::lines::{put_operations, put_passed, put_report, put_verdict};
 use crate::refusals::{book_refused, no_step, not_loaded, unreadable};
 use crate::request::Request;
-use book::{Counting, Finding, Merge, Replay, ReplayFault, check_book, replay};
+use book::{Finding, Replay, ReplayFault, check_book, replay};
 use crew::{Answer, Open, Options, Report, explore};
 use ellen::Ellen;
 use natmit::NatMit;
@@ -74,16 +74,6 @@ fn status_of(answer: &Answer) -> u8
     }
 }
 
-/// A book counts states as one as the merge says. It is there for proofs alone, and does nothing.
-fn counts_as_one<M: Machine>(machine: M, program: &Program, merge: Merge)
-    ensures { CountsAsOne M M.Form (M.rules machine) program.now merge
-        (⟦<M as Counting>⟧.counted machine merge) }
-{
-    let _ = machine;
-    let _ = program;
-    let _ = merge;
-}
-
 /// The text of the book, where it is asked for and the answer is for every schedule.
 fn due_book<M: Machine>(
     alloc: Global,
@@ -93,7 +83,7 @@ fn due_book<M: Machine>(
     requires { report.now.answer ≡ Answer.Every → IsClosed report.now.book × AreSound report.now.book.entries }
     ensures { IfOk result
         (IsBookDue M M.Form (M.rules report.now.book.machine) report.now.book.program is_asked report.now.answer
-        (length report.now.book.entries)) }
+        report.now.book.entries) }
 {
     if !is_asked {
         return Ok(None);
@@ -117,7 +107,7 @@ fn report_output<M: Machine>(
         ≡ lines.report_text ledger report.now.answer report.now.totals report.now.shares.items)
         × (string_bytes output.err ≡ [])
         × IsBookDue M M.Form (M.rules report.now.book.machine) report.now.book.program asks_book report.now.answer
-        (length report.now.book.entries) output.book) }
+        report.now.book.entries output.book) }
 {
     let book = due_book(alloc, report, asks_book)?;
     let mut out = String::new(alloc);
@@ -142,8 +132,8 @@ fn explored<M: Machine, R: Threads + Wait + Sync>(
 ) -> Result<Output, OutOfMemory>
     ensures { IfOk result (IsExplored M M.Form (M.rules machine) program.now options ledger asks_book) }
 {
-    counts_as_one::<M>(machine, program, options.merge());
     let report = explore(rt, alloc, machine, program, options, &Open)?;
+    report.book.law();
     let output = report_output(alloc, &report, ledger, asks_book);
     // The program ends with this answer, and its memory with it, so that each state need not be given back first.
     forget(report);

@@ -26,7 +26,7 @@ use Rattle.book.specs.Closed.{AreSound}
 use Rattle.book.specs.Entries.{Entry, At}
 use Rattle.book.specs.Findings.{machine_of, IsFindingOf, is_sound}
 use Rattle.book.specs.Law.{IsLawful}
-use Rattle.book.specs.Schedule.{IsMachine}
+use Rattle.book.specs.Schedule.{AreOneBy, IsMachine}
 use Rattle.book.specs.BookFile.Writing.{FindsOrder, IsLineOf, AreLinesOf}
 use Rattle.book.specs.BookFile.Written.{AreWritable, IsFileOf}
 use Rattle.book.proofs.EntryLemmas.{get_within}
@@ -59,7 +59,7 @@ module _ {Machine Memory Place Form : Type 0} (rules : Rules Memory Place) (prog
   pub writable : (same : State Machine Memory Place Form → State Machine Memory Place Form → _)
       → IsMachine (machine_of {Machine = Machine} {Form = Form} rules program)
       → (es : List (Entry (State Machine Memory Place Form)))
-      → IsLawful (machine_of rules program) same (IsFindingOf rules program) es → length es ≤ 2000000 → AreSound es
+      → IsLawful (machine_of rules program) (AreOneBy same) (IsFindingOf rules program) es → length es ≤ 2000000 → AreSound es
       → AreWritable es
   writable same machine es law few sound i e at some =
       let from = law.origins i e at some in

@@ -1,22 +1,19 @@
 -- The lines that a closed and sound book writes pass.
-use Rattle.std.proofs.Common.{rules, ◌≡◌, ℕ, zero, suc, ◌+◌, ◌≤◌, Bool, true, Option, None, Some, List, [], ◌∷◌, ◌++◌}
+use Rattle.std.proofs.Common.{rules, ◌≡◌, ℕ, zero, suc, ◌+◌, ◌≤◌, Bool, true, None, Some, List, [], ◌∷◌, ◌++◌}
 use Rattle.std.proofs.Common.{length, map, replicate, refl, sym, ap, ◌∙◌, arith, slice_get, subst, append_assoc}
 use Rattle.std.proofs.Common.{append-nil}
 use Rattle.std.specs.List.{AllZip}
 use Rattle.std.proofs.lemmas.Bool.{true≢false}
 use Rattle.std.proofs.lemmas.List.{map-append, length_push}
 use Rattle.std.proofs.lemmas.Option.{same_Some}
-use Rattle.sched_program.specs.Exact.{IsExact}
 use Rattle.sched_program.specs.Program.{Program}
 use Rattle.sched_program.specs.declared.operation.OpId.{OpId}
-use Rattle.tree_machine.specs.Rules.{Rules, AreFormsExact}
-use Rattle.tree_machine.specs.Alike.{AreStatesAlike, state_form}
+use Rattle.tree_machine.specs.Rules.{Rules}
+use Rattle.tree_machine.specs.Alike.{AreStatesAlike}
 use Rattle.tree_machine.specs.History.{all_named, history_of}
 use Rattle.tree_machine.specs.Step.{idle, start, step, Fits}
-use Rattle.tree_machine.specs.StateEq.{state_form_eq}
 use Rattle.tree_machine.specs.declared.state.Thread.{Thread}
 use Rattle.tree_machine.specs.declared.state.State.{State}
-use Rattle.tree_machine.proofs.Forms.{forms_alike}
 use Rattle.lin.specs.Linearization.{IsLinearization}
 use Rattle.tree_machine.proofs.Lists.{get-append_left, get-append_right, get_at}
 use Rattle.book.specs.declared.entry.Origin.{Origin}
@@ -25,10 +22,12 @@ use Rattle.book.specs.declared.finding.Finding.TheVariants as found
 use Rattle.book.specs.Entries.{Entry, Contents, At, states}
 use Rattle.book.specs.Law.{IsLawful}
 use Rattle.book.specs.Findings.{machine_of, IsFindingOf, is_sound, IsSound}
-use Rattle.book.specs.Schedule.{IsMachine, Merges}
+use Rattle.book.specs.Schedule.{AreOneBy, IsMachine, Merges}
 use Rattle.book.proofs.Closed.{worked_out_closed}
 use Rattle.book.specs.Closed.{AreClosed, IsWorkedOut, IsClosed, AreSound}
-use Rattle.book.specs.Books.{counted_as_one, machine_in, right_in, IsLawfulIn}
+use Rattle.book.specs.Books.{CountsAsOne, machine_in, right_in, IsLawfulIn}
+use Rattle.book.specs.declared.book.Merge.{Merge}
+use Rattle.book.proofs.Agreeing.{Agree, book_back}
 use Rattle.book.proofs.Unknown.{states-at}
 use Rattle.book.specs.declared.file.line.Line.{Line}
 use Rattle.book.specs.BookFile.Replays.{IsWell, IsShown, Tells, Continues}
@@ -94,7 +93,7 @@ module _ {Machine Memory Place Form : Type 0} (rules : Rules Memory Place) (prog
       (alike : (r s : State Machine Memory Place Form) → Fits rules program r → Fits rules program s → same r s ≡ true
       → AreStatesAlike rules r s)
       (es : List (Entry (State Machine Memory Place Form)))
-      (law : IsLawful (machine_of rules program) same (IsFindingOf rules program) es) where
+      (law : IsLawful (machine_of rules program) (AreOneBy same) (IsFindingOf rules program) es) where
     -- the line of the entry after some tells its state
     line_tells : (front rest : List (Entry (State Machine Memory Place Form)))
         (e : Entry (State Machine Memory Place Form)) (line : Line) → es ≡ front ++ e ∷ rest → 1 ≤ length front
@@ -192,28 +191,20 @@ module _ {Machine Memory Place Form : Type 0} (rules : Rules Memory Place) (prog
             )
 
 -- the lines of a closed and sound book of a machine and a program pass
-pub written_pass : {Machine Memory Place Form : Type 0} (place_eq : Place → Place → Bool)
-    (memory_eq : Memory → Memory → Bool) (form_eq : Form → Form → Bool)
-    (form_of : Machine → Memory → List (Option Place) → Form) (rules : Machine → Rules Memory Place)
-    (book : Contents Machine (State Machine Memory Place Form))
-    → AreFormsExact (rules book.machine) (form_of book.machine) → IsExact (state_form_eq form_eq)
-    → IsLawfulIn rules place_eq memory_eq form_eq form_of book → IsMachine (machine_in rules book)
-    → Merges (machine_in rules book) (counted_as_one place_eq memory_eq form_eq (form_of book.machine) book.merge)
+pub written_pass : {Machine Memory Place Form : Type 0}
+    {same : State Machine Memory Place Form → State Machine Memory Place Form → Bool}
+    (rules : Machine → Rules Memory Place) (book : Contents Machine (State Machine Memory Place Form))
+    → IsLawfulIn rules book → IsMachine (machine_in rules book) → Merges (machine_in rules book) same
+    → Agree (machine_in rules book) (AreOneBy same) (CountsAsOne (rules book.machine) book.merge)
     → ((r s : State Machine Memory Place Form) → Fits (rules book.machine) book.program r
-    → Fits (rules book.machine) book.program s
-    → counted_as_one place_eq memory_eq form_eq (form_of book.machine) book.merge r s ≡ true
+    → Fits (rules book.machine) book.program s → same r s ≡ true
     → IsSound (right_in rules book) r → IsSound (right_in rules book) s)
     → IsClosed book → AreSound book.entries → (lines : List Line) → AreLinesOf book.entries lines
     → Pass Machine Form (rules book.machine) book.program lines
-written_pass {Machine} {Memory} {Place} {Form} place_eq memory_eq form_eq form_of rules book forms exact law machine
-    merges sound_alike closed sound lines of_book =
-    let form = state_form {Machine = Machine} {Place = Place} (form_of book.machine) in
-    lines_pass (rules book.machine) book.program
-    (counted_as_one place_eq memory_eq form_eq (form_of book.machine) book.merge) machine merges sound_alike
-    (λ r s r_fits s_fits same.
-    let named : state_form_eq form_eq (form r) (form s) ≡ true =
-    sym (ap (λ merge. counted_as_one place_eq memory_eq form_eq (form_of book.machine) merge r s) closed.0)
-    ∙ same in
-    (forms_alike (rules book.machine) (form_of book.machine) forms book.program book.program r s r_fits s_fits).0
-    (exact (form r) (form s) named))
-    book.entries law.law lines of_book closed.1 sound
+written_pass {Machine} {Memory} {Place} {Form} {same} rules book law machine merges counts sound_alike closed sound
+    lines of_book =
+    let tested = book_back (machine_in rules book) machine (AreOneBy same) _ counts (right_in rules book) book law in
+    lines_pass (rules book.machine) book.program same machine merges sound_alike
+    (λ r s r_fits s_fits one.
+    subst (λ (merge : Merge). CountsAsOne (rules book.machine) merge r s) closed.0 ((counts r s r_fits s_fits).0 one))
+    book.entries tested.law lines of_book closed.1 sound

@@ -5,7 +5,7 @@ ghost use Rattle.std.specs.Option.{option_copied, option_map};
 ghost use Rattle.tree_machine.specs.declared.state.State.{State};
 ghost use Rattle.book.specs.Entries.{Entry, At};
 ghost use Rattle.book.specs.Findings.{is_sound};
-ghost use Rattle.book.specs.Books.{machine_in, right_in, totals_of};
+ghost use Rattle.book.specs.Books.{machine_in, right_in, totals_of, CountsAsOne};
 ghost use Rattle.book.specs.Counts.{IsCount};
 ghost use Rattle.book.specs.Layers.{IsExpandedTo, IsExpandedBelow, IsLeftTo};
 ghost use Rattle.book.specs.BookFile.Checks.{PassAs};
@@ -15,7 +15,6 @@ ghost use Rattle.book.specs.Schedule.{after};
 ghost use Rattle.book.specs.Ways.{IsWay};
 
 use crate::book::{Book, Merge, Totals};
-use crate::counting::Counting;
 use crate::file::write_entries;
 use crate::finding::Finding;
 use sched_program::{OutOfMemory, Program};
@@ -69,13 +68,13 @@ impl<M: Machine> Book<M> {
     }
 
     /// How many entries have at most so many steps. Once all of fewer steps are expanded, so many states are reached by
-    /// so many steps.
+    /// so many steps: different ones with exact merging, and by names ones of which no two are alike.
     pub fn count_to(&self, steps: u64) -> usize
         ensures value { result ≡ count_by (λ e. nat_le e.state.steps steps) self.now.entries }
         ensures within { result ≤ length self.now.entries }
         ensures count { IsExpandedBelow (machine_in M.rules self.now).steps self.now.entries steps
             → IsCount (machine_in M.rules self.now)
-            (⟦<M as Counting>⟧.counted self.now.machine self.now.merge) steps result }
+            (CountsAsOne (M.rules self.now.machine) self.now.merge) steps result }
     {
         self.law();
         self.first_above(steps)

@@ -1,6 +1,8 @@
 use Rattle.std.proofs.Common.{◌≡◌, ◌+◌, ◌^◌, ◌<◌, ◌∙◌, length, arith}
 use Rattle.book.specs.Entries.{IsTaken, IsOwn, states, unknown}
 use Rattle.book.specs.Books.{counted_as_one, machine_in, right_in}
+use Rattle.book.specs.Schedule.{AreOneBy}
+use Rattle.book.proofs.Agreeing.{book_back}
 use Rattle.book.proofs.Growth.{one_is_next}
 use Rattle.crew.proofs.NextEntry.{there_it_is, its_own, ledger_of_refused, cut_of_full, one_more, in_layer}
 use Rattle.crew.proofs.NextEntry.{met_is_small, ledger_of_entered}
@@ -10,10 +12,12 @@ pub unreachable-requires : goal.unreachable-requires
 unreachable-requires g c =
     let b = c.args.book.now in
     let same =
-    counted_as_one g.M.Loc.PartialEq.eq g.M.Mem.PartialEq.eq g.M.Form.PartialEq.eq (g.M.Machine.form_of b.machine)
-    b.merge in
+    counted_as_one {Machine = g.row.M.Denot} {Form = g.row.M-Form.Denot} g.M.Loc.PartialEq.eq g.M.Mem.PartialEq.eq
+    g.M.Form.PartialEq.eq (g.M.Machine.form_of b.machine) b.merge in
     let law = c.law.ensures in
-    one_is_next (machine_in g.M.Machine.rules b) same (right_in g.M.Machine.rules b) law.machine b.entries law.law.law
+    let tested = book_back (machine_in g.M.Machine.rules b) law.machine (AreOneBy same) _ law.counts
+    (right_in g.M.Machine.rules b) b law.law in
+    one_is_next (machine_in g.M.Machine.rules b) same (right_in g.M.Machine.rules b) law.machine b.entries tested.law
     c.requires.in_layer.none_taken c.args.depth c.requires.left
     (rw c.in_default.is at c.in_ok-id.ensures.none)
 
@@ -22,7 +26,8 @@ add-requires-clause-met g c =
     let small : c.args.book.now.met + c.in-Ok.counts.met < 2 ^ 64 =
     met_is_small g.M.Machine.rules g.M.Loc.PartialEq.eq g.M.Mem.PartialEq.eq g.M.Form.PartialEq.eq g.M.Machine.form_of
     c.args.book.now c.take.new.self
-    c.law.ensures.machine c.law.ensures.merges c.in_ok-id.ensures.same c.law-2.ensures.law c.in-Some.id
+    c.law.ensures.machine c.law.ensures.merges c.in_ok-id.ensures.same c.law-2.ensures.machine
+    c.law-2.ensures.counts c.law-2.ensures.law c.in-Some.id
     c.in-Some.state.value (rw c.in-Some.is at c.in_ok-id.ensures.taken)
     c.in_ok-expansion.expansion (c.in_ok-expansion.ensures.machine ∙ c.machine.ensures)
     (c.in_ok-expansion.ensures.program ∙ c.requires.program)
@@ -36,7 +41,8 @@ pub returns-in-Ok-clause-ledger : goal.returns-in-Ok-clause-ledger
 returns-in-Ok-clause-ledger g c =
     ledger_of_entered g.M.Machine.rules g.M.Loc.PartialEq.eq g.M.Mem.PartialEq.eq g.M.Form.PartialEq.eq
     g.M.Machine.form_of c.args.book.now c.take.new.self
-    c.law.ensures.machine c.law.ensures.merges c.in_ok-id.ensures.same c.law-2.ensures.law c.in-Some.id
+    c.law.ensures.machine c.law.ensures.merges c.in_ok-id.ensures.same c.law-2.ensures.machine
+    c.law-2.ensures.counts c.law-2.ensures.law c.in-Some.id
     c.in-Some.state.value (rw c.in-Some.is at c.in_ok-id.ensures.taken)
     c.in_ok-expansion.expansion (c.in_ok-expansion.ensures.machine ∙ c.machine.ensures)
     (c.in_ok-expansion.ensures.program ∙ c.requires.program)
@@ -49,7 +55,8 @@ pub returns-in-Ok-clause-next : goal.returns-in-Ok-clause-next
 returns-in-Ok-clause-next g c =
     in_layer g.M.Machine.rules g.M.Loc.PartialEq.eq g.M.Mem.PartialEq.eq g.M.Form.PartialEq.eq g.M.Machine.form_of
     c.args.book.now c.take.new.self
-    c.law.ensures.machine c.law.ensures.merges c.in_ok-id.ensures.same c.law-2.ensures.law c.in-Some.id
+    c.law.ensures.machine c.law.ensures.merges c.in_ok-id.ensures.same c.law-2.ensures.machine
+    c.law-2.ensures.counts c.law-2.ensures.law c.in-Some.id
     c.in-Some.state.value (rw c.in-Some.is at c.in_ok-id.ensures.taken)
     c.in_ok-expansion.expansion (c.in_ok-expansion.ensures.machine ∙ c.machine.ensures)
     (c.in_ok-expansion.ensures.program ∙ c.requires.program)
@@ -61,7 +68,8 @@ pub returns-in-Ok-clause-more : goal.returns-in-Ok-clause-more
 returns-in-Ok-clause-more g c =
     one_more g.M.Machine.rules g.M.Loc.PartialEq.eq g.M.Mem.PartialEq.eq g.M.Form.PartialEq.eq g.M.Machine.form_of
     c.args.book.now c.take.new.self
-    c.law.ensures.machine c.law.ensures.merges c.in_ok-id.ensures.same c.law-2.ensures.law c.in-Some.id
+    c.law.ensures.machine c.law.ensures.merges c.in_ok-id.ensures.same c.law-2.ensures.machine
+    c.law-2.ensures.counts c.law-2.ensures.law c.in-Some.id
     c.in-Some.state.value (rw c.in-Some.is at c.in_ok-id.ensures.taken)
     c.in_ok-expansion.expansion (c.in_ok-expansion.ensures.machine ∙ c.machine.ensures)
     (c.in_ok-expansion.ensures.program ∙ c.requires.program)
@@ -73,7 +81,8 @@ pub returns-in-Err-Full-clause-ledger : goal.returns-in-Err-Full-clause-ledger
 returns-in-Err-Full-clause-ledger g c =
     ledger_of_refused g.M.Machine.rules g.M.Loc.PartialEq.eq g.M.Mem.PartialEq.eq g.M.Form.PartialEq.eq
     g.M.Machine.form_of c.args.book.now c.take.new.self
-    c.law.ensures.machine c.law.ensures.merges c.in_ok-id.ensures.same c.law-2.ensures.law c.in-Some.id
+    c.law.ensures.machine c.law.ensures.merges c.in_ok-id.ensures.same c.law-2.ensures.machine
+    c.law-2.ensures.counts c.law-2.ensures.law c.in-Some.id
     c.in-Some.state.value (rw c.in-Some.is at c.in_ok-id.ensures.taken)
     c.in_ok-expansion.expansion (c.in_ok-expansion.ensures.machine ∙ c.machine.ensures)
     (c.in_ok-expansion.ensures.program ∙ c.requires.program)
@@ -93,7 +102,8 @@ returns-in-Err-Full-clause-cut g c =
     rw c.in-Err-Full.field-0-is at c.in-Err-Full.ensures.refused in
     cut_of_full g.M.Machine.rules g.M.Loc.PartialEq.eq g.M.Mem.PartialEq.eq g.M.Form.PartialEq.eq g.M.Machine.form_of
     c.args.book.now c.take.new.self
-    c.law.ensures.machine c.law.ensures.merges c.in_ok-id.ensures.same c.law-2.ensures.law c.in-Some.id
+    c.law.ensures.machine c.law.ensures.merges c.in_ok-id.ensures.same c.law-2.ensures.machine
+    c.law-2.ensures.counts c.law-2.ensures.law c.in-Some.id
     c.in-Some.state.value (rw c.in-Some.is at c.in_ok-id.ensures.taken)
     c.in_ok-expansion.expansion (c.in_ok-expansion.ensures.machine ∙ c.machine.ensures)
     (c.in_ok-expansion.ensures.program ∙ c.requires.program)
@@ -108,7 +118,8 @@ unreachable-requires-in-Err-NotTaken g c =
     refused
     (there_it_is g.M.Machine.rules g.M.Loc.PartialEq.eq g.M.Mem.PartialEq.eq g.M.Form.PartialEq.eq g.M.Machine.form_of
     c.args.book.now c.take.new.self
-    c.law.ensures.machine c.law.ensures.merges c.in_ok-id.ensures.same c.law-2.ensures.law c.in-Some.id
+    c.law.ensures.machine c.law.ensures.merges c.in_ok-id.ensures.same c.law-2.ensures.machine
+    c.law-2.ensures.counts c.law-2.ensures.law c.in-Some.id
     c.in-Some.state.value (rw c.in-Some.is at c.in_ok-id.ensures.taken)
     c.in_ok-expansion.expansion (c.in_ok-expansion.ensures.machine ∙ c.machine.ensures)
     (c.in_ok-expansion.ensures.program ∙ c.requires.program)
@@ -124,7 +135,8 @@ unreachable-requires-in-Err-Stranger g c =
     refused.1
     (its_own g.M.Machine.rules g.M.Loc.PartialEq.eq g.M.Mem.PartialEq.eq g.M.Form.PartialEq.eq g.M.Machine.form_of
     c.args.book.now c.take.new.self
-    c.law.ensures.machine c.law.ensures.merges c.in_ok-id.ensures.same c.law-2.ensures.law c.in-Some.id
+    c.law.ensures.machine c.law.ensures.merges c.in_ok-id.ensures.same c.law-2.ensures.machine
+    c.law-2.ensures.counts c.law-2.ensures.law c.in-Some.id
     c.in-Some.state.value (rw c.in-Some.is at c.in_ok-id.ensures.taken)
     c.in_ok-expansion.expansion (c.in_ok-expansion.ensures.machine ∙ c.machine.ensures)
     (c.in_ok-expansion.ensures.program ∙ c.requires.program)

@@ -2,6 +2,8 @@ use Rattle.std.proofs.Common.{◌≡◌, ◌+◌, ◌<◌, ◌≤◌, ◌∙◌,
 use Rattle.tree_machine.specs.declared.state.State.{State}
 use Rattle.book.specs.Entries.{Entry, IsTaken, IsOwn, states, unknown}
 use Rattle.book.specs.Books.{counted_as_one, machine_in, right_in}
+use Rattle.book.specs.Schedule.{AreOneBy}
+use Rattle.book.proofs.Agreeing.{book_back}
 use Rattle.book.proofs.Growth.{few_steps}
 use Rattle.book.proofs.Entering.{own_from}
 use Rattle.crew.proofs.Expansions.{expansion_in, same_unknown}
@@ -18,8 +20,10 @@ of-requires-clause-room g c κs within =
     let same =
     counted_as_one {Machine = g.row.M.Denot} {Form = g.row.M-Form.Denot} g.M.Loc.PartialEq.eq g.M.Mem.PartialEq.eq
     g.M.Form.PartialEq.eq (g.M.Machine.form_of b.machine) b.merge in
+    let tested = book_back (machine_in g.M.Machine.rules b) law.machine (AreOneBy same) _ law.counts
+    (right_in g.M.Machine.rules b) b law.law in
     let few : own.0.state.steps < b.limit =
-    few_steps (machine_in g.M.Machine.rules b) same (right_in g.M.Machine.rules b) law.machine b.entries law.law.law
+    few_steps (machine_in g.M.Machine.rules b) same (right_in g.M.Machine.rules b) law.machine b.entries tested.law
     c.args.id b.limit own.0 own.1 law.law.within in
     let limit : b.limit ≤ 2000000 = law.law.limit in
     omega arith

@@ -1,7 +1,7 @@
 use Rattle.std.proofs.Common.{◌≡◌, length}
 use Rattle.tree_machine.specs.declared.state.State.{State}
 use Rattle.book.specs.Entries.{Contents}
-use Rattle.book.specs.Books.{counted_as_one, machine_in, right_in}
+use Rattle.book.specs.Books.{CountsAsOne, machine_in, right_in}
 use Rattle.crew.specs.Due.{IsDue}
 use Rattle.crew.specs.Headline.{IsTrueOf}
 use Rattle.crew.specs.Reading.{TellsFirst, TellsClosed}
@@ -14,13 +14,9 @@ returns-in-Some-clause-report g c =
     let read : Contents g.row.M.Denot (State g.row.M.Denot g.row.M-Mem.Denot g.row.M-Loc.Denot g.row.M-Form.Denot) =
     c.read_answer.new.book in
     let rules = g.M.Machine.rules in
-    let place_eq = g.M.Loc.PartialEq.eq in
-    let memory_eq = g.M.Mem.PartialEq.eq in
-    let form_eq = g.M.Form.PartialEq.eq in
-    let form_of = g.M.Machine.form_of in
+    let law = c.law.ensures in
     let due : IsDue (machine_in rules b)
-    (counted_as_one {Machine = g.row.M.Denot} {Form = g.row.M-Form.Denot} place_eq memory_eq form_eq
-    (form_of b.machine) b.merge) (right_in rules b) b.merge c.args.options.steps b.limit
+    (CountsAsOne {Machine = g.row.M.Denot} {Form = g.row.M-Form.Denot} (rules b.machine) b.merge) (right_in rules b) b.merge c.args.options.steps b.limit
     (length b.entries) c.in-Some.answer =
     rw c.in-Some.is at c.in_ok-answer.ensures.due in
     let headline : IsTrueOf g.row.M.Denot g.row.M-Form.Denot (rules b.machine) b.program c.in-Some.answer =
@@ -29,9 +25,9 @@ returns-in-Some-clause-report g c =
     rw c.in-Some.is at c.in_ok-answer.ensures.first in
     let closed : TellsClosed b c.in-Some.answer = rw c.in-Some.is at c.in_ok-answer.ensures.closed in
     let same : read ≡ b = rw c.in-Some.is at c.in_ok-answer.ensures.same in
-    reported rules place_eq memory_eq form_eq form_of c.args.machine c.args.program.now c.args.options b read
-    c.in-Some.answer c.totals.result c.args.shares.now
-    (c.is_asked.ensures.0 c.if-not-is_asked.false) c.law.ensures.merges due headline first closed same
+    reported rules c.args.machine c.args.program.now c.args.options b read c.in-Some.answer c.totals.result
+    c.args.shares.now (c.is_asked.ensures.0 c.if-not-is_asked.false) law.machine law.merges law.counts due headline
+    first closed same
     c.totals.ensures.totals c.requires.shares c.requires.ledger
 
 pub returns-in-None-clause-stopped : goal.returns-in-None-clause-stopped

@@ -1,38 +1,51 @@
-use Rattle.std.proofs.Common.{subst, sym}
+use Rattle.std.proofs.Common.{◌∙◌, ap, refl, subst, sym}
 use Rattle.std.proofs.lemmas.Result.{IfOk-weaker}
-use Rattle.book.specs.Books.{counted_as_one}
-use Rattle.book.specs.Findings.{machine_of}
-use Rattle.book.specs.declared.book.Merge.{Merge}
-use Rattle.treesched_lib.specs.Serving.{CountsAsOne}
+use Rattle.book.specs.Books.{CountsAsOne}
+use Rattle.book.specs.Findings.{machine_of, IsFindingOf}
+use Rattle.book.specs.Law.{IsLawfulBook}
+use Rattle.book.specs.declared.book.Totals.{Totals}
+use Rattle.crew.specs.Due.{IsDue}
+use Rattle.crew.proofs.Ends.{given_merge}
+use Rattle.treesched_lib.specs.Lines.{report_text}
 use Rattle.treesched_lib.proofs.Given.{closed}
 use Rattle.treesched_lib.proofs.serving.explored.Goals as goal
 
 pub returns : goal.returns
 returns g c =
     let report = c.in_ok-report.report in
-    let counts =
-    subst (λ (merge : Merge). CountsAsOne g.row.M.Denot g.row.M-Form.Denot (g.M.Machine.rules c.args.machine)
-    c.args.program.now merge
-    (counted_as_one g.M.Loc.PartialEq.eq g.M.Mem.PartialEq.eq g.M.Form.PartialEq.eq
-    (g.M.Machine.form_of c.args.machine) merge))
-    c.merge.ensures c.counts_as_one.ensures in
+    let kept = c.in_ok-report.ensures in
+    let asked = c.args.options in
+    let program = c.args.program.now in
+    let rules = g.M.Machine.rules in
+    let law =
+    given_merge
+    (λ x p k. IsLawfulBook (machine_of {Machine = g.row.M.Denot} {Form = g.row.M-Form.Denot} (rules x) p)
+    (CountsAsOne (rules x) k) (IsFindingOf (rules x) p) report.book)
+    report.book.machine c.args.machine report.book.program program report.book.merge asked.merge kept.machine
+    kept.program kept.merge c.law.ensures.law in
     IfOk-weaker c.report_output-output.result _ _
     (λ output told. record {
-      same = counted_as_one g.M.Loc.PartialEq.eq g.M.Mem.PartialEq.eq g.M.Form.PartialEq.eq
-          (g.M.Machine.form_of c.args.machine) c.args.options.merge;
-      counts = counts;
+      book = report.book;
+      law = law;
+      asked = record { machine = refl; program = kept.program; limit = kept.limit; merge = kept.merge };
       answer = report.answer;
-      totals = report.totals;
+      due = subst
+          (λ (t : Totals). IsDue
+          (machine_of {Machine = g.row.M.Denot} {Form = g.row.M-Form.Denot} (rules c.args.machine) program)
+          (CountsAsOne (rules c.args.machine) asked.merge) (IsFindingOf (rules c.args.machine) program) asked.merge
+          asked.steps asked.limit t.entries report.answer) kept.totals kept.due;
+      headline = kept.headline;
+      first = kept.first;
+      closed = kept.closed;
       shares = report.shares.items;
-      due = c.in_ok-report.ensures.due;
-      headline = c.in_ok-report.ensures.headline;
-      workers = c.in_ok-report.ensures.shares;
-      sums = c.in_ok-report.ensures.ledger;
+      workers = kept.shares;
+      sums = kept.ledger
+          ∙ ap (λ (t : Totals). record { expanded = t.expanded; entered = t.entered; met = t.met }) kept.totals;
       status = told.0;
-      out = told.1;
+      out = told.1
+          ∙ ap (λ (t : Totals). report_text c.args.ledger report.answer t report.shares.items) kept.totals;
       err = told.2;
-      book = rw (sym c.in_ok-report.ensures.machine, sym c.in_ok-report.ensures.program, c.in_ok-report.ensures.totals)
-          told.3;
+      file = rw (sym kept.machine, sym kept.program) told.3;
     })
     c.report_output-output.ensures
 

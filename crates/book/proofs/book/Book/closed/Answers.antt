@@ -3,6 +3,8 @@ use Rattle.std.specs.Prelude.{◌↔◌, IsTrue}
 use Rattle.std.proofs.lemmas.Bool.{true≢false}
 use Rattle.book.specs.declared.book.Merge.TheVariants.{Names}
 use Rattle.book.specs.Books.{machine_in, right_in, counted_as_one}
+use Rattle.book.specs.Schedule.{AreOneBy}
+use Rattle.book.proofs.Agreeing.{book_back}
 use Rattle.book.proofs.Closed.{worked_out, left_out, closed_holds}
 use Rattle.book.proofs.book.Book.closed.Goals as goal
 
@@ -33,8 +35,9 @@ returns-in-None-clause-every g c =
     counted_as_one {Machine = g.row.M.Denot} {Form = g.row.M-Form.Denot} g.M.Loc.PartialEq.eq g.M.Mem.PartialEq.eq
     g.M.Form.PartialEq.eq (g.M.Machine.form_of b.machine) b.merge in
     let law = c.law.ensures in
+    let tested = book_back m law.machine (AreOneBy same) _ law.counts right b law.law in
     let out = worked_out s.table.entries (sym c.first_left.ensures ∙ c.in-None.is) in
-    λ _ sound. closed_holds m same right law.machine law.merges law.alike b.entries law.law.law
+    λ _ sound. closed_holds m same right law.machine law.merges law.alike b.entries tested.law
     (rw (← c.self.view_is) out) sound
 
 pub returns-in-Some-clause-every : goal.returns-in-Some-clause-every

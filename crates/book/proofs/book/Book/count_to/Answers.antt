@@ -1,9 +1,11 @@
 use Rattle.std.proofs.Common.{sym, subst, leb}
 use Rattle.tree_machine.specs.declared.state.State.{State}
-use Rattle.book.specs.Books.{machine_in, right_in, counted_as_one}
+use Rattle.book.specs.Books.{machine_in, right_in, counted_as_one, CountsAsOne}
 use Rattle.book.specs.Entries.{Entry}
 use Rattle.std.proofs.lemmas.Bool.{le-leb}
 use Rattle.book.specs.Counts.{IsCount}
+use Rattle.book.specs.Schedule.{AreOneBy}
+use Rattle.book.proofs.Agreeing.{book_back, count_as}
 use Rattle.book.proofs.Counts.{count_to_is, count_upto, gt-leb}
 use Rattle.book.proofs.Ways.{steps_after}
 use Rattle.book.proofs.book.Book.count_to.Goals as goal
@@ -25,6 +27,10 @@ returns-clause-count g c =
     counted_as_one {Machine = g.row.M.Denot} {Form = g.row.M-Form.Denot} g.M.Loc.PartialEq.eq g.M.Mem.PartialEq.eq
     g.M.Form.PartialEq.eq (g.M.Machine.form_of b.machine) b.merge in
     let law = c.law.ensures in
-    λ done. subst (λ k. IsCount m same c.args.steps k) (sym (returns-clause-value g c))
-    (count_to_is m same right law.machine law.merges b.entries law.law.law c.args.steps done
-    (λ r h leads. steps_after m law.machine h r leads))
+    let tested = book_back m law.machine (AreOneBy same) _ law.counts right b law.law in
+    let alike =
+    CountsAsOne {Machine = g.row.M.Denot} {Form = g.row.M-Form.Denot} (g.M.Machine.rules b.machine) b.merge in
+    λ done. subst (λ k. IsCount m alike c.args.steps k) (sym (returns-clause-value g c))
+    (count_as m law.machine (AreOneBy same) alike law.counts c.args.steps _
+    (count_to_is m same right law.machine law.merges b.entries tested.law c.args.steps done
+    (λ r h leads. steps_after m law.machine h r leads)))

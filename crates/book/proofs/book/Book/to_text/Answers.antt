@@ -1,10 +1,11 @@
 use Rattle.std.proofs.Common.{◌<◌, ◌≤◌, ◌∙◌, arith, length, sym, ap, subst, List}
-use Rattle.tree_machine.specs.Laws.StateExact.{state_form_exact}
 use Rattle.tree_machine.specs.declared.state.State.{State}
-use Rattle.book.specs.Books.{counted_as_one}
+use Rattle.book.specs.Books.{counted_as_one, machine_in, right_in}
 use Rattle.book.specs.BookFile.Written.{AreWritable, IsFileOf}
 use Rattle.book.specs.Closed.{AreSound}
 use Rattle.book.specs.Entries.{Contents, Entry}
+use Rattle.book.specs.Schedule.{AreOneBy}
+use Rattle.book.proofs.Agreeing.{book_back}
 use Rattle.book.proofs.EntryLemmas.{get_within}
 use Rattle.book.proofs.BookFile.Writable.{all_sound, one_unsound, writable, lines_count}
 use Rattle.book.proofs.BookFile.Written.{written_pass}
@@ -22,6 +23,8 @@ write_entries-requires-clause-writable g c =
     counted_as_one {Machine = g.row.M.Denot} {Form = g.row.M-Form.Denot} g.M.Loc.PartialEq.eq g.M.Mem.PartialEq.eq
     g.M.Form.PartialEq.eq (g.M.Machine.form_of b.machine) b.merge in
     let law = c.law.ensures in
+    let tested = book_back (machine_in g.M.Machine.rules b) law.machine (AreOneBy same) _ law.counts
+    (right_in g.M.Machine.rules b) b law.law in
     let sound : AreSound b.entries =
     all_sound b.entries c.first_fault.result c.first_fault.ensures (sym c.is_some.ensures ∙ c.if-is_some.false) in
     let few : length b.entries ≤ 2000000 = (let within : length b.entries ≤ b.limit = law.law.within in
@@ -32,7 +35,7 @@ write_entries-requires-clause-writable g c =
     subst (λ
     (es : List (Entry (State g.row.M.Denot g.row.M-Mem.Denot g.row.M-Loc.Denot g.row.M-Form.Denot))). AreWritable
     es) (sym entries)
-    (writable (g.M.Machine.rules b.machine) b.program law.limits same law.machine b.entries law.law.law few sound)
+    (writable (g.M.Machine.rules b.machine) b.program law.limits same law.machine b.entries tested.law few sound)
 
 pub returns-clause-some : goal.returns-clause-some
 returns-clause-some g c =
@@ -43,7 +46,6 @@ returns-clause-some g c =
 
 pub returns-clause-passes : goal.returns-clause-passes
 returns-clause-passes g c =
-    let bound = g.met.M.Machine g.world.𝓛 g.world.𝓜 g.world.𝓡 ((λ s x. x), (λ x. x), (λ x. x), λ x. x) in
     let b = c.args.self.now in
     let law = c.law.ensures in
     let ready = returns-clause-some g c in
@@ -55,9 +57,8 @@ returns-clause-passes g c =
     subst (λ (es : List (Entry (State g.row.M.Denot g.row.M-Mem.Denot g.row.M-Loc.Denot g.row.M-Form.Denot))). IsFileOf
     es c.in_ok-write_entries.field-0.items) entries text in
     let pass =
-    written_pass g.M.Loc.PartialEq.eq g.M.Mem.PartialEq.eq g.M.Form.PartialEq.eq g.M.Machine.form_of
-    g.M.Machine.rules b (bound.forms b.machine) (state_form_exact g.M.Form.PartialEq.eq bound.form_exact)
-    law.law law.machine law.merges law.alike ready.0 ready.1 is.lines is.of_entries in
+    written_pass g.M.Machine.rules b law.law law.machine law.merges law.counts law.alike ready.0 ready.1 is.lines
+    is.of_entries in
     let some : 1
     ≤ length b.entries =
     (let within : 0 < length b.entries = get_within b.entries 0 law.law.law.start.0 law.law.law.start.1 in

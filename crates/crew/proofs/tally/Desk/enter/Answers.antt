@@ -2,6 +2,8 @@ use Rattle.std.proofs.Common.{◌≡◌, ◌+◌, ◌^◌, ◌<◌, ◌≤◌, a
 use Rattle.tree_machine.specs.declared.state.State.{State}
 use Rattle.book.specs.Entries.{Contents, Entry, Enters, is_expanded}
 use Rattle.book.specs.Books.{counted_as_one, machine_in, right_in}
+use Rattle.book.specs.Schedule.{AreOneBy}
+use Rattle.book.proofs.Agreeing.{book_back}
 use Rattle.crew.specs.declared.answer.Share.{Share}
 use Rattle.crew.proofs.Counted.{more_expanded, more_entries, small_met}
 use Rattle.crew.proofs.Expansions.{expansion_in}
@@ -58,7 +60,7 @@ add-requires-4-clause-met g c =
     let law = c.law.ensures in
     let small : old.met + c.in_ok-counts.counts.met < 2 ^ 64 =
     small_met m same old new c.args.id x c.in_ok-counts.counts.entered c.in_ok-counts.counts.met enters right
-    law.machine law.merges law.law
+    law.machine law.merges (book_back m law.machine (AreOneBy same) _ law.counts right old law.law)
     (expansion_in g.M.Machine.rules old x enters.taken.0.state enters.own.machine enters.own.program
     (enters.own.source enters.taken.0 enters.taken.1) c.law-2.ensures) in
     let was : c.args.self.now.met.total ≡ old.met = c.args.self.now.met_is in
