@@ -45,7 +45,7 @@ SKIPPED = "<!-- not run -->"
 STATUS = re.compile(r"\[status \d+\]")
 HERE_TEXT = re.compile(r"(?<!<)<<-?\s*['\"]?(\w+)")
 COPIED = ["docs", "examples", "scripts"]
-MOST_SECONDS = 60
+MOST_SECONDS = 300
 
 # What needs more than a folder with the program: the kit, the history, other machines, or minutes of compiling.
 NOT_RUN = re.compile(
