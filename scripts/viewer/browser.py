@@ -58,8 +58,21 @@ class Browser:
         self.number = 0
         self.events: list[dict[str, Any]] = []
         self.session = ""
-        target = next(each for each in self.call("Target.getTargets")["targetInfos"] if each["type"] == "page")
-        attached = self.call("Target.attachToTarget", targetId=target["targetId"], flatten=True)
+        try:
+            self.attach()
+        except BrowserFault:
+            self.close()
+            raise
+
+    def attach(self) -> None:
+        """Turns to the page that the browser opens with."""
+        pages: list[dict[str, Any]] = []
+        end = time.monotonic() + MOST_SECONDS
+        while not pages:
+            pages = [each for each in self.call("Target.getTargets")["targetInfos"] if each["type"] == "page"]
+            if time.monotonic() > end:
+                raise BrowserFault("the browser opens no page")
+        attached = self.call("Target.attachToTarget", targetId=pages[0]["targetId"], flatten=True)
         self.session = attached["sessionId"]
         for domain in ("Page", "Runtime", "Log", "Network"):
             self.call(f"{domain}.enable")
@@ -88,8 +101,11 @@ class Browser:
         if self.session:
             message["sessionId"] = self.session
         data = json.dumps(message).encode() + b"\0"
-        while data:
-            data = data[os.write(self.write_here, data) :]
+        try:
+            while data:
+                data = data[os.write(self.write_here, data) :]
+        except BrokenPipeError as fault:
+            raise BrowserFault("the browser has ended") from fault
         while True:
             answer = self.message()
             if answer.get("id") == self.number:

@@ -19,7 +19,7 @@ from viewer.steps import Mark, Walk, key_states, marks
 from viewer.tree import picture_of, tree_words
 
 FOLDER = Path(__file__).resolve().parent
-LEFT, ROOM = 48, 1200
+LEFT, ROOM = 48, 1120
 MOST_HEIGHT = 600
 
 
@@ -238,7 +238,7 @@ def html_page(all_shown: list[Shown], command: str) -> str:
     heads = ['<h2 class="heard">The schedule</h2>'] if is_alone else list(map(side_head, ("Left", "Right"), pages))
     size = (max(page.picture.width for page in pages), max(page.picture.height for page in pages))
     articles = [
-        page.article(index, head, size, ROOM if is_alone else ROOM // 2 - 90, step)
+        page.article(index, head, size, ROOM if is_alone else ROOM // 2 - 50, step)
         for index, (page, head) in enumerate(zip(pages, heads))
     ]
     steps = plural(most, "step") if is_alone else "two schedules"
