@@ -16,9 +16,8 @@ end of a text that it begins by `<<END`. `...` stands for one or more further li
 - The others of a page run in one folder, in order, as a reader types them. Their status is not compared, and the
   standard error may come first.
 
-Each folder has copies of docs/, examples/ and scripts/, PROGRAM as ./treesched, and examples/claim.json as
-claim.json, which pages take for the reader's own; the standard input is empty. What the commands of a page write
-over a file of docs/, examples/ or scripts/ has to be what stands there.
+Each folder has copies of docs/, examples/ and scripts/, and PROGRAM as ./treesched; the standard input is empty.
+What the commands of a page write over a file of docs/, examples/ or scripts/ has to be what stands there.
 
 A command that needs more than that (the kit, git, other machines) is not run, nor is a block after a line
 `<!-- not run -->`. Each example that differs is shown with a difference, and at the end comes 'N examples, M
@@ -205,7 +204,6 @@ def furnish(folder: Path, program: Path) -> None:
     """Puts into a folder what commands of pages use."""
     for name in COPIED:
         shutil.copytree(TOP / name, folder / name, ignore=shutil.ignore_patterns("__pycache__", "tests"))
-    shutil.copy(EXAMPLES / "claim.json", folder / "claim.json")
     (folder / "treesched").symlink_to(program)
 
 
