@@ -88,7 +88,7 @@ target    Linux, a processor of the level ${cpu:-x86-64 (the kit named none)} or
 linked    $(needed)
 builds    two, in two folders: $equal; for the second $way
 
-It needs nothing but this. Here it judges the book file of a claim: ./treesched check claim.json claim.book
+The program runs by itself. It judges the book file of a claim by ./treesched check claim.json claim.book
 All its words are in ./treesched --help, and in the documents of the commit.
 
 The program was built from sources that are proved as a whole. Nothing in this archive shows that: whoever wants
