@@ -10,7 +10,7 @@
 set -u
 top=$(cd "$(dirname "${BASH_SOURCE[0]}")/.." && pwd)
 program=$(realpath "${1:-$top/treesched}")
-if ! "$program" --help >/dev/null; then
+if ! "$program" explore "$top/examples/two_inserts.json" --steps 0 >/dev/null; then
     echo "check_all: $program does not run" >&2
     exit 2
 fi
@@ -42,7 +42,7 @@ skip() {
 
 unit_tests() {
     local said=$work/unit-tests status
-    python3 -m unittest discover -s scripts/tests >"$said" 2>&1
+    TREESCHED=$program python3 -m unittest discover -s scripts/tests >"$said" 2>&1
     status=$?
     if [ "$status" -eq 0 ]; then grep '^Ran' "$said"; else cat "$said"; fi
     return "$status"
@@ -80,7 +80,7 @@ baseline() {
 shell_scripts() {
     local files
     mapfile -t files < <(git ls-files '*.sh' treesched)
-    shellcheck -S warning "${files[@]}" && echo "${#files[@]} scripts"
+    shellcheck -x -S warning "${files[@]}" && echo "${#files[@]} scripts"
 }
 
 # Python files have fewer than 400 lines.

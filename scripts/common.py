@@ -84,11 +84,12 @@ def runnable(program: Path) -> Path:
     """The whole path of a program that runs. The script `treesched` at the top proves and builds it here."""
     path = program.resolve()
     try:
-        status = subprocess.run([path, "--help"], stdout=subprocess.DEVNULL, check=False).returncode
+        words = [path, "explore", EXAMPLES / "two_inserts.json", "--steps", "0"]
+        status = subprocess.run(words, stdout=subprocess.DEVNULL, check=False).returncode
     except OSError as fault:
         raise Unusable(f"{path} does not run: {fault.strerror}") from None
     if status != 0:
-        raise Unusable(f"{path} does not run: --help ended with status {status}")
+        raise Unusable(f"{path} does not run: an exploration of no step ended with status {status}")
     return path
 
 

@@ -13,7 +13,7 @@ SCRIPTS = Path(__file__).resolve().parent.parent
 TOP = SCRIPTS.parent
 sys.path.insert(0, str(SCRIPTS))
 
-# A program that says of everything that it holds, and writes a book of two entries. With one state it is refused
+# A program that says of everything that it holds, and writes a book of two entries where one is asked for. With one state it is refused
 # memory; under the name `lying` its check answers otherwise.
 STUB = """#!/bin/sh
 case $1 in
@@ -26,7 +26,7 @@ explore)
         before=$word
     done
     [ "$states" != 1 ] || { echo 'treesched: out of memory' >&2; exit 5; }
-    printf 'treesched book 1 entries 2\\n- - -\\n0 0 -\\n' >"$book"
+    [ -z "$book" ] || printf 'treesched book 1 entries 2\\n- - -\\n0 0 -\\n' >"$book"
     printf 'holds for every schedule\\nstates 2\\n' ;;
 check)
     case $0 in *lying) states=3 ;; *) states=2 ;; esac
