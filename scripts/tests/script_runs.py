@@ -13,8 +13,8 @@ SCRIPTS = Path(__file__).resolve().parent.parent
 TOP = SCRIPTS.parent
 sys.path.insert(0, str(SCRIPTS))
 
-# A program that says of everything that it holds, and writes a book of two entries where one is asked for. With one state it is refused
-# memory; under the name `lying` its check answers otherwise.
+# A program that says of everything that it holds, and writes a book of two entries where one is asked for. With one
+# state it is refused memory; under the name `lying` its check answers otherwise.
 STUB = """#!/bin/sh
 case $1 in
 explore)
