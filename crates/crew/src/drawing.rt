@@ -61,12 +61,12 @@ fn places_of(
 /// once, so that no expansion has to wait for its own.
 fn look_at<K: Tie<M, State<M>>, M: Machine>(
     drawn: &[(usize, Ready<'_, K, M>)],
-) -> Result<usize, OutOfMemory> {
+) -> usize {
     let mut seen = 0usize;
     for (_, ready) in drawn {
-        seen = seen.checked_add(ready.look_at()).ok_or(OutOfMemory)?;
+        seen = seen.wrapping_add(ready.look_at());
     }
-    Ok(seen)
+    seen
 }
 
 /// The entries of a layer, which are taken, and the counter of their places. Contracts see the counter.
@@ -181,7 +181,7 @@ impl<'a, K: Tie<M, State<M>>, M: Machine> Layer<'a, K, M> {
         made: &mut Vec<Made<'a, K, M>>,
         stock: &mut Stock<M>,
     ) -> Result<(), OutOfMemory> {
-        let _seen = look_at(drawn)?;
+        let _seen = look_at(drawn);
         made.reserve(drawn.len())?;
         for (place, ready) in drawn.iter_mut() {
             if let Some(one) = self.expand_one(rt, desk, ready, stock)? {

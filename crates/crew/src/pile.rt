@@ -3,7 +3,6 @@ ghost use Rattle.std.specs.Prelude.{◌≡◌};
 
 use crate::tally::Ledgers;
 use crate::tied::{Made, Tie, Tied};
-use sched_program::OutOfMemory;
 use std::alloc::Global;
 use std::mem::replace;
 use tree_machine::{Machine, State};
@@ -28,15 +27,15 @@ impl<'a, K: Tie<M, State<M>>, M: Machine> Pile<'a, K, M> {
     /// Looks for the steps of the expansions for which this was not done yet. What the book has of them is mostly not in the
     /// processor's caches: looked for one right after the other, they are not waited for one by one. The sum of what it sees
     /// is of no use.
-    pub fn look_ahead<J: Ledgers>(&mut self, desk: &Tied<J, K, M>) -> Result<usize, OutOfMemory> {
+    pub fn look_ahead<J: Ledgers>(&mut self, desk: &Tied<J, K, M>) -> usize {
         let mut seen = 0usize;
         if let Some(others) = self.made.get(self.looked..) {
             for one in others {
-                seen = seen.checked_add(desk.look_ahead(one)).ok_or(OutOfMemory)?;
+                seen = seen.wrapping_add(desk.look_ahead(one));
             }
         }
         self.looked = self.made.len();
-        Ok(seen)
+        seen
     }
 
     /// All of them. None is left.

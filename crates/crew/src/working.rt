@@ -156,14 +156,12 @@ impl<'a, M: Machine, G: Gate, R: Wait> Exploration<'a, M, G, R> {
         desk: &RwLock<Tied<J, K, M>>,
         pile: &mut Pile<'a, K, M>,
         at_once: bool,
-    ) -> Result<bool, Stop> {
+    ) -> bool {
         let Some(desk) = self.shared(desk, at_once) else {
-            return Ok(false);
+            return false;
         };
-        match pile.look_ahead(&*desk) {
-            Ok(_seen) => Ok(true),
-            Err(OutOfMemory) => Err(Stop::OutOfMemory),
-        }
+        let _seen = pile.look_ahead(&*desk);
+        true
     }
 
     /// Enters expansions, where they have to be entered or no other worker has the lock. Else they stay.
@@ -175,7 +173,7 @@ impl<'a, M: Machine, G: Gate, R: Wait> Exploration<'a, M, G, R> {
         tally: &mut Tally<J>,
         stock: &mut Stock<M>,
     ) -> Result<(), Stop> {
-        if pile.made.is_empty() || !self.look(desk, pile, at_once)? {
+        if pile.made.is_empty() || !self.look(desk, pile, at_once) {
             return Ok(());
         }
         let Ok(mut leftovers) = room_for(self.alloc, stock, pile.made.as_slice()) else {
