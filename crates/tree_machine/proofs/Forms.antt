@@ -1,10 +1,11 @@
--- The forms of states that fit programs are equal exactly if the states are alike.
+-- The forms of states whose numbers are in range are equal exactly if the states are alike.
 use Rattle.std.proofs.Common.{◌≡◌, ◌↔◌, List, length, Option, IfSome, refl, sym, ap, ◌∙◌}
 use Rattle.std.proofs.lemmas.List.{length-map}
 use Rattle.std.proofs.lemmas.List.Elements.{All-map}
 use Rattle.std.proofs.lemmas.Option.{slice_get-get_or}
 use Rattle.sched_program.specs.Program.{Program}
 use Rattle.tree_machine.specs.Alike.{places_of, replies_of, state_form, AreStatesAlike}
+use Rattle.tree_machine.specs.InRange.{AreNumbersInRange}
 use Rattle.tree_machine.specs.Rules.{Rules, ArePlacesInRange, AreFormsExact}
 use Rattle.tree_machine.specs.Step.{Fits}
 use Rattle.tree_machine.specs.declared.state.State.{State}
@@ -18,14 +19,19 @@ module _ {Machine Memory Place Form : Type 0} (rules : Rules Memory Place) where
       All-map (λ place. IfSome place (rules.IsPlaceInRange state.memory)) (λ thread. thread.place) state.threads
       (λ t d within. (with_ops rules program state fits t _ (slice_get-get_or state.threads t d within)).2.place)
 
+  -- the numbers of a state that fits a program are in range
+  pub numbers_fit : (program : Program) (state : State Machine Memory Place Form) → Fits rules program state
+      → AreNumbersInRange rules state
+  numbers_fit program state fits = record { memory = fits.memory; places = held_in_range program state fits }
+
   module _ (form_of : Memory → List (Option Place) → Form) (exact : AreFormsExact rules form_of) where
-    pub forms_alike : (here there : Program) (state twin : State Machine Memory Place Form) → Fits rules here state
-        → Fits rules there twin
+    pub forms_tell : (state twin : State Machine Memory Place Form) → AreNumbersInRange rules state
+        → AreNumbersInRange rules twin
         → (state_form form_of state ≡ state_form form_of twin) ↔ AreStatesAlike rules state twin
-    forms_alike here there state twin fits twin_fits =
+    forms_tell state twin numbers twin_numbers =
         let law =
-        exact state.memory twin.memory (places_of state.threads) (places_of twin.threads) fits.memory
-        (held_in_range here state fits) twin_fits.memory (held_in_range there twin twin_fits) in
+        exact state.memory twin.memory (places_of state.threads) (places_of twin.threads) numbers.memory
+        numbers.places twin_numbers.memory twin_numbers.places in
         let same_length : replies_of state.threads ≡ replies_of twin.threads
         → length (places_of state.threads) ≡ length (places_of twin.threads) =
         λ h. length-map state.threads (λ x. x.place) ∙ sym (length-map state.threads (λ x. x.replies)) ∙ ap length h
@@ -43,6 +49,12 @@ module _ {Machine Memory Place Form : Type 0} (rules : Rules Memory Place) where
               let astray = alike.astray in
               λ i. record { form = form i; replies = replies i; notes = notes i; astray = astray i }),
         )
+
+    pub forms_alike : (here there : Program) (state twin : State Machine Memory Place Form) → Fits rules here state
+        → Fits rules there twin
+        → (state_form form_of state ≡ state_form form_of twin) ↔ AreStatesAlike rules state twin
+    forms_alike here there state twin fits twin_fits =
+        forms_tell state twin (numbers_fit here state fits) (numbers_fit there twin twin_fits)
 
     -- a state is alike to itself, and alikeness goes both ways and from state to state
     pub alike_itself : (program : Program) (state : State Machine Memory Place Form) → Fits rules program state

@@ -1,10 +1,11 @@
 //! Forms of states: what is left of a state without the numbers of its nodes and records, and of its steps.
-ghost use Rattle.std.specs.Prelude.{◌≡◌, ◌↔◌, IfOk};
+ghost use Rattle.std.specs.Prelude.{◌≡◌, ◌≤◌, ◌↔◌, IfOk, length};
 ghost use Rattle.std.proofs.Common.{ap};
 ghost use Rattle.std.specs.Cmp.{partial_equiv_from_equiv};
 ghost use Rattle.sched_program.specs.Program.{Program, IsWithinLimits};
 ghost use Rattle.tree_machine.specs.Step.{Fits};
 ghost use Rattle.tree_machine.specs.Alike.{FormContent, state_form, AreStatesAlike};
+ghost use Rattle.tree_machine.specs.InRange.{AreNumbersInRange};
 ghost use Rattle.tree_machine.specs.FormCode.{content_code};
 ghost use Rattle.tree_machine.specs.StateEq.{state_form_eq};
 ghost use Rattle.tree_machine.specs.Laws.StateExact.{state_form_equiv, state_form_exact};
@@ -48,16 +49,18 @@ impl<M: Machine> Model for StateForm<M> {
 
 impl<M: Machine> State<M> {
     /// The machine's form of the state, with the replies, the notes and the thread by which it went astray, and without
-    /// the number of steps. Two states have equal forms exactly if they are alike.
+    /// the number of steps. Two states have equal forms exactly if they are alike. The bytes tell of
+    /// four threads at most, as many as a program has.
     pub fn form(&self, alloc: Global, machine: M) -> Result<StateForm<M>, OutOfMemory>
-        requires { (program : Program) × IsWithinLimits program × Fits (M.rules machine) program self.now }
+        requires numbers { AreNumbersInRange (M.rules machine) self.now }
+        requires threads { length self.now.threads ≤ 4 }
         ensures form { IfOk result (λ form. form ≡ state_form (M.form_of machine) self.now) }
-        ensures exact { IfOk result (λ form. (program : Program) (other : State M M.Mem M.Loc M.Form)
-            → Fits (M.rules machine) program other
+        ensures exact { IfOk result (λ form. (other : State M M.Mem M.Loc M.Form)
+            → AreNumbersInRange (M.rules machine) other
             → (form ≡ state_form (M.form_of machine) other) ↔ AreStatesAlike (M.rules machine) self.now other) }
     {
         let mut room = Room::new(alloc);
-        let bytes = self.form_code_in(alloc, machine, &mut room, Vec::new(alloc))?;
+        let bytes = self.form_bytes(alloc, machine, &mut room, Vec::new(alloc))?;
         Ok(StateForm {
             bytes,
             machine: Snapshot::of(&machine),
@@ -67,6 +70,26 @@ impl<M: Machine> State<M> {
 
     /// The bytes of the form alone. They are written in a room that is kept from one form to the next, and copied into a
     /// list that is of no further use, as far as that is long enough: of memory it asks for no more than they have.
+    fn form_bytes(
+        &self,
+        alloc: Global,
+        machine: M,
+        room: &mut Room,
+        spare: Vec<u8>,
+    ) -> Result<Bytes, OutOfMemory>
+        requires numbers { AreNumbersInRange (M.rules machine) self.now }
+        requires threads { length self.now.threads ≤ 4 }
+        ensures { IfOk result
+            (λ bytes. bytes ≡ content_code M.form_code (state_form (M.form_of machine) self.now)) }
+    {
+        let threads = self.threads.as_slice();
+        room.clear();
+        room.put_deeds(threads, self.astray)?;
+        machine.write_form(alloc, &self.memory, threads, room)?;
+        Ok(Bytes::copied_in(room.as_slice(), spare)?)
+    }
+
+    /// The bytes of the form of a state of a program, written in a room that is kept and copied into a spare list.
     pub fn form_code_in(
         &self,
         alloc: Global,
@@ -78,11 +101,7 @@ impl<M: Machine> State<M> {
         ensures { IfOk result
             (λ bytes. bytes ≡ content_code M.form_code (state_form (M.form_of machine) self.now)) }
     {
-        let threads = self.threads.as_slice();
-        room.clear();
-        room.put_deeds(threads, self.astray)?;
-        machine.write_form(alloc, &self.memory, threads, room)?;
-        Ok(Bytes::copied_in(room.as_slice(), spare)?)
+        self.form_bytes(alloc, machine, room, spare)
     }
 }
 

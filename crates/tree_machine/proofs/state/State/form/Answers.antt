@@ -1,13 +1,12 @@
-use Rattle.tree_machine.proofs.Forms.{forms_alike}
+use Rattle.tree_machine.proofs.Forms.{forms_tell}
 use Rattle.std.proofs.Common.{refl}
 use Rattle.tree_machine.proofs.state.State.form.Goals as goal
 
 pub returns-clause-exact : goal.returns-clause-exact
-returns-clause-exact g c program other fits =
+returns-clause-exact g c other numbers =
     let bound = g.met.M.Machine g.world.𝓛 g.world.𝓜 g.world.𝓡 ((λ s x. x), (λ x. x), (λ x. x), λ x. x) in
-    rw (c.of.ensures, c.of-2.ensures) (forms_alike (g.M.Machine.rules c.args.machine)
-    (g.M.Machine.form_of c.args.machine)
-    (bound.forms c.args.machine) c.requires.0 program c.args.self.now other c.requires.2 fits)
+    rw (c.of.ensures, c.of-2.ensures) (forms_tell (g.M.Machine.rules c.args.machine)
+    (g.M.Machine.form_of c.args.machine) (bound.forms c.args.machine) c.args.self.now other c.requires.numbers numbers)
 
 pub returns-clause-form : goal.returns-clause-form
 returns-clause-form g c = rw (c.of.ensures, c.of-2.ensures) refl
