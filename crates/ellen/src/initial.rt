@@ -5,7 +5,7 @@ ghost use Rattle.ellen.specs.Initial.{empty_tree, put_in, initial_memory};
 use crate::memory::{EllenMem, Node, UpdateWord, key_in};
 use sched_program::{OutOfMemory, Sequence};
 use std::alloc::Global;
-use tree_machine::{search_end, short_number_of, side_of};
+use tree_machine::{search_end, side_of};
 
 /// The root, over the two greatest sentinels.
 fn empty_tree(alloc: Global) -> Result<EllenMem, OutOfMemory>
@@ -31,12 +31,10 @@ fn put_in(alloc: Global, memory: &mut EllenMem, key: u8) -> Result<(), OutOfMemo
     ensures err { OnErr result (memory.new ≡ memory.old) }
 {
     let end = search_end(memory, key, memory.nodes.len());
-    let parent = short_number_of(end.parent)?;
-    let leaf = short_number_of(end.leaf)?;
-    let side = side_of(key, key_in(memory.node(parent)));
-    let new = memory.add_internal(alloc, key, leaf)?;
-    if end.parent < memory.nodes.len() {
-        memory.set_child(parent, side, new);
+    let side = side_of(key, key_in(memory.node(end.parent)));
+    let new = memory.add_internal(alloc, key, end.leaf)?;
+    if usize::from(end.parent) < memory.nodes.len() {
+        memory.set_child(end.parent, side, new);
     }
     Ok(())
 }

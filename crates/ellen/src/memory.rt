@@ -94,11 +94,7 @@ fn shape_in(node: Node) -> Shape
             left,
             right,
             ..
-        } => Shape::Internal {
-            key,
-            left: left as usize,
-            right: right as usize,
-        },
+        } => Shape::Internal { key, left, right },
     }
 }
 
@@ -344,8 +340,8 @@ impl EllenMem {
 impl Shapes for EllenMem {
     ghost shapes = { shapes };
 
-    fn shape(&self, x: usize) -> Option<Shape> {
-        let node = self.nodes.get(x)?;
+    fn shape(&self, x: u16) -> Option<Shape> {
+        let node = self.nodes.get(usize::from(x))?;
         Some(shape_in(*node))
     }
 }

@@ -5,7 +5,7 @@ ghost use Rattle.natmit.specs.Initial.{empty_tree, put_in, initial_memory};
 use crate::memory::{NatMitMem, Node, plain};
 use sched_program::{OutOfMemory, Sequence};
 use std::alloc::Global;
-use tree_machine::{search_end, short_number_of};
+use tree_machine::search_end;
 
 /// The root, node 1, and three leaves of keys above all that programs name.
 fn empty_tree(alloc: Global) -> Result<NatMitMem, OutOfMemory>
@@ -38,9 +38,7 @@ fn put_in(alloc: Global, mem: &mut NatMitMem, key: u8) -> Result<(), OutOfMemory
 {
     let levels = mem.nodes.len();
     let end = search_end(mem, key, levels);
-    let parent = short_number_of(end.parent)?;
-    let leaf = short_number_of(end.leaf)?;
-    mem.put_at(alloc, key, parent, leaf)
+    mem.put_at(alloc, key, end.parent, end.leaf)
 }
 
 /// The memory with these keys, put in in their order.

@@ -72,8 +72,8 @@ fn shape_in(node: Node) -> Shape
         Node::Leaf { key } => Shape::Leaf { key },
         Node::Internal { key, left, right } => Shape::Internal {
             key,
-            left: left.node as usize,
-            right: right.node as usize,
+            left: left.node,
+            right: right.node,
         },
     }
 }
@@ -220,8 +220,8 @@ impl NatMitMem {
 impl Shapes for NatMitMem {
     ghost shapes = { shapes };
 
-    fn shape(&self, x: usize) -> Option<Shape> {
-        let node = self.nodes.get(x)?;
+    fn shape(&self, x: u16) -> Option<Shape> {
+        let node = self.nodes.get(usize::from(x))?;
         Some(shape_in(*node))
     }
 }

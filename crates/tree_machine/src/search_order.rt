@@ -15,14 +15,14 @@ pub enum Shape {
     /// A leaf with its key.
     Leaf { key: u8 },
     /// An internal node with its key and the numbers of its children.
-    Internal { key: u8, left: usize, right: usize },
+    Internal { key: u8, left: u16, right: u16 },
 }
 
 /// Where a search ends: at a leaf, below its parent.
 #[derive(Clone, Copy, Debug, PartialEq, Eq)]
 pub struct End {
-    pub parent: usize,
-    pub leaf: usize,
+    pub parent: u16,
+    pub leaf: u16,
 }
 
 /// A memory whose nodes a search can see, by number. The root is node 0.
@@ -33,7 +33,7 @@ pub trait Shapes {
     ghost shapes: { Self → ℕ → Option Shape };
 
     /// What a search sees of a node; none where there is no such node.
-    fn shape(&self, x: usize) -> Option<Shape>
+    fn shape(&self, x: u16) -> Option<Shape>
         ensures { result ≡ shapes self.now x };
 }
 
@@ -51,7 +51,7 @@ pub fn side_of(wanted: u8, key: u8) -> Side
 /// Whether the tree at a node is in order between two keys. Each internal node splits the keys between them in two, so
 /// that the walk ends, and no node is met twice where the answer is yes.
 #[tactic(auto, using(crate::specs::Laws::SearchOrder::none_is_ordered, crate::specs::Laws::SearchOrder::leaf_is_ordered))]
-fn is_ordered<S: Shapes>(memory: &S, low: u8, high: u8, x: usize) -> bool
+fn is_ordered<S: Shapes>(memory: &S, low: u8, high: u8, x: u16) -> bool
     ensures { IsTrue result ↔ IsOrdered (S.shapes memory.now) low high x }
 {
     match memory.shape(x) {
@@ -74,7 +74,7 @@ pub fn keeps_search_order<S: Shapes>(memory: &S) -> bool
 }
 
 /// The child of a node of key `other` to which a search for a key goes.
-fn child_towards(key: u8, other: u8, left: usize, right: usize) -> usize
+fn child_towards(key: u8, other: u8, left: u16, right: u16) -> u16
     ensures { result ≡ (if nat_lt key other then left else right) }
 {
     if key < other { left } else { right }
