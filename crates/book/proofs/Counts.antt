@@ -53,7 +53,8 @@ module _ {S : Type 0} (m : StepMachine S) where
       ap (λ o. option_and_then (λ (y : S). run m y (c ++ t ∷ [])) o) first ∙ run_stops c x u t rest stuck)
 
 module _ {S : Type 0} (m : StepMachine S) (same : S → S → Bool) (right : S → Finding → Type 0)
-    (machine : IsMachine m) (merges : Merges m same) (es : List (Entry S)) (law : IsLawful m (AreOneBy same) right es) where
+    (machine : IsMachine m) (merges : Merges m same) (es : List (Entry S))
+    (law : IsLawful m (AreOneBy same) right es) where
   recorded_by : (n i : ℕ) (e : Entry S) → At es i e → i < n → (c : List ℕ) × (after m c ≡ Some e.state)
       × (length c ≡ m.steps e.state)
   recorded_by zero i e at less = absurd (omega arith)
@@ -184,7 +185,8 @@ count_upto {X} p (w ∷ xs) (suc k) within below above =
     omega arith
 
 module _ {S : Type 0} (m : StepMachine S) (same : S → S → Bool) (right : S → Finding → Type 0)
-    (machine : IsMachine m) (merges : Merges m same) (es : List (Entry S)) (law : IsLawful m (AreOneBy same) right es) where
+    (machine : IsMachine m) (merges : Merges m same) (es : List (Entry S))
+    (law : IsLawful m (AreOneBy same) right es) where
   -- the entries of at most n steps are as many as the states that schedules of at most n steps lead to, once all of
   -- fewer are expanded
   pub count_to_is : (n : ℕ) → ((i : ℕ) (e : Entry S) → At es i e → m.steps e.state < n → e.mark ≡ Expanded)

@@ -10,7 +10,8 @@ use Rattle.book.specs.Law.{StandsFor, StandsForReached, IsLawful}
 module _ {S : Type 0} (m : StepMachine S) (same : S → S → Bool) (right : S → Finding → Type 0)
     (machine : IsMachine m) (merges : Merges m same) where
   -- where each entry of less than n steps is expanded, what a schedule of at most n steps leads to is stood for
-  pub stands_along : (entries : List (Entry S)) → IsLawful m (AreOneBy same) right entries → StandsForReached m (AreOneBy same) entries
+  pub stands_along : (entries : List (Entry S)) → IsLawful m (AreOneBy same) right entries
+      → StandsForReached m (AreOneBy same) entries
   stands_along entries law n done [] r s fits here leads short = let e : r ≡ s = cc in rw (← e) here
   stands_along entries law n done (t ∷ c) r s fits here leads short =
       option_and_then_some (λ (u : S). run m u c) (m.step r t) s leads

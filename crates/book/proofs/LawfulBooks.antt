@@ -154,7 +154,8 @@ module _ {X S : Type 0} (m : StepMachine S) (same : S → S → Bool) (right : S
             let c : length b.entries + b.met ≡ 1 + sum_by (steps_entered m) b.entries = book.counted in omega arith);
       }
 
-  module _ (b : Contents X S) (book : IsLawfulBook m (AreOneBy same) right b) (i : ℕ) (e : Entry S) (at_i : At b.entries i e)
+  module _ (b : Contents X S) (book : IsLawfulBook m (AreOneBy same) right b) (i : ℕ) (e : Entry S)
+      (at_i : At b.entries i e)
       (is_taken : e.mark ≡ Taken)
       (xs : List (Successor S)) (expansion : IsExpansion m right e.state xs) where
     all_steps : length xs ≡ length (enabled_threads m e.state)

@@ -66,9 +66,9 @@ module _ (Machine Form : Type 0) {Memory Place : Type 0} (rules : Rules Memory P
   IsBookDue asked answer entries file = file ≡ None
 
   -- The output tells an answer of all schedules of the program, which was read off a lawful book of what is asked for:
-  -- the due one, where the book has an entry for each state that counts, and a true one. If it is asked for, the output
-  -- also tells the share of each worker, and the totals of the book, to which they sum; and it has the book's file,
-  -- where one is due.
+  -- the due one, with the book's number of entries as the number of states, and a true one. If it is asked for, the
+  -- output also tells the share of each worker, and the totals of the book, to which they sum; and it has the book's
+  -- file, where one is due.
   pub record IsExplored (settings : Settings) (with_ledger asks_book : Bool) (output : Output) : Type 0 where
     pub book : Contents Machine (State Machine Memory Place Form)
     pub law : IsLawfulBook (machine_of rules program) (CountsAsOne rules settings.merge) (IsFindingOf rules program)

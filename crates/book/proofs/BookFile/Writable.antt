@@ -59,7 +59,8 @@ module _ {Machine Memory Place Form : Type 0} (rules : Rules Memory Place) (prog
   pub writable : (same : State Machine Memory Place Form → State Machine Memory Place Form → _)
       → IsMachine (machine_of {Machine = Machine} {Form = Form} rules program)
       → (es : List (Entry (State Machine Memory Place Form)))
-      → IsLawful (machine_of rules program) (AreOneBy same) (IsFindingOf rules program) es → length es ≤ 2000000 → AreSound es
+      → IsLawful (machine_of rules program) (AreOneBy same) (IsFindingOf rules program) es → length es ≤ 2000000
+      → AreSound es
       → AreWritable es
   writable same machine es law few sound i e at some =
       let from = law.origins i e at some in

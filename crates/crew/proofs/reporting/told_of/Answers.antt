@@ -16,8 +16,8 @@ returns-in-Some-clause-report g c =
     let rules = g.M.Machine.rules in
     let law = c.law.ensures in
     let due : IsDue (machine_in rules b)
-    (CountsAsOne {Machine = g.row.M.Denot} {Form = g.row.M-Form.Denot} (rules b.machine) b.merge) (right_in rules b) b.merge c.args.options.steps b.limit
-    (length b.entries) c.in-Some.answer =
+    (CountsAsOne {Machine = g.row.M.Denot} {Form = g.row.M-Form.Denot} (rules b.machine) b.merge)
+    (right_in rules b) b.merge c.args.options.steps b.limit (length b.entries) c.in-Some.answer =
     rw c.in-Some.is at c.in_ok-answer.ensures.due in
     let headline : IsTrueOf g.row.M.Denot g.row.M-Form.Denot (rules b.machine) b.program c.in-Some.answer =
     rw c.in-Some.is at c.in_ok-answer.ensures.headline in
