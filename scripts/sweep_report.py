@@ -43,7 +43,8 @@ HEAD = [
     "- *Fault*: the program printed a shortest schedule with a fault, and `treesched replay` found the same fault on"
     " that schedule.",
     "Threads are alike, so of programs that differ in the order of their threads alone there is one. States are"
-    " counted by names: states that differ in nothing but the numbers of nodes, of records and of steps are one."
+    " counted by names: states that differ in nothing but the numbers of nodes, of records and of steps, and in what"
+    " neither the root nor a thread leads to, are one."
     " [MACHINES.md](MACHINES.md) has the place tables, those of the variants too.",
     "A name is short for a program file. `ellen:10,20:i5,d10:f15` is the tree `ellen` with the initial keys 10 and 20,"
     " inserted in this order, a thread that inserts 5 and then deletes 10, and a thread that finds 15. In"

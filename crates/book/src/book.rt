@@ -38,7 +38,8 @@ mod reading;
 pub enum Merge {
     /// Equal states, their step counts included.
     Exact,
-    /// States that differ in nothing but the numbers of their nodes and records, and in their step counts.
+    /// States that differ in nothing but the numbers of their nodes and records, their step counts, and what neither
+    /// the root nor a thread leads to.
     Names,
 }
 

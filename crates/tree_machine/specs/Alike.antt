@@ -1,5 +1,5 @@
--- Alike states, which differ in nothing but the numbers of nodes, of records and of steps taken; and the forms of
--- states.
+-- Alike states, which differ in nothing but the numbers of nodes, of records and of steps taken, and in what neither
+-- the root nor a thread leads to; and the forms of states.
 use Rattle.std.specs.Prelude.{◌≡◌, Bool, ℕ, List, map, Option}
 use Rattle.tree_machine.specs.Pairing.{AreAlike}
 use Rattle.tree_machine.specs.Rules.{Rules}

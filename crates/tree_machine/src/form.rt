@@ -21,8 +21,8 @@ use std::hash::{Hash, Hasher};
 use std::marker::Model;
 use std::snapshot::Snapshot;
 
-/// The form of a state: the same for all states that differ in nothing but the numbers of their nodes and records, and
-/// in how many steps led to them.
+/// The form of a state: what states have in common that differ in nothing but the numbers of their nodes and records,
+/// how many steps led to them, and what neither the root nor a thread leads to.
 ///
 /// It is one list of bytes. Contracts see what these tell: the machine's form of the memory with the places that the
 /// threads hold, the replies of each thread, the notes of each thread's operations, and the thread by which the run
@@ -49,8 +49,8 @@ impl<M: Machine> Model for StateForm<M> {
 
 impl<M: Machine> State<M> {
     /// The machine's form of the state, with the replies, the notes and the thread by which it went astray, and without
-    /// the number of steps. Two states have equal forms exactly if they are alike. The bytes tell of
-    /// four threads at most, as many as a program has.
+    /// the number of steps. Two states have equal forms exactly if they are alike. The bytes hold four threads at most,
+    /// as many as a program has.
     pub fn form(&self, alloc: Global, machine: M) -> Result<StateForm<M>, OutOfMemory>
         requires numbers { AreNumbersInRange (M.rules machine) self.now }
         requires threads { length self.now.threads ≤ 4 }
@@ -89,7 +89,8 @@ impl<M: Machine> State<M> {
         Ok(Bytes::copied_in(room.as_slice(), spare)?)
     }
 
-    /// The bytes of the form of a state of a program, written in a room that is kept and copied into a spare list.
+    /// The bytes of the form of a state of a program. They are written in a room that is kept from one form to the next,
+    /// and copied into a spare list.
     pub fn form_code_in(
         &self,
         alloc: Global,
