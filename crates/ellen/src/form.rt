@@ -1,58 +1,25 @@
 //! The machine's form: a memory with the places that threads hold, up to the numbers of nodes and records.
-ghost use Rattle.std.specs.Prelude.{◌≡◌, ◌<◌, [], ◌∷◌, ◌++◌, Some, IfSome, IfOk, OnOk, All};
+ghost use Rattle.std.specs.Prelude.{◌≡◌, [], ◌∷◌, ◌++◌, Some, IfSome, IfOk, OnOk, All};
 ghost use Rattle.tree_machine.specs.Alike.{places_of};
 ghost use Rattle.tree_machine.specs.Parts.{IsPartBelow};
 ghost use Rattle.tree_machine.specs.Written.{with_part};
 ghost use Rattle.ellen.specs.Range.{IsInRange, IsPlaceInRange};
-ghost use Rattle.ellen.specs.Parts.{word_number, word_record, node_part, record_part, above_number};
-ghost use Rattle.ellen.specs.Parts.{above_node, above_record, search_part, help_number, help_side};
-ghost use Rattle.ellen.specs.Parts.{help_record, help_node, base_number, place_part};
+ghost use Rattle.ellen.specs.Parts.{node_part, record_part, above_node, search_part, place_part};
 ghost use Rattle.ellen.specs.Parts.{ellen_parts, ellen_form, ellen_code, ellen_held_code};
 
 use crate::graph::{are_few, put_few};
 use crate::held::{are_short, put_few_held};
 use crate::memory::{EllenMem, Node, Record, UpdateWord};
-use crate::place::{Above, Base, EllenLoc, HelpLoc, SearchLoc};
+use crate::numbers::{
+    above_node, above_number, above_record, base_number, help_node, help_number, help_record,
+    help_side, named, word_number, word_record,
+};
+use crate::place::{Above, EllenLoc, SearchLoc};
 use sched_program::OutOfMemory;
 use std::alloc::Global;
 use tree_machine::{
-    Bytes, Parts, Room, Side, Thread, Writer, form_parts, write_held_whole, write_parts,
-    write_whole,
+    Bytes, Parts, Room, Thread, Writer, form_parts, write_held_whole, write_parts, write_whole,
 };
-
-/// The number that tells the kind of an update word.
-pub(crate) fn word_number(word: UpdateWord) -> u64
-    ensures number { result ≡ word_number word }
-    ensures small { result < 5 }
-{
-    match word {
-        UpdateWord::Untouched => 0,
-        UpdateWord::Clean(_) => 1,
-        UpdateWord::InsertFlag(_) => 2,
-        UpdateWord::DeleteFlag(_) => 3,
-        UpdateWord::Mark(_) => 4,
-    }
-}
-
-/// A node or record as a part names it.
-fn named(number: u16) -> Option<usize>
-    ensures { result ≡ Some number }
-{
-    Some(number as usize)
-}
-
-/// The record that an update word names.
-fn word_record(word: UpdateWord) -> Option<usize>
-    ensures { result ≡ word_record word }
-{
-    match word {
-        UpdateWord::Untouched => None,
-        UpdateWord::Clean(number)
-        | UpdateWord::InsertFlag(number)
-        | UpdateWord::DeleteFlag(number)
-        | UpdateWord::Mark(number) => named(number),
-    }
-}
 
 /// Writes a node.
 #[inline(always)]
@@ -96,31 +63,6 @@ fn write_record(kept: Record, writer: &mut Writer) -> Result<(), OutOfMemory>
             &[word_record(delete.parent_update)],
         ),
     }
-}
-
-/// The number that tells whether there is a grandparent, and the kind of its update word.
-pub(crate) fn above_number(above: Option<Above>) -> u64
-    ensures number { result ≡ above_number above }
-    ensures small { result < 6 }
-{
-    match above {
-        None => 0,
-        Some(above) => word_number(above.update) + 1,
-    }
-}
-
-/// The grandparent, if there is one.
-fn above_node(above: Option<Above>) -> Option<usize>
-    ensures { result ≡ above_node above }
-{
-    named(above?.node)
-}
-
-/// The record that the update word of the grandparent names.
-fn above_record(above: Option<Above>) -> Option<usize>
-    ensures { result ≡ above_record above }
-{
-    word_record(above?.update)
 }
 
 /// The nodes of the first places of a search: the grandparent, if there is one, and the parent.
@@ -188,79 +130,6 @@ fn write_search(at: SearchLoc, writer: &mut Writer) -> Result<(), OutOfMemory>
             update,
             leaf,
         } => write_delete_flag(above, parent, update, leaf, writer),
-    }
-}
-
-/// The number that tells the kind of a help place.
-pub(crate) fn help_number(at: HelpLoc) -> u64
-    ensures number { result ≡ help_number at }
-    ensures small { result < 8 }
-{
-    match at {
-        HelpLoc::InsChild(_) => 0,
-        HelpLoc::InsClean(_) => 1,
-        HelpLoc::Mark(_) => 2,
-        HelpLoc::Right(_) => 3,
-        HelpLoc::Other { .. } => 4,
-        HelpLoc::Splice { .. } => 5,
-        HelpLoc::DelClean(_) => 6,
-        HelpLoc::Back(_) => 7,
-    }
-}
-
-/// The number that tells the side that a help place holds, or that it holds none.
-pub(crate) fn help_side(at: HelpLoc) -> u64
-    ensures number { result ≡ help_side at }
-    ensures small { result < 3 }
-{
-    match at {
-        HelpLoc::Other {
-            side: Side::Left,
-            ..
-        } => 1,
-        HelpLoc::Other {
-            side: Side::Right,
-            ..
-        } => 2,
-        _ => 0,
-    }
-}
-
-/// The record that a help place carries out.
-pub(crate) fn help_record(at: HelpLoc) -> u16
-    ensures { result ≡ help_record at }
-{
-    match at {
-        HelpLoc::InsChild(record)
-        | HelpLoc::InsClean(record)
-        | HelpLoc::Mark(record)
-        | HelpLoc::Right(record)
-        | HelpLoc::Other { record, .. }
-        | HelpLoc::Splice { record, .. }
-        | HelpLoc::DelClean(record)
-        | HelpLoc::Back(record) => record,
-    }
-}
-
-/// The node that a help place holds beside its record.
-fn help_node(at: HelpLoc) -> Option<usize>
-    ensures { result ≡ help_node at }
-{
-    match at {
-        HelpLoc::Splice { other, .. } => named(other),
-        _ => None,
-    }
-}
-
-/// The number that tells what is done behind the backtracks.
-pub(crate) fn base_number(base: Base) -> u64
-    ensures number { result ≡ base_number base }
-    ensures small { result < 3 }
-{
-    match base {
-        Base::Again => 0,
-        Base::Insert => 1,
-        Base::Delete => 2,
     }
 }
 

@@ -8,8 +8,8 @@ ghost use Rattle.ellen.specs.declared.memory.Node.TheVariants.{Internal};
 ghost use Rattle.ellen.specs.declared.memory.Record.TheVariants.{Ins, Del};
 ghost use Rattle.ellen.specs.Parts.{word_record, node_part, record_part, ellen_parts};
 
-use crate::form::word_number;
 use crate::memory::{DeleteRecord, EllenMem, InsertRecord, Node, Record, UpdateWord};
+use crate::numbers::word_number;
 use sched_program::OutOfMemory;
 use tree_machine::{put_byte, put_key};
 

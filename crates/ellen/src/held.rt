@@ -9,9 +9,9 @@ ghost use Rattle.tree_machine.specs.Parts.{IsPartBelow, part_cell};
 ghost use Rattle.ellen.specs.Parts.{above_node, above_record, search_part, help_node, place_part, held_part};
 ghost use Rattle.ellen.specs.Held.{HasShortStack};
 
-use crate::form::{above_number, base_number, help_number, help_record, help_side, word_number};
 use crate::graph::record_byte;
 use crate::memory::UpdateWord;
+use crate::numbers::{above_number, base_number, help_number, help_record, help_side, word_number};
 use crate::place::{Above, EllenLoc, HelpLoc, Resume, SearchLoc};
 use sched_program::OutOfMemory;
 use tree_machine::{Thread, put_byte, put_reference, put_small};

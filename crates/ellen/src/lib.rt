@@ -8,6 +8,7 @@ mod helping;
 mod initial;
 mod machine;
 mod memory;
+mod numbers;
 mod place;
 mod reading;
 mod searching;

@@ -1,0 +1,140 @@
+//! The numbers and names by which parts tell words, places and bases.
+ghost use Rattle.std.specs.Prelude.{◌≡◌, ◌<◌, Some, IfSome};
+ghost use Rattle.ellen.specs.Parts.{word_number, word_record, above_number, above_node, above_record};
+ghost use Rattle.ellen.specs.Parts.{help_number, help_side, help_record, help_node, base_number};
+
+use crate::memory::UpdateWord;
+use crate::place::{Above, Base, HelpLoc};
+use tree_machine::Side;
+
+/// The number that tells the kind of an update word.
+pub(crate) fn word_number(word: UpdateWord) -> u64
+    ensures number { result ≡ word_number word }
+    ensures small { result < 5 }
+{
+    match word {
+        UpdateWord::Untouched => 0,
+        UpdateWord::Clean(_) => 1,
+        UpdateWord::InsertFlag(_) => 2,
+        UpdateWord::DeleteFlag(_) => 3,
+        UpdateWord::Mark(_) => 4,
+    }
+}
+
+/// A node or record as a part names it.
+pub(crate) fn named(number: u16) -> Option<usize>
+    ensures { result ≡ Some number }
+{
+    Some(number as usize)
+}
+
+/// The record that an update word names.
+pub(crate) fn word_record(word: UpdateWord) -> Option<usize>
+    ensures { result ≡ word_record word }
+{
+    match word {
+        UpdateWord::Untouched => None,
+        UpdateWord::Clean(number)
+        | UpdateWord::InsertFlag(number)
+        | UpdateWord::DeleteFlag(number)
+        | UpdateWord::Mark(number) => named(number),
+    }
+}
+
+/// The number that tells whether there is a grandparent, and the kind of its update word.
+pub(crate) fn above_number(above: Option<Above>) -> u64
+    ensures number { result ≡ above_number above }
+    ensures small { result < 6 }
+{
+    match above {
+        None => 0,
+        Some(above) => word_number(above.update) + 1,
+    }
+}
+
+/// The grandparent, if there is one.
+pub(crate) fn above_node(above: Option<Above>) -> Option<usize>
+    ensures { result ≡ above_node above }
+{
+    named(above?.node)
+}
+
+/// The record that the update word of the grandparent names.
+pub(crate) fn above_record(above: Option<Above>) -> Option<usize>
+    ensures { result ≡ above_record above }
+{
+    word_record(above?.update)
+}
+
+/// The number that tells the kind of a help place.
+pub(crate) fn help_number(at: HelpLoc) -> u64
+    ensures number { result ≡ help_number at }
+    ensures small { result < 8 }
+{
+    match at {
+        HelpLoc::InsChild(_) => 0,
+        HelpLoc::InsClean(_) => 1,
+        HelpLoc::Mark(_) => 2,
+        HelpLoc::Right(_) => 3,
+        HelpLoc::Other { .. } => 4,
+        HelpLoc::Splice { .. } => 5,
+        HelpLoc::DelClean(_) => 6,
+        HelpLoc::Back(_) => 7,
+    }
+}
+
+/// The number that tells the side that a help place holds, or that it holds none.
+pub(crate) fn help_side(at: HelpLoc) -> u64
+    ensures number { result ≡ help_side at }
+    ensures small { result < 3 }
+{
+    match at {
+        HelpLoc::Other {
+            side: Side::Left,
+            ..
+        } => 1,
+        HelpLoc::Other {
+            side: Side::Right,
+            ..
+        } => 2,
+        _ => 0,
+    }
+}
+
+/// The record that a help place carries out.
+pub(crate) fn help_record(at: HelpLoc) -> u16
+    ensures { result ≡ help_record at }
+{
+    match at {
+        HelpLoc::InsChild(record)
+        | HelpLoc::InsClean(record)
+        | HelpLoc::Mark(record)
+        | HelpLoc::Right(record)
+        | HelpLoc::Other { record, .. }
+        | HelpLoc::Splice { record, .. }
+        | HelpLoc::DelClean(record)
+        | HelpLoc::Back(record) => record,
+    }
+}
+
+/// The node that a help place holds beside its record.
+pub(crate) fn help_node(at: HelpLoc) -> Option<usize>
+    ensures { result ≡ help_node at }
+{
+    match at {
+        HelpLoc::Splice { other, .. } => named(other),
+        _ => None,
+    }
+}
+
+/// The number that tells what is done behind the backtracks.
+pub(crate) fn base_number(base: Base) -> u64
+    ensures number { result ≡ base_number base }
+    ensures small { result < 3 }
+{
+    match base {
+        Base::Again => 0,
+        Base::Insert => 1,
+        Base::Delete => 2,
+    }
+}
