@@ -84,7 +84,7 @@ def runnable(program: Path) -> Path:
     """The whole path of a program that runs. The script `treesched` at the top proves and builds it here."""
     path = program.resolve()
     try:
-        words = [path, "explore", EXAMPLES / "two_inserts.json", "--steps", "0"]
+        words = [str(path), "explore", str(EXAMPLES / "two_inserts.json"), "--steps", "0"]
         status = subprocess.run(words, stdout=subprocess.DEVNULL, check=False).returncode
     except OSError as fault:
         raise Unusable(f"{path} does not run: {fault.strerror}") from None
