@@ -7,58 +7,56 @@ ghost use Rattle.ellen.specs.Range.{IsInRange, IsPlaceInRange};
 ghost use Rattle.ellen.specs.Parts.{node_part, record_part, above_node, search_part, place_part};
 ghost use Rattle.ellen.specs.Parts.{ellen_parts, ellen_form, ellen_code, ellen_held_code};
 
-use crate::graph::{are_few, put_few};
-use crate::held::{are_short, put_few_held};
 use crate::memory::{EllenMem, Node, Record, UpdateWord};
 use crate::numbers::{
     above_node, above_number, above_record, base_number, help_node, help_number, help_record,
-    help_side, named, word_number, word_record,
+    help_side, word_number, word_record,
 };
 use crate::place::{Above, EllenLoc, SearchLoc};
 use sched_program::OutOfMemory;
 use std::alloc::Global;
 use tree_machine::{
-    Bytes, Parts, Room, Thread, Writer, form_parts, write_held_whole, write_parts, write_whole,
+    Bytes, Numbering, Parts, Room, Thread, Writer, form_parts, write_held_whole, write_parts, write_whole,
 };
 
 /// Writes a node.
 #[inline(always)]
-fn write_node(node: Node, writer: &mut Writer) -> Result<(), OutOfMemory>
+fn write_node<N: Numbering>(node: Node, writer: &mut Writer<N>) -> Result<(), OutOfMemory>
     requires { IsPartBelow writer.old.nodes writer.old.records (node_part node) }
     ensures { OnOk result (writer.new ≡ with_part writer.old (node_part node)) }
 {
     match node {
-        Node::Leaf { key } => writer.put(&[u64::from(key)], &[], &[]),
+        Node::Leaf { key } => writer.put(&[key], &[], &[]),
         Node::Internal {
             key,
             update,
             left,
             right,
         } => writer.put(
-            &[u64::from(key), word_number(update)],
-            &[named(left), named(right)],
+            &[key, word_number(update)],
+            &[Some(left), Some(right)],
             &[word_record(update)],
         ),
     }
 }
 
 /// Writes a record.
-fn write_record(kept: Record, writer: &mut Writer) -> Result<(), OutOfMemory>
+fn write_record<N: Numbering>(kept: Record, writer: &mut Writer<N>) -> Result<(), OutOfMemory>
     requires { IsPartBelow writer.old.nodes writer.old.records (record_part kept) }
     ensures { OnOk result (writer.new ≡ with_part writer.old (record_part kept)) }
 {
     match kept {
         Record::Ins(insert) => writer.put(
             &[],
-            &[named(insert.parent), named(insert.leaf), named(insert.new)],
+            &[Some(insert.parent), Some(insert.leaf), Some(insert.new)],
             &[],
         ),
         Record::Del(delete) => writer.put(
             &[word_number(delete.parent_update)],
             &[
-                named(delete.grandparent),
-                named(delete.parent),
-                named(delete.leaf),
+                Some(delete.grandparent),
+                Some(delete.parent),
+                Some(delete.leaf),
             ],
             &[word_record(delete.parent_update)],
         ),
@@ -66,19 +64,19 @@ fn write_record(kept: Record, writer: &mut Writer) -> Result<(), OutOfMemory>
 }
 
 /// The nodes of the first places of a search: the grandparent, if there is one, and the parent.
-fn search_nodes(above: Option<Above>, parent: u16) -> [Option<usize>; 2]
+fn search_nodes(above: Option<Above>, parent: u16) -> [Option<u16>; 2]
     ensures { result ≡ above_node above ∷ Some parent ∷ [] }
 {
-    [above_node(above), named(parent)]
+    [above_node(above), Some(parent)]
 }
 
 /// Writes the place at which a delete flags the grandparent.
-fn write_delete_flag(
+fn write_delete_flag<N: Numbering>(
     above: Above,
     parent: u16,
     update: UpdateWord,
     leaf: u16,
-    writer: &mut Writer,
+    writer: &mut Writer<N>,
 ) -> Result<(), OutOfMemory>
     requires { IsPartBelow writer.old.nodes writer.old.records
         (search_part (SearchLoc.DFlag above parent update leaf)) }
@@ -86,14 +84,14 @@ fn write_delete_flag(
 {
     writer.put(
         &[4, word_number(above.update), word_number(update)],
-        &[named(above.node), named(parent), named(leaf)],
+        &[Some(above.node), Some(parent), Some(leaf)],
         &[word_record(above.update), word_record(update)],
     )
 }
 
 /// Writes a place of a search.
 #[inline(always)]
-fn write_search(at: SearchLoc, writer: &mut Writer) -> Result<(), OutOfMemory>
+fn write_search<N: Numbering>(at: SearchLoc, writer: &mut Writer<N>) -> Result<(), OutOfMemory>
     requires { IsPartBelow writer.old.nodes writer.old.records (search_part at) }
     ensures { OnOk result (writer.new ≡ with_part writer.old (search_part at)) }
 {
@@ -118,11 +116,11 @@ fn write_search(at: SearchLoc, writer: &mut Writer) -> Result<(), OutOfMemory>
             leaf,
         } => writer.put(
             &[2, word_number(update)],
-            &[named(parent), named(leaf)],
+            &[Some(parent), Some(leaf)],
             &[word_record(update)],
         ),
         SearchLoc::InsOnly { parent, leaf } => {
-            writer.put(&[3], &[named(parent), named(leaf)], &[])
+            writer.put(&[3], &[Some(parent), Some(leaf)], &[])
         }
         SearchLoc::DFlag {
             above,
@@ -135,7 +133,7 @@ fn write_search(at: SearchLoc, writer: &mut Writer) -> Result<(), OutOfMemory>
 
 /// Writes a place.
 #[inline(always)]
-fn write_place(place: &EllenLoc, writer: &mut Writer) -> Result<(), OutOfMemory>
+fn write_place<N: Numbering>(place: &EllenLoc, writer: &mut Writer<N>) -> Result<(), OutOfMemory>
     requires { IsPartBelow writer.old.nodes writer.old.records (place_part place.now) }
     ensures { OnOk result (writer.new ≡ with_part writer.old (place_part place.now)) }
 {
@@ -146,7 +144,7 @@ fn write_place(place: &EllenLoc, writer: &mut Writer) -> Result<(), OutOfMemory>
             writer.put_with_stack(
                 &[5, help_number(*at), help_side(*at), base],
                 &[help_node(*at)],
-                &[named(help_record(*at))],
+                &[Some(help_record(*at))],
                 resume.stack.as_slice(),
             )
         }
@@ -176,39 +174,20 @@ impl Parts for Snapshot<'_> {
     }
 
     #[inline(always)]
-    fn write_node(&self, index: usize, writer: &mut Writer) -> Result<(), OutOfMemory> {
+    fn write_node<N: Numbering>(&self, index: usize, writer: &mut Writer<N>) -> Result<(), OutOfMemory> {
         write_node(self.memory.nodes.as_slice()[index], writer)
     }
 
     #[inline(always)]
-    fn write_record(&self, index: usize, writer: &mut Writer) -> Result<(), OutOfMemory> {
+    fn write_record<N: Numbering>(&self, index: usize, writer: &mut Writer<N>) -> Result<(), OutOfMemory> {
         match self.memory.records.get(index) {
             Some(kept) => write_record(*kept, writer),
             None => writer.put(&[], &[], &[]),
         }
     }
 
-    fn write_few(&self, bytes: &mut Vec<u8>) -> Result<bool, OutOfMemory> {
-        if are_few(self.memory) {
-            put_few(bytes, self.memory)?;
-            Ok(true)
-        } else {
-            Ok(false)
-        }
-    }
-
-    fn write_few_held(&self, bytes: &mut Vec<u8>) -> Result<bool, OutOfMemory> {
-        if are_few(self.memory) && are_short(self.threads) {
-            let nodes = self.memory.nodes.len();
-            put_few_held(bytes, self.threads, nodes as u8)?;
-            Ok(true)
-        } else {
-            Ok(false)
-        }
-    }
-
     #[inline(always)]
-    fn write_held(&self, index: usize, writer: &mut Writer) -> Result<(), OutOfMemory> {
+    fn write_held<N: Numbering>(&self, index: usize, writer: &mut Writer<N>) -> Result<(), OutOfMemory> {
         match &self.threads[index].place {
             Some(place) => write_place(place, writer),
             None => writer.put(&[], &[], &[]),

@@ -2,8 +2,6 @@
 #![tactic(auto)]
 
 mod form;
-mod graph;
-mod held;
 mod helping;
 mod initial;
 mod machine;

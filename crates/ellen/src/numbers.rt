@@ -8,7 +8,7 @@ use crate::place::{Above, Base, HelpLoc};
 use tree_machine::Side;
 
 /// The number that tells the kind of an update word.
-pub(crate) fn word_number(word: UpdateWord) -> u64
+pub(crate) fn word_number(word: UpdateWord) -> u8
     ensures number { result ≡ word_number word }
     ensures small { result < 5 }
 {
@@ -21,15 +21,8 @@ pub(crate) fn word_number(word: UpdateWord) -> u64
     }
 }
 
-/// A node or record as a part names it.
-pub(crate) fn named(number: u16) -> Option<usize>
-    ensures { result ≡ Some number }
-{
-    Some(number as usize)
-}
-
 /// The record that an update word names.
-pub(crate) fn word_record(word: UpdateWord) -> Option<usize>
+pub(crate) fn word_record(word: UpdateWord) -> Option<u16>
     ensures { result ≡ word_record word }
 {
     match word {
@@ -37,12 +30,12 @@ pub(crate) fn word_record(word: UpdateWord) -> Option<usize>
         UpdateWord::Clean(number)
         | UpdateWord::InsertFlag(number)
         | UpdateWord::DeleteFlag(number)
-        | UpdateWord::Mark(number) => named(number),
+        | UpdateWord::Mark(number) => Some(number),
     }
 }
 
 /// The number that tells whether there is a grandparent, and the kind of its update word.
-pub(crate) fn above_number(above: Option<Above>) -> u64
+pub(crate) fn above_number(above: Option<Above>) -> u8
     ensures number { result ≡ above_number above }
     ensures small { result < 6 }
 {
@@ -53,21 +46,21 @@ pub(crate) fn above_number(above: Option<Above>) -> u64
 }
 
 /// The grandparent, if there is one.
-pub(crate) fn above_node(above: Option<Above>) -> Option<usize>
+pub(crate) fn above_node(above: Option<Above>) -> Option<u16>
     ensures { result ≡ above_node above }
 {
-    named(above?.node)
+    Some(above?.node)
 }
 
 /// The record that the update word of the grandparent names.
-pub(crate) fn above_record(above: Option<Above>) -> Option<usize>
+pub(crate) fn above_record(above: Option<Above>) -> Option<u16>
     ensures { result ≡ above_record above }
 {
     word_record(above?.update)
 }
 
 /// The number that tells the kind of a help place.
-pub(crate) fn help_number(at: HelpLoc) -> u64
+pub(crate) fn help_number(at: HelpLoc) -> u8
     ensures number { result ≡ help_number at }
     ensures small { result < 8 }
 {
@@ -84,7 +77,7 @@ pub(crate) fn help_number(at: HelpLoc) -> u64
 }
 
 /// The number that tells the side that a help place holds, or that it holds none.
-pub(crate) fn help_side(at: HelpLoc) -> u64
+pub(crate) fn help_side(at: HelpLoc) -> u8
     ensures number { result ≡ help_side at }
     ensures small { result < 3 }
 {
@@ -118,17 +111,17 @@ pub(crate) fn help_record(at: HelpLoc) -> u16
 }
 
 /// The node that a help place holds beside its record.
-pub(crate) fn help_node(at: HelpLoc) -> Option<usize>
+pub(crate) fn help_node(at: HelpLoc) -> Option<u16>
     ensures { result ≡ help_node at }
 {
     match at {
-        HelpLoc::Splice { other, .. } => named(other),
+        HelpLoc::Splice { other, .. } => Some(other),
         _ => None,
     }
 }
 
 /// The number that tells what is done behind the backtracks.
-pub(crate) fn base_number(base: Base) -> u64
+pub(crate) fn base_number(base: Base) -> u8
     ensures number { result ≡ base_number base }
     ensures small { result < 3 }
 {

@@ -6,15 +6,13 @@ ghost use Rattle.tree_machine.specs.Written.{with_part};
 ghost use Rattle.natmit.specs.Parts.{mark_number, side_number, owned, part_of, node_part, place_part, natmit_parts};
 ghost use Rattle.natmit.specs.Table.{IsHelping};
 
-use crate::graph::put_few;
-use crate::held::put_few_held;
 use crate::memory::{NatMitMem, Node, Word};
 use crate::place::{Mode, NatMitLoc};
 use sched_program::OutOfMemory;
-use tree_machine::{Parts, Side, Thread, Writer};
+use tree_machine::{Numbering, Parts, Side, Thread, Writer};
 
 /// The number that tells a side.
-pub(crate) fn side_number(side: Side) -> u64
+pub(crate) fn side_number(side: Side) -> u8
     ensures number { result ≡ side_number side }
     ensures small { result < 2 }
 {
@@ -24,55 +22,48 @@ pub(crate) fn side_number(side: Side) -> u64
     }
 }
 
-/// A reference to a node.
-fn named(x: u16) -> Option<usize>
-    ensures { result ≡ Some x }
-{
-    Some(x as usize)
-}
-
 /// A reference to the leaf that the delete flagged, or none.
-fn owned(mode: Mode) -> Option<usize>
+fn owned(mode: Mode) -> Option<u16>
     ensures { result ≡ owned mode }
 {
     match mode {
         Mode::Plain => None,
-        Mode::Owner(leaf) => named(leaf),
+        Mode::Owner(leaf) => Some(leaf),
     }
 }
 
 /// The number that tells the flag and the tag of a child word.
-pub(crate) fn mark_number(word: Word) -> u64
+pub(crate) fn mark_number(word: Word) -> u8
     ensures number { result ≡ mark_number word }
     ensures small { result < 4 }
 {
-    u64::from(word.flag) + 2 * u64::from(word.tag)
+    u8::from(word.flag) + 2 * u8::from(word.tag)
 }
 
 /// Writes a node: its key, and of an internal one its children with their flags and tags.
 #[inline(always)]
-fn write_node(node: Node, writer: &mut Writer) -> Result<(), OutOfMemory>
+fn write_node<N: Numbering>(node: Node, writer: &mut Writer<N>) -> Result<(), OutOfMemory>
     requires { IsPartBelow writer.old.nodes writer.old.records (node_part node) }
     ensures { OnOk result (writer.new ≡ with_part writer.old (node_part node)) }
 {
     match node {
-        Node::Leaf { key } => writer.put(&[u64::from(key)], &[], &[]),
+        Node::Leaf { key } => writer.put(&[key], &[], &[]),
         Node::Internal { key, left, right } => writer.put(
-            &[u64::from(key), mark_number(left) + 4 * mark_number(right)],
-            &[named(left.node), named(right.node)],
+            &[key, mark_number(left) + 4 * mark_number(right)],
+            &[Some(left.node), Some(right.node)],
             &[],
         ),
     }
 }
 
 /// Writes a place that holds four nodes and no other locals.
-fn write_four(
-    place: u64,
+fn write_four<N: Numbering>(
+    place: u8,
     ancestor: u16,
     successor: u16,
     parent: u16,
     leaf: u16,
-    writer: &mut Writer,
+    writer: &mut Writer<N>,
 ) -> Result<(), OutOfMemory>
     requires { IsPartBelow writer.old.nodes writer.old.records
         (part_of (place ∷ []) (Some ancestor ∷ Some successor ∷ Some parent ∷ Some leaf ∷ [])) }
@@ -81,24 +72,19 @@ fn write_four(
 {
     writer.put(
         &[place],
-        &[
-            named(ancestor),
-            named(successor),
-            named(parent),
-            named(leaf),
-        ],
+        &[Some(ancestor), Some(successor), Some(parent), Some(leaf)],
         &[],
     )
 }
 
 /// Writes a place that holds three nodes and a mode, with these facts.
-fn write_three(
-    facts: &[u64],
+fn write_three<N: Numbering>(
+    facts: &[u8],
     ancestor: u16,
     successor: u16,
     node: u16,
     mode: Mode,
-    writer: &mut Writer,
+    writer: &mut Writer<N>,
 ) -> Result<(), OutOfMemory>
     requires { IsPartBelow writer.old.nodes writer.old.records
         (part_of facts.now (Some ancestor ∷ Some successor ∷ Some node ∷ owned mode ∷ [])) }
@@ -107,13 +93,13 @@ fn write_three(
 {
     writer.put(
         facts,
-        &[named(ancestor), named(successor), named(node), owned(mode)],
+        &[Some(ancestor), Some(successor), Some(node), owned(mode)],
         &[],
     )
 }
 
 /// Writes a place at which a flagged leaf is cut off, and its locals.
-fn write_helping(place: NatMitLoc, writer: &mut Writer) -> Result<(), OutOfMemory>
+fn write_helping<N: Numbering>(place: NatMitLoc, writer: &mut Writer<N>) -> Result<(), OutOfMemory>
     requires helping { IsHelping place }
     requires named { IsPartBelow writer.old.nodes writer.old.records (place_part place) }
     ensures { OnOk result (writer.new ≡ with_part writer.old (place_part place)) }
@@ -145,14 +131,14 @@ fn write_helping(place: NatMitLoc, writer: &mut Writer) -> Result<(), OutOfMemor
             flag,
             node,
             mode,
-        } => write_three(&[9, u64::from(flag)], a, s, node, mode, writer),
+        } => write_three(&[9, u8::from(flag)], a, s, node, mode, writer),
         _ => unreachable!(),
     }
 }
 
 /// Writes which place it is, and its locals.
 #[inline(always)]
-fn write_place(place: NatMitLoc, writer: &mut Writer) -> Result<(), OutOfMemory>
+fn write_place<N: Numbering>(place: NatMitLoc, writer: &mut Writer<N>) -> Result<(), OutOfMemory>
     requires { IsPartBelow writer.old.nodes writer.old.records (place_part place) }
     ensures { OnOk result (writer.new ≡ with_part writer.old (place_part place)) }
 {
@@ -166,8 +152,8 @@ fn write_place(place: NatMitLoc, writer: &mut Writer) -> Result<(), OutOfMemory>
             tag,
             mode,
         } => writer.put(
-            &[2, u64::from(tag)],
-            &[named(a), named(s), named(p), named(l), owned(mode)],
+            &[2, u8::from(tag)],
+            &[Some(a), Some(s), Some(p), Some(l), owned(mode)],
             &[],
         ),
         NatMitLoc::Put {
@@ -217,36 +203,29 @@ impl Parts for Snapshot<'_> {
     }
 
     #[inline(always)]
-    fn write_node(&self, index: usize, writer: &mut Writer) -> Result<(), OutOfMemory> {
+    fn write_node<N: Numbering>(
+        &self,
+        index: usize,
+        writer: &mut Writer<N>,
+    ) -> Result<(), OutOfMemory> {
         write_node(self.mem.nodes.as_slice()[index], writer)
     }
 
     #[inline(always)]
-    fn write_record(&self, _index: usize, writer: &mut Writer) -> Result<(), OutOfMemory> {
+    fn write_record<N: Numbering>(
+        &self,
+        _index: usize,
+        writer: &mut Writer<N>,
+    ) -> Result<(), OutOfMemory> {
         writer.put(&[], &[], &[])
     }
 
-    fn write_few(&self, bytes: &mut Vec<u8>) -> Result<bool, OutOfMemory> {
-        let nodes = self.mem.nodes.as_slice();
-        if nodes.len() < 255 {
-            put_few(bytes, nodes)?;
-            Ok(true)
-        } else {
-            Ok(false)
-        }
-    }
-
-    fn write_few_held(&self, bytes: &mut Vec<u8>) -> Result<bool, OutOfMemory> {
-        if self.mem.nodes.len() < 255 && self.threads.len() <= 4 {
-            put_few_held(bytes, self.threads)?;
-            Ok(true)
-        } else {
-            Ok(false)
-        }
-    }
-
     #[inline(always)]
-    fn write_held(&self, index: usize, writer: &mut Writer) -> Result<(), OutOfMemory> {
+    fn write_held<N: Numbering>(
+        &self,
+        index: usize,
+        writer: &mut Writer<N>,
+    ) -> Result<(), OutOfMemory> {
         match self.threads[index].place {
             Some(place) => write_place(place, writer),
             None => writer.put(&[], &[], &[]),

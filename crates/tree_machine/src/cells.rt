@@ -34,47 +34,29 @@ impl Cell {
 
 /// The cells met so far, in the order met, and the place of each in that order.
 #[derive(Drop)]
-pub(crate) struct Numbering {
+struct Order {
     order: Vec<usize>,
     numbers: Vec<Option<usize>>,
     ghost has_places: { HasPlaces order.items numbers.items },
 }
 
-impl Numbering {
+impl Order {
     /// No cell of so many is met yet.
-    pub(crate) fn new(alloc: Global, cells: usize) -> Result<Self, OutOfMemory>
+    fn new(alloc: Global, cells: usize) -> Result<Self, OutOfMemory>
         ensures nothing { IfOk result (λ n. n.order.items ≡ []) }
         ensures range { IfOk result (λ n. length n.numbers.items ≡ cells) }
     {
-        Numbering::none(alloc).restarted(cells)
-    }
-
-    /// No cell is met, of none. It takes no memory.
-    pub(crate) fn none(alloc: Global) -> Self {
-        Numbering {
-            order: Vec::new(alloc),
-            numbers: Vec::new(alloc),
-        }
-    }
-
-    /// No cell of so many is met yet, in the same memory as far as that is enough.
-    pub(crate) fn restarted(self, cells: usize) -> Result<Self, OutOfMemory>
-        ensures nothing { IfOk result (λ n. n.order.items ≡ []) }
-        ensures range { IfOk result (λ n. length n.numbers.items ≡ cells) }
-    {
-        let Numbering {
-            mut order,
-            mut numbers,
-        } = self;
-        order.clear();
-        numbers.clear();
+        let mut numbers = Vec::new(alloc);
         numbers.resize(cells, None)?;
-        Ok(Numbering { order, numbers })
+        Ok(Order {
+            order: Vec::new(alloc),
+            numbers,
+        })
     }
 
     /// Meets a cell, and tells its place.
     #[inline(always)]
-    pub(crate) fn meet(&mut self, cell: usize) -> Result<usize, OutOfMemory>
+    fn meet(&mut self, cell: usize) -> Result<usize, OutOfMemory>
         requires { cell < length self.old.numbers.items }
         ensures order { OnOk result (self.new.order.items ≡ met self.old.order.items cell) }
         ensures place { IfOk result (λ place. place_in (met self.old.order.items cell) cell ≡ Some place) }
@@ -117,7 +99,7 @@ impl Numbering {
     }
 
     /// The cell that was met after so many others, if so many were met.
-    pub(crate) fn cell_at(&self, place: usize) -> Option<usize>
+    fn cell_at(&self, place: usize) -> Option<usize>
         ensures { result ≡ slice_get self.now.order.items place }
     {
         self.order.get(place).copied()
@@ -158,22 +140,22 @@ impl Numbering {
 }
 
 /// Meets the roots, and then what each cell met refers to, in the order met.
-fn walk(alloc: Global, cells: &[Cell], roots: &[usize]) -> Result<Numbering, OutOfMemory>
+fn walk(alloc: Global, cells: &[Cell], roots: &[usize]) -> Result<Order, OutOfMemory>
     requires { IsRooted cells.now roots.now }
     ensures order { IfOk result (λ n. n.order.items ≡ order_of cells.now roots.now) }
     ensures range { IfOk result (λ n. length n.numbers.items ≡ length cells.now) }
 {
-    let mut numbering = Numbering::new(alloc, cells.len())?;
+    let mut order = Order::new(alloc, cells.len())?;
     for root in roots {
-        let _place = numbering.meet(*root)?;
+        let _place = order.meet(*root)?;
     }
     for visits in 0..cells.len() {
-        match numbering.cell_at(visits) {
-            Some(cell) => numbering.visit(cells, cell)?,
+        match order.cell_at(visits) {
+            Some(cell) => order.visit(cells, cell)?,
             None => break,
         }
     }
-    Ok(numbering)
+    Ok(order)
 }
 
 /// The cells that the roots reach, in the order in which a walk meets them, with their places in it as references.

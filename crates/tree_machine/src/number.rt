@@ -1,5 +1,6 @@
-//! Numbers of nodes and records, as others hold them.
-ghost use Rattle.std.specs.Prelude.{◌≡◌, ◌^◌, ◌≤◌, IfOk, IfErr};
+//! Numbers of nodes and records as others hold them, and numbers in bytes.
+ghost use Rattle.std.specs.Prelude.{◌≡◌, ◌^◌, ◌≤◌, ◌++◌, length, IfOk, IfErr, OnOk};
+ghost use Rattle.tree_machine.specs.Flat.{number_code};
 
 use sched_program::OutOfMemory;
 
@@ -23,4 +24,32 @@ pub fn short_number_of(x: usize) -> Result<u16, OutOfMemory>
         Ok(number) => Ok(number),
         Err(_) => Err(OutOfMemory),
     }
+}
+
+/// Puts a number behind bytes: 255 for each 255 in it, and then the rest. Nearly all numbers are small.
+#[inline(always)]
+pub(crate) fn put_number(bytes: &mut Vec<u8>, number: u64) -> Result<(), OutOfMemory>
+    ensures written { OnOk result (bytes.new.items ≡ bytes.old.items ++ number_code number) }
+    ensures longer { length bytes.old.items ≤ length bytes.new.items }
+{
+    if number < 255 {
+        bytes.push(number as u8)?;
+        Ok(())
+    } else {
+        put_large(bytes, number)
+    }
+}
+
+/// Puts a number that may be large behind bytes, as `put_number` does.
+#[cold]
+#[inline(never)]
+fn put_large(bytes: &mut Vec<u8>, number: u64) -> Result<(), OutOfMemory>
+    ensures written { OnOk result (bytes.new.items ≡ bytes.old.items ++ number_code number) }
+    ensures longer { length bytes.old.items ≤ length bytes.new.items }
+{
+    for _whole in 0..number / 255 {
+        bytes.push(255)?;
+    }
+    bytes.push((number % 255) as u8)?;
+    Ok(())
 }

@@ -6,17 +6,20 @@ ghost use Rattle.tree_machine.specs.FormCode.{deeds_code};
 
 use crate::bytes::Bytes;
 use crate::coded::put_deeds;
-use crate::pass::{Pass, put_number};
+use crate::number::put_number;
+use crate::numbering::Walk;
 use crate::state::Thread;
 use sched_program::OutOfMemory;
 use std::alloc::Global;
 use std::marker::Model;
 
-/// Room in which a form is written. Kept from one form to the next, it asks for memory until it is large enough for the
-/// largest of them, and then no more. Contracts see the bytes that stand in it.
+/// A buffer in which forms and labels are written, with the walk by which a form numbers its cells. Kept from one to the
+/// next, it asks for memory until it is large enough for the largest of them, and then no more. Contracts see the bytes
+/// that stand in it.
 #[derive(Drop)]
 pub struct Room {
-    pub(crate) pass: Pass,
+    pub(crate) bytes: Vec<u8>,
+    pub(crate) walk: Walk,
 }
 
 impl Model for Room {
@@ -24,7 +27,7 @@ impl Model for Room {
 
     ghost Value = { List ℕ };
 
-    ghost view = { λ r. r.pass.bytes.items };
+    ghost view = { λ r. r.bytes.items };
 }
 
 impl Room {
@@ -33,7 +36,8 @@ impl Room {
         ensures { result ≡ [] }
     {
         Room {
-            pass: Pass::none(alloc),
+            bytes: Vec::new(alloc),
+            walk: Walk::none(alloc),
         }
     }
 
@@ -41,14 +45,14 @@ impl Room {
     pub(crate) fn clear(&mut self)
         ensures { self.new ≡ [] }
     {
-        self.pass.bytes.clear();
+        self.bytes.clear();
     }
 
     /// The bytes.
     pub fn as_slice(&self) -> &[u8]
         ensures { result.now ≡ self.now }
     {
-        self.pass.bytes.as_slice()
+        self.bytes.as_slice()
     }
 
     /// Puts bytes behind those that stand there. After a refusal these are as they were.
@@ -56,7 +60,7 @@ impl Room {
         ensures ok { OnOk result (self.new ≡ self.old ++ bytes.now) }
         ensures err { OnErr result (self.new ≡ self.old) }
     {
-        self.pass.bytes.extend_from_slice(bytes)?;
+        self.bytes.extend_from_slice(bytes)?;
         Ok(())
     }
 
@@ -64,14 +68,14 @@ impl Room {
     pub(crate) fn into_bytes(self) -> Bytes
         ensures { result ≡ self }
     {
-        Bytes::from_vec(self.pass.bytes)
+        Bytes::from_vec(self.bytes)
     }
 
     /// Puts a number behind the bytes.
     pub(crate) fn put_number(&mut self, number: u64) -> Result<(), OutOfMemory>
         ensures { OnOk result (self.new ≡ self.old ++ number_code number) }
     {
-        put_number(&mut self.pass.bytes, number)
+        put_number(&mut self.bytes, number)
     }
 
     /// Puts what the threads did, and who went astray, behind the bytes.
@@ -84,6 +88,6 @@ impl Room {
         ensures { OnOk result (self.new
             ≡ self.old ++ deeds_code (replies_of threads.now) (notes_of threads.now) astray) }
     {
-        put_deeds(&mut self.pass.bytes, threads, astray)
+        put_deeds(&mut self.bytes, threads, astray)
     }
 }

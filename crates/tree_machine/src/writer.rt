@@ -1,19 +1,21 @@
-//! Parts in bytes, each written as it is visited.
-ghost use Rattle.std.specs.Prelude.{◌≡◌, ◌<◌, ◌≤◌, ◌+◌, ◌^◌, ◌++◌, Some};
-ghost use Rattle.std.specs.Prelude.{length, map, take, slice_get, IfOk, OnOk};
-ghost use Rattle.tree_machine.specs.CellsMet.{cells_to_meet};
-ghost use Rattle.tree_machine.specs.Graphs.{numbers_from};
+//! Parts in bytes, one behind the other.
+ghost use Rattle.std.specs.Prelude.{◌≡◌, ◌<◌, ◌≤◌, ◌+◌, ◌*◌, ◌++◌, ◌∷◌, [], Some};
+ghost use Rattle.std.specs.Prelude.{length, map, take, slice_get, IfOk, IfSome, OnOk};
+ghost use Rattle.std.specs.List.{All, flat_map};
+ghost use Rattle.std.specs.Option.{option_map, option_and_then};
+ghost use Rattle.tree_machine.specs.Cells.{met_all, place_in};
+ghost use Rattle.tree_machine.specs.Flat.{number_code, short_head, long_code, facts_code, reference_number};
 ghost use Rattle.tree_machine.specs.Parts.{IsPartBelow};
 ghost use Rattle.tree_machine.specs.Written.{with_part};
 
-use crate::few::are_small;
-use crate::met::Met;
-use crate::pass::{Pass, put_facts, short_head};
+use crate::fixed::{put_byte, put_number_byte};
+use crate::number::put_number;
+use crate::numbering::{Numbering, Walk};
 use sched_program::OutOfMemory;
 use std::marker::Model;
 
-/// The most bytes that a part with a head of one byte takes.
-const SHORT_PART: usize = 12;
+/// The most bytes that a part with a head of one byte takes: the head, four facts of at most two bytes, seven names.
+const SHORT_PART: usize = 16;
 
 /// As many zeros as bytes are lengthened by at once.
 static ZEROS: [u8; 256] = [0; 256];
@@ -46,23 +48,196 @@ fn make_room(bytes: &mut Vec<u8>, at: usize) -> Result<(), OutOfMemory>
     }
 }
 
-/// What parts are written to: the cells met so far, and the parts written so far, in bytes.
+/// What one byte says of a part: how many nodes it names, how many facts it has, and how many nodes and records it names.
+/// None where they are more than that.
+#[inline(always)]
+fn short_head(nodes: usize, facts: usize, named: usize) -> Option<u8>
+    ensures head { result ≡ short_head nodes facts named }
+    ensures few { IfSome result (λ _. (facts < 5) × (named < 8)) }
+{
+    if nodes < 6 && facts < 5 && named < 8 {
+        Some((facts + 5 * nodes + 30 * named) as u8)
+    } else {
+        None
+    }
+}
+
+/// Puts facts into a slice, and returns the place behind them.
+#[inline(always)]
+fn put_facts(bytes: &mut [u8], start: usize, facts: &[u8]) -> usize
+    requires { start + 2 * length facts.now ≤ length bytes.old }
+    ensures place { result ≤ start + 2 * length facts.now }
+    ensures written { take result bytes.new ≡ take start bytes.old ++ flat_map number_code facts.now }
+    ensures length { length bytes.new ≡ length bytes.old }
+{
+    let mut at = start;
+    for fact in facts {
+        at = put_number_byte(bytes, at, *fact);
+    }
+    at
+}
+
+/// Puts what stands in front of a part's names where one byte can't say it, makes room for the names, and returns the place
+/// behind the facts.
+#[cold]
+#[inline(never)]
+fn put_long_front(
+    bytes: &mut Vec<u8>,
+    start: usize,
+    nodes: usize,
+    named: usize,
+    facts: &[u8],
+) -> Result<usize, OutOfMemory>
+    requires { start ≤ length bytes.old.items }
+    ensures written { IfOk result (λ end. take end bytes.new.items
+        ≡ take start bytes.old.items ++ long_code (nodes ∷ facts.now) named) }
+    ensures room { IfOk result (λ end. end + named ≤ length bytes.new.items) }
+    ensures longer { start ≤ length bytes.new.items }
+{
+    bytes.truncate(start);
+    bytes.push(255)?;
+    put_number(bytes, facts.len() as u64 + 1)?;
+    put_number(bytes, named as u64)?;
+    put_number(bytes, nodes as u64)?;
+    for fact in facts {
+        put_number(bytes, u64::from(*fact))?;
+    }
+    let end = bytes.len();
+    let room = end.checked_add(named).ok_or(OutOfMemory)?;
+    bytes.resize(room, 0)?;
+    Ok(end)
+}
+
+/// Puts what stands in front of a part's names: how many nodes and how many nodes and records it names, and its facts. Makes
+/// room for the names, and returns the place behind the facts.
+#[inline(always)]
+fn put_front(
+    bytes: &mut Vec<u8>,
+    start: usize,
+    nodes: usize,
+    named: usize,
+    facts: &[u8],
+) -> Result<usize, OutOfMemory>
+    requires { start ≤ length bytes.old.items }
+    ensures written { IfOk result (λ end. take end bytes.new.items
+        ≡ take start bytes.old.items ++ facts_code (nodes ∷ facts.now) named) }
+    ensures room { IfOk result (λ end. end + named ≤ length bytes.new.items) }
+    ensures longer { start ≤ length bytes.new.items }
+{
+    match short_head(nodes, facts.len(), named) {
+        Some(head) => {
+            make_room(bytes, start)?;
+            let slice = bytes.as_mut_slice();
+            let at = put_byte(slice, start, head);
+            Ok(put_facts(slice, at, facts))
+        }
+        None => put_long_front(bytes, start, nodes, named, facts),
+    }
+}
+
+/// Puts the number of what is named, or 0 for none, into a slice, and returns the place behind it.
+#[inline(always)]
+fn put_name<N: Numbering>(
+    numbering: &mut N,
+    bytes: &mut [u8],
+    at: usize,
+    name: Option<usize>,
+) -> usize
+    requires known { IfSome name (λ x. x < N.cells numbering.old) }
+    requires room { at < length bytes.old }
+    ensures place { result ≡ at + 1 }
+    ensures order { N.order numbering.new ≡ met_all (N.order numbering.old) (name ∷ []) }
+    ensures bytes { take result bytes.new ≡ take at bytes.old
+        ++ number_code (reference_number (option_and_then (place_in (N.order numbering.new)) name)) }
+    ensures length { length bytes.new ≡ length bytes.old }
+    ensures cells { N.cells numbering.new ≡ N.cells numbering.old }
+{
+    match name {
+        Some(cell) => {
+            let number = numbering.number(cell);
+            put_byte(bytes, at, number)
+        }
+        None => put_byte(bytes, at, 0),
+    }
+}
+
+/// Puts names one behind the other, of cells that stand behind so many others, and returns the place behind them.
+#[inline(always)]
+fn put_names<N: Numbering>(
+    numbering: &mut N,
+    bytes: &mut [u8],
+    start: usize,
+    first: usize,
+    names: &[Option<u16>],
+) -> usize
+    requires known { All (λ r. IfSome r (λ x. first + x < N.cells numbering.old)) names.now }
+    requires room { start + length names.now ≤ length bytes.old }
+    ensures place { result ≡ start + length names.now }
+    ensures order { N.order numbering.new
+        ≡ met_all (N.order numbering.old) (map (option_map (λ x. first + x)) names.now) }
+    ensures bytes { take result bytes.new ≡ take start bytes.old
+        ++ flat_map number_code (map reference_number
+        (map (option_and_then (place_in (N.order numbering.new)))
+        (map (option_map (λ x. first + x)) names.now))) }
+    ensures length { length bytes.new ≡ length bytes.old }
+    ensures cells { N.cells numbering.new ≡ N.cells numbering.old }
+{
+    let mut at = start;
+    for name in names {
+        let cell = match name {
+            Some(number) => Some(first + *number as usize),
+            None => None,
+        };
+        at = put_name(numbering, bytes, at, cell);
+    }
+    at
+}
+
+/// Puts the names of a stack, as `put_names` puts names that may be none.
+#[inline(always)]
+fn put_stack<N: Numbering>(
+    numbering: &mut N,
+    bytes: &mut [u8],
+    start: usize,
+    first: usize,
+    stack: &[u16],
+) -> usize
+    requires known { All (λ x. first + x < N.cells numbering.old) stack.now }
+    requires room { start + length stack.now ≤ length bytes.old }
+    ensures place { result ≡ start + length stack.now }
+    ensures order { N.order numbering.new
+        ≡ met_all (N.order numbering.old) (map (option_map (λ x. first + x)) (map Some stack.now)) }
+    ensures bytes { take result bytes.new ≡ take start bytes.old
+        ++ flat_map number_code (map reference_number
+        (map (option_and_then (place_in (N.order numbering.new)))
+        (map (option_map (λ x. first + x)) (map Some stack.now)))) }
+    ensures length { length bytes.new ≡ length bytes.old }
+    ensures cells { N.cells numbering.new ≡ N.cells numbering.old }
+{
+    let mut at = start;
+    for number in stack {
+        at = put_name(numbering, bytes, at, Some(first + *number as usize));
+    }
+    at
+}
+
+/// What parts are written to. The numbering says which numbers stand for what the parts name.
 ///
-/// Contracts see it as these two lists, with how many nodes and records there are. What is written ends at a place in the
-/// bytes: behind it some of these are of no use yet, so that most parts find room.
+/// Contracts see the cells met so far, and the bytes written so far, with how many nodes and records there are. What is
+/// written ends at a place in the bytes: behind it some of these are of no use yet, so that most parts find room.
 #[derive(Drop)]
-pub struct Writer {
-    pass: Pass,
+pub struct Writer<N: Numbering> {
+    numbering: N,
+    bytes: Vec<u8>,
     at: usize,
     nodes: usize,
     records: usize,
-    ghost room: { nodes + records ≤ cells_to_meet pass.met },
-    ghost within: { at ≤ length pass.bytes.items },
+    ghost room: { nodes + records ≤ N.cells numbering },
+    ghost within: { at ≤ length bytes.items },
 }
 
-impl Model for Writer {
+impl<N: Numbering> Model for Writer<N> {
     ghost use Rattle.std.specs.Prelude.{take};
-    ghost use Rattle.tree_machine.specs.CellsMet.{order_met};
     ghost use Rattle.tree_machine.specs.Written.{Written};
 
     ghost Value = { Written };
@@ -70,76 +245,46 @@ impl Model for Writer {
     ghost view = { λ w. record {
       nodes = w.nodes;
       records = w.records;
-      order = order_met w.pass.met;
-      bytes = take w.at w.pass.bytes.items;
+      order = N.order w.numbering;
+      bytes = take w.at w.bytes.items;
     } };
 }
 
-impl Writer {
-    /// Nothing is written behind these bytes, and the roots are met: the first nodes and records, as many as are fixed,
-    /// and what the threads hold.
+impl<N: Numbering> Writer<N> {
+    /// Writes behind these bytes what names so many nodes and records, which are the first cells of the numbering.
     #[inline(always)]
-    pub(crate) fn behind(
-        pass: Pass,
-        fixed: usize,
-        nodes: usize,
-        records: usize,
-        held: usize,
-    ) -> Result<Self, OutOfMemory>
-        requires fixed { fixed ≤ nodes + records }
-        requires fits { nodes + records + held < 2 ^ 64 }
-        ensures nodes { IfOk result (λ writer. writer.nodes ≡ nodes) }
-        ensures records { IfOk result (λ writer. writer.records ≡ records) }
-        ensures order { IfOk result (λ writer. writer.order
-            ≡ numbers_from 0 fixed ++ numbers_from (nodes + records) held) }
-        ensures bytes { IfOk result (λ writer. writer.bytes ≡ pass.bytes.items) }
+    pub(crate) fn behind(numbering: N, bytes: Vec<u8>, nodes: usize, records: usize) -> Self
+        requires { nodes + records ≤ N.cells numbering }
+        ensures { result ≡ record {
+          nodes = nodes;
+          records = records;
+          order = N.order numbering;
+          bytes = bytes.items;
+        } }
     {
-        let graph = nodes + records;
-        let mut pass = pass.restarted(graph + held)?;
-        pass.meet_range(0, fixed)?;
-        pass.meet_range(graph, held)?;
-        let at = pass.bytes.len();
-        Ok(Writer {
-            pass,
-            at,
-            nodes,
-            records,
-        })
-    }
-
-    /// Nothing is written behind these bytes, and all nodes and records are met, in the order of their numbers.
-    pub(crate) fn of_all(pass: Pass, nodes: usize, records: usize) -> Self
-        requires { nodes + records < 2 ^ 64 }
-        ensures nodes { result.nodes ≡ nodes }
-        ensures records { result.records ≡ records }
-        ensures order { result.order ≡ numbers_from 0 (nodes + records) }
-        ensures bytes { result.bytes ≡ pass.bytes.items }
-    {
-        let at = pass.bytes.len();
+        let at = bytes.len();
         Writer {
-            pass: pass.of_all(nodes + records),
+            numbering,
+            bytes,
             at,
             nodes,
             records,
         }
     }
 
-    /// The cell that was met after so many others, if so many were met.
+    /// The numbering and the bytes, for whoever needs their memory.
     #[inline(always)]
-    pub(crate) fn cell_at(&self, place: usize) -> Option<usize>
-        ensures { result ≡ slice_get self.now.order place }
+    pub(crate) fn into_parts(self) -> (N, Vec<u8>)
+        ensures { result.1.items ≡ self.bytes }
     {
-        self.pass.met.cell_at(place)
-    }
-
-    /// The cells met and the bytes.
-    #[inline(always)]
-    pub(crate) fn into_pass(self) -> Pass
-        ensures { result.bytes.items ≡ self.bytes }
-    {
-        let Writer { mut pass, at, .. } = self;
-        pass.bytes.truncate(at);
-        pass
+        let Writer {
+            numbering,
+            mut bytes,
+            at,
+            ..
+        } = self;
+        bytes.truncate(at);
+        (numbering, bytes)
     }
 
     /// Writes the part of these facts, nodes and records.
@@ -149,9 +294,9 @@ impl Writer {
     #[inline(always)]
     pub fn put(
         &mut self,
-        facts: &[u64],
-        nodes: &[Option<usize>],
-        records: &[Option<usize>],
+        facts: &[u8],
+        nodes: &[Option<u16>],
+        records: &[Option<u16>],
     ) -> Result<(), OutOfMemory>
         requires { IsPartBelow self.old.nodes self.old.records
             (record { facts = facts.now; nodes = nodes.now; records = records.now }) }
@@ -168,9 +313,9 @@ impl Writer {
     #[inline(always)]
     pub fn put_with_stack(
         &mut self,
-        facts: &[u64],
-        nodes: &[Option<usize>],
-        records: &[Option<usize>],
+        facts: &[u8],
+        nodes: &[Option<u16>],
+        records: &[Option<u16>],
         stack: &[u16],
     ) -> Result<(), OutOfMemory>
         requires { IsPartBelow self.old.nodes self.old.records
@@ -181,45 +326,21 @@ impl Writer {
     {
         let behind = self.nodes;
         let named = nodes.len() + records.len() + stack.len();
-        if let Some(head) = short_head(nodes.len(), facts.len(), named)
-            && are_small(facts)
-            && let Met::Few(few) = &mut self.pass.met
-        {
-            make_room(&mut self.pass.bytes, self.at)?;
-            let bytes = self.pass.bytes.as_mut_slice();
-            self.at = few.put_part(bytes, self.at, head, facts, nodes, behind, records, stack)?;
-            Ok(())
-        } else {
-            self.put_long(facts, nodes, records, stack)
-        }
-    }
-
-    /// Does the same where some number may be more than one byte, or no byte tells what is in the part.
-    #[cold]
-    #[inline(never)]
-    fn put_long(
-        &mut self,
-        facts: &[u64],
-        nodes: &[Option<usize>],
-        records: &[Option<usize>],
-        stack: &[u16],
-    ) -> Result<(), OutOfMemory>
-        requires { IsPartBelow self.old.nodes self.old.records
-            (record { facts = facts.now; nodes = nodes.now; records = records.now ++ map Some stack.now }) }
-        ensures { OnOk result (self.new
-            ≡ with_part self.old
-            (record { facts = facts.now; nodes = nodes.now; records = records.now ++ map Some stack.now })) }
-    {
-        let behind = self.nodes;
-        let named = nodes.len() + records.len() + stack.len();
-        self.pass.bytes.truncate(self.at);
-        // Whatever is refused below, what is written ends within the bytes.
-        self.at = 0;
-        put_facts(&mut self.pass.bytes, nodes.len(), named, facts)?;
-        self.pass.put_references(0, nodes)?;
-        self.pass.put_references(behind, records)?;
-        self.pass.put_cells(behind, stack)?;
-        self.at = self.pass.bytes.len();
+        let start = put_front(&mut self.bytes, self.at, nodes.len(), named, facts)?;
+        let bytes = self.bytes.as_mut_slice();
+        let nodes_end = put_names(&mut self.numbering, bytes, start, 0, nodes);
+        let records_end = put_names(&mut self.numbering, bytes, nodes_end, behind, records);
+        self.at = put_stack(&mut self.numbering, bytes, records_end, behind, stack);
         Ok(())
+    }
+}
+
+impl Writer<Walk> {
+    /// The cell that was met after so many others, if so many were met.
+    #[inline(always)]
+    pub(crate) fn cell_at(&self, place: usize) -> Option<usize>
+        ensures { result ≡ slice_get self.now.order place }
+    {
+        self.numbering.cell_at(place)
     }
 }

@@ -3,4 +3,4 @@ use Rattle.std.proofs.Common.{rules}
 use Rattle.ellen.proofs.form.write_place.Goals as goal
 
 pub returns-in-Search : goal.returns-in-Search
-returns-in-Search c = search rules
+returns-in-Search g c = search rules
