@@ -113,7 +113,7 @@ nothing_met order numbers e f =
     subst (λ o. HasNumbers o numbers) (sym e) (subst (HasNumbers []) (sym f) (none_met 0))
 
 -- the number of a cell that was met is small, as the order is short
-pub number_small : (order numbers : List ℕ) (x r : ℕ) → HasNumbers order numbers → x < length numbers
+number_small : (order numbers : List ℕ) (x r : ℕ) → HasNumbers order numbers → x < length numbers
     → r ≡ get_or numbers x r → 0 < r → length order < 255 → r < 255
 number_small order numbers x r h l e some few =
     omega (
@@ -123,6 +123,12 @@ number_small order numbers x r h l e some few =
       few,
       some,
     )
+
+-- none is 0
+pub number_few : (order numbers : List ℕ) (x r : ℕ) → HasNumbers order numbers → x < length numbers
+    → r ≡ get_or numbers x r → length order < 255 → r < 255
+number_few order numbers x zero h l e few = omega arith
+number_few order numbers x (suc r) h l e few = number_small order numbers x (suc r) h l e (omega arith) few
 
 -- a head of one byte with facts
 pub headed_short : (head n named : ℕ) (facts b c d : List ℕ) → short_head n (length facts) named ≡ Some head

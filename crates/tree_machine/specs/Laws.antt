@@ -2,6 +2,9 @@
 pub mod Atomic
 pub mod AtomicCode
 pub mod ByteLists
+pub mod Canonical
+pub mod CanonicalCells
+pub mod CanonicalCodes
 pub mod CellLists
 pub mod CellOrder
 pub mod CellPlaces
@@ -12,10 +15,12 @@ pub mod Flat
 pub mod FormCode
 pub mod Graphs
 pub mod InitialKeys
+pub mod MetLists
 pub mod Packed
 pub mod PairLists
 pub mod PartCells
 pub mod Parts
+pub mod PartsBy
 pub mod SearchOrder
 pub mod SearchOrderKept
 pub mod SearchOrderPairs

@@ -1,5 +1,5 @@
 //! Numbers of nodes and records as others hold them, and numbers in bytes.
-ghost use Rattle.std.specs.Prelude.{◌≡◌, ◌^◌, ◌≤◌, ◌++◌, length, IfOk, IfErr, OnOk};
+ghost use Rattle.std.specs.Prelude.{◌≡◌, ◌^◌, ◌≤◌, ◌+◌, ◌++◌, length, IfOk, IfErr, OnOk};
 ghost use Rattle.tree_machine.specs.Flat.{number_code};
 
 use sched_program::OutOfMemory;
@@ -24,6 +24,13 @@ pub fn short_number_of(x: usize) -> Result<u16, OutOfMemory>
         Ok(number) => Ok(number),
         Err(_) => Err(OutOfMemory),
     }
+}
+
+/// The sum of two counts. It takes no memory: one that does not fit is refused as memory is.
+pub(crate) fn sum_of(some: usize, more: usize) -> Result<usize, OutOfMemory>
+    ensures { IfOk result (λ sum. sum ≡ some + more) }
+{
+    some.checked_add(more).ok_or(OutOfMemory)
 }
 
 /// Puts a number behind bytes: 255 for each 255 in it, and then the rest. Nearly all numbers are small.

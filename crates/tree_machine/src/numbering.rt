@@ -1,9 +1,10 @@
-//! The numbers by which bytes name cells: each cell's own, or one that it gets when a walk first meets it.
-ghost use Rattle.std.specs.Prelude.{◌≡◌, ◌<◌, ◌≤◌, ◌+◌, ◌-◌, ◌++◌, ℕ, List, [], Some, length, slice_get, vec_capacity};
-ghost use Rattle.std.specs.Prelude.{IfOk, OnOk, nat_eq};
-ghost use Rattle.std.specs.List.{All, IsDistinct};
+//! The numbers by which bytes name cells: each cell's own, or its place in the order in which a walk meets cells.
+ghost use Rattle.std.specs.Prelude.{◌≡◌, ◌<◌, ◌≤◌, ◌+◌, ◌-◌, ◌++◌, ◌&&◌, [], Some, length, slice_get, vec_capacity};
+ghost use Rattle.std.specs.Prelude.{IfOk, nat_eq, nat_le, nat_lt};
+ghost use Rattle.std.specs.List.{All, IsDistinct, filter};
 ghost use Rattle.std.proofs.Props.{props};
 ghost use Rattle.tree_machine.specs.Cells.{met, place_in};
+ghost use Rattle.tree_machine.specs.Flat.{reference_number};
 ghost use Rattle.tree_machine.specs.Graphs.{numbers_from};
 ghost use Rattle.tree_machine.specs.Numbered.{HasNumbers};
 ghost use Rattle.tree_machine.specs.declared.numbering.TheConstants.{CELLS_BELOW};
@@ -11,68 +12,13 @@ ghost use Rattle.tree_machine.specs.declared.numbering.TheConstants.{CELLS_BELOW
 use sched_program::OutOfMemory;
 use std::alloc::Global;
 
-/// Bytes name fewer cells than this, so that the number of each, one more than its place in the order met, is one byte
-/// below 255.
-pub(crate) const CELLS_BELOW: usize = 254;
+/// Bytes name fewer cells than this, so that the number of each, one more than its place, is one byte below 255.
+const CELLS_BELOW: usize = 254;
 
-/// How bytes number the cells that they name.
-pub trait Numbering: Drop {
-    /// The cells met so far, in the order met.
-    ghost order: { Self → List ℕ };
-
-    /// How many cells there are to meet.
-    ghost cells: { Self → ℕ };
-
-    /// The number of a cell, which is met if it was not: one more than its place in the order.
-    fn number(&mut self, cell: usize) -> u8
-        requires { cell < cells self.old }
-        ensures order { order self.new ≡ met (order self.old) cell }
-        ensures place { place_in (met (order self.old) cell) cell ≡ Some (result - 1) }
-        ensures some { 0 < result }
-        ensures small { result < 255 }
-        ensures cells { cells self.new ≡ cells self.old };
-
-    /// One byte is enough for each number.
-    ghost few: { (numbering : Self) → cells numbering < CELLS_BELOW };
-}
-
-/// All of so many cells are met, in the order of their own numbers.
+/// Cells in an order, and the number of each cell: one more than its place in that order, or 0 where it has none. There
+/// is room for the whole order from the beginning.
 #[derive(Drop)]
-pub struct Own {
-    cells: usize,
-    ghost few: { cells < CELLS_BELOW },
-}
-
-impl Own {
-    /// The numbering of so many cells. It takes no memory: more than bytes can name are refused as memory is.
-    pub(crate) fn of(cells: usize) -> Result<Own, OutOfMemory>
-        ensures { IfOk result (λ own. own.cells ≡ cells) }
-    {
-        if cells < CELLS_BELOW {
-            Ok(Own { cells })
-        } else {
-            Err(OutOfMemory)
-        }
-    }
-}
-
-impl Numbering for Own {
-    ghost order = { λ own. numbers_from 0 own.cells };
-
-    ghost cells = { λ own. own.cells };
-
-    #[inline(always)]
-    fn number(&mut self, cell: usize) -> u8 {
-        cell as u8 + 1
-    }
-
-    ghost few = { λ own. own.few };
-}
-
-/// The cells that a walk met, in the order met, and the number of each cell, or 0 where it is not met. There is room for
-/// the whole order from the beginning.
-#[derive(Drop)]
-pub struct Walk {
+pub(crate) struct Numbering {
     order: Vec<u8>,
     numbers: Vec<u8>,
     ghost has_numbers: { HasNumbers order.items numbers.items },
@@ -82,25 +28,28 @@ pub struct Walk {
     ghost room: { length numbers.items ≤ vec_capacity order },
 }
 
-impl Walk {
-    /// A walk of no cells. It takes no memory.
-    pub(crate) fn none(alloc: Global) -> Walk {
-        Walk {
+impl Numbering {
+    /// The numbering of no cells. It takes no memory.
+    pub(crate) fn none(alloc: Global) -> Numbering
+        ensures order { result.order.items ≡ [] }
+        ensures cells { result.numbers.items ≡ [] }
+    {
+        Numbering {
             order: Vec::new(alloc),
             numbers: Vec::new(alloc),
         }
     }
 
-    /// A walk of so many cells that met none yet, in the same memory as far as that is enough. More cells than bytes can
-    /// name are refused as memory is.
-    pub(crate) fn restarted(self, cells: usize) -> Result<Walk, OutOfMemory>
-        ensures nothing { IfOk result (λ walk. walk.order.items ≡ []) }
-        ensures cells { IfOk result (λ walk. length walk.numbers.items ≡ cells) }
+    /// None of so many cells has a number yet. The memory serves again, as far as that is enough. More cells than bytes
+    /// can name are refused as memory is.
+    pub(crate) fn restarted(self, cells: usize) -> Result<Numbering, OutOfMemory>
+        ensures nothing { IfOk result (λ n. n.order.items ≡ []) }
+        ensures cells { IfOk result (λ n. length n.numbers.items ≡ cells) }
     {
         if cells >= CELLS_BELOW {
             return Err(OutOfMemory);
         }
-        let Walk {
+        let Numbering {
             mut order,
             mut numbers,
         } = self;
@@ -108,29 +57,35 @@ impl Walk {
         order.reserve(cells)?;
         numbers.clear();
         numbers.resize(cells, 0)?;
-        Ok(Walk { order, numbers })
+        Ok(Numbering { order, numbers })
     }
 
-    /// Meets a cell for the first time, and returns its number.
+    /// Gives a cell that has no number the next one.
     #[inline(always)]
-    fn meet(&mut self, cell: usize) -> u8
+    fn assign(&mut self, cell: usize)
         requires known { cell < length self.old.numbers.items }
         requires absent { slice_get self.old.numbers.items cell ≡ Some 0 }
         ensures order { self.new.order.items ≡ met self.old.order.items cell }
-        ensures place { place_in (met self.old.order.items cell) cell ≡ Some (result - 1) }
-        ensures some { 0 < result }
-        ensures small { result < 255 }
         ensures cells { length self.new.numbers.items ≡ length self.old.numbers.items }
     {
         let place = self.order.len();
         self.order.push_reserved(cell as u8);
-        let number = place as u8 + 1;
-        self.numbers[cell] = number;
-        number
+        self.numbers[cell] = place as u8 + 1;
+    }
+
+    /// Puts a cell at the end of the order, unless it stands there.
+    #[inline(always)]
+    pub(crate) fn meet(&mut self, cell: usize)
+        requires { cell < length self.old.numbers.items }
+        ensures order { self.new.order.items ≡ met self.old.order.items cell }
+        ensures cells { length self.new.numbers.items ≡ length self.old.numbers.items }
+    {
+        if self.numbers[cell] == 0 {
+            self.assign(cell);
+        }
     }
 
     /// Meets so many cells from one on, all behind those met before.
-    #[inline(always)]
     pub(crate) fn meet_range(&mut self, first: usize, count: usize)
         requires in_range { first + count ≤ length self.old.numbers.items }
         requires behind { All (λ x. x < first) self.old.order.items }
@@ -138,11 +93,43 @@ impl Walk {
         ensures cells { length self.new.numbers.items ≡ length self.old.numbers.items }
     {
         for i in 0..count {
-            let _number = self.number(first + i);
+            self.meet(first + i);
         }
     }
 
-    /// The cell that was met after so many others, if so many were met.
+    /// Meets the cells of an order that are at least `low` and below `high`, behind those met before, all of which are
+    /// below `low`.
+    pub(crate) fn meet_between(&mut self, order: &Numbering, low: usize, high: usize)
+        requires within { high ≤ length self.old.numbers.items }
+        requires behind { All (λ x. x < low) self.old.order.items }
+        ensures order { self.new.order.items ≡ self.old.order.items
+            ++ filter (λ x. nat_le low x && nat_lt x high) order.now.order.items }
+        ensures cells { length self.new.numbers.items ≡ length self.old.numbers.items }
+    {
+        for place in 0..order.order.len() {
+            let cell = usize::from(order.order[place]);
+            if low <= cell && cell < high {
+                self.meet(cell);
+            }
+        }
+    }
+
+    /// How many cells there are.
+    pub(crate) fn cells(&self) -> usize
+        ensures { result ≡ length self.now.numbers.items }
+    {
+        self.numbers.len()
+    }
+
+    /// How many cells the order has.
+    #[inline(always)]
+    pub(crate) fn len(&self) -> usize
+        ensures { result ≡ length self.now.order.items }
+    {
+        self.order.len()
+    }
+
+    /// The cell at a place of the order, if it is that long.
     #[inline(always)]
     pub(crate) fn cell_at(&self, place: usize) -> Option<usize>
         ensures { result ≡ slice_get self.now.order.items place }
@@ -150,18 +137,51 @@ impl Walk {
         let cell = self.order.get(place)?;
         Some(*cell as usize)
     }
+
+    /// The number of a cell.
+    #[inline(always)]
+    pub(crate) fn number(&self, cell: usize) -> u8
+        requires { cell < length self.now.numbers.items }
+        ensures number { reference_number (place_in self.now.order.items cell) ≡ result }
+        ensures small { result < 255 }
+    {
+        self.numbers[cell]
+    }
 }
 
-impl Numbering for Walk {
-    ghost order = { λ walk. walk.order.items };
+/// All of so many cells, or of more, each by its own number.
+#[derive(Drop)]
+pub(crate) struct Own {
+    numbering: Numbering,
+    ghost own: { numbering.order.items ≡ numbers_from 0 (length numbering.numbers.items) },
+}
 
-    ghost cells = { λ walk. length walk.numbers.items };
-
-    #[inline(always)]
-    fn number(&mut self, cell: usize) -> u8 {
-        let number = self.numbers[cell];
-        if number > 0 { number } else { self.meet(cell) }
+impl Own {
+    /// No cells. It takes no memory.
+    pub(crate) fn none(alloc: Global) -> Own {
+        Own {
+            numbering: Numbering::none(alloc),
+        }
     }
 
-    ghost few = { λ walk. walk.few };
+    /// The numbering, once it has so many cells or more.
+    pub(crate) fn of(self, cells: usize) -> Result<Own, OutOfMemory>
+        ensures { IfOk result (λ own. cells ≤ length own.numbering.numbers.items) }
+    {
+        if cells <= self.numbering.len() {
+            return Ok(self);
+        }
+        let mut numbering = self.numbering.restarted(cells)?;
+        numbering.meet_range(0, cells);
+        Ok(Own { numbering })
+    }
+
+    /// The numbering.
+    #[inline(always)]
+    pub(crate) fn numbering(&self) -> &Numbering
+        ensures cells { length result.now.numbers.items ≡ length self.now.numbering.numbers.items }
+        ensures own { result.now.order.items ≡ numbers_from 0 (length result.now.numbers.items) }
+    {
+        &self.numbering
+    }
 }

@@ -7,19 +7,22 @@ ghost use Rattle.tree_machine.specs.FormCode.{deeds_code};
 use crate::bytes::Bytes;
 use crate::coded::put_deeds;
 use crate::number::put_number;
-use crate::numbering::Walk;
+use crate::numbering::{Numbering, Own};
 use crate::state::Thread;
 use sched_program::OutOfMemory;
 use std::alloc::Global;
 use std::marker::Model;
 
-/// A buffer in which forms and labels are written, with the walk by which a form numbers its cells. Kept from one to the
-/// next, it asks for memory until it is large enough for the largest of them, and then no more. Contracts see the bytes
-/// that stand in it.
+/// A buffer in which forms and labels are written, with the numberings that they need. Kept from one to the next, it asks
+/// for memory until it is large enough for the largest of them, and then no more. Contracts see the bytes that stand in
+/// it.
 #[derive(Drop)]
 pub struct Room {
     pub(crate) bytes: Vec<u8>,
-    pub(crate) walk: Walk,
+    /// The cells met, and the canonical numbers, of the last form.
+    pub(crate) met: Numbering,
+    pub(crate) names: Numbering,
+    pub(crate) own: Own,
 }
 
 impl Model for Room {
@@ -37,7 +40,9 @@ impl Room {
     {
         Room {
             bytes: Vec::new(alloc),
-            walk: Walk::none(alloc),
+            met: Numbering::none(alloc),
+            names: Numbering::none(alloc),
+            own: Own::none(alloc),
         }
     }
 

@@ -1,16 +1,16 @@
 //! Parts in bytes, one behind the other.
 ghost use Rattle.std.specs.Prelude.{◌≡◌, ◌<◌, ◌≤◌, ◌+◌, ◌*◌, ◌++◌, ◌∷◌, [], Some};
-ghost use Rattle.std.specs.Prelude.{length, map, take, slice_get, IfOk, IfSome, OnOk};
+ghost use Rattle.std.specs.Prelude.{length, take, IfOk, IfSome, OnOk};
 ghost use Rattle.std.specs.List.{All, flat_map};
-ghost use Rattle.std.specs.Option.{option_map, option_and_then};
-ghost use Rattle.tree_machine.specs.Cells.{met_all, place_in};
+ghost use Rattle.std.specs.Option.{option_and_then};
+ghost use Rattle.tree_machine.specs.Cells.{place_in};
 ghost use Rattle.tree_machine.specs.Flat.{number_code, short_head, long_code, facts_code, reference_number};
-ghost use Rattle.tree_machine.specs.Parts.{IsPartBelow};
-ghost use Rattle.tree_machine.specs.Written.{with_part};
+ghost use Rattle.tree_machine.specs.Written.{name_code};
 
 use crate::fixed::{put_byte, put_number_byte};
 use crate::number::put_number;
-use crate::numbering::{Numbering, Walk};
+use crate::numbering::Numbering;
+use crate::parts::PartVisitor;
 use sched_program::OutOfMemory;
 use std::marker::Model;
 
@@ -137,50 +137,35 @@ fn put_front(
 
 /// Puts the number of what is named, or 0 for none, into a slice, and returns the place behind it.
 #[inline(always)]
-fn put_name<N: Numbering>(
-    numbering: &mut N,
-    bytes: &mut [u8],
-    at: usize,
-    name: Option<usize>,
-) -> usize
-    requires known { IfSome name (λ x. x < N.cells numbering.old) }
+fn put_name(numbering: &Numbering, bytes: &mut [u8], at: usize, name: Option<usize>) -> usize
+    requires known { IfSome name (λ x. x < length numbering.now.numbers.items) }
     requires room { at < length bytes.old }
     ensures place { result ≡ at + 1 }
-    ensures order { N.order numbering.new ≡ met_all (N.order numbering.old) (name ∷ []) }
-    ensures bytes { take result bytes.new ≡ take at bytes.old
-        ++ number_code (reference_number (option_and_then (place_in (N.order numbering.new)) name)) }
+    ensures written { take result bytes.new ≡ take at bytes.old
+        ++ number_code (reference_number (option_and_then (place_in numbering.now.order.items) name)) }
     ensures length { length bytes.new ≡ length bytes.old }
-    ensures cells { N.cells numbering.new ≡ N.cells numbering.old }
 {
     match name {
-        Some(cell) => {
-            let number = numbering.number(cell);
-            put_byte(bytes, at, number)
-        }
+        Some(cell) => put_byte(bytes, at, numbering.number(cell)),
         None => put_byte(bytes, at, 0),
     }
 }
 
 /// Puts names one behind the other, of cells that stand behind so many others, and returns the place behind them.
 #[inline(always)]
-fn put_names<N: Numbering>(
-    numbering: &mut N,
+fn put_names(
+    numbering: &Numbering,
     bytes: &mut [u8],
     start: usize,
     first: usize,
     names: &[Option<u16>],
 ) -> usize
-    requires known { All (λ r. IfSome r (λ x. first + x < N.cells numbering.old)) names.now }
+    requires known { All (λ r. IfSome r (λ x. first + x < length numbering.now.numbers.items)) names.now }
     requires room { start + length names.now ≤ length bytes.old }
     ensures place { result ≡ start + length names.now }
-    ensures order { N.order numbering.new
-        ≡ met_all (N.order numbering.old) (map (option_map (λ x. first + x)) names.now) }
-    ensures bytes { take result bytes.new ≡ take start bytes.old
-        ++ flat_map number_code (map reference_number
-        (map (option_and_then (place_in (N.order numbering.new)))
-        (map (option_map (λ x. first + x)) names.now))) }
+    ensures written { take result bytes.new ≡ take start bytes.old
+        ++ flat_map (λ r. name_code numbering.now.order.items first r) names.now }
     ensures length { length bytes.new ≡ length bytes.old }
-    ensures cells { N.cells numbering.new ≡ N.cells numbering.old }
 {
     let mut at = start;
     for name in names {
@@ -195,24 +180,19 @@ fn put_names<N: Numbering>(
 
 /// Puts the names of a stack, as `put_names` puts names that may be none.
 #[inline(always)]
-fn put_stack<N: Numbering>(
-    numbering: &mut N,
+fn put_stack(
+    numbering: &Numbering,
     bytes: &mut [u8],
     start: usize,
     first: usize,
     stack: &[u16],
 ) -> usize
-    requires known { All (λ x. first + x < N.cells numbering.old) stack.now }
+    requires known { All (λ x. first + x < length numbering.now.numbers.items) stack.now }
     requires room { start + length stack.now ≤ length bytes.old }
     ensures place { result ≡ start + length stack.now }
-    ensures order { N.order numbering.new
-        ≡ met_all (N.order numbering.old) (map (option_map (λ x. first + x)) (map Some stack.now)) }
-    ensures bytes { take result bytes.new ≡ take start bytes.old
-        ++ flat_map number_code (map reference_number
-        (map (option_and_then (place_in (N.order numbering.new)))
-        (map (option_map (λ x. first + x)) (map Some stack.now)))) }
+    ensures written { take result bytes.new ≡ take start bytes.old
+        ++ flat_map (λ x. name_code numbering.now.order.items first (Some x)) stack.now }
     ensures length { length bytes.new ≡ length bytes.old }
-    ensures cells { N.cells numbering.new ≡ N.cells numbering.old }
 {
     let mut at = start;
     for number in stack {
@@ -221,22 +201,23 @@ fn put_stack<N: Numbering>(
     at
 }
 
-/// What parts are written to. The numbering says which numbers stand for what the parts name.
+/// What parts are written to, by the numbers that a numbering gives to what they name.
 ///
-/// Contracts see the cells met so far, and the bytes written so far, with how many nodes and records there are. What is
-/// written ends at a place in the bytes: behind it some of these are of no use yet, so that most parts find room.
+/// Contracts see the bytes written so far, with the order that gives the numbers, and how many nodes and records there
+/// are. What is written ends at a place in the bytes: behind it some of these are of no use yet, so that most parts find
+/// room.
 #[derive(Drop)]
-pub struct Writer<N: Numbering> {
-    numbering: N,
+pub struct Writer<'a> {
+    numbering: &'a Numbering,
     bytes: Vec<u8>,
     at: usize,
     nodes: usize,
     records: usize,
-    ghost room: { nodes + records ≤ N.cells numbering },
+    ghost room: { nodes + records ≤ length numbering.now.numbers.items },
     ghost within: { at ≤ length bytes.items },
 }
 
-impl<N: Numbering> Model for Writer<N> {
+impl<'a> Model for Writer<'a> {
     ghost use Rattle.std.specs.Prelude.{take};
     ghost use Rattle.tree_machine.specs.Written.{Written};
 
@@ -245,20 +226,25 @@ impl<N: Numbering> Model for Writer<N> {
     ghost view = { λ w. record {
       nodes = w.nodes;
       records = w.records;
-      order = N.order w.numbering;
+      order = w.numbering.now.order.items;
       bytes = take w.at w.bytes.items;
     } };
 }
 
-impl<N: Numbering> Writer<N> {
+impl<'a> Writer<'a> {
     /// Writes behind these bytes what names so many nodes and records, which are the first cells of the numbering.
     #[inline(always)]
-    pub(crate) fn behind(numbering: N, bytes: Vec<u8>, nodes: usize, records: usize) -> Self
-        requires { nodes + records ≤ N.cells numbering }
+    pub(crate) fn behind(
+        numbering: &'a Numbering,
+        bytes: Vec<u8>,
+        nodes: usize,
+        records: usize,
+    ) -> Self
+        requires { nodes + records ≤ length numbering.now.numbers.items }
         ensures { result ≡ record {
           nodes = nodes;
           records = records;
-          order = N.order numbering;
+          order = numbering.now.order.items;
           bytes = bytes.items;
         } }
     {
@@ -272,75 +258,43 @@ impl<N: Numbering> Writer<N> {
         }
     }
 
-    /// The numbering and the bytes, for whoever needs their memory.
+    /// The bytes.
     #[inline(always)]
-    pub(crate) fn into_parts(self) -> (N, Vec<u8>)
-        ensures { result.1.items ≡ self.bytes }
+    pub(crate) fn into_bytes(self) -> Vec<u8>
+        ensures { result.items ≡ self.entry.bytes }
     {
-        let Writer {
-            numbering,
-            mut bytes,
-            at,
-            ..
-        } = self;
+        let Writer { mut bytes, at, .. } = self;
         bytes.truncate(at);
-        (numbering, bytes)
+        bytes
     }
+}
 
-    /// Writes the part of these facts, nodes and records.
-    ///
-    /// # Errors
-    /// `OutOfMemory` where a growth was refused. Some of the part may then be written.
-    #[inline(always)]
-    pub fn put(
-        &mut self,
-        facts: &[u8],
-        nodes: &[Option<u16>],
-        records: &[Option<u16>],
-    ) -> Result<(), OutOfMemory>
-        requires { IsPartBelow self.old.nodes self.old.records
-            (record { facts = facts.now; nodes = nodes.now; records = records.now }) }
-        ensures { OnOk result (self.new
-            ≡ with_part self.old (record { facts = facts.now; nodes = nodes.now; records = records.now })) }
-    {
-        self.put_with_stack(facts, nodes, records, &[])
-    }
+impl<'a> PartVisitor for Writer<'a> {
+    ghost use Rattle.std.specs.Prelude.{◌≡◌};
+    ghost use Rattle.tree_machine.specs.Written.{with_part};
 
-    /// Writes the part of these facts and nodes, of these records, and of those of a stack behind them.
-    ///
-    /// # Errors
-    /// `OutOfMemory` where a growth was refused. Some of the part may then be written.
+    ghost nodes_below = { λ w. w.nodes };
+
+    ghost records_below = { λ w. w.records };
+
+    ghost visited = { λ old part new. new ≡ with_part old part };
+
+    /// Writes the part. Where a growth is refused, some of it may then be written.
     #[inline(always)]
-    pub fn put_with_stack(
+    fn visit(
         &mut self,
         facts: &[u8],
         nodes: &[Option<u16>],
         records: &[Option<u16>],
         stack: &[u16],
-    ) -> Result<(), OutOfMemory>
-        requires { IsPartBelow self.old.nodes self.old.records
-            (record { facts = facts.now; nodes = nodes.now; records = records.now ++ map Some stack.now }) }
-        ensures { OnOk result (self.new
-            ≡ with_part self.old
-            (record { facts = facts.now; nodes = nodes.now; records = records.now ++ map Some stack.now })) }
-    {
+    ) -> Result<(), OutOfMemory> {
         let behind = self.nodes;
         let named = nodes.len() + records.len() + stack.len();
         let start = put_front(&mut self.bytes, self.at, nodes.len(), named, facts)?;
         let bytes = self.bytes.as_mut_slice();
-        let nodes_end = put_names(&mut self.numbering, bytes, start, 0, nodes);
-        let records_end = put_names(&mut self.numbering, bytes, nodes_end, behind, records);
-        self.at = put_stack(&mut self.numbering, bytes, records_end, behind, stack);
+        let nodes_end = put_names(self.numbering, bytes, start, 0, nodes);
+        let records_end = put_names(self.numbering, bytes, nodes_end, behind, records);
+        self.at = put_stack(self.numbering, bytes, records_end, behind, stack);
         Ok(())
-    }
-}
-
-impl Writer<Walk> {
-    /// The cell that was met after so many others, if so many were met.
-    #[inline(always)]
-    pub(crate) fn cell_at(&self, place: usize) -> Option<usize>
-        ensures { result ≡ slice_get self.now.order place }
-    {
-        self.numbering.cell_at(place)
     }
 }

@@ -15,7 +15,7 @@ use Rattle.tree_machine.specs.Laws.CellPlaces.{rel_among, place_at}
 
 -- ---- from a pairing to equal answers
 
-map_paired : {A B C : Type 0} (P : A → B → Type 0) (f : A → C) (g : B → C) → ((x : A) (y : B) → P x y → f x ≡ g y)
+pub map_paired : {A B C : Type 0} (P : A → B → Type 0) (f : A → C) (g : B → C) → ((x : A) (y : B) → P x y → f x ≡ g y)
     → (xs : List A) (ys : List B) → AllZip P xs ys → map f xs ≡ map g ys
 map_paired P f g h [] [] z = refl
 map_paired P f g h [] (y ∷ ys) z = absurd z
@@ -24,7 +24,7 @@ map_paired P f g h (x ∷ xs) (y ∷ ys) z = let first = h x y z.0 in let rest =
 
 module _ (P : ℕ → ℕ → Type 0) (cells others : List Content) (roots targets : List ℕ) (rooted : IsRooted cells roots)
     (aimed : IsRooted others targets) (h : IsPairing P cells roots others targets) where
-  orders_paired : AllZip P (order_of cells roots) (order_of others targets)
+  pub orders_paired : AllZip P (order_of cells roots) (order_of others targets)
   orders_paired =
       subst (λ xs. AllZip P xs (order_of others targets)) (met_in_stable cells roots rooted (length others))
       (subst (λ ys. AllZip P (met_in cells roots (length cells + length others)) ys)

@@ -127,7 +127,7 @@ pair_held n m (suc t) (suc i) l =
     (subst (λ y. IsAmong (zip (numbers_from (suc n) t) (numbers_from (suc m) t)) (suc n + i) y) f
     (pair_held (suc n) (suc m) t i (omega arith))))
 
-length-numbers_from : (a n : ℕ) → length (numbers_from a n) ≡ n
+pub length-numbers_from : (a n : ℕ) → length (numbers_from a n) ≡ n
 length-numbers_from a zero = refl
 length-numbers_from a (suc n) = ap suc (length-numbers_from (suc a) n)
 
@@ -195,7 +195,7 @@ module _ (fixed : ℕ) (graph held others targets : List Content) (graph_fits : 
   -- ---- from a pairing of the graphs to one of the cells
 
   -- a pair of the graphs, or what is held at one place
-  HeldOr : List (ℕ × ℕ) → ℕ → ℕ → Type 0
+  unfoldable pub HeldOr : List (ℕ × ℕ) → ℕ → ℕ → Type 0
   HeldOr pairs x y =
       IsAmong pairs x y ⊎ ((i : ℕ) × (i < length held) × (length graph + i ≡ x) × (length others + i ≡ y))
 
@@ -240,7 +240,7 @@ module _ (fixed : ℕ) (graph held others targets : List Content) (graph_fits : 
       (subst (λ k. AreCellsPaired (IsAmong pairs) (content_at held p.0) k) (sym (content_back others targets p.0))
       at))))
 
-  held_pairing : (pairs : List (ℕ × ℕ)) → IsGraphPairing (IsAmong pairs) fixed graph held others targets
+  pub held_pairing : (pairs : List (ℕ × ℕ)) → IsGraphPairing (IsAmong pairs) fixed graph held others targets
       → IsPairing (HeldOr pairs) (graph ++ held) (roots_of fixed graph held) (others ++ targets)
       (roots_of fixed others targets)
   unfolding HeldOr

@@ -27,7 +27,7 @@ content_map f [] x l = absurd (omega arith)
 content_map f (p ∷ parts) zero l = refl
 content_map f (p ∷ parts) (suc x) l = content_map f parts x (omega arith)
 
-part_all : (P : Part → Type 0) (parts : List Part) → AllByRecursion P parts → (x : ℕ) → x < length parts
+pub part_all : (P : Part → Type 0) (parts : List Part) → AllByRecursion P parts → (x : ℕ) → x < length parts
     → P (part_at parts x)
 part_all P [] h x l = absurd (omega arith)
 part_all P (p ∷ parts) h zero l = h.0
@@ -43,14 +43,14 @@ length-parts_graph s =
       length-map s.records (part_cell (length s.nodes)),
     )
 
-node_cell_at : (s : Parts) (x : ℕ) → x < length s.nodes
+pub node_cell_at : (s : Parts) (x : ℕ) → x < length s.nodes
     → content_at (parts_graph s) x ≡ part_cell (length s.nodes) (part_at s.nodes x)
 node_cell_at s x l =
     content_front (map (part_cell (length s.nodes)) s.nodes) (map (part_cell (length s.nodes)) s.records) x
     (subst (λ n. x < n) (sym (length-map s.nodes (part_cell (length s.nodes)))) l)
     ∙ content_map (part_cell (length s.nodes)) s.nodes x l
 
-record_cell_at : (s : Parts) (x : ℕ) → x < length s.records
+pub record_cell_at : (s : Parts) (x : ℕ) → x < length s.records
     → content_at (parts_graph s) (length s.nodes + x) ≡ part_cell (length s.nodes) (part_at s.records x)
 record_cell_at s x l =
     ap (λ n. content_at (parts_graph s) (n + x)) (sym (length-map s.nodes (part_cell (length s.nodes))))
@@ -182,7 +182,7 @@ module _ (fixed : ℕ) (here there : Parts) (here_fits : ArePartsInRange fixed h
   -- ---- from a pairing of the parts to one of the graphs
 
   module _ (nodes records : List (ℕ × ℕ)) (h : IsPartsPairing (IsAmong nodes) (IsAmong records) fixed here there) where
-    joined : List (ℕ × ℕ)
+    pub joined : List (ℕ × ℕ)
     joined = nodes ++ raised (length here.nodes) (length there.nodes) records
 
     node_in : (x y : ℕ) → IsAmong nodes x y → IsAmong joined x y
@@ -195,12 +195,12 @@ module _ (fixed : ℕ) (here there : Parts) (here_fits : ArePartsInRange fixed h
         (among_append nodes (raised (length here.nodes) (length there.nodes) records) (length here.nodes + x)
         (length there.nodes + y)).0 (inr (raised_pair (length here.nodes) (length there.nodes) records x y p))
 
-    Either : ℕ → ℕ → Type 0
+    unfoldable pub Either : ℕ → ℕ → Type 0
     Either x y =
         IsAmong nodes x y
         ⊎ ((a : ℕ) × (b : ℕ) × IsAmong records a b × (length here.nodes + a ≡ x) × (length there.nodes + b ≡ y))
 
-    either : (x y : ℕ) → IsAmong joined x y → Either x y
+    pub either : (x y : ℕ) → IsAmong joined x y → Either x y
     unfolding joined Either
     either x y p = go ((among_append nodes (raised (length here.nodes) (length there.nodes) records) x y).1 p)
       where
@@ -268,7 +268,7 @@ module _ (fixed : ℕ) (here there : Parts) (here_fits : ArePartsInRange fixed h
       joined_held ps qs z.1,
     )
 
-    graph_pairing : IsGraphPairing (IsAmong joined) fixed (parts_graph here) (parts_held here) (parts_graph there)
+    pub graph_pairing : IsGraphPairing (IsAmong joined) fixed (parts_graph here) (parts_held here) (parts_graph there)
         (parts_held there)
     graph_pairing = record {
       one_to_one = λ x y v w p q. joined_one x y v w (either x y p) (either v w q);

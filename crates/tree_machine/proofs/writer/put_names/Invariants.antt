@@ -1,17 +1,14 @@
-use Rattle.std.proofs.Common.{◌≡◌, ◌+◌, ◌++◌, length, drop, take}
-use Rattle.tree_machine.specs.Cells.{met_all}
-use Rattle.tree_machine.proofs.Passes.{met_codes, shifted}
+use Rattle.std.proofs.Common.{◌≡◌, ◌+◌, ◌++◌, length, take, Some}
+use Rattle.std.specs.List.{flat_map}
+use Rattle.tree_machine.specs.Written.{name_code}
 use Rattle.tree_machine.proofs.writer.put_names.Given as goal
 
--- meeting and putting what is left leads to what meeting and putting all leads to
+-- the names so far are put
 abbrev pub invariant-loop-name : goal.invariant-loop-name
-invariant-loop-name g l =
+invariant-loop-name l =
     record {
-      order : met_all (g.N.Numbering.order l.numbering) (shifted l.first (drop l.name-index l.names))
-          ≡ met_all (g.N.Numbering.order l.fn.numbering) (shifted l.first (l.names));
-      bytes : take l.at l.bytes ++ met_codes (g.N.Numbering.order l.numbering) (shifted l.first (drop l.name-index l.names))
-          ≡ take l.start l.fn.bytes ++ met_codes (g.N.Numbering.order l.fn.numbering) (shifted l.first (l.names));
+      put : take l.at l.bytes
+          ≡ take l.start l.fn.bytes ++ flat_map (λ r. name_code l.numbering.order.items l.first r) (take l.name-index l.names);
       at : l.at ≡ l.start + l.name-index;
-      cells : g.N.Numbering.cells l.numbering ≡ g.N.Numbering.cells l.fn.numbering;
       length : length l.bytes ≡ length l.fn.bytes;
     }

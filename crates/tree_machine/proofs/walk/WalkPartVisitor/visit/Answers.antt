@@ -1,0 +1,32 @@
+use Rattle.std.proofs.Common.{◌≡◌, ◌+◌, ◌<◌, ◌++◌, length, map, Some, ap, sym, ◌∙◌, subst, arith}
+use Rattle.std.specs.Prelude.{IfSome}
+use Rattle.std.specs.List.{All}
+use Rattle.tree_machine.specs.Parts.{Part}
+use Rattle.tree_machine.specs.Walked.{Walked}
+use Rattle.tree_machine.proofs.VisitedParts.{stack_below, is_visited}
+use Rattle.tree_machine.proofs.Passes.{lists_met}
+use Rattle.tree_machine.proofs.walk.WalkPartVisitor.visit.Goals as goal
+
+pub meet_stack-requires : goal.meet_stack-requires
+meet_stack-requires c =
+    let records = c.self.inside.records in
+    let same : c.args.self.now.records ≡ records = sym (ap (λ (w : Walked). w.records) c.self.view_is) in
+    let below =
+    subst (λ b. All (λ x. IfSome x (λ y. y < b)) (c.args.records.now ++ map Some c.args.stack.now)) same
+    c.requires.records in
+    stack_below c.self.inside.nodes records (length c.meet_names-2.new.met.numbers.items)
+    c.args.records.now c.args.stack.now
+    (omega (arith, c.self.inside.room, c.meet_names.ensures.cells, c.meet_names-2.ensures.cells)) below
+
+pub returns : goal.returns
+returns c =
+    let inside = c.self.inside in
+    let part : Part =
+    record { facts = c.args._facts.now; nodes = c.args.nodes.now; records = c.args.records.now ++ map Some c.args.stack.now } in
+    is_visited c.args.self.now inside.nodes inside.records (length inside.met.numbers.items)
+    (length c.meet_stack.new.met.numbers.items) inside.met.order.items c.meet_stack.new.met.order.items part
+    c.self.view_is
+    (lists_met inside.met.order.items c.meet_names.new.met.order.items c.meet_names-2.new.met.order.items
+    c.meet_stack.new.met.order.items inside.nodes c.args.nodes.now c.args.records.now c.args.stack.now
+    c.meet_names.ensures.order c.meet_names-2.ensures.order c.meet_stack.ensures.order)
+    (c.meet_stack.ensures.cells ∙ c.meet_names-2.ensures.cells ∙ c.meet_names.ensures.cells)

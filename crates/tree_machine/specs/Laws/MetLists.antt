@@ -1,0 +1,265 @@
+-- Lists of the nodes and of the records that are met: distinct, in range, and paired where the orders are.
+use Rattle.std.proofs.Common.{◌≡◌, ℕ, zero, suc, ◌+◌, ◌-◌, ◌<◌, ◌≤◌, ◌⊎◌, Bool, true, false, cond, ◌||◌, ◌&&◌}
+use Rattle.std.proofs.Common.{List, [], ◌∷◌, map, length, refl, sym, ◌∙◌, ap, subst, inl, inr, arith}
+use Rattle.std.specs.Prelude.{slice_get, Option, Some, None, nat_eq, nat_lt, nat_le}
+use Rattle.std.specs.List.{AllZip, AllByRecursion, filter, list_any, zip, IsDistinct}
+use Rattle.std.specs.Option.{option_and_then}
+use Rattle.std.proofs.lemmas.Bool.{eqb-true}
+use Rattle.std.proofs.lemmas.Bool.Decides.{nat_tests, eqb_tells}
+use Rattle.std.proofs.lemmas.List.Elements.{All-filter, All-map, All-weaker, All-from_recursion, recursion_from_All}
+use Rattle.std.proofs.lemmas.List.Elements.{filter_passes}
+use Rattle.std.proofs.lemmas.Map.Keys.{IsDistinct-cons, IsDistinct-head, IsDistinct-tail}
+use Rattle.std.proofs.lemmas.Option.{slice_get_within}
+use Rattle.tree_machine.specs.Cells.{IsPairedOrNone, place_in}
+use Rattle.tree_machine.specs.Pairing.{IsOneToOne, IsAmong}
+use Rattle.tree_machine.specs.Graphs.{numbers_from}
+use Rattle.tree_machine.specs.Canonical.{nodes_met, records_met}
+use Rattle.tree_machine.specs.Laws.CellLists.{distinct_none}
+use Rattle.tree_machine.specs.Laws.CellOrder.{Has, HasAll, has_itself, or_cases, or_true}
+use Rattle.tree_machine.specs.Laws.CellPlaces.{among_at, at_among, place_at, place_from_has, get_place}
+
+-- ---- each number with its place
+
+pub number_at : (a n i : ℕ) → i < n → slice_get (numbers_from a n) i ≡ Some (a + i)
+number_at a zero i l = absurd (omega arith)
+number_at a (suc n) zero l = let same : a ≡ a + 0 = omega arith in ap Some same
+number_at a (suc n) (suc i) l =
+    let same : suc a + i ≡ a + suc i = omega arith in number_at (suc a) n i (omega arith) ∙ ap Some same
+
+-- the numbers of a list, each with its place
+abbrev pub places : List ℕ → List (ℕ × ℕ)
+places xs = zip xs (numbers_from 0 (length xs))
+
+pub among_places : (xs : List ℕ) (x k : ℕ) → slice_get xs k ≡ Some x → IsAmong (places xs) x k
+among_places xs x k h =
+    let same : 0 + k ≡ k = omega arith in
+    among_at xs (numbers_from 0 (length xs)) k x k h
+    (number_at 0 (length xs) k (slice_get_within xs k x h) ∙ ap Some same)
+
+pub places_among : (xs : List ℕ) (x k : ℕ) → IsAmong (places xs) x k → slice_get xs k ≡ Some x
+places_among xs x k h =
+    let p = at_among xs (numbers_from 0 (length xs)) x k h in
+    let at : slice_get (numbers_from 0 (length xs)) p.0 ≡ Some (0 + p.0) =
+    number_at 0 (length xs) p.0 (slice_get_within xs p.0 x p.1) in
+    let found : Some (0 + p.0) ≡ Some k = sym at ∙ p.2 in
+    let is : 0 + p.0 ≡ k = cc in
+    let same : p.0 ≡ k = omega arith in
+    subst (λ j. slice_get xs j ≡ Some x) same p.1
+
+pub places_one : (xs : List ℕ) → IsDistinct nat_eq xs → IsOneToOne (IsAmong (places xs))
+places_one xs d x y a b h g =
+    let at = places_among xs x y h in
+    let bt = places_among xs a b g in
+    let px : place_in xs x ≡ Some y = place_at xs d y x at in
+    let pa : place_in xs a ≡ Some b = place_at xs d b a bt in (
+      λ e. (let k : Some y ≡ Some b = sym px ∙ (ap (place_in xs) e ∙ pa) in cc),
+      λ e. (let k : Some x ≡ Some a = sym at ∙ (ap (slice_get xs) e ∙ bt) in cc),
+    )
+
+-- names that all stand in a list are paired with their places
+pub refs_placed : (xs : List ℕ) (refs : List (Option ℕ)) → HasAll xs refs
+    → AllZip (IsPairedOrNone (IsAmong (places xs))) refs (map (option_and_then (place_in xs)) refs)
+refs_placed xs [] h = tt
+refs_placed xs (None ∷ refs) h = (tt, refs_placed xs refs h)
+refs_placed xs (Some x ∷ refs) h =
+    let k = place_from_has xs x h.0 in (
+      subst (IsPairedOrNone (IsAmong (places xs)) (Some x)) (sym k.1)
+          (among_places xs x k.0 (get_place xs x k.0 k.1)),
+      refs_placed xs refs h.1,
+    )
+
+-- ---- what a filter keeps
+
+pub filter_distinct : (p : ℕ → Bool) (xs : List ℕ) → IsDistinct nat_eq xs → IsDistinct nat_eq (filter p xs)
+filter_distinct p [] d = distinct_none
+filter_distinct p (x ∷ xs) d = go (p x) (filter_distinct p xs (IsDistinct-tail nat_eq x xs d))
+  where
+    go : (b : Bool) → IsDistinct nat_eq (filter p xs) → IsDistinct nat_eq (cond b (x ∷ filter p xs) (filter p xs))
+    go true rest =
+        IsDistinct-cons nat_eq x (filter p xs)
+        (recursion_from_All _ _
+        (All-filter p (λ y. nat_eq x y ≡ false) xs (All-from_recursion _ xs (IsDistinct-head nat_eq x xs d)))) rest
+    go false rest = rest
+
+pub filter_has : (p : ℕ → Bool) (xs : List ℕ) (x : ℕ) → Has (filter p xs) x → Has xs x × (p x ≡ true)
+filter_has p [] x h = cc
+filter_has p (y ∷ xs) x h = go (p y) refl h (λ g. filter_has p xs x g)
+  where
+    go : (b : Bool) → p y ≡ b → Has (cond b (y ∷ filter p xs) (filter p xs)) x
+        → (Has (filter p xs) x → Has xs x × (p x ≡ true)) → Has (y ∷ xs) x × (p x ≡ true)
+    go true e g rest = go2 (or_cases (nat_eq x y) (list_any (nat_eq x) (filter p xs)) g)
+      where
+        go2 : (nat_eq x y ≡ true) ⊎ Has (filter p xs) x → Has (y ∷ xs) x × (p x ≡ true)
+        go2 (inl f) = (ap (λ t. t || list_any (nat_eq x) xs) f, ap p (eqb-true x y f) ∙ e)
+        go2 (inr f) = let r = rest f in (ap (λ t. nat_eq x y || t) r.0 ∙ or_true (nat_eq x y), r.1)
+    go false e g rest = let r = rest g in (ap (λ t. nat_eq x y || t) r.0 ∙ or_true (nat_eq x y), r.1)
+
+pub has_filter : (p : ℕ → Bool) (xs : List ℕ) (x : ℕ) → Has xs x → p x ≡ true → Has (filter p xs) x
+has_filter p [] x h t = h
+has_filter p (y ∷ xs) x h t =
+    go (p y) refl (or_cases (nat_eq x y) (list_any (nat_eq x) xs) h) (λ g. has_filter p xs x g t)
+  where
+    go : (b : Bool) → p y ≡ b → (nat_eq x y ≡ true) ⊎ Has xs x → (Has xs x → Has (filter p xs) x)
+        → Has (cond b (y ∷ filter p xs) (filter p xs)) x
+    go true e (inl f) rest = ap (λ t. t || list_any (nat_eq x) (filter p xs)) f
+    go true e (inr f) rest = ap (λ t. nat_eq x y || t) (rest f) ∙ or_true (nat_eq x y)
+    go false e (inl f) rest = let same : x ≡ y = eqb-true x y f in let here : p x ≡ false = ap p same ∙ e in cc
+    go false e (inr f) rest = rest f
+
+pub filter_all : (p : ℕ → Bool) (xs : List ℕ) → AllByRecursion (λ x. p x ≡ true) xs → filter p xs ≡ xs
+filter_all p [] h = refl
+filter_all p (x ∷ xs) h =
+    ap (λ b. cond b (x ∷ filter p xs) (filter p xs)) h.0 ∙ ap (λ l. x ∷ l) (filter_all p xs h.1)
+
+-- tests that agree on pairs keep pairs
+pub filter_zip : (Q : ℕ → ℕ → Type 0) (p q : ℕ → Bool) → ((x y : ℕ) → Q x y → p x ≡ q y) → (xs ys : List ℕ)
+    → AllZip Q xs ys → AllZip (λ x y. Q x y × (p x ≡ true)) (filter p xs) (filter q ys)
+filter_zip Q p q h [] [] z = tt
+filter_zip Q p q h [] (y ∷ ys) z = absurd z
+filter_zip Q p q h (x ∷ xs) [] z = absurd z
+filter_zip Q p q h (x ∷ xs) (y ∷ ys) z =
+    go (p x) (q y) refl (sym (h x y z.0)) (filter_zip Q p q h xs ys z.1)
+  where
+    go : (b c : Bool) → p x ≡ b → c ≡ p x → AllZip (λ x y. Q x y × (p x ≡ true)) (filter p xs) (filter q ys)
+        → AllZip (λ x y. Q x y × (p x ≡ true)) (cond b (x ∷ filter p xs) (filter p xs))
+        (cond c (y ∷ filter q ys) (filter q ys))
+    go true true e f rest = ((z.0, e), rest)
+    go true false e f rest = cc
+    go false true e f rest = cc
+    go false false e f rest = rest
+
+pub map_zip : (P : ℕ → ℕ → Type 0) (f g : ℕ → ℕ) (xs ys : List ℕ) → AllZip (λ x y. P (f x) (g y)) xs ys
+    → AllZip P (map f xs) (map g ys)
+map_zip P f g [] [] z = tt
+map_zip P f g [] (y ∷ ys) z = absurd z
+map_zip P f g (x ∷ xs) [] z = absurd z
+map_zip P f g (x ∷ xs) (y ∷ ys) z = (z.0, map_zip P f g xs ys z.1)
+
+-- ---- numbers behind n
+
+pub test_node : (n x : ℕ) → x < n → nat_lt x n ≡ true
+test_node n x l = grind (arith, nat_tests)
+
+pub node_test : (n x : ℕ) → nat_lt x n ≡ true → x < n
+node_test n x e = grind (arith, nat_tests)
+
+pub test_other : (n x : ℕ) → n ≤ x → nat_lt x n ≡ false
+test_other n x l = grind (arith, nat_tests)
+
+pub test_record : (n r x : ℕ) → n ≤ x → x < n + r → (nat_le n x && nat_lt x (n + r)) ≡ true
+test_record n r x l k = grind (arith, nat_tests)
+
+pub record_test : (n r x : ℕ) → (nat_le n x && nat_lt x (n + r)) ≡ true → (n ≤ x) × (x < n + r)
+record_test n r x e = grind (arith, nat_tests)
+
+pub test_before : (n r x : ℕ) → x < n → (nat_le n x && nat_lt x (n + r)) ≡ false
+test_before n r x l = grind (arith, nat_tests)
+
+pub test_behind : (n r x : ℕ) → n + r ≤ x → (nat_le n x && nat_lt x (n + r)) ≡ false
+test_behind n r x l = grind (arith, nat_tests)
+
+lowered_apart : (n x : ℕ) → n ≤ x → (xs : List ℕ) → AllByRecursion (λ y. n ≤ y) xs
+    → AllByRecursion (λ y. nat_eq x y ≡ false) xs
+    → AllByRecursion (λ y. nat_eq (x - n) y ≡ false) (map (λ x. x - n) xs)
+lowered_apart n x l [] a h = tt
+lowered_apart n x l (y ∷ xs) a h = (
+  go (eqb_tells (x - n) (y - n)),
+  lowered_apart n x l xs a.1 h.1,
+)
+  where
+    go : ((nat_eq (x - n) (y - n) ≡ true) × (x - n ≡ y - n))
+        ⊎ ((nat_eq (x - n) (y - n) ≡ false) × (x - n ≡ y - n → ⊥)) → nat_eq (x - n) (y - n) ≡ false
+    go (inl e) =
+        let k : n ≤ y = a.0 in
+        let f : x - n ≡ y - n = e.1 in
+        let same : x ≡ y = omega arith in
+        let other : nat_eq x x ≡ false = ap (nat_eq x) same ∙ h.0 in
+        let itself : nat_eq x x ≡ true = has_itself x in
+        cc
+    go (inr e) = e.0
+
+lowered_distinct : (n : ℕ) (xs : List ℕ) → AllByRecursion (λ x. n ≤ x) xs → IsDistinct nat_eq xs
+    → IsDistinct nat_eq (map (λ x. x - n) xs)
+lowered_distinct n [] a d = distinct_none
+lowered_distinct n (x ∷ xs) a d =
+    IsDistinct-cons nat_eq (x - n) (map (λ x. x - n) xs)
+    (lowered_apart n x a.0 xs a.1 (IsDistinct-head nat_eq x xs d))
+    (lowered_distinct n xs a.1 (IsDistinct-tail nat_eq x xs d))
+
+lowered_has : (n : ℕ) (xs : List ℕ) (y : ℕ) → AllByRecursion (λ x. n ≤ x) xs → Has (map (λ x. x - n) xs) y
+    → Has xs (n + y)
+lowered_has n [] y a h = cc
+lowered_has n (x ∷ xs) y a h =
+    go (or_cases (nat_eq y (x - n)) (list_any (nat_eq y) (map (λ x. x - n) xs)) h)
+    (λ g. lowered_has n xs y a.1 g)
+  where
+    go : (nat_eq y (x - n) ≡ true) ⊎ Has (map (λ x. x - n) xs) y → (Has (map (λ x. x - n) xs) y → Has xs (n + y))
+        → Has (x ∷ xs) (n + y)
+    go (inl e) rest =
+        let k : n ≤ x = a.0 in
+        let f : y ≡ x - n = eqb-true y (x - n) e in
+        let same : x ≡ n + y = omega arith in
+        ap (λ t. t || list_any (nat_eq (n + y)) xs) (ap (nat_eq (n + y)) same ∙ has_itself (n + y))
+    go (inr e) rest = ap (λ t. nat_eq (n + y) x || t) (rest e) ∙ or_true (nat_eq (n + y) x)
+
+has_lowered : (n : ℕ) (xs : List ℕ) (y : ℕ) → Has xs (n + y) → Has (map (λ x. x - n) xs) y
+has_lowered n [] y h = h
+has_lowered n (x ∷ xs) y h =
+    go (or_cases (nat_eq (n + y) x) (list_any (nat_eq (n + y)) xs) h) (λ g. has_lowered n xs y g)
+  where
+    go : (nat_eq (n + y) x ≡ true) ⊎ Has xs (n + y) → (Has xs (n + y) → Has (map (λ x. x - n) xs) y)
+        → Has (map (λ x. x - n) (x ∷ xs)) y
+    go (inl e) rest =
+        let f : n + y ≡ x = eqb-true (n + y) x e in
+        let same : x - n ≡ y = omega arith in
+        ap (λ t. t || list_any (nat_eq y) (map (λ x. x - n) xs)) (ap (nat_eq y) same ∙ has_itself y)
+    go (inr e) rest = ap (λ t. nat_eq y (x - n) || t) (rest e) ∙ or_true (nat_eq y (x - n))
+
+-- ---- the nodes and the records that are met
+
+module _ (n : ℕ) (order : List ℕ) where
+  pub nodes_below : AllByRecursion (λ x. x < n) (nodes_met n order)
+  nodes_below =
+      recursion_from_All _ _
+      (All-weaker (λ x. nat_lt x n ≡ true) (λ x. x < n) (λ x e. node_test n x e) _
+      (filter_passes (λ x. nat_lt x n) order))
+
+  pub nodes_distinct : IsDistinct nat_eq order → IsDistinct nat_eq (nodes_met n order)
+  nodes_distinct d = filter_distinct (λ x. nat_lt x n) order d
+
+  pub node_has : (x : ℕ) → Has (nodes_met n order) x → Has order x × (x < n)
+  node_has x h = let r = filter_has (λ x. nat_lt x n) order x h in (r.0, node_test n x r.1)
+
+  pub has_node : (x : ℕ) → Has order x → x < n → Has (nodes_met n order) x
+  has_node x h l = has_filter (λ x. nat_lt x n) order x h (test_node n x l)
+
+  module _ (r : ℕ) where
+    kept_behind : AllByRecursion (λ x. n ≤ x) (filter (λ x. nat_le n x && nat_lt x (n + r)) order)
+    kept_behind =
+        recursion_from_All _ _
+        (All-weaker (λ x. (nat_le n x && nat_lt x (n + r)) ≡ true) (λ x. n ≤ x) (λ x e. (record_test n r x e).0) _
+        (filter_passes (λ x. nat_le n x && nat_lt x (n + r)) order))
+
+    pub records_below : AllByRecursion (λ y. y < r) (records_met n r order)
+    records_below =
+        recursion_from_All _ _
+        (All-map (λ y. y < r) (λ x. x - n) _
+        (All-weaker (λ x. (nat_le n x && nat_lt x (n + r)) ≡ true) (λ x. x - n < r) (λ x e.
+        let k = record_test n r x e in omega arith) _
+        (filter_passes (λ x. nat_le n x && nat_lt x (n + r)) order)))
+
+    pub records_distinct : IsDistinct nat_eq order → IsDistinct nat_eq (records_met n r order)
+    records_distinct d =
+        lowered_distinct n _ kept_behind (filter_distinct (λ x. nat_le n x && nat_lt x (n + r)) order d)
+
+    pub record_has : (y : ℕ) → Has (records_met n r order) y → Has order (n + y) × (y < r)
+    record_has y h =
+        let k = filter_has (λ x. nat_le n x && nat_lt x (n + r)) order (n + y) (lowered_has n _ y kept_behind h) in
+        let l = record_test n r (n + y) k.1 in
+        (k.0, omega arith)
+
+    pub has_record : (y : ℕ) → Has order (n + y) → y < r → Has (records_met n r order) y
+    has_record y h l =
+        has_lowered n _ y
+        (has_filter (λ x. nat_le n x && nat_lt x (n + r)) order (n + y) h
+        (test_record n r (n + y) (omega arith) (omega arith)))

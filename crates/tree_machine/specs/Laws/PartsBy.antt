@@ -1,0 +1,159 @@
+-- Parts that are renamed by nodes and records: paired with those they come from, in range, and the same where these
+-- are paired.
+use Rattle.std.proofs.Common.{◌≡◌, ℕ, zero, suc, ◌+◌, ◌<◌, ◌≤◌, List}
+use Rattle.std.proofs.Common.{[], ◌∷◌, map, length, refl, sym, ◌∙◌, ap, subst}
+use Rattle.std.proofs.Common.{zero-add}
+use Rattle.std.specs.Prelude.{slice_get, Option, Some, None, nat_eq, IfSome}
+use Rattle.std.specs.List.{AllZip, All, AllByRecursion, IsDistinct}
+use Rattle.std.specs.Option.{option_and_then}
+use Rattle.std.proofs.lemmas.List.{length-map}
+use Rattle.std.proofs.lemmas.List.Elements.{All-from_recursion}
+use Rattle.std.proofs.lemmas.Option.{slice_get_within}
+use Rattle.tree_machine.specs.Cells.{place_in}
+use Rattle.tree_machine.specs.Pairing.{IsAmong}
+use Rattle.tree_machine.specs.Graphs.{numbers_from}
+use Rattle.tree_machine.specs.Parts.{Part, Parts, part_at, ArePartsPaired, IsPartsPairing, IsPartBelow, ArePartsInRange}
+use Rattle.tree_machine.specs.Canonical.{renamed_part, parts_by}
+use Rattle.tree_machine.specs.Laws.Cells.{map_paired}
+use Rattle.tree_machine.specs.Laws.CellOrder.{Has, HasAll, Extends, all_has, get_extends}
+use Rattle.tree_machine.specs.Laws.CellPlaces.{refs_renamed, get_place, has_at}
+use Rattle.tree_machine.specs.Laws.MetLists.{number_at, places, among_places, places_among, places_one, refs_placed}
+
+-- the nodes and the records that a part names are among these
+abbrev pub IsPartMet : List ℕ → List ℕ → Part → Type 0
+IsPartMet nodes records p = HasAll nodes p.nodes × HasAll records p.records
+
+-- these nodes and records stand once each and begin with the fixed nodes, and what they and what is held name is among
+-- them
+pub record AreMet (fixed : ℕ) (s : Parts) (nodes records : List ℕ) : Type 0 where
+  pub nodes_distinct : IsDistinct nat_eq nodes
+  pub records_distinct : IsDistinct nat_eq records
+  pub nodes_below : AllByRecursion (λ x. x < length s.nodes) nodes
+  pub records_below : AllByRecursion (λ y. y < length s.records) records
+  pub fixed_first : Extends (numbers_from 0 fixed) nodes
+  pub nodes_closed : (x : ℕ) → Has nodes x → IsPartMet nodes records (part_at s.nodes x)
+  pub records_closed : (y : ℕ) → Has records y → IsPartMet nodes records (part_at s.records y)
+  pub held_closed : AllByRecursion (IsPartMet nodes records) s.held
+
+part_map_at : (f : ℕ → Part) (xs : List ℕ) (k x : ℕ) → slice_get xs k ≡ Some x → part_at (map f xs) k ≡ f x
+part_map_at f [] k x h = cc
+part_map_at f (y ∷ xs) zero x h = let same : y ≡ x = cc in ap f same
+part_map_at f (y ∷ xs) (suc k) x h = part_map_at f xs k x h
+
+renamed_below : (xs : List ℕ) (refs : List (Option ℕ))
+    → AllByRecursion (λ x. IfSome x (λ y. y < length xs)) (map (option_and_then (place_in xs)) refs)
+renamed_below xs [] = tt
+renamed_below xs (None ∷ refs) = (tt, renamed_below xs refs)
+renamed_below xs (Some x ∷ refs) = (go (place_in xs x) refl, renamed_below xs refs)
+  where
+    go : (r : Option ℕ) → place_in xs x ≡ r → IfSome r (λ y. y < length xs)
+    go None e = tt
+    go (Some k) e = slice_get_within xs k x (get_place xs x k e)
+
+module _ (nodes records : List ℕ) where
+  part_paired : (p : Part) → IsPartMet nodes records p
+      → ArePartsPaired (IsAmong (places nodes)) (IsAmong (places records)) p (renamed_part nodes records p)
+  part_paired p h = record {
+    facts = refl;
+    nodes = refs_placed nodes p.nodes h.0;
+    records = refs_placed records p.records h.1;
+  }
+
+  held_paired : (ps : List Part) → AllByRecursion (IsPartMet nodes records) ps
+      → AllZip (ArePartsPaired (IsAmong (places nodes)) (IsAmong (places records))) ps
+      (map (renamed_part nodes records) ps)
+  held_paired [] h = tt
+  held_paired (p ∷ ps) h = (part_paired p h.0, held_paired ps h.1)
+
+  -- each with its place is a pairing
+  pub by_paired : (fixed : ℕ) (s : Parts) → AreMet fixed s nodes records
+      → IsPartsPairing (IsAmong (places nodes)) (IsAmong (places records)) fixed s (parts_by nodes records s)
+  by_paired fixed s h =
+      let f : ℕ → Part = λ x. renamed_part nodes records (part_at s.nodes x) in
+      let g : ℕ → Part = λ y. renamed_part nodes records (part_at s.records y) in
+      let P : ℕ → ℕ → Type 0 = IsAmong (places nodes) in
+      let R : ℕ → ℕ → Type 0 = IsAmong (places records) in
+      record {
+        nodes_one_to_one = places_one nodes h.nodes_distinct;
+        records_one_to_one = places_one records h.records_distinct;
+        fixed_paired = λ x l.
+            let same : 0 + x ≡ x = zero-add x in
+            among_places nodes x x
+            (get_extends h.fixed_first x x (number_at 0 fixed x l ∙ ap Some same));
+        nodes_in_range = λ x y p.
+            let at = places_among nodes x y p in (
+              all_has (λ x. x < length s.nodes) nodes h.nodes_below x (has_at nodes y x at),
+              subst (λ n. y < n) (sym (length-map nodes f)) (slice_get_within nodes y x at),
+            );
+        records_in_range = λ x y p.
+            let at = places_among records x y p in (
+              all_has (λ x. x < length s.records) records h.records_below x (has_at records y x at),
+              subst (λ n. y < n) (sym (length-map records g)) (slice_get_within records y x at),
+            );
+        nodes_paired = λ x y p.
+            let at = places_among nodes x y p in
+            subst (λ b. ArePartsPaired P R (part_at s.nodes x) b) (sym (part_map_at f nodes y x at))
+            (part_paired (part_at s.nodes x) (h.nodes_closed x (has_at nodes y x at)));
+        records_paired = λ x y p.
+            let at = places_among records x y p in
+            subst (λ b. ArePartsPaired P R (part_at s.records x) b) (sym (part_map_at g records y x at))
+            (part_paired (part_at s.records x) (h.records_closed x (has_at records y x at)));
+        held_paired = held_paired s.held h.held_closed;
+      }
+
+  -- what is renamed is in range
+  module _ (n r : ℕ) (e : n ≡ length nodes) (f : r ≡ length records) where
+    part_below : (p : Part) → IsPartBelow n r (renamed_part nodes records p)
+    part_below p = record {
+      nodes =
+          All-from_recursion _ _
+          (subst (λ k. AllByRecursion (λ x. IfSome x (λ y. y < k)) (map (option_and_then (place_in nodes)) p.nodes))
+          (sym e) (renamed_below nodes p.nodes));
+      records =
+          All-from_recursion _ _
+          (subst
+          (λ k. AllByRecursion (λ x. IfSome x (λ y. y < k)) (map (option_and_then (place_in records)) p.records))
+          (sym f) (renamed_below records p.records));
+    }
+
+    parts_below : {A : Type 0} (g : A → Part) (xs : List A)
+        → All (IsPartBelow n r) (map (λ x. renamed_part nodes records (g x)) xs)
+    parts_below {A} g xs = All-from_recursion _ _ (go xs)
+      where
+        go : (xs : List A) → AllByRecursion (IsPartBelow n r) (map (λ x. renamed_part nodes records (g x)) xs)
+        go [] = tt
+        go (x ∷ xs) = (part_below (g x), go xs)
+
+  pub by_in_range : (fixed : ℕ) (s : Parts) → fixed ≤ length nodes → ArePartsInRange fixed (parts_by nodes records s)
+  by_in_range fixed s l =
+      let n = length-map nodes (λ x. renamed_part nodes records (part_at s.nodes x)) in
+      let r = length-map records (λ y. renamed_part nodes records (part_at s.records y)) in
+      record {
+        fixed_in_range = subst (λ k. fixed ≤ k) (sym n) l;
+        nodes = parts_below _ _ n r (part_at s.nodes) nodes;
+        records = parts_below _ _ n r (part_at s.records) records;
+        held = parts_below _ _ n r (λ p. p) s.held;
+      }
+
+-- nodes and records that are paired place by place leave the same
+pub by_same : (P R : ℕ → ℕ → Type 0) (fixed : ℕ) (s t : Parts) (nodes records others targets : List ℕ)
+    → IsPartsPairing P R fixed s t → AllZip P nodes others → AllZip R records targets
+    → parts_by nodes records s ≡ parts_by others targets t
+by_same P R fixed s t nodes records others targets h z w =
+    let same : (a b : Part) → ArePartsPaired P R a b → renamed_part nodes records a ≡ renamed_part others targets b =
+    λ a b p.
+    let facts = p.facts in
+    let first = refs_renamed P h.nodes_one_to_one nodes others z a.nodes b.nodes p.nodes in
+    let then = refs_renamed R h.records_one_to_one records targets w a.records b.records p.records in
+    λ i. record { facts = facts i; nodes = first i; records = then i } in
+    let first =
+    map_paired P (λ x. renamed_part nodes records (part_at s.nodes x)) (λ y. renamed_part others targets (part_at t.nodes y))
+    (λ x y p. same _ _ (h.nodes_paired x y p)) nodes others z in
+    let then =
+    map_paired R (λ x. renamed_part nodes records (part_at s.records x))
+    (λ y. renamed_part others targets (part_at t.records y))
+    (λ x y p. same _ _ (h.records_paired x y p)) records targets w in
+    let last =
+    map_paired (ArePartsPaired P R) (renamed_part nodes records) (renamed_part others targets) same s.held t.held
+    h.held_paired in
+    λ i. record { nodes = first i; records = then i; held = last i }
