@@ -1,7 +1,7 @@
 -- What the form of a state tells, and whole states, in bytes.
 use Rattle.std.specs.Prelude.{◌≡◌, ℕ, ◌/◌, ◌%◌, Bool, if◌then◌else◌, List, [], ◌∷◌, ◌++◌, length, Option, Some, None}
 use Rattle.std.specs.List.{flat_map}
-use Rattle.tree_machine.specs.Alike.{FormContent, places_of, replies_of, notes_of}
+use Rattle.tree_machine.specs.Alike.{FormContent, places_of, replies_of, notes_of, state_form}
 use Rattle.tree_machine.specs.Flat.{number_code}
 use Rattle.tree_machine.specs.Packed.{is_short, note_number, replies_number}
 use Rattle.tree_machine.specs.declared.state.State.{State}
@@ -32,6 +32,11 @@ deeds_code replies notes astray =
 -- all of it: the machine's form stands last, since nothing tells where its bytes end
 abbrev pub content_code : {Form : Type 0} → (Form → List ℕ) → FormContent Form → List ℕ
 content_code code content = deeds_code content.replies content.notes content.astray ++ code content.form
+
+-- what counts as one by names, in bytes: no steps, as they play no part, and the form
+abbrev pub named_code : {Machine Memory Place Form : Type 0} → (Form → List ℕ) → (Memory → List (Option Place) → Form)
+    → State Machine Memory Place Form → List ℕ
+named_code form_code form_of state = number_code 0 ++ content_code form_code (state_form form_of state)
 
 -- equal bytes are bytes of equal values
 abbrev pub IsInjective : {A : Type 0} → (A → List ℕ) → Type 0

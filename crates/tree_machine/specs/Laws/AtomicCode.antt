@@ -1,9 +1,11 @@
 -- What is told of the machine that does each operation at once can be read off its bytes.
 use Rattle.std.specs.Prelude.{◌≡◌, ℕ, List, [], ◌∷◌, ◌++◌, Option, Some, None, refl}
 use Rattle.std.specs.List.{flat_map}
-use Rattle.std.proofs.Common.{arith, ap}
+use Rattle.std.proofs.Common.{arith, ap, sym, subst}
 use Rattle.tree_machine.specs.FormCode.{IsInjective, TellsWholly}
-use Rattle.tree_machine.specs.Atomic.{atomic_form}
+use Rattle.tree_machine.specs.Atomic.{atomic_form, atomic_rules}
+use Rattle.tree_machine.specs.Rules.{ArePlacesInRange, DecodesForms}
+use Rattle.tree_machine.specs.Laws.Atomic.{atomic_forms}
 use Rattle.tree_machine.specs.AtomicCode.{held_code, atomic_code}
 use Rattle.tree_machine.specs.declared.atomic.AtomicLoc.{AtomicLoc}
 use Rattle.tree_machine.specs.declared.atomic.AtomicLoc.TheVariants.{Do}
@@ -37,3 +39,15 @@ atomic_codes a b e =
 -- there are no numbers to leave out: the bytes of the form tell the keys and what the threads hold
 pub atomic_tells : TellsWholly (λ keys held. atomic_code (atomic_form keys held))
 atomic_tells keys others held twins e = let same = held_readable held twins keys others e in (same.1, same.0)
+
+-- a form's bytes are those of the keys and of what the threads hold
+pub atomic_decodes : {Machine : Type 0} (machine : Machine)
+    → DecodesForms atomic_rules atomic_form atomic_code (λ keys held. atomic_code (atomic_form keys held))
+atomic_decodes machine keys others held twins range places e =
+    let same = atomic_tells others keys twins held e in (
+      subst atomic_rules.IsInRange (sym same.0) range,
+      subst (λ k. ArePlacesInRange atomic_rules k twins) (sym same.0)
+          (subst (ArePlacesInRange atomic_rules keys) (sym same.1) places),
+      (atomic_forms keys others held twins).0 (let keys_same = sym same.0 in let held_same = sym same.1 in
+          λ i. atomic_form (keys_same i) (held_same i)),
+    )
