@@ -12,6 +12,7 @@ pub mod CellSteps
 pub mod Cells
 pub mod Codes
 pub mod Flat
+pub mod Decoded
 pub mod FormCode
 pub mod Graphs
 pub mod InitialKeys

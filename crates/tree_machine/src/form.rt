@@ -1,12 +1,12 @@
 //! Forms of states: what is left of a state without the numbers of its nodes and records, and of its steps.
-ghost use Rattle.std.specs.Prelude.{◌≡◌, ◌≤◌, ◌↔◌, IfOk, length};
+ghost use Rattle.std.specs.Prelude.{◌≡◌, ◌≤◌, ◌++◌, ◌↔◌, IfOk, OnOk, length};
 ghost use Rattle.std.proofs.Common.{ap};
 ghost use Rattle.std.specs.Cmp.{partial_equiv_from_equiv};
 ghost use Rattle.sched_program.specs.Program.{Program, IsWithinLimits};
 ghost use Rattle.tree_machine.specs.Step.{Fits};
 ghost use Rattle.tree_machine.specs.Alike.{FormContent, state_form, AreStatesAlike};
 ghost use Rattle.tree_machine.specs.InRange.{AreNumbersInRange};
-ghost use Rattle.tree_machine.specs.FormCode.{content_code};
+ghost use Rattle.tree_machine.specs.FormCode.{content_code, named_code, state_code};
 ghost use Rattle.tree_machine.specs.StateEq.{state_form_eq};
 ghost use Rattle.tree_machine.specs.Laws.StateExact.{state_form_equiv, state_form_exact};
 ghost use Rattle.tree_machine.specs.declared.state.State.{State};
@@ -37,7 +37,7 @@ pub struct StateForm<M: Machine> {
 impl<M: Machine> Model for StateForm<M> {
     ghost use Rattle.std.specs.Prelude.{◌≡◌};
     ghost use Rattle.tree_machine.specs.Alike.{FormContent, state_form};
-    ghost use Rattle.tree_machine.specs.FormCode.{content_code};
+    ghost use Rattle.tree_machine.specs.FormCode.{content_code, named_code, state_code};
 
     ghost Value = { FormContent M.Form };
 
@@ -60,38 +60,30 @@ impl<M: Machine> State<M> {
             → (form ≡ state_form (M.form_of machine) other) ↔ AreStatesAlike (M.rules machine) self.now other) }
     {
         let mut room = Room::new(alloc);
-        let bytes = self.form_bytes(alloc, machine, &mut room, Vec::new(alloc))?;
+        self.put_form(alloc, machine, &mut room)?;
         Ok(StateForm {
-            bytes,
+            bytes: room.into_bytes(),
             machine: Snapshot::of(&machine),
             state: Snapshot::of(self),
         })
     }
 
-    /// The bytes of the form alone. They are written in a room that is kept from one form to the next, and copied into a
-    /// list that is of no further use, as far as that is long enough: of memory it asks for no more than they have.
-    fn form_bytes(
-        &self,
-        alloc: Global,
-        machine: M,
-        room: &mut Room,
-        spare: Vec<u8>,
-    ) -> Result<Bytes, OutOfMemory>
+    /// Puts the bytes of the form behind those in a room.
+    fn put_form(&self, alloc: Global, machine: M, room: &mut Room) -> Result<(), OutOfMemory>
         requires numbers { AreNumbersInRange (M.rules machine) self.now }
         requires threads { length self.now.threads ≤ 4 }
-        ensures { IfOk result
-            (λ bytes. bytes ≡ content_code M.form_code (state_form (M.form_of machine) self.now)) }
+        ensures { OnOk result (room.new
+            ≡ room.old ++ content_code M.form_code (state_form (M.form_of machine) self.now)) }
     {
         let threads = self.threads.as_slice();
-        room.clear();
         room.put_deeds(threads, self.astray)?;
-        machine.write_form(alloc, &self.memory, threads, room)?;
-        Ok(Bytes::copied_in(room.as_slice(), spare)?)
+        machine.write_form(alloc, &self.memory, threads, room)
     }
 
-    /// The bytes of the form of a state of a program. They are written in a room that is kept from one form to the next,
-    /// and copied into a spare list.
-    pub fn form_code_in(
+    /// The code of a state of a program by names: two are equal exactly if the states are alike. It is the code of a whole
+    /// state of no steps, which is alike to this one. It is written in a room that is kept from one state to the next, and
+    /// copied into a spare list.
+    pub fn named_code_in(
         &self,
         alloc: Global,
         machine: M,
@@ -99,10 +91,24 @@ impl<M: Machine> State<M> {
         spare: Vec<u8>,
     ) -> Result<Bytes, OutOfMemory>
         requires { (program : Program) × IsWithinLimits program × Fits (M.rules machine) program self.now }
-        ensures { IfOk result
-            (λ bytes. bytes ≡ content_code M.form_code (state_form (M.form_of machine) self.now)) }
+        ensures { IfOk result (λ bytes. bytes ≡ named_code M.form_code (M.form_of machine) self.now) }
     {
-        self.form_bytes(alloc, machine, room, spare)
+        room.clear();
+        room.put_number(0)?;
+        self.put_form(alloc, machine, room)?;
+        Ok(Bytes::copied_in(room.as_slice(), spare)?)
+    }
+
+    /// A state whose own bytes are the code by names of another one is alike to that one, fits the programs that it fits,
+    /// and has no steps.
+    pub fn decoded_law(&self, machine: M)
+        ensures { (s : State M M.Mem M.Loc M.Form) → AreNumbersInRange (M.rules machine) s
+            → state_code M.whole_code self.now ≡ named_code M.form_code (M.form_of machine) s
+            → AreStatesAlike (M.rules machine) s self.now
+            × ((program : Program) → Fits (M.rules machine) program s → Fits (M.rules machine) program self.now)
+            × (self.now.steps ≡ 0) }
+    {
+        let _ = machine;
     }
 }
 

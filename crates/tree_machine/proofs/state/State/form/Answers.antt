@@ -1,5 +1,7 @@
 use Rattle.tree_machine.proofs.Forms.{forms_tell}
-use Rattle.std.proofs.Common.{refl}
+use Rattle.std.proofs.Common.{refl, ap, ◌++◌, ◌∙◌}
+use Rattle.tree_machine.specs.Alike.{state_form}
+use Rattle.tree_machine.specs.FormCode.{content_code}
 use Rattle.tree_machine.proofs.state.State.form.Goals as goal
 
 pub returns-clause-exact : goal.returns-clause-exact
@@ -12,4 +14,8 @@ pub returns-clause-form : goal.returns-clause-form
 returns-clause-form g c = rw (c.of.ensures, c.of-2.ensures) refl
 
 pub invariant_of-result : goal.invariant_of-result
-invariant_of-result g c = rw (c.of.ensures, c.of-2.ensures) c.in_ok-bytes.ensures
+invariant_of-result g c =
+    let code = content_code g.M.Machine.form_code
+    (state_form (g.M.Machine.form_of c.args.machine) c.args.self.now) in
+    rw (c.of.ensures, c.of-2.ensures)
+    (c.into_bytes.ensures ∙ c.in_ok-put_form.ensures ∙ ap (λ l. l ++ code) c.new-room.ensures)
