@@ -52,12 +52,6 @@ has_from a (suc n) (suc i) l =
     (is_other (a + suc i) a (λ e. omega (arith, e)))
     ∙ (ap (λ x. list_any (nat_eq x) (numbers_from (suc a) n)) next ∙ has_from (suc a) n i (omega arith))
 
-pub first_at : (n x : ℕ) → x < n → slice_get (numbers_from 0 n) x ≡ Some x
-first_at n x l = let same : 0 + x ≡ x = omega arith in at_from 0 n x l ∙ ap Some same
-
-pub none_at : (n x : ℕ) → n ≤ x → slice_get (numbers_from 0 n) x ≡ None
-none_at n x l = none_from 0 n x l
-
 pub all_met : (n x : ℕ) → x < n → met (numbers_from 0 n) x ≡ numbers_from 0 n
 all_met n x l =
     let same : x ≡ 0 + x = omega arith in

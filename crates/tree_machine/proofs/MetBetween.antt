@@ -1,6 +1,6 @@
 -- The cells of an order that pass a test, met one after the other.
 use Rattle.std.proofs.Common.{◌≡◌, ℕ, zero, suc, ◌+◌, ◌-◌, ◌<◌, ◌≤◌, ◌⊎◌, Bool, true, false, cond, ◌&&◌, List, [], ◌∷◌, ◌++◌}
-use Rattle.std.proofs.Common.{map, length, take, drop, refl, sym, ◌∙◌, ap, subst, inl, inr, arith, append_assoc, add-one}
+use Rattle.std.proofs.Common.{map, length, take, refl, sym, ◌∙◌, ap, inl, inr, arith, append_assoc, add-one}
 use Rattle.std.proofs.Common.{append-nil, get_or}
 use Rattle.std.specs.Prelude.{slice_get, Some, nat_eq, nat_le, nat_lt}
 use Rattle.std.specs.List.{All, AllByRecursion, IsDistinct, filter, list_any}

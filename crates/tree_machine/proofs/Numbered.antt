@@ -1,16 +1,15 @@
 -- Few cells met, by the numbers that refer to them.
 use Rattle.std.proofs.Common.{◌≡◌, ℕ, zero, suc, ◌+◌, ◌-◌, ◌<◌, ◌≤◌, List, [], ◌∷◌, ◌++◌, map, length, refl, sym, ◌∙◌}
-use Rattle.std.proofs.Common.{ap, subst, arith, get_or, set, take, append_assoc, length-append}
+use Rattle.std.proofs.Common.{ap, subst, arith, get_or, set, take, length-append}
 use Rattle.std.specs.Prelude.{slice_get, replicate, Some, None, nat_eq}
-use Rattle.std.specs.List.{All, IsDistinct, flat_map}
+use Rattle.std.specs.List.{All, IsDistinct}
 use Rattle.std.specs.Option.{option_map}
 use Rattle.std.proofs.lemmas.List.{length-map}
 use Rattle.tree_machine.specs.Cells.{met, place_in, HasPlaces}
 use Rattle.tree_machine.specs.Numbered.{referred_to, HasNumbers}
-use Rattle.tree_machine.specs.Flat.{number_code, facts_code, short_head, headed}
 use Rattle.std.proofs.lemmas.List.Elements.{All-append, All-from_recursion, recursion_from_All}
 use Rattle.tree_machine.specs.Laws.CellOrder.{IsOrder, all_has, met_order, length-order}
-use Rattle.tree_machine.proofs.Numbers.{met_new, met_present, place_new, place_seen, places_push}
+use Rattle.tree_machine.proofs.Numbers.{met_new, met_present, place_seen, places_push}
 use Rattle.tree_machine.proofs.Passes.{place_below}
 
 none_at : (n x : ℕ) → x < length (map referred_to (replicate n 0))
@@ -81,13 +80,6 @@ first_met order after numbers x n h l e is_length is_after =
     (subst (HasPlaces (order ++ x ∷ [])) (sym (set_map numbers x (suc (length order))))
     (places_push order (map referred_to numbers) x h (within numbers x l) e)))
 
--- it stands at the end
-pub first_placed : (order : List ℕ) (x n m : ℕ) → place_in order x ≡ None → n ≡ length order → m ≡ n + 1
-    → place_in (met order x) x ≡ Some (m - 1)
-first_placed order x n m e is_length is_number =
-    let same : n ≡ m - 1 = omega (arith, is_number) in
-    place_new order x n e is_length ∙ ap Some same
-
 abbrev zeros : ℕ → List ℕ
 zeros n = replicate n 0
 
@@ -129,14 +121,6 @@ pub number_few : (order numbers : List ℕ) (x r : ℕ) → HasNumbers order num
     → r ≡ get_or numbers x r → length order < 255 → r < 255
 number_few order numbers x zero h l e few = omega arith
 number_few order numbers x (suc r) h l e few = number_small order numbers x (suc r) h l e (omega arith) few
-
--- a head of one byte with facts
-pub headed_short : (head n named : ℕ) (facts b c d : List ℕ) → short_head n (length facts) named ≡ Some head
-    → c ≡ b ++ head ∷ [] → d ≡ c ++ flat_map number_code facts → d ≡ b ++ facts_code (n ∷ facts) named
-headed_short head n named facts b c d e f g =
-    g
-    ∙ (ap (λ l. l ++ flat_map number_code facts) f
-    ∙ (append_assoc b (head ∷ []) (flat_map number_code facts) ∙ ap (λ o. b ++ headed o n facts named) (sym e)))
 
 -- ---- cells met for the first time, where there is room for all of them
 

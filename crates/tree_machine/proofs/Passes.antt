@@ -1,19 +1,18 @@
 -- Cells met one after the other, and a part in the pieces in which it is written.
-use Rattle.std.proofs.Common.{◌≡◌, ℕ, zero, suc, ◌+◌, ◌<◌, ◌≤◌, ◌⊎◌, Bool, true, false, cond, ◌||◌, List, [], ◌∷◌}
-use Rattle.std.proofs.Common.{◌++◌, map, length, drop, refl, sym, ◌∙◌, ap, subst, inl, inr, arith, append_assoc}
-use Rattle.std.proofs.Common.{length-append, get_or, add-one, drop-cons}
+use Rattle.std.proofs.Common.{◌≡◌, ℕ, ◌+◌, ◌<◌, ◌⊎◌, true, false, cond, ◌||◌, List, [], ◌∷◌}
+use Rattle.std.proofs.Common.{◌++◌, map, length, refl, sym, ◌∙◌, ap, inl, inr, arith, append_assoc}
+use Rattle.std.proofs.Common.{length-append}
 use Rattle.std.specs.Prelude.{Option, Some, None, nat_eq}
 use Rattle.std.specs.List.{All, AllByRecursion, list_any, flat_map}
 use Rattle.std.specs.Option.{option_map, option_and_then}
 use Rattle.std.proofs.lemmas.Bool.Decides.{eqb_tells}
 use Rattle.std.proofs.lemmas.Grind.{flat_map-append}
-use Rattle.std.proofs.lemmas.List.{append-nil, map-append, length-map}
+use Rattle.std.proofs.lemmas.List.{map-append, length-map}
 use Rattle.std.proofs.lemmas.List.Concat.{flat_map-cons}
 use Rattle.std.proofs.lemmas.List.Elements.{All-append, All-weaker, recursion_from_All}
 use Rattle.std.proofs.lemmas.Option.{slice_get_within}
 use Rattle.tree_machine.specs.Cells.{met, met_all, place_in, renamed}
-use Rattle.tree_machine.specs.Laws.CellOrder.{Has, HasAll, Extends, met_has, met_all_has, met_all_extends}
-use Rattle.tree_machine.specs.Laws.CellPlaces.{place_from_has, get_place}
+use Rattle.tree_machine.specs.Laws.CellPlaces.{get_place}
 use Rattle.tree_machine.specs.Graphs.{numbers_from}
 use Rattle.tree_machine.specs.Laws.Graphs.{numbers_more}
 use Rattle.tree_machine.specs.Laws.CellLists.{numbers_all}
@@ -45,11 +44,6 @@ run_next old first i h =
 
 -- ---- cells that are met one after the other
 
-pub met_all_step : (order : List ℕ) (r : Option ℕ) (refs : List (Option ℕ))
-    → met_all order (r ∷ refs) ≡ met_all (met_all order (r ∷ [])) refs
-met_all_step order None refs = refl
-met_all_step order (Some x) refs = refl
-
 pub met_all_append : (order : List ℕ) (refs sefs : List (Option ℕ))
     → met_all order (refs ++ sefs) ≡ met_all (met_all order refs) sefs
 met_all_append order [] sefs = refl
@@ -59,12 +53,6 @@ met_all_append order (Some x ∷ refs) sefs = met_all_append (met order x) refs 
 -- refs that name cells from n on
 abbrev pub shifted : ℕ → List (Option ℕ) → List (Option ℕ)
 shifted n refs = map (option_map (λ x. n + x)) refs
-
-drop_whole : {X : Type 0} (xs : List X) (n : ℕ) → length xs ≤ n → drop n xs ≡ []
-drop_whole [] zero l = refl
-drop_whole [] (suc n) l = refl
-drop_whole (x ∷ xs) zero l = absurd (omega arith)
-drop_whole (x ∷ xs) (suc n) l = drop_whole xs n (omega arith)
 
 -- the number of a place fits a word, as the length of the order does
 pub place_below : (order : List ℕ) (x k : ℕ) → place_in order x ≡ Some k → k < length order

@@ -1,16 +1,12 @@
 -- Parts as cells that a walk meets, and that a writer writes.
-use Rattle.std.proofs.Common.{◌≡◌, ℕ, zero, suc, ◌+◌, ◌-◌, ◌<◌, ◌≤◌, List, [], ◌∷◌, ◌++◌, map, length, take, refl, sym}
-use Rattle.std.proofs.Common.{◌∙◌, ap, subst, arith, append_assoc, length-append, add-one}
-use Rattle.std.specs.Prelude.{slice_get, Option, Some, None, IfSome}
+use Rattle.std.proofs.Common.{◌≡◌, ℕ, zero, suc, ◌+◌, ◌-◌, ◌<◌, ◌≤◌, List, [], ◌∷◌, ◌++◌, map, length, refl, sym}
+use Rattle.std.proofs.Common.{◌∙◌, ap, subst, arith, length-append}
+use Rattle.std.specs.Prelude.{slice_get, Option, Some, IfSome}
 use Rattle.std.specs.List.{All, AllByRecursion}
-use Rattle.std.proofs.lemmas.Grind.{flat_map-append}
-use Rattle.std.proofs.lemmas.List.{append-nil, map-append, length-map}
-use Rattle.std.proofs.lemmas.List.Concat.{flat_map-cons}
-use Rattle.std.proofs.lemmas.List.Elements.{All-weaker, All-nil, All-from_recursion, recursion_from_All}
-use Rattle.tree_machine.specs.Cells.{Content, content_at, met_all, met_in, visited, order_of, renamed, canonical}
+use Rattle.std.proofs.lemmas.List.{length-map}
+use Rattle.std.proofs.lemmas.List.Elements.{All-nil, All-from_recursion, recursion_from_All}
+use Rattle.tree_machine.specs.Cells.{Content, content_at, met_all, met_in, renamed}
 use Rattle.tree_machine.specs.Cells.{IsRooted}
-use Rattle.tree_machine.specs.Laws.CellOrder.{HasAll, Extends, extends_itself, extends_more, get_extends, met_all_has}
-use Rattle.tree_machine.specs.Laws.CellOrder.{visited_extends, met_in_order, length-order}
 use Rattle.tree_machine.specs.Graphs.{numbers_from, roots_of}
 use Rattle.tree_machine.specs.Laws.Graphs.{form_rooted}
 use Rattle.tree_machine.specs.Laws.CellLists.{numbers_all, content_front, content_back}
@@ -20,8 +16,7 @@ use Rattle.tree_machine.specs.Written.{Written, with_part}
 use Rattle.tree_machine.specs.Walked.{Walked, with_visit}
 use Rattle.tree_machine.specs.Laws.Parts.{content_map, length-parts_graph, parts_fit}
 use Rattle.tree_machine.proofs.Walks.{met_in_next}
-use Rattle.tree_machine.specs.Flat.{cell_code, flat}
-use Rattle.tree_machine.proofs.Lists.{take_whole}
+use Rattle.tree_machine.specs.Flat.{cell_code}
 
 -- the fixed cells stand before the others
 pub fixed_below : (fixed graph : ℕ) (before order : List ℕ) → before ≡ [] → order ≡ before ++ numbers_from 0 fixed
@@ -35,16 +30,6 @@ pub parts_rooted : (fixed : ℕ) (s : Parts) → ArePartsInRange fixed s
 parts_rooted fixed s h =
     form_rooted fixed (parts_graph s) (parts_held s) (parts_graph s ++ parts_held s)
     (roots_of fixed (parts_graph s) (parts_held s)) (parts_fit fixed s h) refl refl
-
--- numbers below a bound, that are put behind others, stay below as much more
-pub below_behind : (first n m : ℕ) (refs : List (Option ℕ)) → first + n ≤ m → All (λ r. IfSome r (λ x. x < n)) refs
-    → All (λ r. IfSome r (λ x. first + x < m)) refs
-below_behind first n m refs l h =
-    All-weaker (λ r. IfSome r (λ x. x < n)) (λ r. IfSome r (λ x. first + x < m)) more refs h
-  where
-    more : (r : Option ℕ) → IfSome r (λ x. x < n) → IfSome r (λ x. first + x < m)
-    more None k = tt
-    more (Some x) k = let below : x < n = k in omega arith
 
 -- the same for the records of a stack, and for those before it
 pub stack_below : (first n m : ℕ) (refs : List (Option ℕ)) (stack : List ℕ) → first + n ≤ m
@@ -61,15 +46,6 @@ stack_below first n m refs stack l h =
         → AllByRecursion (λ x. first + x < m) stack
     ahead [] h = each stack h
     ahead (r ∷ refs) h = ahead refs h.1
-
-pub before_stack : (n : ℕ) (refs sefs : List (Option ℕ)) → All (λ r. IfSome r (λ x. x < n)) (refs ++ sefs)
-    → All (λ r. IfSome r (λ x. x < n)) refs
-before_stack n refs sefs h = All-from_recursion _ refs (go refs (recursion_from_All _ (refs ++ sefs) h))
-  where
-    go : (refs : List (Option ℕ)) → AllByRecursion (λ r. IfSome r (λ x. x < n)) (refs ++ sefs)
-        → AllByRecursion (λ r. IfSome r (λ x. x < n)) refs
-    go [] h = tt
-    go (r ∷ refs) h = (h.0, go refs h.1)
 
 -- each part names nodes and records that there are
 pub part_below : (n m i j : ℕ) (parts : List Part) (x : ℕ) → i ≡ n → j ≡ m → All (IsPartBelow n m) parts

@@ -1,9 +1,9 @@
--- Canonical cells as one list of bytes.
+-- Cells, and nodes, records and what threads hold, as one list of bytes.
 use Rattle.std.specs.Prelude.{ℕ, zero, suc, ◌+◌, ◌*◌, ◌/◌, ◌%◌, ◌&&◌, if◌then◌else◌, nat_lt, List, [], ◌∷◌, ◌++◌}
 use Rattle.std.specs.Prelude.{map, length, replicate, Option, Some, None}
 use Rattle.std.specs.List.{flat_map}
 use Rattle.tree_machine.specs.Cells.{Content}
-use Rattle.tree_machine.specs.Parts.{Parts, parts_graph, parts_held, parts_form}
+use Rattle.tree_machine.specs.Parts.{Parts, parts_graph, parts_held}
 
 -- a number in bytes: 255 for each 255 in it, and then the rest
 abbrev pub number_code : ℕ → List ℕ
@@ -40,10 +40,6 @@ cell_code c = facts_code c.facts (length c.refs) ++ flat_map number_code (map re
 -- cells in bytes, one after the other
 abbrev pub flat : List Content → List ℕ
 flat cells = flat_map cell_code cells
-
--- the form of nodes, records and what the threads hold, in bytes
-abbrev pub flat_form : ℕ → Parts → List ℕ
-flat_form fixed s = flat (parts_form fixed s)
 
 -- nodes, records and what the threads hold in bytes, by their numbers: how many nodes and records there are, and all of
 -- them as cells

@@ -168,9 +168,11 @@ fn write_cells<P: Parts>(
     requires graph { All (λ x. x < length (parts_graph (P.parts parts.now))) (take count numbering.now.order.items) }
     requires nodes { writer.old.nodes ≡ length (P.parts parts.now).nodes }
     requires records { writer.old.records ≡ length (P.parts parts.now).records }
-    ensures { OnOk result (writer.new ≡ record writer.old { bytes = writer.old.bytes
-        ++ flat (map (λ x. renamed writer.old.order (content_at (parts_graph (P.parts parts.now)) x))
-        (take count numbering.now.order.items)) }) }
+    ensures { OnOk result (writer.new ≡ record writer.old {
+      bytes = writer.old.bytes
+          ++ flat (map (λ x. renamed writer.old.order (content_at (parts_graph (P.parts parts.now)) x))
+          (take count numbering.now.order.items));
+    }) }
 {
     for place in 0..count {
         match numbering.cell_at(place) {
@@ -186,8 +188,10 @@ fn write_places<P: Parts>(parts: &P, writer: &mut Writer<'_>) -> Result<(), OutO
     requires in_range { (fixed : ℕ) × ArePartsInRange fixed (P.parts parts.now) }
     requires nodes { writer.old.nodes ≡ length (P.parts parts.now).nodes }
     requires records { writer.old.records ≡ length (P.parts parts.now).records }
-    ensures { OnOk result (writer.new ≡ record writer.old { bytes = writer.old.bytes
-        ++ flat (map (renamed writer.old.order) (parts_held (P.parts parts.now))) }) }
+    ensures { OnOk result (writer.new ≡ record writer.old {
+      bytes = writer.old.bytes
+          ++ flat (map (renamed writer.old.order) (parts_held (P.parts parts.now)));
+    }) }
 {
     for index in 0..parts.held_count() {
         parts.visit_held(index, writer)?;

@@ -1,17 +1,16 @@
 -- A state whose own bytes are the named code of another one is alike to that one, and fits the same program.
-use Rattle.std.proofs.Common.{◌≡◌, ℕ, zero, suc, ◌+◌, ◌≤◌, ◌++◌, List, [], ◌∷◌, map, length, sym, ◌∙◌, ap, subst, refl, arith}
+use Rattle.std.proofs.Common.{◌≡◌, ℕ, zero, suc, ◌+◌, ◌≤◌, List, [], ◌∷◌, map, length, sym, ◌∙◌, ap, subst, refl}
 use Rattle.std.specs.Prelude.{Option, Some, None, IfSome, All, if◌then◌else◌, is_some, slice_get}
 use Rattle.std.specs.List.{AllByRecursion, AllZip}
 use Rattle.std.proofs.lemmas.List.{length-map}
 use Rattle.std.proofs.lemmas.List.Elements.{recursion_from_All}
 use Rattle.sched_program.specs.Program.{Program}
-use Rattle.sched_program.specs.declared.operation.Op.{Op}
-use Rattle.tree_machine.specs.Alike.{AreStatesAlike, FormContent, notes_of, places_of, replies_of, state_form}
+use Rattle.tree_machine.specs.Alike.{AreStatesAlike, FormContent, notes_of, places_of, replies_of}
 use Rattle.tree_machine.specs.FormCode.{content_code, named_code, state_code}
 use Rattle.tree_machine.specs.InRange.{AreNumbersInRange}
 use Rattle.tree_machine.specs.Pairing.{AreAlike, AreHeldPaired}
 use Rattle.tree_machine.specs.Rules.{Rules, ArePlacesInRange, DecodesForms}
-use Rattle.tree_machine.specs.Step.{Fits, ThreadFits}
+use Rattle.tree_machine.specs.Step.{Fits}
 use Rattle.tree_machine.specs.Laws.Flat.{number_split}
 use Rattle.tree_machine.specs.Laws.FormCode.{content_readable}
 use Rattle.tree_machine.specs.declared.state.Thread.{Thread}

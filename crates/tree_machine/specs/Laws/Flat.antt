@@ -1,5 +1,5 @@
 -- Forms in bytes are equal exactly where the parts can be paired.
-use Rattle.std.proofs.Common.{◌≡◌, ℕ, zero, suc, ◌+◌, ◌*◌, ◌/◌, ◌%◌, ◌<◌, ◌⊎◌, ◌↔◌, Bool, true, false, List, []}
+use Rattle.std.proofs.Common.{◌≡◌, ℕ, zero, suc, ◌+◌, ◌*◌, ◌/◌, ◌%◌, ◌<◌, ◌⊎◌, Bool, true, false, List, []}
 use Rattle.std.proofs.Common.{◌∷◌, ◌++◌, map, length, replicate, refl, sym, ◌∙◌, ap, inl, inr, arith, append_assoc}
 use Rattle.std.specs.Prelude.{Option, Some, None, nat_lt}
 use Rattle.std.specs.List.{flat_map}
@@ -9,10 +9,9 @@ use Rattle.std.proofs.lemmas.Grind.{flat_map-append}
 use Rattle.std.proofs.lemmas.List.{length-map}
 use Rattle.std.proofs.lemmas.List.Concat.{flat_map-cons}
 use Rattle.tree_machine.specs.Cells.{Content}
-use Rattle.tree_machine.specs.Flat.{number_code, long_code, facts_code, reference_number, cell_code, flat, flat_form}
+use Rattle.tree_machine.specs.Flat.{number_code, long_code, facts_code, reference_number, cell_code, flat}
 use Rattle.tree_machine.specs.Flat.{parts_code, graph_code}
-use Rattle.tree_machine.specs.Parts.{Parts, ArePartsInRange, CanPartsBePaired, parts_graph, parts_held}
-use Rattle.tree_machine.specs.Laws.Parts.{parts_exactly}
+use Rattle.tree_machine.specs.Parts.{Parts, parts_graph, parts_held}
 
 -- ---- one number
 
@@ -204,14 +203,6 @@ flat_equal (c ∷ cells) (d ∷ others) e =
     cell_split c d (flat cells) (flat others)
     (sym (flat_map-cons cell_code c cells) ∙ (e ∙ flat_map-cons cell_code d others)) in
     ap (λ x. x ∷ cells) split.0 ∙ ap (λ xs. d ∷ xs) (flat_equal cells others split.1)
-
--- two forms are equal exactly if the parts can be paired
-pub flat_forms_exact : (fixed : ℕ) (here there : Parts) → ArePartsInRange fixed here → ArePartsInRange fixed there
-    → length here.held ≡ length there.held → (flat_form fixed here ≡ flat_form fixed there)
-    ↔ CanPartsBePaired fixed here there
-flat_forms_exact fixed here there here_fits there_fits l =
-    let exactly = parts_exactly fixed here there here_fits there_fits l in
-    (λ e. exactly.0 (flat_equal _ _ e), λ p. ap flat (exactly.1 p))
 
 -- what the threads hold stands last in the bytes of all
 pub parts_parted : (s : Parts) → parts_code s ≡ graph_code s ++ flat (parts_held s)

@@ -8,7 +8,6 @@ use Rattle.std.proofs.lemmas.List.{length-map}
 use Rattle.std.proofs.lemmas.List.Elements.{All-append, All-map, All-weaker, recursion_from_All}
 use Rattle.tree_machine.specs.Cells.{Content, content_at}
 use Rattle.tree_machine.specs.Pairing.{IsAmong}
-use Rattle.tree_machine.specs.Graphs.{graph_form}
 use Rattle.tree_machine.specs.Parts.{Part, Parts, part_at, ArePartsPaired, IsPartsPairing, IsPartBelow, ArePartsInRange}
 use Rattle.tree_machine.specs.Parts.{part_cell, parts_graph, parts_held, parts_form, CanPartsBePaired}
 use Rattle.tree_machine.specs.Laws.PairLists.{among_append, are_below, among_below, below_among}
@@ -294,21 +293,3 @@ module _ (fixed : ℕ) (here there : Parts) (here_fits : ArePartsInRange fixed h
         ),
         λ p. exactly.1 (joined p.0 p.1 p.2, graph_pairing p.0 p.1 p.2),
       )
-
--- what `form_graph` is called with
-pub made_fit : (fixed : ℕ) (s : Parts) (graph held : List Content) → ArePartsInRange fixed s → graph ≡ parts_graph s
-    → held ≡ parts_held s → IsGraph fixed graph held
-made_fit fixed s graph held h e f =
-    subst (λ g. IsGraph fixed g held) (sym e)
-    (subst (λ k. IsGraph fixed (parts_graph s) k) (sym f) (parts_fit fixed s h))
-
--- what it answers then
-pub made_exact : (fixed : ℕ) (s other : Parts) (graph held answer : List Content) → ArePartsInRange fixed s
-    → graph ≡ parts_graph s → held ≡ parts_held s → answer ≡ graph_form fixed graph held → ArePartsInRange fixed other
-    → length s.held ≡ length other.held →
-    (answer ≡ parts_form fixed other) ↔ CanPartsBePaired fixed s other
-made_exact fixed s other graph held answer h e f is o l =
-    let same : answer ≡ parts_form fixed s =
-    is ∙ (ap (λ g. graph_form fixed g held) e ∙ ap (graph_form fixed (parts_graph s)) f) in
-    let exactly = parts_exactly fixed s other h o l in
-    (λ g. exactly.0 (sym same ∙ g), λ p. same ∙ exactly.1 p)

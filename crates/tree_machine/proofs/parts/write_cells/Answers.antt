@@ -1,5 +1,4 @@
-use Rattle.std.proofs.Common.{◌<◌, length, sym, ap, ◌∙◌, arith}
-use Rattle.tree_machine.specs.Written.{Written}
+use Rattle.std.proofs.Common.{sym, arith}
 use Rattle.tree_machine.proofs.Walks.{past_none}
 use Rattle.tree_machine.proofs.Whole.{node_written}
 use Rattle.tree_machine.proofs.parts.write_cells.Goals as goal

@@ -1,4 +1,4 @@
-use Rattle.std.proofs.Common.{◌<◌, length, ap, ◌∙◌, arith}
+use Rattle.std.proofs.Common.{length, ap, ◌∙◌, arith}
 use Rattle.tree_machine.specs.Written.{Written}
 use Rattle.tree_machine.proofs.VisitedParts.{part_below}
 use Rattle.tree_machine.proofs.Whole.{place_written}

@@ -1,4 +1,4 @@
-use Rattle.std.proofs.Common.{◌≤◌, ◌≡◌, ◌<◌, ◌-◌, length, ap, subst, sym, ◌++◌, ◌∙◌, take, arith}
+use Rattle.std.proofs.Common.{◌≤◌, ◌≡◌, ◌<◌, ◌-◌, length, ap, subst, ◌++◌, ◌∙◌, take, arith}
 use Rattle.std.specs.List.{All}
 use Rattle.tree_machine.specs.Parts.{parts_graph}
 use Rattle.tree_machine.specs.Flat.{parts_code}

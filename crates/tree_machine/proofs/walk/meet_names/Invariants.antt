@@ -1,4 +1,4 @@
-use Rattle.std.proofs.Common.{◌≡◌, ◌+◌, length, drop}
+use Rattle.std.proofs.Common.{◌≡◌, length, drop}
 use Rattle.tree_machine.specs.Cells.{met_all}
 use Rattle.tree_machine.proofs.Passes.{shifted}
 use Rattle.tree_machine.proofs.walk.meet_names.Given as goal

@@ -1,4 +1,4 @@
-use Rattle.std.proofs.Common.{◌≡◌, ◌+◌, ◌++◌, length, take, Some}
+use Rattle.std.proofs.Common.{◌≡◌, ◌+◌, ◌++◌, length, take}
 use Rattle.std.specs.List.{flat_map}
 use Rattle.tree_machine.specs.Written.{name_code}
 use Rattle.tree_machine.proofs.writer.put_names.Given as goal

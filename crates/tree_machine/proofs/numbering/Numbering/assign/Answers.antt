@@ -1,4 +1,4 @@
-use Rattle.std.proofs.Common.{◌+◌, ◌∙◌, length, refl, arith, length-set}
+use Rattle.std.proofs.Common.{◌+◌, ◌∙◌, length, arith, length-set}
 use Rattle.tree_machine.proofs.Numbered.{first_met, unmet, order_room, next_distinct, next_below}
 use Rattle.tree_machine.proofs.Numbers.{met_new}
 use Rattle.tree_machine.proofs.numbering.Numbering.assign.Goals as goal

@@ -1,4 +1,4 @@
-use Rattle.std.proofs.Common.{◌+◌, ◌≤◌, arith}
+use Rattle.std.proofs.Common.{arith}
 use Rattle.tree_machine.proofs.VisitedParts.{fixed_below}
 use Rattle.tree_machine.proofs.walk.Walk.rooted.Goals as goal
 
