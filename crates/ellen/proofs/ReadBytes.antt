@@ -20,29 +20,16 @@ step xs k l less e = drop-cons xs k 0 less ∙ ap (λ rest. get_or xs k 0 ∷ re
 behind : (xs : List ℕ) (k : ℕ) → drop k xs ≡ take (length xs - k) (drop k xs)
 behind xs k = sym (take_all (length xs - k) (drop k xs) (omega (arith, length-drop k xs)))
 
-pub first_one : (xs : List ℕ) → 1 ≤ length xs → xs ≡ get_or xs 0 0 ∷ take (length xs - 1) (drop 1 xs)
-first_one xs h = step xs 0 _ (omega arith) (behind xs 1)
-
 pub first_two : (xs : List ℕ) → 2 ≤ length xs
     → xs ≡ get_or xs 0 0 ∷ get_or xs 1 0 ∷ take (length xs - 2) (drop 2 xs)
 first_two xs h = step xs 0 _ (omega arith) (step xs 1 _ (omega arith) (behind xs 2))
 
--- what is known of a byte and all behind it
-pub behind_one : (bytes code : List ℕ) (a : ℕ) → 1 ≤ length bytes → get_or bytes 0 0 ≡ a
-    → a ∷ take (length bytes - 1) (drop 1 bytes) ≡ code → bytes ≡ code
-behind_one bytes code a l e h =
-    first_one bytes l ∙ (ap (λ x. x ∷ take (length bytes - 1) (drop 1 bytes)) e ∙ h)
-
--- the same of two bytes
+-- what is known of two bytes and all behind them
 pub behind_two : (bytes code : List ℕ) (a b : ℕ) → 2 ≤ length bytes → get_or bytes 0 0 ≡ a → get_or bytes 1 0 ≡ b
     → a ∷ b ∷ take (length bytes - 2) (drop 2 bytes) ≡ code → bytes ≡ code
 behind_two bytes code a b l e f h =
     first_two bytes l ∙ (ap (λ x. x ∷ get_or bytes 1 0 ∷ take (length bytes - 2) (drop 2 bytes)) e
     ∙ (ap (λ x. a ∷ x ∷ take (length bytes - 2) (drop 2 bytes)) f ∙ h))
-
-pub first_three : (xs : List ℕ) → 3 ≤ length xs
-    → xs ≡ get_or xs 0 0 ∷ get_or xs 1 0 ∷ get_or xs 2 0 ∷ take (length xs - 3) (drop 3 xs)
-first_three xs h = step xs 0 _ (omega arith) (step xs 1 _ (omega arith) (step xs 2 _ (omega arith) (behind xs 3)))
 
 pub first_four : (xs : List ℕ) → 4 ≤ length xs
     → xs ≡ get_or xs 0 0 ∷ get_or xs 1 0 ∷ get_or xs 2 0 ∷ get_or xs 3 0 ∷ take (length xs - 4) (drop 4 xs)
@@ -104,6 +91,6 @@ word_is u byte e = byte_is (word_number u) byte e (omega (arith, word_small u))
 pub above_is : (a : Option Above) (byte : ℕ) → byte ≡ above_number a → number_code (above_number a) ≡ byte ∷ []
 above_is a byte e = byte_is (above_number a) byte e (omega (arith, above_small a))
 
--- the number that tells a record behind so many nodes
+-- the number of a record behind so many nodes, or 0 for none
 abbrev pub named_by : ℕ → Option ℕ → ℕ
 named_by n x = reference_number (option_map (λ r. n + r) x)

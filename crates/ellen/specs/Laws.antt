@@ -1,6 +1,7 @@
 -- What is proved of the definitions. No contract's meaning rests on these files, and no definition imports one.
 pub mod Astray
 pub mod Codes
+pub mod Decoded
 pub mod Exact
 pub mod Forms
 pub mod Initial
@@ -12,5 +13,6 @@ pub mod PairedSteps
 pub mod Parts
 pub mod PartsRange
 pub mod Range
+pub mod RangeFromParts
 pub mod RangeSteps
 pub mod Rules

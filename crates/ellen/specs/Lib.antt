@@ -1,5 +1,4 @@
 pub mod EllenRules
-pub mod Held
 pub mod Initial
 pub mod Laws
 pub mod Memory

@@ -1,7 +1,7 @@
--- Nodes, records and what the threads hold as parts: what is told of them, and the nodes and the records that they
--- name.
+-- Nodes, records and what the threads hold as parts: their facts, and the nodes and the records that they name.
 use Rattle.std.specs.Prelude.{ℕ, suc, List, [], ◌∷◌, map, Option, Some, None}
-use Rattle.tree_machine.specs.Flat.{flat, flat_form, parts_code, graph_code}
+use Rattle.tree_machine.specs.Canonical.{canonical_code}
+use Rattle.tree_machine.specs.Flat.{flat, parts_code, graph_code}
 use Rattle.tree_machine.specs.Parts.{Part, Parts, no_part, parts_held}
 use Rattle.tree_machine.specs.declared.search_order.Side.{Side}
 use Rattle.tree_machine.specs.declared.search_order.Side.TheVariants as side
@@ -161,9 +161,9 @@ abbrev pub ellen_parts : EllenMem → List (Option EllenLoc) → Parts
 ellen_parts memory held =
     record { nodes = map node_part memory.nodes; records = map record_part memory.records; held = map held_part held }
 
--- the form of a memory with what the threads hold; the root is paired with itself
+-- the form of a memory with what the threads hold: its canonical parts, where the root is fixed
 abbrev pub ellen_form : EllenMem → List (Option EllenLoc) → List ℕ
-ellen_form memory held = flat_form 1 (ellen_parts memory held)
+ellen_form memory held = canonical_code 1 (ellen_parts memory held)
 
 -- all of a memory and what the threads hold, by the numbers of nodes and records
 abbrev pub ellen_code : EllenMem → List (Option EllenLoc) → List ℕ

@@ -68,7 +68,7 @@ pub fn marking(machine: Ellen, number: u16) -> HelpLoc
     }
 }
 
-/// Begins to help what an update word tells of.
+/// Begins to help what an update word announces.
 fn help(
     alloc: Global,
     machine: Ellen,

@@ -6,6 +6,7 @@ mod helping;
 mod initial;
 mod machine;
 mod memory;
+mod memory_view;
 mod numbers;
 mod place;
 mod reading;

@@ -25,6 +25,7 @@ impl Machine for Ellen {
     ghost use Rattle.ellen.specs.EllenRules.{ellen_rules};
     ghost use Rattle.ellen.specs.Laws.Rules.{ellen_lawful};
     ghost use Rattle.ellen.specs.Laws.Forms.{ellen_forms};
+    ghost use Rattle.ellen.specs.Laws.Decoded.{ellen_decodes};
     ghost use Rattle.sched_program.specs.Laws.Exact.{nat_exact, list_exact};
     ghost use Rattle.ellen.specs.Laws.Codes.{ellen_tells, ellen_parted};
     ghost use Rattle.ellen.specs.Laws.Exact.{machine_exact, memory_exact, place_exact};
@@ -186,6 +187,8 @@ impl Machine for Ellen {
     ghost lawful = { ellen_lawful };
 
     ghost forms = { ellen_forms };
+
+    ghost decodes = { ellen_decodes };
 
     ghost form_tells = { λ a b same. same };
 

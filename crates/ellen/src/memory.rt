@@ -253,7 +253,7 @@ impl EllenMem {
         Ok(nodes)
     }
 
-    /// Appends a new internal node for a key at a leaf, and tells its number. Where memory is refused nothing is
+    /// Appends a new internal node for a key at a leaf, and returns its number. Where memory is refused nothing is
     /// appended.
     pub(crate) fn add_internal(
         &mut self,

@@ -1,4 +1,4 @@
-//! The numbers and names by which parts tell words, places and bases.
+//! The numbers of update words, places and bases, and the names in them, as parts have them.
 ghost use Rattle.std.specs.Prelude.{◌≡◌, ◌<◌, Some, IfSome};
 ghost use Rattle.ellen.specs.Parts.{word_number, word_record, above_number, above_node, above_record};
 ghost use Rattle.ellen.specs.Parts.{help_number, help_side, help_record, help_node, base_number};
@@ -7,7 +7,7 @@ use crate::memory::UpdateWord;
 use crate::place::{Above, Base, HelpLoc};
 use tree_machine::Side;
 
-/// The number that tells the kind of an update word.
+/// The number of the kind of an update word.
 pub(crate) fn word_number(word: UpdateWord) -> u8
     ensures number { result ≡ word_number word }
     ensures small { result < 5 }
@@ -34,10 +34,9 @@ pub(crate) fn word_record(word: UpdateWord) -> Option<u16>
     }
 }
 
-/// The number that tells whether there is a grandparent, and the kind of its update word.
+/// 0 where there is no grandparent, or one more than the number of its update word's kind.
 pub(crate) fn above_number(above: Option<Above>) -> u8
-    ensures number { result ≡ above_number above }
-    ensures small { result < 6 }
+    ensures { result ≡ above_number above }
 {
     match above {
         None => 0,
@@ -59,10 +58,9 @@ pub(crate) fn above_record(above: Option<Above>) -> Option<u16>
     word_record(above?.update)
 }
 
-/// The number that tells the kind of a help place.
+/// The number of the kind of a help place.
 pub(crate) fn help_number(at: HelpLoc) -> u8
-    ensures number { result ≡ help_number at }
-    ensures small { result < 8 }
+    ensures { result ≡ help_number at }
 {
     match at {
         HelpLoc::InsChild(_) => 0,
@@ -76,10 +74,9 @@ pub(crate) fn help_number(at: HelpLoc) -> u8
     }
 }
 
-/// The number that tells the side that a help place holds, or that it holds none.
+/// The number of the side that a help place holds, or 0 where it holds none.
 pub(crate) fn help_side(at: HelpLoc) -> u8
-    ensures number { result ≡ help_side at }
-    ensures small { result < 3 }
+    ensures { result ≡ help_side at }
 {
     match at {
         HelpLoc::Other {
@@ -120,10 +117,9 @@ pub(crate) fn help_node(at: HelpLoc) -> Option<u16>
     }
 }
 
-/// The number that tells what is done behind the backtracks.
+/// The number of what is done behind the backtracks.
 pub(crate) fn base_number(base: Base) -> u8
-    ensures number { result ≡ base_number base }
-    ensures small { result < 3 }
+    ensures { result ≡ base_number base }
 {
     match base {
         Base::Again => 0,

@@ -17,7 +17,7 @@ use sched_program::OutOfMemory;
 use std::alloc::Global;
 use tree_machine::Thread;
 
-/// Reads a memory, and the place that each thread holds, in the room that these have as far as that is enough, and tells
+/// Reads a memory, and the place that each thread holds, in the room that these have as far as that is enough. It returns
 /// how many of the bytes are those of the memory. It answers none where bytes are left over or missing, or a number takes
 /// more than one byte.
 #[inline(always)]

@@ -2,7 +2,8 @@
 use Rattle.std.specs.Prelude.{ℕ, ◌+◌, ◌*◌, Bool, if◌then◌else◌, List, [], ◌∷◌, map, Option, Some, None}
 use Rattle.tree_machine.specs.declared.search_order.Side.{Side}
 use Rattle.tree_machine.specs.declared.search_order.Side.TheVariants.{Left, Right}
-use Rattle.tree_machine.specs.Flat.{flat, flat_form, graph_code, parts_code}
+use Rattle.tree_machine.specs.Canonical.{canonical_code}
+use Rattle.tree_machine.specs.Flat.{flat, graph_code, parts_code}
 use Rattle.tree_machine.specs.Parts.{Part, Parts, parts_held}
 use Rattle.natmit.specs.declared.memory.Word.{Word}
 use Rattle.natmit.specs.declared.memory.Node.{Node}
@@ -60,9 +61,10 @@ held_part (Some place) = place_part place
 abbrev pub natmit_parts : NatMitMem → List (Option NatMitLoc) → Parts
 natmit_parts memory held = record { nodes = map node_part memory.nodes; records = []; held = map held_part held }
 
--- the form of a memory with what the threads hold; nodes 0 and 1 are paired with themselves
+-- the form of a memory with what the threads hold: the bytes of what nodes 0 and 1 and the threads lead to, in the order
+-- in which a walk from these meets it
 abbrev pub natmit_form : NatMitMem → List (Option NatMitLoc) → List ℕ
-natmit_form memory held = flat_form 2 (natmit_parts memory held)
+natmit_form memory held = canonical_code 2 (natmit_parts memory held)
 
 -- all of a memory and what the threads hold, by the numbers of the nodes
 abbrev pub natmit_code : NatMitMem → List (Option NatMitLoc) → List ℕ

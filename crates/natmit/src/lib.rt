@@ -1,11 +1,11 @@
 //! The step machine of Natarajan and Mittal's tree, and its variant.
 #![tactic(auto)]
 
-mod form;
 mod helping;
 mod initial;
 mod machine;
 mod memory;
+mod memory_view;
 mod place;
 mod reading;
 mod searching;

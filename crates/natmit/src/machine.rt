@@ -1,22 +1,23 @@
 //! The machine and its variant.
 ghost use Rattle.sched_program.specs.Laws.Exact.{nat_exact, list_exact};
 ghost use Rattle.natmit.specs.Laws.Codes.{natmit_tells, natmit_parted};
+ghost use Rattle.natmit.specs.Laws.Decoded.{natmit_decodes};
 ghost use Rattle.natmit.specs.Laws.Exact.{machine_exact, memory_exact, place_exact};
 ghost use Rattle.natmit.specs.Laws.Forms.{natmit_forms};
 ghost use Rattle.natmit.specs.Laws.Rules.{natmit_lawful};
 ghost use Rattle.natmit.specs.NatMitRules.{natmit_rules};
 ghost use Rattle.natmit.specs.Parts.{natmit_code, natmit_form, natmit_memory_code, natmit_held_code};
 
-use crate::form::Snapshot;
 use crate::initial::build;
 use crate::memory::{NatMitMem, key_in};
+use crate::memory_view::MemoryView;
 use crate::place::{Mode, NatMitLoc};
 use crate::reading::{read_few, read_places};
 use sched_program::{Op, OutOfMemory};
 use std::alloc::Global;
 use tree_machine::{
-    Bytes, Machine, Outcome, Room, Thread, form_parts, keeps_search_order, write_held_whole,
-    write_parts, write_whole,
+    Bytes, Machine, Outcome, Room, Thread, form_parts, keeps_search_order, write_canonical,
+    write_held_whole, write_whole,
 };
 
 /// The machine of Natarajan and Mittal (PPoPP 2014), whole where `tag` is true.
@@ -123,7 +124,7 @@ impl Machine for NatMit {
         threads: &[Thread<NatMitLoc>],
     ) -> Result<Bytes, OutOfMemory> {
         // Each search begins at node 1, also where a run of the variant has cut it off from the root, node 0.
-        form_parts(alloc, 2, &Snapshot { mem, threads })
+        form_parts(alloc, 2, &MemoryView { mem, threads })
     }
 
     fn write_form(
@@ -133,7 +134,7 @@ impl Machine for NatMit {
         threads: &[Thread<NatMitLoc>],
         room: &mut Room,
     ) -> Result<(), OutOfMemory> {
-        write_parts(alloc, 2, &Snapshot { mem, threads }, room)
+        write_canonical(alloc, 2, &MemoryView { mem, threads }, room)
     }
 
     fn write_whole(
@@ -143,7 +144,7 @@ impl Machine for NatMit {
         threads: &[Thread<NatMitLoc>],
         room: &mut Room,
     ) -> Result<(), OutOfMemory> {
-        write_whole(alloc, &Snapshot { mem, threads }, room)
+        write_whole(alloc, &MemoryView { mem, threads }, room)
     }
 
     fn write_held(
@@ -153,7 +154,7 @@ impl Machine for NatMit {
         threads: &[Thread<NatMitLoc>],
         room: &mut Room,
     ) -> Result<(), OutOfMemory> {
-        write_held_whole(alloc, &Snapshot { mem, threads }, room)
+        write_held_whole(alloc, &MemoryView { mem, threads }, room)
     }
 
     fn read_whole(
@@ -179,6 +180,8 @@ impl Machine for NatMit {
     ghost lawful = { natmit_lawful };
 
     ghost forms = { natmit_forms };
+
+    ghost decodes = { natmit_decodes };
 
     ghost form_tells = { λ a b same. same };
 

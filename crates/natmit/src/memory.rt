@@ -160,7 +160,7 @@ impl NatMitMem {
         self.nodes.set(x as usize, node);
     }
 
-    /// Appends a new internal node for a key at a leaf, behind its new leaf, and tells its number. Where memory is
+    /// Appends a new internal node for a key at a leaf, behind its new leaf, and answers its number. Where memory is
     /// refused nothing is appended.
     fn add_internal(&mut self, alloc: Global, key: u8, leaf: u16) -> Result<u16, OutOfMemory>
         ensures ok { IfOk result (λ new. self.new ≡ with_internal self.old key leaf) }

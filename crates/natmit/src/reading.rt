@@ -76,7 +76,7 @@ fn mode_of(leaf: Option<u16>) -> Mode
     }
 }
 
-/// The side that a number tells.
+/// The side of this number.
 #[inline(always)]
 fn side_of_number(number: u64) -> Side
     requires { number < 2 }
@@ -118,7 +118,7 @@ fn read_node(bytes: &[u8]) -> Option<(Node, &[u8])>
     }
 }
 
-/// Reads nodes into a list that has nothing in it, as many as are told, and gives the bytes behind them. It asks for
+/// Reads nodes into a list that has nothing in it, as many as are asked for, and gives the bytes behind them. It asks for
 /// memory once at most.
 fn read_nodes<'a>(
     bytes: &'a [u8],
@@ -337,7 +337,7 @@ fn read_held(bytes: &[u8]) -> Option<(Option<NatMitLoc>, &[u8])>
     }
 }
 
-/// Reads what each thread holds, and tells whether that is all that there is.
+/// Reads what each thread holds. It answers whether the bytes end there.
 pub(crate) fn read_places(bytes: &[u8], threads: &mut [Thread<NatMitLoc>]) -> bool
     ensures read { IsTrue result
         → bytes.now ≡ flat_map (λ thread. cell_code (part_cell 0 (held_part thread.place))) threads.new }

@@ -1,4 +1,4 @@
--- Parts tell the memory and the places that they are of.
+-- Equal parts are of equal memories and places.
 use Rattle.std.specs.Prelude.{◌≡◌, ℕ, List, [], ◌∷◌, ◌++◌, Option, Some, None, refl}
 use Rattle.std.specs.List.{AllZip}
 use Rattle.std.proofs.Common.{ap, sym, subst}
@@ -122,7 +122,7 @@ parts_paired : (a b : Part) → a ≡ b → ArePartsPaired Same Same a b
 parts_paired a b e = subst (ArePartsPaired Same Same a) e
     (record { facts = refl; nodes = names_paired a.nodes; records = names_paired a.records })
 
--- parts tell the memory and the places that they are of
+-- equal parts are of equal memories and places
 pub parts_tell : (memory other : EllenMem) (held others : List (Option EllenLoc))
     → ellen_parts memory held ≡ ellen_parts other others → (memory ≡ other) × (held ≡ others)
 parts_tell memory other held others e =

@@ -4,7 +4,7 @@ use Rattle.std.proofs.Common.{sym, ◌∙◌}
 use Rattle.std.proofs.lemmas.List.{length-map}
 use Rattle.tree_machine.specs.Pairing.{AreAlike}
 use Rattle.tree_machine.specs.Rules.{ArePlacesInRange}
-use Rattle.tree_machine.specs.Laws.Flat.{flat_forms_exact}
+use Rattle.tree_machine.specs.Laws.CanonicalCodes.{canonical_codes_exactly}
 use Rattle.ellen.specs.declared.memory.EllenMem.{EllenMem}
 use Rattle.ellen.specs.declared.place.EllenLoc.{EllenLoc}
 use Rattle.ellen.specs.declared.machine.Ellen.{Ellen}
@@ -24,7 +24,7 @@ pub ellen_forms : (machine : Ellen) (memory other : EllenMem) (held others : Lis
 ellen_forms machine memory other held others memory_in held_in other_in others_in same =
     let lengths = length-map held held_part ∙ (same ∙ sym (length-map others held_part)) in
     let exact =
-    flat_forms_exact 1 (ellen_parts memory held) (ellen_parts other others)
+    canonical_codes_exactly 1 (ellen_parts memory held) (ellen_parts other others)
     (parts_in_range memory held memory_in held_in) (parts_in_range other others other_in others_in) lengths in
     let alike = parts_alike memory other held others in
     (λ e. alike.0 (exact.0 e), λ a. exact.1 (alike.1 a))

@@ -11,7 +11,7 @@ use sched_program::{OutOfMemory, Sequence};
 use std::alloc::Global;
 use std::mem::replace;
 
-/// Reads a node, and tells the bytes behind it. The length is tested once for all bytes of a node.
+/// Reads a node, and returns the bytes behind it. The length is tested once for all bytes of a node.
 #[inline(always)]
 fn read_node(bytes: &[u8], nodes: u8) -> Option<(Node, &[u8])>
     ensures { IfSome result (λ read. bytes.now ≡ cell_code (part_cell nodes (node_part read.0)) ++ read.1.now) }
@@ -39,7 +39,7 @@ fn read_node(bytes: &[u8], nodes: u8) -> Option<(Node, &[u8])>
     }
 }
 
-/// Reads a node into each place of a list, one behind the other, and tells the bytes behind them.
+/// Reads a node into each place of a list, one behind the other, and returns the bytes behind them.
 fn read_each_node<'a>(bytes: &'a [u8], count: u8, nodes: &mut [Node]) -> Option<&'a [u8]>
     ensures nodes { IfSome result (λ rest.
         bytes.now ≡ flat_map (λ node. cell_code (part_cell count (node_part node))) nodes.new ++ rest.now) }
@@ -54,7 +54,7 @@ fn read_each_node<'a>(bytes: &'a [u8], count: u8, nodes: &mut [Node]) -> Option<
     Some(rest)
 }
 
-/// Reads so many nodes, in the room that the list has as far as that is enough, and tells the bytes behind them.
+/// Reads so many nodes, in the room that the list has as far as that is enough, and returns the bytes behind them.
 fn read_nodes<'a>(
     alloc: Global,
     bytes: &'a [u8],
@@ -72,7 +72,7 @@ fn read_nodes<'a>(
     Ok(read)
 }
 
-/// Reads a record, and tells the bytes behind it. The length is tested once for all bytes of a record.
+/// Reads a record, and returns the bytes behind it. The length is tested once for all bytes of a record.
 #[inline(always)]
 fn read_record(bytes: &[u8], nodes: u8) -> Option<(Record, &[u8])>
     ensures { IfSome result (λ read. bytes.now ≡ cell_code (part_cell nodes (record_part read.0)) ++ read.1.now) }
@@ -113,7 +113,7 @@ fn read_record(bytes: &[u8], nodes: u8) -> Option<(Record, &[u8])>
     }
 }
 
-/// Reads a record into each place of a list, one behind the other, and tells the bytes behind them.
+/// Reads a record into each place of a list, one behind the other, and returns the bytes behind them.
 fn read_each_record<'a>(bytes: &'a [u8], nodes: u8, records: &mut [Record]) -> Option<&'a [u8]>
     ensures records { IfSome result (λ rest.
         bytes.now ≡ flat_map (λ each. cell_code (part_cell nodes (record_part each))) records.new ++ rest.now) }
@@ -128,7 +128,7 @@ fn read_each_record<'a>(bytes: &'a [u8], nodes: u8, records: &mut [Record]) -> O
     Some(rest)
 }
 
-/// Reads so many records, in the room that the list has as far as that is enough, and tells the bytes behind them.
+/// Reads so many records, in the room that the list has as far as that is enough, and returns the bytes behind them.
 fn read_records<'a>(
     alloc: Global,
     bytes: &'a [u8],
@@ -152,7 +152,7 @@ fn read_records<'a>(
     Ok(read)
 }
 
-/// Reads a memory: how many nodes and records it has, and all of them. It tells the number of nodes, and the bytes
+/// Reads a memory: how many nodes and records it has, and all of them. It returns the number of nodes, and the bytes
 /// behind the memory.
 pub(crate) fn read_memory<'a>(
     alloc: Global,

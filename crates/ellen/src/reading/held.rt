@@ -13,7 +13,7 @@ use sched_program::OutOfMemory;
 use std::alloc::Global;
 use tree_machine::Thread;
 
-/// Reads what a thread holds, a place or nothing between operations, and tells the bytes behind it.
+/// Reads what a thread holds, a place or nothing between operations, and returns the bytes behind it.
 #[inline(always)]
 fn read_held<'a>(
     alloc: Global,

@@ -85,7 +85,7 @@ fn stack_of(alloc: Global, held: Option<EllenLoc>) -> Sequence<u16> {
 }
 
 /// Reads so many records of a stack behind so many nodes, in the room that the list has as far as that is enough, and
-/// tells the bytes behind them.
+/// returns the bytes behind them.
 fn read_stack<'a>(
     alloc: Global,
     bytes: &'a [u8],
@@ -113,7 +113,7 @@ fn read_stack<'a>(
     Ok(Some(rest))
 }
 
-/// Reads the rest of a help place into a place that holds another, and tells the bytes behind it. The stack takes the
+/// Reads the rest of a help place into a place that holds another, and returns the bytes behind it. The stack takes the
 /// room of the other one's.
 pub(crate) fn read_help<'a>(
     alloc: Global,

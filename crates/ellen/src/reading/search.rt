@@ -1,4 +1,4 @@
-//! Places of a search read back from their bytes, where each number is one byte. The first byte of a place tells how much it
+//! Places of a search read back from their bytes, where each number is one byte. The first byte of a place says how much it
 //! is, and the second what kind of place.
 ghost use Rattle.std.specs.Prelude.{◌≡◌, ℕ, ◌++◌, ◌∷◌, IfSome};
 ghost use Rattle.tree_machine.specs.Flat.{cell_code};
@@ -8,7 +8,7 @@ ghost use Rattle.ellen.specs.Parts.{search_part};
 use crate::place::{Above, SearchLoc};
 use crate::reading::words::{above_of, word_of};
 
-/// Reads the rest of the place at which a search reads an update word, and tells the bytes behind it.
+/// Reads the rest of the place at which a search reads an update word, and returns the bytes behind it.
 #[inline(always)]
 fn read_update(bytes: &[u8], nodes: u8) -> Option<(SearchLoc, &[u8])>
     ensures { IfSome result (λ read.
@@ -22,7 +22,7 @@ fn read_update(bytes: &[u8], nodes: u8) -> Option<(SearchLoc, &[u8])>
     Some((SearchLoc::Update { above, parent }, rest))
 }
 
-/// Reads the rest of the place at which a search reads a child, and tells the bytes behind it.
+/// Reads the rest of the place at which a search reads a child, and returns the bytes behind it.
 #[inline(always)]
 fn read_child(bytes: &[u8], nodes: u8) -> Option<(SearchLoc, &[u8])>
     ensures { IfSome result (λ read.
@@ -42,7 +42,7 @@ fn read_child(bytes: &[u8], nodes: u8) -> Option<(SearchLoc, &[u8])>
     Some((at, rest))
 }
 
-/// Reads the rest of the place at which an insert flags the parent, and tells the bytes behind it.
+/// Reads the rest of the place at which an insert flags the parent, and returns the bytes behind it.
 #[inline(always)]
 fn read_insert_flag(bytes: &[u8], nodes: u8) -> Option<(SearchLoc, &[u8])>
     ensures { IfSome result (λ read.
@@ -59,7 +59,7 @@ fn read_insert_flag(bytes: &[u8], nodes: u8) -> Option<(SearchLoc, &[u8])>
     Some((at, rest))
 }
 
-/// Reads the rest of the place at which an insert writes a child without a flag, and tells the bytes behind it.
+/// Reads the rest of the place at which an insert writes a child without a flag, and returns the bytes behind it.
 #[inline(always)]
 fn read_insert_only(bytes: &[u8]) -> Option<(SearchLoc, &[u8])>
     ensures { IfSome result (λ read. (nodes : ℕ)
@@ -73,7 +73,7 @@ fn read_insert_only(bytes: &[u8]) -> Option<(SearchLoc, &[u8])>
     Some((SearchLoc::InsOnly { parent, leaf }, rest))
 }
 
-/// Reads the rest of the place at which a delete flags the grandparent, and tells the bytes behind it.
+/// Reads the rest of the place at which a delete flags the grandparent, and returns the bytes behind it.
 #[inline(always)]
 fn read_delete_flag(bytes: &[u8], nodes: u8) -> Option<(SearchLoc, &[u8])>
     ensures { IfSome result (λ read.
@@ -105,7 +105,7 @@ fn read_delete_flag(bytes: &[u8], nodes: u8) -> Option<(SearchLoc, &[u8])>
     Some((at, rest))
 }
 
-/// Reads a place of a search, and tells the bytes behind it.
+/// Reads a place of a search, and returns the bytes behind it.
 #[inline(always)]
 pub(crate) fn read_search(bytes: &[u8], nodes: u8) -> Option<(SearchLoc, &[u8])>
     ensures { IfSome result (λ read. bytes.now ≡ cell_code (part_cell nodes (search_part read.0)) ++ read.1.now) }

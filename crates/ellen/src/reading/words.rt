@@ -1,4 +1,4 @@
-//! Records, update words and grandparents that bytes tell.
+//! Records, update words and grandparents read back from bytes.
 ghost use Rattle.std.specs.Prelude.{◌≡◌, ◌<◌, ◌+◌, IfSome};
 ghost use Rattle.std.specs.Option.{option_map};
 ghost use Rattle.tree_machine.specs.Flat.{reference_number};

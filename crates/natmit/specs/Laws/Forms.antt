@@ -2,7 +2,7 @@
 use Rattle.std.specs.Prelude.{◌≡◌, ◌↔◌, List, map, length, Option, IfSome, All}
 use Rattle.std.proofs.Common.{sym, ◌∙◌}
 use Rattle.std.proofs.lemmas.List.{length-map}
-use Rattle.tree_machine.specs.Laws.Flat.{flat_forms_exact}
+use Rattle.tree_machine.specs.Laws.CanonicalCodes.{canonical_codes_exactly}
 use Rattle.tree_machine.specs.Pairing.{AreAlike}
 use Rattle.tree_machine.specs.Rules.{AreFormsExact}
 use Rattle.natmit.specs.declared.machine.NatMit.{NatMit}
@@ -23,8 +23,8 @@ forms_exact memory other held others h places k other_places same =
     let lengths : length (map held_part held) ≡ length (map held_part others) =
     length-map held held_part ∙ (same ∙ sym (length-map others held_part)) in
     let exact =
-    flat_forms_exact 2 (natmit_parts memory held) (natmit_parts other others) (parts_in_range memory held h places)
-    (parts_in_range other others k other_places) lengths in
+    canonical_codes_exactly 2 (natmit_parts memory held) (natmit_parts other others)
+    (parts_in_range memory held h places) (parts_in_range other others k other_places) lengths in
     let alike = parts_exactly memory other held others in
     ((λ e. alike.0 (exact.0 e)), (λ a. exact.1 (alike.1 a)))
 

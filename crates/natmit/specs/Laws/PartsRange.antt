@@ -1,10 +1,11 @@
--- Where the numbers of a memory and of places are in range, so are those of their parts.
+-- The numbers of a memory and of places are in range exactly if those of their parts are.
 use Rattle.std.specs.Prelude.{◌≡◌, ℕ, ◌<◌, List, [], ◌∷◌, map, length, Option, Some, None, IfSome, All}
 use Rattle.std.specs.List.{AllByRecursion}
 use Rattle.std.proofs.Common.{arith, sym, subst}
 use Rattle.std.proofs.lemmas.List.{length-map}
-use Rattle.std.proofs.lemmas.List.Elements.{All-nil, All-map, All-weaker, All-from_recursion}
-use Rattle.tree_machine.specs.Parts.{IsPartBelow, ArePartsInRange}
+use Rattle.std.proofs.lemmas.List.Elements.{All-nil, All-cons, All-head, All-tail, All-map, All-weaker}
+use Rattle.std.proofs.lemmas.List.Elements.{All-from_recursion, recursion_from_All}
+use Rattle.tree_machine.specs.Parts.{Part, IsPartBelow, ArePartsInRange}
 use Rattle.natmit.specs.declared.memory.Node.{Node}
 use Rattle.natmit.specs.declared.memory.Node.TheVariants.{Leaf, Internal}
 use Rattle.natmit.specs.declared.memory.NatMitMem.{NatMitMem}
@@ -59,6 +60,46 @@ module _ (n r : ℕ) where
   held_below None h = part_below [] [] tt
   held_below (Some place) h = place_below place h
 
+  -- ---- and back
+
+  mode_in : (m : Mode) → IsBelow (owned m) → IsModeIn n m
+  mode_in Plain h = tt
+  mode_in (Owner o) h = h
+
+  node_in : (node : Node) → IsPartBelow n r (node_part node) → IsNodeIn n node
+  node_in (Leaf k) h = tt
+  node_in (Internal k left right) h =
+      let each = recursion_from_All IsBelow (Some left.node ∷ Some right.node ∷ []) h.nodes in (each.0, each.1.0)
+
+  four_in : (a s p l : ℕ) → All IsBelow (Some a ∷ Some s ∷ Some p ∷ Some l ∷ [])
+      → (a < n) × (s < n) × (p < n) × (l < n)
+  four_in a s p l h =
+      let each = recursion_from_All IsBelow (Some a ∷ Some s ∷ Some p ∷ Some l ∷ []) h in
+      (each.0, each.1.0, each.1.1.0, each.1.1.1.0)
+
+  three_in : (a s p : ℕ) (m : Mode) → All IsBelow (Some a ∷ Some s ∷ Some p ∷ owned m ∷ [])
+      → (a < n) × (s < n) × (p < n) × IsModeIn n m
+  three_in a s p m h =
+      let each = recursion_from_All IsBelow (Some a ∷ Some s ∷ Some p ∷ owned m ∷ []) h in
+      (each.0, each.1.0, each.1.1.0, mode_in m each.1.1.1.0)
+
+  place_in : (place : NatMitLoc) → IsPartBelow n r (place_part place) → IsPlaceIn n place
+  place_in (Begin m) h = mode_in m (recursion_from_All IsBelow (owned m ∷ []) h.nodes).0
+  place_in (Down a s p l t m) h =
+      let each = recursion_from_All IsBelow (Some a ∷ Some s ∷ Some p ∷ Some l ∷ owned m ∷ []) h.nodes in
+      (each.0, each.1.0, each.1.1.0, each.1.1.1.0, mode_in m each.1.1.1.1.0)
+  place_in (Put a s p l) h = four_in a s p l h.nodes
+  place_in (Flag a s p l) h = four_in a s p l h.nodes
+  place_in (Look a s p l) h = four_in a s p l h.nodes
+  place_in (CleanRead a s p m) h = three_in a s p m h.nodes
+  place_in (Tag a s p d m) h = three_in a s p m h.nodes
+  place_in (Sibling a s p d m) h = three_in a s p m h.nodes
+  place_in (Swing a s f x m) h = three_in a s x m h.nodes
+
+  held_in : (place : Option NatMitLoc) → IsPartBelow n r (held_part place) → IfSome place (IsPlaceIn n)
+  held_in None h = tt
+  held_in (Some place) h = place_in place h
+
 pub parts_in_range : (memory : NatMitMem) (held : List (Option NatMitLoc)) → IsInRange memory
     → All (λ place. IfSome place (IsPlaceInRange memory)) held → ArePartsInRange 2 (natmit_parts memory held)
 parts_in_range memory held h places =
@@ -77,3 +118,30 @@ parts_in_range memory held h places =
           (All-weaker (λ place. IfSome place (IsPlaceIn n)) (λ place. IsPartBelow n 0 (held_part place))
           (held_below n 0) held places));
     }
+
+-- where P holds of each part, and Q of what has such a part, Q holds of each
+all_of_parts : {X : Type 0} (P : Part → Type 0) (part : X → Part) (Q : X → Type 0) → ((x : X) → P (part x) → Q x)
+    → (xs : List X) → All P (map part xs) → All Q xs
+all_of_parts P part Q back [] h = All-nil Q
+all_of_parts P part Q back (x ∷ xs) h =
+    All-cons Q x xs (back x (All-head P (part x) (map part xs) h))
+    (all_of_parts P part Q back xs (All-tail P (part x) (map part xs) h))
+
+pub memory_in_range : (memory : NatMitMem) (held : List (Option NatMitLoc))
+    → ArePartsInRange 2 (natmit_parts memory held) → IsInRange memory
+memory_in_range memory held h =
+    let n = length (map node_part memory.nodes) in
+    let same : n ≡ length memory.nodes = length-map memory.nodes node_part in
+    let first = h.fixed_in_range in
+    record {
+      first_nodes = omega arith;
+      nodes = subst (λ m. All (IsNodeIn m) memory.nodes) same
+          (all_of_parts (IsPartBelow n 0) node_part (IsNodeIn n) (node_in n 0) memory.nodes h.nodes);
+    }
+
+pub places_in_range : (memory : NatMitMem) (held : List (Option NatMitLoc))
+    → ArePartsInRange 2 (natmit_parts memory held) → All (λ place. IfSome place (IsPlaceInRange memory)) held
+places_in_range memory held h =
+    let n = length (map node_part memory.nodes) in
+    subst (λ m. All (λ place. IfSome place (IsPlaceIn m)) held) (length-map memory.nodes node_part)
+    (all_of_parts (IsPartBelow n 0) held_part (λ place. IfSome place (IsPlaceIn n)) (held_in n 0) held h.held)

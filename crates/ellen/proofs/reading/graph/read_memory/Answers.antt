@@ -7,7 +7,7 @@ use Rattle.ellen.specs.declared.memory.Node.{Node}
 use Rattle.ellen.specs.declared.memory.Record.{Record}
 use Rattle.ellen.specs.declared.memory.EllenMem.{EllenMem}
 use Rattle.ellen.specs.Parts.{node_part, record_part, ellen_parts}
-use Rattle.ellen.proofs.GraphBytes.{graph_put}
+use Rattle.ellen.proofs.GraphBytes.{graph_coded}
 use Rattle.ellen.proofs.ReadBytes.{first_two, byte_is}
 use Rattle.ellen.proofs.reading.graph.read_memory.Goals as goal
 
@@ -24,7 +24,7 @@ memory_read memory bytes behind rest l n ns r rs p q =
     let nodes = flat_map (λ (node : Node). cell_code (part_cell count (node_part node))) memory.nodes in
     let records = flat_map (λ (each : Record). cell_code (part_cell count (record_part each))) memory.records in
     let both : nodes ++ records ≡ flat (parts_graph (ellen_parts memory [])) =
-    graph_put memory memory.nodes memory.records count [] nodes (nodes ++ records) refl refl (sym n) refl refl in
+    graph_coded memory count (sym n) in
     let first = byte_is (length memory.nodes) (get_or bytes 0 0) (sym n) ns in
     let second = byte_is (length memory.records) (get_or bytes 1 0) (sym r) rs in
     first_two bytes l

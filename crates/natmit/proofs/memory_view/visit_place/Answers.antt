@@ -1,6 +1,6 @@
--- The part is put as the place says.
+-- The visitor visits what the place says.
 use Rattle.std.proofs.Common.{rules}
-use Rattle.natmit.proofs.form.write_place.Goals as goal
+use Rattle.natmit.proofs.memory_view.visit_place.Goals as goal
 
 pub returns-in-Down : goal.returns-in-Down
 returns-in-Down c = search rules

@@ -1,18 +1,17 @@
-//! A memory with the places that the threads hold, as parts: the numbers of nodes stand apart from all else.
+//! Shows a memory, and what the threads hold, to visitors as parts: the numbers of nodes stand apart from all else.
 ghost use Rattle.std.specs.Prelude.{◌≡◌, ◌<◌, ◌∷◌, [], Some, OnOk};
 ghost use Rattle.tree_machine.specs.Alike.{places_of};
 ghost use Rattle.tree_machine.specs.Parts.{IsPartBelow};
-ghost use Rattle.tree_machine.specs.Written.{with_part};
 ghost use Rattle.natmit.specs.Parts.{mark_number, side_number, owned, part_of, node_part, place_part, natmit_parts};
 ghost use Rattle.natmit.specs.Table.{IsHelping};
 
 use crate::memory::{NatMitMem, Node, Word};
 use crate::place::{Mode, NatMitLoc};
 use sched_program::OutOfMemory;
-use tree_machine::{Numbering, Parts, Side, Thread, Writer};
+use tree_machine::{PartVisitor, Parts, Side, Thread};
 
-/// The number that tells a side.
-pub(crate) fn side_number(side: Side) -> u8
+/// The number of a side.
+fn side_number(side: Side) -> u8
     ensures number { result ≡ side_number side }
     ensures small { result < 2 }
 {
@@ -32,77 +31,80 @@ fn owned(mode: Mode) -> Option<u16>
     }
 }
 
-/// The number that tells the flag and the tag of a child word.
-pub(crate) fn mark_number(word: Word) -> u8
+/// The flag and the tag of a child word as one number.
+fn mark_number(word: Word) -> u8
     ensures number { result ≡ mark_number word }
     ensures small { result < 4 }
 {
     u8::from(word.flag) + 2 * u8::from(word.tag)
 }
 
-/// Writes a node: its key, and of an internal one its children with their flags and tags.
+/// Lets a visitor visit a node: its key, and of an internal one its children with their flags and tags.
 #[inline(always)]
-fn write_node<N: Numbering>(node: Node, writer: &mut Writer<N>) -> Result<(), OutOfMemory>
-    requires { IsPartBelow writer.old.nodes writer.old.records (node_part node) }
-    ensures { OnOk result (writer.new ≡ with_part writer.old (node_part node)) }
+fn visit_node<V: PartVisitor>(node: Node, visitor: &mut V) -> Result<(), OutOfMemory>
+    requires { IsPartBelow (V.nodes_below visitor.old) (V.records_below visitor.old) (node_part node) }
+    ensures { OnOk result (V.visited visitor.old (node_part node) visitor.new) }
 {
     match node {
-        Node::Leaf { key } => writer.put(&[key], &[], &[]),
-        Node::Internal { key, left, right } => writer.put(
+        Node::Leaf { key } => visitor.visit(&[key], &[], &[], &[]),
+        Node::Internal { key, left, right } => visitor.visit(
             &[key, mark_number(left) + 4 * mark_number(right)],
             &[Some(left.node), Some(right.node)],
+            &[],
             &[],
         ),
     }
 }
 
-/// Writes a place that holds four nodes and no other locals.
-fn write_four<N: Numbering>(
+/// Lets a visitor visit a place that holds four nodes and no other locals.
+fn visit_four<V: PartVisitor>(
     place: u8,
     ancestor: u16,
     successor: u16,
     parent: u16,
     leaf: u16,
-    writer: &mut Writer<N>,
+    visitor: &mut V,
 ) -> Result<(), OutOfMemory>
-    requires { IsPartBelow writer.old.nodes writer.old.records
+    requires { IsPartBelow (V.nodes_below visitor.old) (V.records_below visitor.old)
         (part_of (place ∷ []) (Some ancestor ∷ Some successor ∷ Some parent ∷ Some leaf ∷ [])) }
-    ensures { OnOk result (writer.new
-        ≡ with_part writer.old (part_of (place ∷ []) (Some ancestor ∷ Some successor ∷ Some parent ∷ Some leaf ∷ []))) }
+    ensures { OnOk result (V.visited visitor.old
+        (part_of (place ∷ []) (Some ancestor ∷ Some successor ∷ Some parent ∷ Some leaf ∷ [])) visitor.new) }
 {
-    writer.put(
+    visitor.visit(
         &[place],
         &[Some(ancestor), Some(successor), Some(parent), Some(leaf)],
+        &[],
         &[],
     )
 }
 
-/// Writes a place that holds three nodes and a mode, with these facts.
-fn write_three<N: Numbering>(
+/// Lets a visitor visit a place that holds three nodes and a mode, with these facts.
+fn visit_three<V: PartVisitor>(
     facts: &[u8],
     ancestor: u16,
     successor: u16,
     node: u16,
     mode: Mode,
-    writer: &mut Writer<N>,
+    visitor: &mut V,
 ) -> Result<(), OutOfMemory>
-    requires { IsPartBelow writer.old.nodes writer.old.records
+    requires { IsPartBelow (V.nodes_below visitor.old) (V.records_below visitor.old)
         (part_of facts.now (Some ancestor ∷ Some successor ∷ Some node ∷ owned mode ∷ [])) }
-    ensures { OnOk result (writer.new
-        ≡ with_part writer.old (part_of facts.now (Some ancestor ∷ Some successor ∷ Some node ∷ owned mode ∷ []))) }
+    ensures { OnOk result (V.visited visitor.old
+        (part_of facts.now (Some ancestor ∷ Some successor ∷ Some node ∷ owned mode ∷ [])) visitor.new) }
 {
-    writer.put(
+    visitor.visit(
         facts,
         &[Some(ancestor), Some(successor), Some(node), owned(mode)],
+        &[],
         &[],
     )
 }
 
-/// Writes a place at which a flagged leaf is cut off, and its locals.
-fn write_helping<N: Numbering>(place: NatMitLoc, writer: &mut Writer<N>) -> Result<(), OutOfMemory>
+/// Lets a visitor visit a place at which a flagged leaf is cut off, and its locals.
+fn visit_helping<V: PartVisitor>(place: NatMitLoc, visitor: &mut V) -> Result<(), OutOfMemory>
     requires helping { IsHelping place }
-    requires named { IsPartBelow writer.old.nodes writer.old.records (place_part place) }
-    ensures { OnOk result (writer.new ≡ with_part writer.old (place_part place)) }
+    requires named { IsPartBelow (V.nodes_below visitor.old) (V.records_below visitor.old) (place_part place) }
+    ensures { OnOk result (V.visited visitor.old (place_part place) visitor.new) }
 {
     match place {
         NatMitLoc::CleanRead {
@@ -110,40 +112,40 @@ fn write_helping<N: Numbering>(place: NatMitLoc, writer: &mut Writer<N>) -> Resu
             successor: s,
             parent: p,
             mode,
-        } => write_three(&[6], a, s, p, mode, writer),
+        } => visit_three(&[6], a, s, p, mode, visitor),
         NatMitLoc::Tag {
             ancestor: a,
             successor: s,
             parent: p,
             side,
             mode,
-        } => write_three(&[7, side_number(side)], a, s, p, mode, writer),
+        } => visit_three(&[7, side_number(side)], a, s, p, mode, visitor),
         NatMitLoc::Sibling {
             ancestor: a,
             successor: s,
             parent: p,
             side,
             mode,
-        } => write_three(&[8, side_number(side)], a, s, p, mode, writer),
+        } => visit_three(&[8, side_number(side)], a, s, p, mode, visitor),
         NatMitLoc::Swing {
             ancestor: a,
             successor: s,
             flag,
             node,
             mode,
-        } => write_three(&[9, u8::from(flag)], a, s, node, mode, writer),
+        } => visit_three(&[9, u8::from(flag)], a, s, node, mode, visitor),
         _ => unreachable!(),
     }
 }
 
-/// Writes which place it is, and its locals.
+/// Lets a visitor visit a place: which one it is, and its locals.
 #[inline(always)]
-fn write_place<N: Numbering>(place: NatMitLoc, writer: &mut Writer<N>) -> Result<(), OutOfMemory>
-    requires { IsPartBelow writer.old.nodes writer.old.records (place_part place) }
-    ensures { OnOk result (writer.new ≡ with_part writer.old (place_part place)) }
+fn visit_place<V: PartVisitor>(place: NatMitLoc, visitor: &mut V) -> Result<(), OutOfMemory>
+    requires { IsPartBelow (V.nodes_below visitor.old) (V.records_below visitor.old) (place_part place) }
+    ensures { OnOk result (V.visited visitor.old (place_part place) visitor.new) }
 {
     match place {
-        NatMitLoc::Begin { mode } => writer.put(&[1], &[owned(mode)], &[]),
+        NatMitLoc::Begin { mode } => visitor.visit(&[1], &[owned(mode)], &[], &[]),
         NatMitLoc::Down {
             ancestor: a,
             successor: s,
@@ -151,9 +153,10 @@ fn write_place<N: Numbering>(place: NatMitLoc, writer: &mut Writer<N>) -> Result
             leaf: l,
             tag,
             mode,
-        } => writer.put(
+        } => visitor.visit(
             &[2, u8::from(tag)],
             &[Some(a), Some(s), Some(p), Some(l), owned(mode)],
+            &[],
             &[],
         ),
         NatMitLoc::Put {
@@ -161,33 +164,33 @@ fn write_place<N: Numbering>(place: NatMitLoc, writer: &mut Writer<N>) -> Result
             successor: s,
             parent: p,
             leaf: l,
-        } => write_four(3, a, s, p, l, writer),
+        } => visit_four(3, a, s, p, l, visitor),
         NatMitLoc::Flag {
             ancestor: a,
             successor: s,
             parent: p,
             leaf: l,
-        } => write_four(4, a, s, p, l, writer),
+        } => visit_four(4, a, s, p, l, visitor),
         NatMitLoc::Look {
             ancestor: a,
             successor: s,
             parent: p,
             leaf: l,
-        } => write_four(5, a, s, p, l, writer),
-        _ => write_helping(place, writer),
+        } => visit_four(5, a, s, p, l, visitor),
+        _ => visit_helping(place, visitor),
     }
 }
 
 /// A memory, and the place that each thread holds.
 #[derive(Clone, Copy)]
-pub(crate) struct Snapshot<'a> {
+pub(crate) struct MemoryView<'a> {
     /// The memory.
     pub(crate) mem: &'a NatMitMem,
     /// The threads. One between operations holds no place.
     pub(crate) threads: &'a [Thread<NatMitLoc>],
 }
 
-impl Parts for Snapshot<'_> {
+impl Parts for MemoryView<'_> {
     ghost parts = { λ s. natmit_parts s.mem.now (places_of s.threads.now) };
 
     fn node_count(&self) -> usize {
@@ -203,32 +206,24 @@ impl Parts for Snapshot<'_> {
     }
 
     #[inline(always)]
-    fn write_node<N: Numbering>(
-        &self,
-        index: usize,
-        writer: &mut Writer<N>,
-    ) -> Result<(), OutOfMemory> {
-        write_node(self.mem.nodes.as_slice()[index], writer)
+    fn visit_node<V: PartVisitor>(&self, index: usize, visitor: &mut V) -> Result<(), OutOfMemory> {
+        visit_node(self.mem.nodes.as_slice()[index], visitor)
     }
 
     #[inline(always)]
-    fn write_record<N: Numbering>(
+    fn visit_record<V: PartVisitor>(
         &self,
         _index: usize,
-        writer: &mut Writer<N>,
+        _visitor: &mut V,
     ) -> Result<(), OutOfMemory> {
-        writer.put(&[], &[], &[])
+        unreachable!()
     }
 
     #[inline(always)]
-    fn write_held<N: Numbering>(
-        &self,
-        index: usize,
-        writer: &mut Writer<N>,
-    ) -> Result<(), OutOfMemory> {
+    fn visit_held<V: PartVisitor>(&self, index: usize, visitor: &mut V) -> Result<(), OutOfMemory> {
         match self.threads[index].place {
-            Some(place) => write_place(place, writer),
-            None => writer.put(&[], &[], &[]),
+            Some(place) => visit_place(place, visitor),
+            None => visitor.visit(&[], &[], &[], &[]),
         }
     }
 }
