@@ -32,3 +32,4 @@ pub mod Text
 pub mod BookFile
 mod Stopping
 mod ToldStates
+mod ShownSent

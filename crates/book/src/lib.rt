@@ -18,6 +18,7 @@ mod placing;
 mod replayed;
 mod replaying;
 mod rows;
+mod shown;
 mod slots;
 mod stepped;
 mod stock;
