@@ -4,16 +4,17 @@
 
 mod book;
 mod counting;
+mod decoding;
 mod entry;
 mod expansion;
 mod file;
 mod finding;
 mod hashed;
-mod held;
 mod in_place;
 mod known;
 mod leftovers;
 mod lending;
+mod named;
 mod placing;
 mod replayed;
 mod replaying;
@@ -25,8 +26,9 @@ mod stock;
 mod successors;
 mod table;
 
-pub use crate::book::{Book, EnterFault, Entered, Merge, Told, Totals};
+pub use crate::book::{Book, EnterFault, Entered, Merge, TakenEntry, Totals};
 pub use crate::counting::Counting;
+pub use crate::decoding::{Layout, Source, read_state};
 pub use crate::entry::{Mark, Origin};
 pub use crate::expansion::Expansion;
 pub use crate::file::{CheckFault, check_book};
@@ -34,6 +36,7 @@ pub use crate::finding::Finding;
 pub use crate::leftovers::Leftovers;
 pub use crate::replayed::{Replay, ReplayFault};
 pub use crate::replaying::replay;
+pub use crate::shown::{Shown, shown_step};
 pub use crate::stock::Stock;
 pub use crate::successors::Successors;
 pub use lin::{Order, ShortName};

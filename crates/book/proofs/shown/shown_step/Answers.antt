@@ -1,5 +1,5 @@
 -- What is there is what stands in the place of it.
-use Rattle.std.proofs.Common.{◌≡◌, [], ◌++◌, ◌∙◌, sym, ap, Option, Some, None, IsSome, refl, true≢false}
+use Rattle.std.proofs.Common.{◌≡◌, [], ◌++◌, sym, ap, Option, Some, None, IsSome, true≢false}
 use Rattle.std.specs.Prelude.{unwrap_or}
 use base.Fml.{Lft}
 use contract.BorrowLft.{◌⊑◌, ⊑_meet, ⊑_static}

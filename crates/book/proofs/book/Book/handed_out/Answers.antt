@@ -1,14 +1,14 @@
 use Rattle.std.proofs.Common.{◌≡◌, Some, slice_get, sym, subst, ◌∙◌}
 use Rattle.tree_machine.specs.declared.state.State.{State}
 use Rattle.book.specs.Entries.{Entry}
-use Rattle.book.proofs.Holding.{taken_is_left}
+use Rattle.book.proofs.EntryLemmas.{get_within}
 use Rattle.book.proofs.InBook.{state_few, state_fits}
 use Rattle.book.proofs.book.Book.handed_out.Goals as goal
 
 pub state_of-requires-after_bounds : goal.state_of-requires-after_bounds
 state_of-requires-after_bounds g c κs within =
     let at = c.in-Some.ensures.some in
-    taken_is_left c.args.self.now.entries c.args.id at.0 at.1 at.2
+    get_within c.args.self.now.entries c.args.id at.0 at.1
 
 pub returns-clause-entry : goal.returns-clause-entry
 returns-clause-entry g c =
