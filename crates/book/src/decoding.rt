@@ -64,10 +64,10 @@ fn read_whole<M: Machine>(
     }
 }
 
-/// Reads the label of a state, for a book that merges so, in the place of another state. What it reads counts as one with
-/// each state of this label. Where it answers none, which it may always do, or is refused memory, that place is of no use
-/// but to be read into. If the bytes of the state that stands there are known, its memory is read only where the label
-/// has other ones: states that are read one after the other mostly have one memory.
+/// Reads the label of a state, for a book that merges so, in the place of another state. What it reads counts as one
+/// with each state of this label. Where it answers none, which it may always do, or is refused memory, that place is
+/// of no use but to be read into. If the bytes of the state that stands there are known, its memory is read only where
+/// the label has other ones: states that are read one after the other mostly have one memory.
 pub fn read_state<M: Machine>(
     alloc: Global,
     machine: M,

@@ -11,8 +11,8 @@ use std::alloc::Global;
 use std::marker::Model;
 use tree_machine::{Bytes, Machine, Room, State};
 
-/// A state with the step of each enabled thread, in the order of the threads, each with its finding. It has the bytes of
-/// the state besides, by which a book that merges exactly knows whose expansion it is without a request for memory.
+/// A state with the step of each enabled thread, in the order of the threads, each with its finding. It has the bytes
+/// of the state besides, by which a book that merges exactly knows whose expansion it is without a request for memory.
 #[derive(Drop)]
 pub struct Expansion<'a, M: Machine> {
     steps: Successors<'a, M>,
@@ -34,8 +34,8 @@ impl<'a, M: Machine> Model for Expansion<'a, M> {
 }
 
 impl<'a, M: Machine> Expansion<'a, M> {
-    /// Takes each enabled step of a state, and judges where it leads from nothing. A book labels them when it enters the
-    /// expansion.
+    /// Takes each enabled step of a state, and judges where it leads from nothing. A book labels them when it enters
+    /// the expansion.
     pub fn of(
         alloc: Global,
         machine: M,

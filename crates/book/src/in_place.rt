@@ -57,8 +57,8 @@ fn label_here<M: Machine>(
     }
 }
 
-/// Puts the step of a thread of the source, if it is enabled, behind those in a list, with its finding and its label. The
-/// step is made in the state that stands in for the source, and taken back.
+/// Puts the step of a thread of the source, if it is enabled, behind those in a list, with its finding and its label.
+/// The step is made in the state that stands in for the source, and taken back.
 #[inline(always)]
 fn put_step_here<M: Machine>(
     alloc: Global,
@@ -108,9 +108,9 @@ fn put_step_here<M: Machine>(
 }
 
 impl<'a, M: Machine> Successors<'a, M> {
-    /// The enabled steps of a sound state, in the order of the threads, each with its finding, and labelled as the state
-    /// is. They are made in another state, which `read_state` read from that label, and taken back. After a refusal that
-    /// other state is of no use but to be read into.
+    /// The enabled steps of a sound state, in the order of the threads, each with its finding, and labelled as the
+    /// state is. They are made in another state, which `read_state` read from that label, and taken back. After a
+    /// refusal that other state is of no use but to be read into.
     pub fn of_sound(
         alloc: Global,
         from: &Source<'a, M>,

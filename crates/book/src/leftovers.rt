@@ -55,8 +55,8 @@ impl<S> Leftovers<S> {
         Ok(self)
     }
 
-    /// Puts the lists of the labels into spare lists, and the lists of steps to their like. A refused growth drops a list,
-    /// and leaves what else there is here.
+    /// Puts the lists of the labels into spare lists, and the lists of steps to their like. A refused growth drops a
+    /// list, and leaves what else there is here.
     pub(crate) fn return_to(
         &mut self,
         labels: &mut Vec<Vec<u8>>,

@@ -1,6 +1,6 @@
 //! Orders that a state lends to its steps.
-ghost use Rattle.std.specs.Prelude.{◌≡◌, ◌≤◌, ◌↔◌, ℕ, All, IsTrue, length, IfOk, IfSome, IfNone, MatchOption, Some, None};
-ghost use Rattle.std.specs.Prelude.{slice_get, slice_index};
+ghost use Rattle.std.specs.Prelude.{◌≡◌, ◌≤◌, ◌↔◌, ℕ, All, IsTrue, length, IfOk, IfSome, IfNone, MatchOption, Some};
+ghost use Rattle.std.specs.Prelude.{None, slice_get, slice_index};
 ghost use Rattle.sched_program.specs.Program.{Program};
 ghost use Rattle.lin.specs.Linearization.{IsLinearization};
 ghost use Rattle.tree_machine.specs.History.{history_of};
@@ -79,9 +79,9 @@ fn is_last<M: Machine>(state: &State<M>, name: OpId) -> bool
     true
 }
 
-/// The finding of a step that ended this operation with this reply, and shows no fault without its history. It takes the
-/// order that is lent with that operation, if the operation replied what it replies there. Only where it did not does it
-/// make the history and judge that anew.
+/// The finding of a step that ended this operation with this reply, and shows no fault without its history. It takes
+/// the order that is lent with that operation, if the operation replied what it replies there. Only where it did not
+/// does it make the history and judge that anew.
 fn finding_by_reply<M: Machine>(
     alloc: Global,
     machine: M,
@@ -111,7 +111,8 @@ fn finding_by_reply<M: Machine>(
     judged(alloc, machine, program, here.next)
 }
 
-/// Whether the step of a thread that stood so leaves search order as it is. Where it answers no, the step may disturb it.
+/// Whether the step of a thread that stood so leaves search order as it is. Where it answers no, the step may disturb
+/// it.
 fn keeps_order<M: Machine>(machine: M, was: &Thread<M::Loc>) -> bool
     ensures { IsTrue result → (program : Program) (source next : State M M.Mem M.Loc M.Form) (thread : ℕ)
         → slice_get source.threads thread ≡ Some was.now
@@ -124,8 +125,8 @@ fn keeps_order<M: Machine>(machine: M, was: &Thread<M::Loc>) -> bool
     }
 }
 
-/// The fault that a thread's step shows without its history, if it shows one. It may be known that its memory keeps search
-/// order.
+/// The fault that a thread's step shows without its history, if it shows one. It may be known that its memory keeps
+/// search order.
 fn fault_here<M: Machine>(machine: M, next: &State<M>, is_ordered: bool) -> Option<Finding>
     requires range { (M.rules machine).IsInRange next.now.memory }
     requires ordered { IsTrue is_ordered → (M.rules machine).IsOrdered next.now.memory }

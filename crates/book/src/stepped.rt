@@ -114,7 +114,8 @@ pub(crate) fn labelled<M: Machine>(
     requires source { Fits (M.rules machine) program.now source.now }
     requires room { source.now.steps + 1 < 2 ^ 64 }
     requires steps { (k : ℕ) (x : Successor (Labelled (State M M.Mem M.Loc M.Form)))
-        → slice_get steps.items k ≡ Some x → step (M.rules machine) program.now source.now x.thread ≡ Some x.state.state }
+        → slice_get steps.items k ≡ Some x
+        → step (M.rules machine) program.now source.now x.thread ≡ Some x.state.state }
     ensures same { IfOk result (λ made. bares made.items ≡ bares steps.items) }
     ensures known { IfOk result
         (λ made. AreStepsKnownBy (label_by M.whole_code M.form_code (M.form_of machine) merge) made.items) }

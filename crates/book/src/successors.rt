@@ -99,8 +99,8 @@ impl<'a, M: Machine> Model for Successors<'a, M> {
 }
 
 impl<'a, M: Machine> Successors<'a, M> {
-    /// Takes each enabled step of a state anew, judges from nothing where it leads, and labels it for a book that merges
-    /// so. `of_sound` does so faster for a sound state whose label can be read.
+    /// Takes each enabled step of a state anew, judges from nothing where it leads, and labels it for a book that
+    /// merges so. `of_sound` does so faster for a sound state whose label can be read.
     pub fn anew(
         alloc: Global,
         machine: M,

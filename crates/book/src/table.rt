@@ -181,8 +181,8 @@ impl<S> Table<S> {
         known_at(&self.slots, index).shown()
     }
 
-    /// Looks for the labels of steps, one right after the other, so that what there is of them comes into the processor's
-    /// caches all at once. How many there are is of no use.
+    /// Looks for the labels of steps, one right after the other, so that what there is of them comes into the
+    /// processor's caches all at once. How many there are is of no use.
     pub fn look_ahead(&self, steps: &[Stepped<S>]) -> usize {
         let mut there = 0usize;
         for step in steps {

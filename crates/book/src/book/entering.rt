@@ -31,20 +31,20 @@ impl<M: Machine> Book<M> {
         }
     }
 
-    /// Whether an expansion is that of a taken entry, of the book's machine and program. By names the entry's state is made
-    /// by its schedule.
-    fn is_expansion_of(
-        &self,
-        id: usize,
-        expansion: &Expansion<'_, M>,
-    ) -> Result<bool, OutOfMemory>
+    /// Whether an expansion is that of a taken entry, of the book's machine and program. By names the entry's state is
+    /// made by its schedule.
+    fn is_expansion_of(&self, id: usize, expansion: &Expansion<'_, M>) -> Result<bool, OutOfMemory>
         requires { IsTaken self.now.entries id }
         ensures answer { IfOk result (λ is. IsTrue is
             ↔ IsOwn self.now id expansion.now.machine expansion.now.program expansion.now.source) }
         ensures refused { IfErr result (λ _. self.now.merge ≡ Exact → ⊥) }
     {
         match self.merge {
-            Merge::Exact => Ok(expansion.is_coded(&self.machine, &self.program, self.table.label(id))),
+            Merge::Exact => Ok(expansion.is_coded(
+                &self.machine,
+                &self.program,
+                self.table.label(id),
+            )),
             Merge::Names => {
                 let state = self.replayed(id)?;
                 Ok(expansion.is_of(&self.machine, &self.program, &state))
@@ -171,14 +171,15 @@ impl<M: Machine> Book<M> {
         }
     }
 
-    /// Looks for the states to which steps lead, as entering them does, and enters none: whoever enters several expansions
-    /// looks for the steps of all of them first, so that none has to wait for its own. What it answers is of no use.
+    /// Looks for the states to which steps lead, as entering them does, and enters none: whoever enters several
+    /// expansions looks for the steps of all of them first, so that none has to wait for its own. What it answers is
+    /// of no use.
     pub fn look_ahead(&self, expansion: &Successors<'_, M>) -> usize {
         self.table.look_ahead(expansion.successors.as_slice())
     }
 
-    /// Enters as `enter_leaving` does steps of which the caller knows that they are those of the entry. They are compared
-    /// with nothing.
+    /// Enters as `enter_leaving` does steps of which the caller knows that they are those of the entry. They are
+    /// compared with nothing.
     pub fn enter_own(
         &mut self,
         id: usize,

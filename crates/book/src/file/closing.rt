@@ -51,8 +51,8 @@ fn forms_of<M: Machine>(
     Ok(forms)
 }
 
-/// Whether the step of a thread, if it is enabled, has one of the forms. The step is made in the state itself, and taken
-/// back.
+/// Whether the step of a thread, if it is enabled, has one of the forms. The step is made in the state itself, and
+/// taken back.
 fn knows_step<M: Machine>(
     alloc: Global,
     machine: M,

@@ -42,8 +42,8 @@ fn test_state<M: Machine>(
     }
 }
 
-/// The state of the entry after these, by its line. Its parent's is recalled in the place of another state, and the step is
-/// made there.
+/// The state of the entry after these, by its line. Its parent's is recalled in the place of another state, and the
+/// step is made there.
 fn state_of_line<M: Machine>(
     alloc: Global,
     machine: M,

@@ -17,7 +17,9 @@ returns-clause-entry g c =
     let there = c.in_ok-state.ensures in
     let same : there.0 ≡ at.0 = (let u : slice_get es c.args.id ≡ Some there.0 = there.1 in
     let v : slice_get es c.args.id ≡ Some at.0 = at.1 in cc) in
-    let state = subst (λ (e : Entry (State g.row.M.Denot g.row.M-Mem.Denot g.row.M-Loc.Denot g.row.M-Form.Denot)). e.state
+    let state =
+    subst
+    (λ (e : Entry (State g.row.M.Denot g.row.M-Mem.Denot g.row.M-Loc.Denot g.row.M-Form.Denot)). e.state
     ≡ c.in_ok-state.state.value) same there.2 in
     (at.0, at.1, at.2, state, at.3 ∙ sym c.finding.ensures)
 

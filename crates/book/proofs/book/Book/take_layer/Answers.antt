@@ -38,7 +38,8 @@ returns-clause-taken g c =
     (layer_given c.self.invariant.0 c.args.self.now c.self.view_is c.in-Some.start end.result c.steps_to.result
     next.next next.open next.above
     (rw (← c.self.view_is) at c.steps_to.ensures) end.ensures.below end.ensures.above end.ensures.within
-    c.in_ok-layer.layer.items c.in_ok-layer.ensures.numbers (rw (← c.self.view_is) at c.in_ok-layer.ensures.states) _ c.mark_range_taken.ensures)
+    c.in_ok-layer.layer.items c.in_ok-layer.ensures.numbers
+    (rw (← c.self.view_is) at c.in_ok-layer.ensures.states) _ c.mark_range_taken.ensures)
 
 pub returns-clause-fits : goal.returns-clause-fits
 returns-clause-fits g c =

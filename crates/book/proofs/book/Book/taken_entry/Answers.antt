@@ -14,7 +14,9 @@ returns-clause-entry g c =
     let there = c.shown.ensures in
     let same : there.0 ≡ at.0 = (let u : slice_get es c.args.id ≡ Some there.0 = there.1 in
     let v : slice_get es c.args.id ≡ Some at.0 = at.1 in cc) in
-    let shown = subst (λ (e : Entry (State g.row.M.Denot g.row.M-Mem.Denot g.row.M-Loc.Denot g.row.M-Form.Denot)). e.state
+    let shown =
+    subst
+    (λ (e : Entry (State g.row.M.Denot g.row.M-Mem.Denot g.row.M-Loc.Denot g.row.M-Form.Denot)). e.state
     ≡ c.shown.result.now.value) same there.2 in
     let label_of = label_by {Machine = g.row.M.Denot} g.M.Machine.whole_code g.M.Machine.form_code
     (g.M.Machine.form_of s.machine) s.merge in

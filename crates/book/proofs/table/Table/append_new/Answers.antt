@@ -34,9 +34,9 @@ invariant_of-self-in-None g c =
     c.args.successors.items in
     let put = appended_entries s.slots.entries c.put_steps.new.slots.entries c.args.parent us c.in-Ok.ensures.put in
     rw put (cursors_appended (entries_of s.slots.entries) s.next_open s.first_left s.fault c.self.invariant
-        c.args.parent (bares us) c.first_fault_from-self-inside.result
-        (c.first_fault_from-self-inside.ensures
-        ∙ ap (position (λ (e : Entry g.row.S.Denot). not (is_sound e.finding))) put))
+    c.args.parent (bares us) c.first_fault_from-self-inside.result
+    (c.first_fault_from-self-inside.ensures
+    ∙ ap (position (λ (e : Entry g.row.S.Denot). not (is_sound e.finding))) put))
 
 pub invariant_of-self-in-Some : goal.invariant_of-self-in-Some
 invariant_of-self-in-Some g c =
@@ -48,10 +48,10 @@ invariant_of-self-in-Some g c =
     let some : position (λ (e : Entry g.row.S.Denot). not (is_sound e.finding)) (entries_of s.slots.entries)
     ≡ Some c.in-Some.field-0 = sym c.self.invariant.first_fault ∙ c.in-Some.is in
     rw put (cursors_appended (entries_of s.slots.entries) s.next_open s.first_left s.fault c.self.invariant
-        c.args.parent (bares us) s.fault
-        (c.in-Some.is
-        ∙ sym (fault-append (entries_of s.slots.entries) (map (opened c.args.parent) (bares us)) c.in-Some.field-0
-        some)))
+    c.args.parent (bares us) s.fault
+    (c.in-Some.is
+    ∙ sym (fault-append (entries_of s.slots.entries) (map (opened c.args.parent) (bares us)) c.in-Some.field-0
+    some)))
 
 pub returns-then-len-limit-clause-full : goal.returns-then-len-limit-clause-full
 returns-then-len-limit-clause-full g c =
