@@ -4,7 +4,7 @@ use Rattle.std.specs.Prelude.{◌↔◌}
 use Rattle.book.specs.declared.finding.Finding.{Finding}
 use Rattle.book.specs.Counts.{IsCount}
 use Rattle.book.specs.Entries.{At, Contents, Entry}
-use Rattle.book.specs.Law.{FindsAlike, IsLawful, IsLawfulBook, StandsFor, StandsForReached}
+use Rattle.book.specs.Law.{FindsAlike, IsLawfulBook, StandsFor, StandsForReached}
 use Rattle.book.specs.Schedule.{StepMachine, IsMachine}
 use Rattle.book.proofs.Ways.{fits_after, fits_along}
 

@@ -16,6 +16,7 @@ use Rattle.book.specs.contracts.known.Known as Known
 use Rattle.book.specs.contracts.leftovers.Leftovers as Leftovers
 use Rattle.book.specs.contracts.stock.Stock as Stock
 use Rattle.book.specs.contracts.table.Table as Table
+use Rattle.book.proofs.ShownSent.{shown_send, shown_sync}
 
 row_send : IsSend PackedRow.the_row
 row_send = search (sendable, crosses) depth 30
@@ -31,10 +32,10 @@ program_sync = search (sendable, crosses) depth 30
 
 module _ (S : RattleType) (s : IsSend S) (s' : IsSync S) where
   known_send : IsSend (Known.the_row S)
-  known_send = search (sendable, crosses) depth 30
+  known_send = search (shown_send, sendable, crosses) depth 30
 
   known_sync : IsSync (Known.the_row S)
-  known_sync = search (sendable, crosses) depth 30
+  known_sync = search (shown_sync, sendable, crosses) depth 30
 
 module _ (K : RattleType) (h : hash.Ghosts K.Denot) (p : partial.Ghosts K.Denot) (k : IsSend K) where
   hashed_send : IsSend (Hashed.the_row K h p)
@@ -56,7 +57,7 @@ module _ (S : RattleType) (s : IsSend S) (s' : IsSync S) where
   stepped_send = search (hashed_send, known_send, sendable, crosses) depth 30
 
   leftovers_send : IsSend (Leftovers.the_row S)
-  leftovers_send = search (row_send, hashed_send, known_send, stepped_send, sendable, crosses) depth 30
+  leftovers_send = search (hashed_send, known_send, stepped_send, sendable, crosses) depth 30
 
 module _ (M Mem Loc Form : RattleType) (m : IsSend M) (mem : IsSend Mem) (loc : IsSend Loc) (form : IsSend Form)
     (m' : IsSync M) (mem' : IsSync Mem) (loc' : IsSync Loc) (form' : IsSync Form) where
@@ -66,15 +67,15 @@ module _ (M Mem Loc Form : RattleType) (m : IsSend M) (mem : IsSend Mem) (loc : 
   state_sync : IsSync (State.the_row M Mem Loc Form)
   state_sync = search (sendable, crosses) depth 30
 
+  pub stock_send : IsSend (Stock.the_row M Mem Loc Form)
+  stock_send = search (leftovers_send, stepped_send, state_send, state_sync, sendable, crosses) depth 30
+
 module _ (M Mem Loc Form : RattleType) (g : machine.Ghosts M.Denot Mem.Denot Loc.Denot Form.Denot)
     (mp : partial.Ghosts M.Denot) (ap : partial.Ghosts Mem.Denot) (ah : hash.Ghosts Mem.Denot)
     (lp : partial.Ghosts Loc.Denot) (lh : hash.Ghosts Loc.Denot)
     (fp : partial.Ghosts Form.Denot) (fh : hash.Ghosts Form.Denot)
     (m : IsSend M) (mem : IsSend Mem) (loc : IsSend Loc) (form : IsSend Form)
     (m' : IsSync M) (mem' : IsSync Mem) (loc' : IsSync Loc) (form' : IsSync Form) where
-  pub stock_send : IsSend (Stock.the_row M Mem Loc Form g mp ap ah lp lh fp fh)
-  stock_send = search (leftovers_send, stepped_send, state_send, state_sync, sendable, crosses) depth 30
-
   pub book_send : IsSend (Book.the_row M Mem Loc Form g mp ap ah lp lh fp fh)
   book_send = search (table_send, program_send, state_send, state_sync, sendable, crosses) depth 30
 

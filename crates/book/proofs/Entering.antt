@@ -167,4 +167,4 @@ module _ {X S : Type 0} (same : S → S → Bool) (old new : Contents X S) (i : 
     own,
     subst (λ ys. old.limit < length old.entries + length (unknown same (states old.entries) ys)) steps e.1,
   )
-  refuses_by (Err OutOfMemory) full = (taken, own)
+  refuses_by (Err OutOfMemory) full = (taken, λ _. own)

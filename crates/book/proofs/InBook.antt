@@ -80,8 +80,8 @@ module _ {Machine Memory Place Form : Type 0} {rules : Machine → Rules Memory 
     pub taken_one : (r : State Machine Memory Place Form) → (e : Entry (State Machine Memory Place Form))
         × At b.entries i e × (e.state ≡ r)
         → (state : State Machine Memory Place Form) → state ≡ r
-        → {labels : List (List ℕ)} {holds : Bool} (new : Kept (State Machine Memory Place Form))
-        → new ≡ record { entries = with_mark b.entries i Taken; labels = labels; holds = holds }
+        → {labels : List (List ℕ)} (new : Kept (State Machine Memory Place Form))
+        → new ≡ record { entries = with_mark b.entries i Taken; labels = labels }
         → IsTakenOne rules now i state new.entries
     taken_one r there state is new after =
         let entry = next_here in
@@ -163,9 +163,9 @@ module _ {Machine Memory Place Form : Type 0} {rules : Machine → Rules Memory 
 
     pub layer_given : {A : Type 0} (range : List (ℕ × Arc (State Machine Memory Place Form) A))
         → map (λ (p : ℕ × Arc (State Machine Memory Place Form) A). p.0) range ≡ range_with_len start (end - start)
-        → AreStatesOf b.entries range → {labels : List (List ℕ)} {holds : Bool}
+        → AreStatesOf b.entries range → {labels : List (List ℕ)}
         (new : Kept (State Machine Memory Place Form))
-        → new ≡ record { entries = with_marks b.entries (range_with_len start (end - start)) Taken; labels = labels; holds = holds }
+        → new ≡ record { entries = with_marks b.entries (range_with_len start (end - start)) Taken; labels = labels }
         → TakesLayer (machine_in rules b).steps b.entries new.entries range
     layer_given range numbers states new after =
         let some : start < end = layer.some in
@@ -173,8 +173,8 @@ module _ {Machine Memory Place Form : Type 0} {rules : Machine → Rules Memory 
         (omega arith) layer.entry layer.there layer.later numbers states
         (ap (λ (kept : Kept (State Machine Memory Place Form)). kept.entries) after)
 
-    pub range_given : {labels : List (List ℕ)} {holds : Bool} (new : Kept (State Machine Memory Place Form))
-        → new ≡ record { entries = with_marks b.entries (range_with_len start (end - start)) Taken; labels = labels; holds = holds }
+    pub range_given : {labels : List (List ℕ)} (new : Kept (State Machine Memory Place Form))
+        → new ≡ record { entries = with_marks b.entries (range_with_len start (end - start)) Taken; labels = labels }
         → TakesRange (machine_in rules b).steps b.entries new.entries start end
     range_given new after =
         let some : start < end = layer.some in

@@ -15,14 +15,6 @@ keeps_one true old mid new was is now steps before len keeps =
     let a = before.3 in
     (before.0 + 1, omega arith, omega arith, (omega arith, omega arith))
 
--- one step alone, which led to a known state
-pub keeps_known : (old new : Left) (was is : ℕ) → is ≡ was + 0 → Keeps old new 1 → KeepsMet old new was is 1
-keeps_known old new was is len keeps = (1, omega arith, omega arith, keeps)
-
--- one that led to a new one
-pub keeps_new : (old new : Left) (was is : ℕ) → is ≡ was + 1 → Keeps old new 0 → KeepsMet old new was is 1
-keeps_new old new was is len keeps = (0, omega arith, omega arith, keeps)
-
 -- and steps more
 pub keeps_more : (old mid new : Left) (was is now steps more : ℕ) → KeepsMet old mid was is steps
     → KeepsMet mid new is now more → KeepsMet old new was now (steps + more)

@@ -18,8 +18,9 @@ mod Expanding
 mod SlotLemmas
 mod Labels
 mod Cursors
-mod Holding
+mod Left
 mod Draining
+mod StandingIn
 pub mod Machines
 mod Lent
 mod Loans
@@ -31,4 +32,5 @@ mod Putting
 pub mod Text
 pub mod BookFile
 mod Stopping
-mod ToldStates
+mod EntryLabels
+mod ShownSent

@@ -1,6 +1,6 @@
 -- A machine that runs a program is a step machine.
-use Rattle.std.proofs.Common.{◌≡◌, ℕ, ◌+◌, ◌<◌, ◌≤◌, Bool, true, IsSome, Option, Some, None, List, [], ◌∷◌, length}
-use Rattle.std.proofs.Common.{refl, sym, ap, ◌∙◌, arith, slice_get, subst}
+use Rattle.std.proofs.Common.{◌≡◌, ℕ, ◌+◌, ◌<◌, ◌≤◌, Bool, true, Option, Some, None, List, [], ◌∷◌, length}
+use Rattle.std.proofs.Common.{refl, ap, ◌∙◌, arith, slice_get, subst}
 use Rattle.std.specs.Cmp.{IsEquivalence}
 use Rattle.std.proofs.lemmas.Option.{option_and_then_some}
 use Rattle.sched_program.specs.Exact.{IsExact}
@@ -15,15 +15,13 @@ use Rattle.tree_machine.specs.declared.machine.Outcome.{Outcome}
 use Rattle.tree_machine.specs.declared.machine.Outcome.TheVariants.{Goes, Replies, Astray}
 use Rattle.tree_machine.specs.declared.state.Thread.{Thread}
 use Rattle.tree_machine.specs.declared.state.State.{State}
-use Rattle.tree_machine.proofs.Alike.{alike_step, alike_history, alike_ordered}
+use Rattle.tree_machine.proofs.Alike.{alike_step}
 use Rattle.tree_machine.proofs.Forms.{forms_alike, alike_turned}
 use Rattle.tree_machine.proofs.States.{step_parts, start_fits, step_fits}
-use Rattle.lin.specs.Linearization.{IsLinearization, IsLinearizable}
 use Rattle.book.specs.declared.book.Merge.{Merge}
 use Rattle.book.specs.declared.book.Merge.TheVariants.{Exact, Names}
 use Rattle.book.specs.declared.entry.Mark.TheVariants.{Open}
 use Rattle.book.specs.declared.finding.Finding.{Finding}
-use Rattle.book.specs.declared.finding.Finding.TheVariants as found
 use Rattle.book.specs.Schedule.{StepMachine, AreOneBy, IsMachine, Merges}
 use Rattle.book.specs.Law.{FindsAlike}
 use Rattle.book.specs.Findings.{machine_of, IsFindingOf}
@@ -33,6 +31,7 @@ use Rattle.book.proofs.Agreeing.{Agree}
 use Rattle.book.proofs.EntryLemmas.{get_within}
 use Rattle.book.proofs.Exact.{exact_merges}
 use Rattle.book.proofs.LawfulBooks.{opened_book}
+use Rattle.book.proofs.StandingIn.{found_alike}
 
 module _ {Machine Memory Place Form : Type 0} (rules : Rules Memory Place) (program : Program) where
   access_counts : (state : State Machine Memory Place Form) (t : ℕ) (thread : Thread Place)
@@ -126,27 +125,6 @@ module _ {Machine Memory Place Form : Type 0} (place_eq : Place → Place → Bo
           (v.0, v.1, named_by v.0 u v_fits u_fits (alike_turned rules form_of forms program u v.0 u_fits v_fits v.2)));
     }
 
-    -- what is found of a state is found of one that is alike to it: the same fault, or the same linearization
-    found_alike : (r s : State Machine Memory Place Form) → Fits rules program r → Fits rules program s
-        → AreStatesAlike rules r s
-        → (finding : Finding) → IsFindingOf rules program r finding → IsFindingOf rules program s finding
-    found_alike r s r_fits s_fits alike found.Astray is = subst (λ a. IsSome a) alike.astray is
-    found_alike r s r_fits s_fits alike found.Order is = (
-      sym alike.astray ∙ is.0,
-      λ ordered. is.1
-          (alike_ordered rules s r lawful (alike_turned rules form_of forms program r s r_fits s_fits alike) ordered),
-    )
-    found_alike r s r_fits s_fits alike found.History is = (
-      sym alike.astray ∙ is.0,
-      alike_ordered rules r s lawful alike is.1,
-      subst (λ h. IsLinearizable program h → ⊥) (alike_history rules r s alike) is.2,
-    )
-    found_alike r s r_fits s_fits alike (found.Sound order) is = (
-      sym alike.astray ∙ is.0,
-      alike_ordered rules r s lawful alike is.1,
-      subst (λ h. IsLinearization program h order) (alike_history rules r s alike) is.2,
-    )
-
     pub merges_by : (merge : Merge) → IsMachine (machine_of {Machine = Machine} {Form = Form} rules program)
         → Merges (machine_of {Machine = Machine} {Form = Form} rules program)
         (counted_as_one {Machine = Machine} place_eq memory_eq form_eq form_of merge)
@@ -163,7 +141,7 @@ module _ {Machine Memory Place Form : Type 0} (place_eq : Place → Place → Bo
     findings_alike Exact r s _ _ same finding is =
         subst (λ v. IsFindingOf rules program v finding) (states_exact r s same) is
     findings_alike Names r s r_fits s_fits same finding is =
-        found_alike r s r_fits s_fits (alike_by r s r_fits s_fits same) finding is
+        found_alike rules program form_of lawful forms r s r_fits s_fits (alike_by r s r_fits s_fits same) finding is
 
 -- the book with the start alone
 pub first_book : {Machine Memory Place Form : Type 0} (place_eq : Place → Place → Bool)

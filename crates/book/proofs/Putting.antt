@@ -37,13 +37,13 @@ module _ {Machine Memory Place Form : Type 0} {rules : Machine → Rules Memory 
         subst (λ (q : Contents Machine (State Machine Memory Place Form)). AreStepsKnownBy
         (label_by whole_code form_code (form_of q.machine) q.merge) xs) (sym view) steps_known
 
-    module _ (labels : List (List ℕ)) (holds : Bool)
-        (known : AreKnownBy (label_in whole_code form_code) (record { entries = b.entries; labels = labels; holds = holds }))
+    module _ (labels : List (List ℕ))
+        (known : AreKnownBy (label_in whole_code form_code) (record { entries = b.entries; labels = labels }))
         (tests : same_as (label_in whole_code form_code) ≡ same) where
       -- what is put in by labels is put in by what counts as one
       pub put_in : (i : ℕ) (appended : List (Entry (State Machine Memory Place Form)))
           → ((f : State Machine Memory Place Form → List ℕ)
-          → AreKnownBy f (record { entries = b.entries; labels = labels; holds = holds }) → AreStepsKnownBy f xs
+          → AreKnownBy f (record { entries = b.entries; labels = labels }) → AreStepsKnownBy f xs
           → appended ≡ b.entries ++ map (opened i)
           (unknown (same_as f) (states b.entries) (bares xs)))
           → appended ≡ b.entries ++ map (opened i) (unknown same (states b.entries) (bares xs))
@@ -55,7 +55,7 @@ module _ {Machine Memory Place Form : Type 0} {rules : Machine → Rules Memory 
 
       pub no_room : (limit : ℕ)
           → ((f : State Machine Memory Place Form → List ℕ)
-          → AreKnownBy f (record { entries = b.entries; labels = labels; holds = holds }) → AreStepsKnownBy f xs
+          → AreKnownBy f (record { entries = b.entries; labels = labels }) → AreStepsKnownBy f xs
           → limit < length b.entries
           + length
           (unknown (same_as f) (states b.entries) (bares xs)))
@@ -69,9 +69,9 @@ module _ {Machine Memory Place Form : Type 0} {rules : Machine → Rules Memory 
       -- and all are known by their labels
       pub still_known : (i : ℕ) (kept : Kept (State Machine Memory Place Form))
           → ((f : State Machine Memory Place Form → List ℕ)
-          → AreKnownBy f (record { entries = b.entries; labels = labels; holds = holds }) → AreStepsKnownBy f xs → AreKnownBy f kept)
+          → AreKnownBy f (record { entries = b.entries; labels = labels }) → AreStepsKnownBy f xs → AreKnownBy f kept)
           → (new : Kept (State Machine Memory Place Form))
-          → new ≡ record { entries = with_mark kept.entries i Expanded; labels = kept.labels; holds = kept.holds }
+          → new ≡ record { entries = with_mark kept.entries i Expanded; labels = kept.labels }
           → AreKnownBy (label_in whole_code form_code) new
       still_known i kept all new is =
           subst (λ (k : Kept (State Machine Memory Place Form)). AreKnownBy (label_in whole_code form_code) k) (sym is)
@@ -127,8 +127,8 @@ module _ {Machine Memory Place Form : Type 0} {rules : Machine → Rules Memory 
         small_met (machine_in rules b) same (right_in rules b) book.machine book.merges b book.law i here.0 here.1
         here.2 (bares xs) here.3 appended put (steps - (len - was)) (omega arith)
 
-    module _ {labels : List (List ℕ)} {holds : Bool} (new : Kept (State Machine Memory Place Form))
-        (marked : new ≡ record { entries = with_mark appended i Expanded; labels = labels; holds = holds }) where
+    module _ {labels : List (List ℕ)} (new : Kept (State Machine Memory Place Form))
+        (marked : new ≡ record { entries = with_mark appended i Expanded; labels = labels }) where
       entries_marked : new.entries ≡ with_mark appended i Expanded
       entries_marked = ap (λ (k : Kept (State Machine Memory Place Form)). k.entries) marked
 

@@ -1,6 +1,6 @@
 -- The entries of a book.
-use Rattle.std.specs.Prelude.{◌≡◌, ◌≢◌, ℕ, zero, suc, ◌+◌, ◌-◌, ◌<◌, ◌≤◌, Bool, true, false, if◌then◌else◌, Option, Some}
-use Rattle.std.specs.Prelude.{List, [], ◌∷◌, ◌++◌, length, map, slice_get}
+use Rattle.std.specs.Prelude.{◌≡◌, ◌≢◌, ℕ, zero, suc, ◌+◌, ◌-◌, ◌<◌, ◌≤◌, Bool, true, false, if◌then◌else◌, Option}
+use Rattle.std.specs.Prelude.{Some, List, [], ◌∷◌, ◌++◌, length, map, slice_get}
 use Rattle.std.specs.List.{list_any, range_with_len}
 use Rattle.std.specs.declared.sync.Arc.{Arc}
 use Rattle.book.specs.declared.finding.Finding.{Finding}
@@ -8,6 +8,7 @@ use Rattle.book.specs.declared.entry.Mark.{Mark}
 use Rattle.book.specs.declared.entry.Mark.TheVariants.{Open, Taken, Expanded}
 use Rattle.book.specs.declared.entry.Origin.{Origin}
 use Rattle.book.specs.declared.book.Merge.{Merge}
+use Rattle.book.specs.declared.book.Merge.TheVariants.{Exact}
 use Rattle.sched_program.specs.Program.{Program}
 use Rattle.book.specs.declared.book.EnterFault.{EnterFault}
 use Rattle.book.specs.declared.book.EnterFault.TheVariants.{NotTaken, Stranger, Full, OutOfMemory}
@@ -168,10 +169,12 @@ pub record Enters {X S : Type 0} (same : S → S → Bool) (old new : Contents X
   pub merge : new.merge ≡ old.merge
   pub limit : new.limit ≡ old.limit
 
--- when the expansion of entry i is refused, and for what
+-- When the expansion of entry i is refused, and for what. By names memory may be refused before it is known whether the
+-- expansion is that entry's
 abbrev pub Refuses : {X S : Type 0} → (S → S → Bool) → Contents X S → ℕ → Steps X S → EnterFault → Type 0
 Refuses same book i x NotTaken = IsTaken book.entries i → ⊥
 Refuses same book i x Stranger = IsTaken book.entries i × (IsOwn book i x.machine x.program x.source → ⊥)
 Refuses same book i x Full = IsTaken book.entries i × IsOwn book i x.machine x.program x.source
     × (book.limit < length book.entries + length (unknown same (states book.entries) x.successors))
-Refuses same book i x OutOfMemory = IsTaken book.entries i × IsOwn book i x.machine x.program x.source
+Refuses same book i x OutOfMemory = IsTaken book.entries i
+    × (book.merge ≡ Exact → IsOwn book i x.machine x.program x.source)

@@ -1,8 +1,6 @@
 -- What is found of a state.
-use Rattle.std.specs.Prelude.{◌≡◌, Bool, true, false, Option, Some, None, IsSome, List, length}
-use Rattle.sched_program.specs.History.{History}
+use Rattle.std.specs.Prelude.{◌≡◌, Bool, true, false, None, IsSome, length}
 use Rattle.sched_program.specs.Program.{Program}
-use Rattle.sched_program.specs.declared.operation.OpId.{OpId}
 use Rattle.tree_machine.specs.Rules.{Rules}
 use Rattle.tree_machine.specs.Step.{start, step, Fits}
 use Rattle.tree_machine.specs.History.{history_of}
@@ -44,9 +42,3 @@ module _ {Machine Memory Place Form : Type 0} (rules : Rules Memory Place) (prog
       (state.astray ≡ None) × rules.IsOrdered state.memory × (IsLinearizable program (history_of state) → ⊥)
   IsFindingOf state (found.Sound order) =
       (state.astray ≡ None) × rules.IsOrdered state.memory × IsLinearization program (history_of state) order
-
--- what was sought of a history: where a list was found, it is a linearization
-abbrev pub IsLoan : Program → History → Option (Option (List OpId)) → Type 0
-IsLoan program history None = Unit {0}
-IsLoan program history (Some None) = Unit {0}
-IsLoan program history (Some (Some order)) = IsLinearization program history order

@@ -37,12 +37,10 @@ bares xs = map bare xs
 abbrev pub AreStepsKnownBy : {S : Type 0} → (S → List ℕ) → List (Successor (Labelled S)) → Type 0
 AreStepsKnownBy label_of xs = map (λ x. x.state.label) xs ≡ map (λ x. label_of x.state.state) xs
 
--- what a table shows: its entries, the label by which the state of each is known, and whether it holds the states of
--- those that are not expanded
+-- what a table shows: its entries, and the label by which the state of each is known
 pub record Kept (S : Type 0) : Type 0 where
   pub entries : List (Entry S)
   pub labels : List (List ℕ)
-  pub holds : Bool
 
 -- each state is known by the label that this gives
 abbrev pub AreKnownBy : {S : Type 0} → (S → List ℕ) → Kept S → Type 0

@@ -12,6 +12,7 @@ pub mod Counts
 pub mod Closed
 pub mod Correct
 pub mod Books
+pub mod Decoding
 pub mod Packed
 pub mod Replay
 pub mod Slots

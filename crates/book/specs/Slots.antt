@@ -1,5 +1,5 @@
 -- Rows under keys.
-use Rattle.std.specs.Prelude.{◌≡◌, ◌≢◌, ℕ, ◌+◌, ◌-◌, ◌<◌, ◌≤◌, Bool, not, Option, Some, position, slice_get, List, [], ◌∷◌, ◌++◌}
+use Rattle.std.specs.Prelude.{◌≡◌, ◌≢◌, ℕ, ◌<◌, ◌≤◌, Bool, not, Option, Some, position, slice_get, List, [], ◌∷◌, ◌++◌}
 use Rattle.std.specs.Prelude.{length, map, take, if◌then◌else◌}
 use Rattle.std.specs.List.{list_any}
 use Rattle.std.specs.declared.sync.Arc.{Arc}
@@ -69,14 +69,3 @@ IsLeft {S} entries i = (e : Entry S) × At entries i e × (e.mark ≢ Expanded)
 -- what stood in front still does
 abbrev pub IsGrown : {X : Type 0} → List X → List X → Type 0
 IsGrown old new = take (length old) new ≡ old
-
--- a place for each entry from number `first` on, in which the state of each that is not expanded is held
-abbrev pub AreHeld : {S : Type 0} → List (Entry S) → ℕ → List (Option S) → Type 0
-AreHeld {S} entries first held =
-    (first + length held ≡ length entries)
-    × ((i : ℕ) (e : Entry S) → At entries i e → first ≤ i → e.mark ≢ Expanded
-    → slice_get held (i - first) ≡ Some (Some e.state))
-
--- from whichever entry on the states were held, they are held still
-abbrev pub StayHeld : {S : Type 0} → (old new : List (Entry S)) → (held still : List (Option S)) → Type 0
-StayHeld old new held still = (first : ℕ) → first ≤ length old → AreHeld old first held → AreHeld new first still

@@ -29,7 +29,7 @@ mod entering;
 mod handing;
 mod states;
 
-pub use crate::book::handing::Told;
+pub use crate::book::handing::TakenEntry;
 
 mod reading;
 
@@ -41,19 +41,6 @@ pub enum Merge {
     /// States that differ in nothing but the numbers of their nodes and records, their step counts, and what neither
     /// the root nor a thread leads to.
     Names,
-}
-
-impl Merge {
-    /// Whether a book that merges so holds the states of its entries that are not expanded: the labels of exact merging
-    /// tell them, and those of merging by names do not.
-    fn holds(self) -> bool
-        ensures { IsTrue result ↔ (self ≡ Merge.Names) }
-    {
-        match self {
-            Merge::Exact => false,
-            Merge::Names => true,
-        }
-    }
 }
 
 /// How many entries a book has, and what became of the steps that were entered.
@@ -107,8 +94,7 @@ pub struct Book<M: Machine> {
 impl<M: Machine> Model for Book<M> {
     ghost use Rattle.tree_machine.specs.declared.state.State.{State};
     ghost use Rattle.book.specs.Entries.{Contents};
-    ghost use Rattle.std.specs.Prelude.{◌≡◌, true};
-    ghost use Rattle.book.specs.declared.book.Merge.{Merge};
+    ghost use Rattle.std.specs.Prelude.{◌≡◌};
     ghost use Rattle.book.specs.Books.{IsBook, counted_as_one};
     ghost use Rattle.book.specs.Labels.{AreKnownBy, label_by, same_as};
 
@@ -134,8 +120,7 @@ impl<M: Machine> Model for Book<M> {
         })
         × AreKnownBy (label_by M.whole_code M.form_code (M.form_of b.machine) b.merge) b.table
         × (same_as {S = State M M.Mem M.Loc M.Form} (label_by M.whole_code M.form_code (M.form_of b.machine) b.merge)
-        ≡ counted_as_one M.Loc.PartialEq.eq M.Mem.PartialEq.eq M.Form.PartialEq.eq (M.form_of b.machine) b.merge)
-        × (b.merge ≡ Merge.Names → b.table.holds ≡ true) };
+        ≡ counted_as_one M.Loc.PartialEq.eq M.Mem.PartialEq.eq M.Form.PartialEq.eq (M.form_of b.machine) b.merge) };
 }
 
 /// The table with the start of a program alone, which is open.
@@ -149,8 +134,7 @@ fn first_table<M: Machine>(
         × (state ≡ start (M.rules machine) program.now)
         × (t.entries ≡ record { state = state; finding = finding; origin = None; mark = Mark.Open } ∷ [])
         × (t.labels ≡ label_by M.whole_code M.form_code (M.form_of machine) merge state ∷ [])
-        × Fits (M.rules machine) program.now state × IsFindingOf (M.rules machine) program.now state finding
-        × (merge ≡ Merge.Names → t.holds ≡ true)) }
+        × Fits (M.rules machine) program.now state × IsFindingOf (M.rules machine) program.now state finding) }
 {
     let state = State::start(alloc, machine, program)?;
     let finding = find(alloc, machine, program, &state)?;
@@ -164,7 +148,7 @@ fn first_table<M: Machine>(
         &mut room,
         Vec::new(alloc),
     )?;
-    Ok(Table::new(alloc, state, known, finding, merge.holds())?)
+    Ok(Table::new(alloc, known, finding)?)
 }
 
 impl<M: Machine> Book<M> {
@@ -303,7 +287,7 @@ impl<M: Machine> Book<M> {
     {
         let mut low = 0;
         let mut high = self.table.len();
-        // Where a layer is taken there is mostly no such entry: the last one tells that, and no other has to be asked.
+        // Where a layer is taken there is mostly no such entry: the last entry shows that, and no other has to be read.
         if high > 0 && self.steps_to(high - 1) <= steps {
             return high;
         }

@@ -6,16 +6,16 @@ ghost use Rattle.tree_machine.specs.Laws.ByteLists.{bytes_fed};
 ghost use Rattle.book.specs.Labels.{same_label};
 ghost use Rattle.book.specs.Laws.Labels.{same_label_equiv};
 
+use crate::shown::Shown;
 use std::hash::{Hash, Hasher};
 use std::marker::Model;
-use std::snapshot::Snapshot;
 use tree_machine::Bytes;
 
-/// A state by its label. Two are equal if their labels are. The state is not held here: it is only proofs that see it.
+/// A state by its label. Two are equal if their labels are. Only proofs see the state itself.
 #[derive(Drop)]
 pub struct Known<S> {
     label: Bytes,
-    shown: Snapshot<S>,
+    shown: Shown<S>,
 }
 
 impl<S> Model for Known<S> {
@@ -28,13 +28,17 @@ impl<S> Model for Known<S> {
 
 impl<S> Known<S> {
     /// A state that is known by this label.
-    pub fn by(label: Bytes, state: &S) -> Known<S>
-        ensures { result ≡ record { state = state.now; label = label } }
+    pub fn by(label: Bytes, shown: Shown<S>) -> Known<S>
+        ensures { result ≡ record { state = shown.value; label = label } }
     {
-        Known {
-            label,
-            shown: Snapshot::of(state),
-        }
+        Known { label, shown }
+    }
+
+    /// The state.
+    pub fn shown(&self) -> &Shown<S>
+        ensures { result.now.value ≡ self.now.state }
+    {
+        &self.shown
     }
 
     /// The bytes of its label.

@@ -8,15 +8,12 @@ use crate::stepped::Stepped;
 use sched_program::OutOfMemory;
 use std::alloc::Global;
 use std::marker::Model;
-use std::sync::Arc;
 
-/// States that a book knew already, with what else the expansions that were entered held of them. Whoever enters under
-/// a lock can drop these after it.
+/// States that a book knew already, by their labels, and the lists of the expansions that were entered. Whoever enters
+/// under a lock can drop these after it.
 #[derive(Drop)]
 pub struct Leftovers<S> {
-    known: Vec<(Hashed<Known<S>>, Option<Arc<S>>)>,
-    /// States that were entered, and that the book does not hold. Of these the memory alone is of use.
-    states: Vec<Arc<S>>,
+    known: Vec<Hashed<Known<S>>>,
     /// What steps lay in that were entered. Of these lists the memory alone is of use.
     lists: Vec<Vec<Stepped<S>>>,
 }
@@ -35,7 +32,6 @@ impl<S> Leftovers<S> {
     pub(crate) fn none(alloc: Global) -> Leftovers<S> {
         Leftovers {
             known: Vec::new(alloc),
-            states: Vec::new(alloc),
             lists: Vec::new(alloc),
         }
     }
@@ -46,42 +42,34 @@ impl<S> Leftovers<S> {
     {
         self.known.len()
     }
-}
 
-impl<S: Drop> Leftovers<S> {
-    /// The same with nothing kept, with room for so many known states, and for as many others and lists if there is
-    /// memory for these.
+    /// Leftovers that keep nothing, with room for so many known states, and for as many lists if there is memory for
+    /// these.
     pub(crate) fn emptied(mut self, room: usize) -> Result<Leftovers<S>, OutOfMemory>
         ensures kept { IfOk result (λ l. l.kept ≡ 0) }
         ensures room { IfOk result (λ l. room ≤ l.room) }
     {
         self.known.clear();
         self.known.reserve(room)?;
-        let _ = self.states.reserve(room);
         let _ = self.lists.reserve(room);
         Ok(self)
     }
 
-    /// Puts the states into shells, the lists of their labels into spare lists, and the lists of steps to their like. A
-    /// refused growth lets a state or a label go, and leaves what else there is here.
+    /// Puts the lists of the labels into spare lists, and the lists of steps to their like. A refused growth drops a
+    /// list, and leaves what else there is here.
     pub(crate) fn return_to(
         &mut self,
-        shells: &mut Vec<Arc<S>>,
         labels: &mut Vec<Vec<u8>>,
         lists: &mut Vec<Vec<Stepped<S>>>,
     ) {
-        for (known, state) in self.known.drain(..) {
-            if let Some(state) = state {
-                let _ = shells.push(state);
-            }
+        for known in self.known.drain(..) {
             let _ = labels.push(known.into_value().into_label().into_vec());
         }
-        let _ = shells.append(&mut self.states);
         let _ = lists.append(&mut self.lists);
     }
 
-    /// Keeps a list of steps for its memory, where there is room, and else lets it go: nothing is asked for under a
-    /// lock.
+    /// Keeps a list of steps for its memory, where there is room, and else drops it: under a lock nothing asks for
+    /// memory.
     pub(crate) fn keep_list(&mut self, list: Vec<Stepped<S>>)
         ensures { self.new ≡ self.old }
     {
@@ -90,17 +78,8 @@ impl<S: Drop> Leftovers<S> {
         }
     }
 
-    /// Keeps a state that the book does not hold for its memory, where there is room, and else lets it go.
-    pub(crate) fn keep_state(&mut self, state: Arc<S>)
-        ensures { self.new ≡ self.old }
-    {
-        if self.states.len() < self.states.capacity() {
-            self.states.push_reserved(state);
-        }
-    }
-
     /// Keeps a state, if there is one, where there is room, and else drops it.
-    pub(crate) fn keep(&mut self, state: Option<(Hashed<Known<S>>, Option<Arc<S>>)>)
+    pub(crate) fn keep(&mut self, state: Option<Hashed<Known<S>>>)
         ensures { Keeps self.old self.new (if is_some state then 1 else 0) }
     {
         if let Some(state) = state {

@@ -1,68 +1,61 @@
 //! All enabled steps of a state.
-ghost use Rattle.std.specs.Prelude.{◌≡◌, ℕ, ◌+◌, ◌^◌, ◌<◌, ◌↔◌};
-ghost use Rattle.std.specs.Prelude.{◌≤◌, length, IsTrue, IfOk, Some, slice_get, vec_len, vec_capacity};
+ghost use Rattle.std.specs.Prelude.{◌≡◌, ◌+◌, ◌^◌, ◌<◌, ◌↔◌};
+ghost use Rattle.std.specs.Prelude.{◌≤◌, length, IsTrue, IfOk, OnOk, vec_len, vec_capacity};
 ghost use Rattle.std.specs.Prelude.{IfErr};
-ghost use Rattle.tree_machine.specs.Step.{Fits, step};
+ghost use Rattle.tree_machine.specs.Step.{Fits};
 ghost use Rattle.book.specs.Books.{HoldsSteps};
-ghost use Rattle.book.specs.Entries.{Successor};
-ghost use Rattle.book.specs.Labels.{AreStepsKnownBy, Labelled, bare, bares, label_by};
-ghost use Rattle.tree_machine.specs.declared.state.State.{State};
-ghost use Rattle.tree_machine.specs.History.{history_of};
+ghost use Rattle.book.specs.Labels.{AreStepsKnownBy, bares, label_by};
 ghost use Rattle.book.specs.Expanding.{PutsStep};
-ghost use Rattle.book.specs.Findings.{machine_of, IsFindingOf, IsLoan};
+ghost use Rattle.book.specs.Findings.{machine_of, IsFindingOf};
 
 use crate::book::Merge;
-use crate::finding::Finding;
-use crate::lending::{Loan, find_after};
+use crate::finding::find;
+use crate::shown::Shown;
 use crate::stepped::{Stepped, label, labelled};
-use crate::stock::Stock;
 use sched_program::{OutOfMemory, Program};
 use std::alloc::Global;
 use std::marker::Model;
-use std::snapshot::Snapshot;
-use tree_machine::{Machine, State, StepFault};
+use tree_machine::{Machine, Room, State, StepFault};
 
-/// Puts the step of a thread, if it is enabled, behind those in a list, with its finding. It is made in and of what is in
-/// stock, and put straight to where it stays: a step that is given back is moved several times.
-fn put_step_of<M: Machine>(
+/// Puts the step of a thread, if it is enabled, behind those in a list, with its label for a book that merges so. It is
+/// made anew, and judged from nothing.
+fn put_step_anew<M: Machine>(
     alloc: Global,
     machine: M,
     program: &Program,
     source: &State<M>,
-    thread: u8,
     merge: Merge,
-    is_ordered: bool,
-    loan: &mut Loan,
-    stock: &mut Stock<M>,
+    thread: u8,
     steps: &mut Vec<Stepped<State<M>>>,
 ) -> Result<(), OutOfMemory>
     requires fits { Fits (M.rules machine) program.now source.now }
     requires room { source.now.steps + 1 < 2 ^ 64 }
-    requires ordered { IsTrue is_ordered → (M.rules machine).IsOrdered source.now.memory }
-    requires loan { IsLoan program.now (history_of source.now) loan.old }
     requires place { vec_len steps.old < vec_capacity steps.old }
-    ensures loan { IfOk result (λ _. IsLoan program.now (history_of source.now) loan.new) }
-    ensures put { IfOk result (λ _. PutsStep (machine_of (M.rules machine) program.now)
+    ensures put { OnOk result (PutsStep (machine_of (M.rules machine) program.now)
         (IsFindingOf (M.rules machine) program.now)
         (label_by M.whole_code M.form_code (M.form_of machine) merge) source.now thread
         steps.old.items steps.new.items) }
     ensures len { vec_len steps.new ≤ vec_len steps.old + 1 }
     ensures capacity { vec_capacity steps.new ≡ vec_capacity steps.old }
 {
-    let state = match stock.step(alloc, machine, program, source, thread) {
+    let next = match source.step(alloc, machine, program, thread) {
         Ok(next) => next,
         Err(StepFault::NotEnabled) => return Ok(()),
         Err(StepFault::OutOfMemory) => return Err(OutOfMemory),
     };
-    let next = &*state;
-    let finding = find_after(
-        alloc, machine, program, source, next, thread, is_ordered, loan,
+    let finding = find(alloc, machine, program, &next)?;
+    let mut room = Room::new(alloc);
+    let known = label(
+        alloc,
+        machine,
+        program,
+        &next,
+        merge,
+        &mut room,
+        Vec::new(alloc),
     )?;
-    let spare = stock.spare_label(alloc);
-    let known = label(alloc, machine, program, next, merge, &mut stock.room, spare)?;
     steps.push_reserved(Stepped {
         thread,
-        state: Some(state),
         known,
         finding,
     });
@@ -76,8 +69,8 @@ pub struct Successors<'a, M: Machine> {
     pub(crate) machine: M,
     pub(crate) program: &'a Program,
     pub(crate) merge: Merge,
-    /// The state, which only proofs see: its steps need it no more.
-    pub(crate) source: Snapshot<State<M>>,
+    /// The state, which only proofs see.
+    pub(crate) source: Shown<State<M>>,
     pub(crate) successors: Vec<Stepped<State<M>>>,
 }
 
@@ -106,38 +99,9 @@ impl<'a, M: Machine> Model for Successors<'a, M> {
 }
 
 impl<'a, M: Machine> Successors<'a, M> {
-    /// Does as `for_merge` does for a state of which it is known what is found. Where that is a linearization, it is
-    /// lent to the steps: the history of the state is not judged once more. The steps are made in and of what is in stock.
-    pub fn of_found(
-        alloc: Global,
-        machine: M,
-        program: &'a Program,
-        state: &State<M>,
-        finding: &Finding,
-        merge: Merge,
-        stock: &mut Stock<M>,
-    ) -> Result<Successors<'a, M>, OutOfMemory>
-        requires fits { Fits (M.rules machine) program.now state.now }
-        requires room { state.now.steps + 1 < 2 ^ 64 }
-        requires finding { IsFindingOf (M.rules machine) program.now state.now finding.now }
-        ensures machine { IfOk result (λ x. x.machine ≡ machine) }
-        ensures program { IfOk result (λ x. x.program ≡ program.now) }
-        ensures source { IfOk result (λ x. x.source ≡ state.now) }
-    {
-        let loan = match finding {
-            Finding::Sound(order) => Some(Some(*order)),
-            _ => None,
-        };
-        // Of a state that is sound it is known that its memory keeps search order.
-        let is_ordered = finding.is_sound();
-        Successors::with_loan(
-            alloc, machine, program, state, merge, is_ordered, loan, stock,
-        )
-    }
-
-    /// Takes each enabled step of a state, judges where it leads, and makes the labels by which a book that merges so
-    /// looks for the states.
-    pub fn for_merge(
+    /// Takes each enabled step of a state anew, judges from nothing where it leads, and labels it for a book that
+    /// merges so. `of_sound` does so faster for a sound state whose label can be read.
+    pub fn anew(
         alloc: Global,
         machine: M,
         program: &'a Program,
@@ -146,49 +110,20 @@ impl<'a, M: Machine> Successors<'a, M> {
     ) -> Result<Successors<'a, M>, OutOfMemory>
         requires fits { Fits (M.rules machine) program.now state.now }
         requires room { state.now.steps + 1 < 2 ^ 64 }
-        ensures machine { IfOk result (λ x. x.machine ≡ machine) }
-        ensures program { IfOk result (λ x. x.program ≡ program.now) }
-        ensures source { IfOk result (λ x. x.source ≡ state.now) }
-    {
-        let mut stock = Stock::new(alloc);
-        Successors::with_loan(
-            alloc, machine, program, state, merge, false, None, &mut stock,
-        )
-    }
-
-    /// The same, where this is what was sought of the state's history, and whether its memory is known to keep search
-    /// order.
-    fn with_loan(
-        alloc: Global,
-        machine: M,
-        program: &'a Program,
-        state: &State<M>,
-        merge: Merge,
-        is_ordered: bool,
-        mut loan: Loan,
-        stock: &mut Stock<M>,
-    ) -> Result<Successors<'a, M>, OutOfMemory>
-        requires fits { Fits (M.rules machine) program.now state.now }
-        requires room { state.now.steps + 1 < 2 ^ 64 }
-        requires ordered { IsTrue is_ordered → (M.rules machine).IsOrdered state.now.memory }
-        requires loan { IsLoan program.now (history_of state.now) loan }
         ensures machine { IfOk result (λ x. x.machine ≡ machine) }
         ensures program { IfOk result (λ x. x.program ≡ program.now) }
         ensures source { IfOk result (λ x. x.source ≡ state.now) }
     {
         let threads = program.threads().len();
-        let mut successors = stock.list(alloc, threads)?;
+        let mut successors = Vec::with_capacity(alloc, threads)?;
         for thread in 0..threads as u8 {
-            put_step_of(
+            put_step_anew(
                 alloc,
                 machine,
                 program,
                 state,
-                thread,
                 merge,
-                is_ordered,
-                &mut loan,
-                stock,
+                thread,
                 &mut successors,
             )?;
         }
@@ -196,7 +131,7 @@ impl<'a, M: Machine> Successors<'a, M> {
             machine,
             program,
             merge,
-            source: Snapshot::of(state),
+            source: Shown::of(state),
             successors,
         })
     }
@@ -227,7 +162,7 @@ impl<'a, M: Machine> Successors<'a, M> {
         }
     }
 
-    /// The steps, labelled for a book that merges so, with their states. Their source is at hand.
+    /// The steps, labelled for a book that merges so. Each is made once more from the source.
     pub(crate) fn relabelled(
         self,
         alloc: Global,

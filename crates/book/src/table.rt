@@ -8,24 +8,22 @@ ghost use Rattle.book.specs.Entries.{with_mark, with_marks};
 ghost use Rattle.book.specs.Findings.{is_sound};
 ghost use Rattle.book.specs.Labels.{AreKnownBy, AreStepsKnownBy, bares, same_as};
 ghost use Rattle.book.specs.Leftovers.{KeepsMet};
-ghost use Rattle.book.specs.Slots.{entries_of, keyed_of, labels_of, AreStatesOf, IsFirstLeft, IsGrown, IsLeft};
-ghost use Rattle.book.specs.Slots.{IsOpenFrom, StayHeld};
+ghost use Rattle.book.specs.Slots.{entries_of, labels_of, IsFirstLeft, IsOpenFrom};
 
 use crate::book::Totals;
 use crate::entry::{Mark, Origin, PackedRow, Row};
 use crate::finding::Finding;
 use crate::hashed::Hashed;
-use crate::held::Held;
 use crate::known::Known;
 use crate::leftovers::Leftovers;
 use crate::placing::put_steps;
 use crate::rows::{expanded_rows, open_rows, taken_rows};
+use crate::shown::Shown;
 use crate::slots::put_new;
 use crate::stepped::Stepped;
 use indexmap::IndexMap;
 use std::alloc::{AllocError, Global};
 use std::marker::Model;
-use std::sync::Arc;
 
 /// Why rows were not put in.
 #[derive(Clone, Copy, PartialEq, Eq)]
@@ -34,33 +32,27 @@ pub enum TableFault {
     OutOfMemory,
 }
 
-/// The entries of a book: states, each with its row. The key of a row is the state's label. Where states are held, they
-/// are those of the entries that are not expanded; those of the others are given back.
+/// The entries of a book: states, each with its row. The key of a row is the state's label, and no state is held.
 #[derive(Drop)]
 pub struct Table<S> {
     slots: IndexMap<Hashed<Known<S>>, PackedRow>,
-    holds: bool,
-    held: Held<S>,
     next_open: usize,
     first_left: usize,
     fault: Option<usize>,
 }
 
 impl<S> Model for Table<S> {
-    ghost use Rattle.std.specs.Prelude.{◌≡◌, true};
     ghost use Rattle.book.specs.Labels.{Kept};
-    ghost use Rattle.book.specs.Slots.{entries_of, labels_of, AreCursors, AreHeld};
+    ghost use Rattle.book.specs.Slots.{entries_of, labels_of, AreCursors};
 
     ghost Value = { Kept S };
 
     ghost view = { λ t. record {
       entries = entries_of t.slots.entries;
       labels = labels_of t.slots.entries;
-      holds = t.holds;
     } };
 
-    ghost invariant = { λ t. AreCursors (entries_of t.slots.entries) t.next_open t.first_left t.fault
-        × (t.holds ≡ true → AreHeld (entries_of t.slots.entries) t.first_left t.held) };
+    ghost invariant = { λ t. AreCursors (entries_of t.slots.entries) t.next_open t.first_left t.fault };
 }
 
 /// Marks the row at an index.
@@ -102,15 +94,16 @@ fn row_at<S>(slots: &IndexMap<Hashed<Known<S>>, PackedRow>, index: usize) -> &Pa
     row
 }
 
-/// The label of the row at an index.
-fn label_at<S>(slots: &IndexMap<Hashed<Known<S>>, PackedRow>, index: usize) -> &[u8]
+/// The state of the row at an index, by its label.
+fn known_at<S>(slots: &IndexMap<Hashed<Known<S>>, PackedRow>, index: usize) -> &Known<S>
     requires { index < length slots.now.entries }
-    ensures { slice_get (labels_of slots.now.entries) index ≡ Some result.now }
+    ensures label { slice_get (labels_of slots.now.entries) index ≡ Some result.now.label }
+    ensures state { (e : Entry S) × At (entries_of slots.now.entries) index e × (e.state ≡ result.now.state) }
 {
     let Some((known, _)) = slots.get_index(index) else {
         unreachable!();
     };
-    known.value().label()
+    known.value()
 }
 
 /// The first row that is not sound, where all before `start` are.
@@ -172,29 +165,24 @@ impl<S> Table<S> {
         }
     }
 
-    /// The state of an entry that is not expanded, which others may hold too; none where states are not held.
-    pub fn state(&self, index: usize) -> Option<&Arc<S>>
-        requires { IsLeft self.now.entries index }
-        ensures some { IfSome result (λ state. (e : Entry S) × At self.now.entries index e × (e.state ≡ state.now.value)) }
-        ensures none { IfNone result (self.now.holds ≡ false) }
-    {
-        if self.holds {
-            Some(self.held.at(index - self.first_left))
-        } else {
-            None
-        }
-    }
-
     /// The label of an entry.
     pub fn label(&self, index: usize) -> &[u8]
         requires { index < length self.now.entries }
         ensures { slice_get self.now.labels index ≡ Some result.now }
     {
-        label_at(&self.slots, index)
+        known_at(&self.slots, index).label()
     }
 
-    /// Looks for the labels of steps, one right after the other, so that what there is of them comes into the processor's
-    /// caches all at once. How many there are is of no use.
+    /// The state of an entry.
+    pub fn shown(&self, index: usize) -> &Shown<S>
+        requires { index < length self.now.entries }
+        ensures { (e : Entry S) × At self.now.entries index e × (e.state ≡ result.now.value) }
+    {
+        known_at(&self.slots, index).shown()
+    }
+
+    /// Looks for the labels of steps, one right after the other, so that what there is of them comes into the
+    /// processor's caches all at once. How many there are is of no use.
     pub fn look_ahead(&self, steps: &[Stepped<S>]) -> usize {
         let mut there = 0usize;
         for step in steps {
@@ -291,20 +279,16 @@ impl<S> Table<S> {
     }
 }
 
-impl<S: Drop> Table<S> {
-    /// A table with one open entry, which has no parent, and whether it holds states.
+impl<S> Table<S> {
+    /// A table with one open entry, which has no parent.
     pub fn new(
         alloc: Global,
-        state: S,
         known: Hashed<Known<S>>,
         finding: Finding,
-        holds: bool,
     ) -> Result<Table<S>, AllocError>
-        requires { known.state ≡ state }
         ensures entries { IfOk result (λ t. t.entries
             ≡ record { state = known.state; finding = finding; origin = None; mark = Mark.Open } ∷ []) }
         ensures labels { IfOk result (λ t. t.labels ≡ known.label ∷ []) }
-        ensures holds { IfOk result (λ t. t.holds ≡ holds) }
     {
         let fault = if finding.is_sound() { None } else { Some(0) };
         let row = PackedRow::new(Row {
@@ -314,11 +298,8 @@ impl<S: Drop> Table<S> {
         })?;
         let mut slots = IndexMap::new(alloc);
         put_new(&mut slots, known, row)?;
-        let held = Held::first(alloc, state, holds)?;
         Ok(Table {
             slots,
-            holds,
-            held,
             next_open: 0,
             first_left: 0,
             fault,
@@ -331,12 +312,7 @@ impl<S: Drop> Table<S> {
         ensures { self.new ≡ record self.old { entries = with_mark self.old.entries index Mark.Expanded } }
     {
         mark_at(&mut self.slots, index, Mark::Expanded);
-        let left = first_left_from(&self.slots, self.first_left);
-        if self.holds {
-            self.held.release(index - self.first_left);
-            self.held.give_back(left - self.first_left);
-        }
-        self.first_left = left;
+        self.first_left = first_left_from(&self.slots, self.first_left);
     }
 
     /// Appends, in their order, open entries for the steps that lead to new states, or, if they have no room or
@@ -360,28 +336,17 @@ impl<S: Drop> Table<S> {
             → limit < length self.old.entries
             + length (unknown (same_as label_of) (states self.old.entries) (bares successors.items))) }
         ensures room { OnOk result (length self.new.entries ≤ limit) }
-        ensures holds { OnOk result (self.new.holds ≡ self.old.holds) }
         ensures left { OnOk result (KeepsMet leftovers.old leftovers.new (length self.old.entries)
             (length self.new.entries) (length successors.items)) }
         ensures err { OnErr result (self.new ≡ self.old) }
     {
         let was = self.slots.len();
-        let held = self.held.len();
-        let Ok(()) = put_steps(
-            &mut self.slots,
-            &mut self.held,
-            self.holds,
-            parent,
-            successors,
-            leftovers,
-        ) else {
+        let Ok(()) = put_steps(&mut self.slots, parent, successors, leftovers) else {
             self.slots.truncate(was);
-            self.held.truncate(held);
             return Err(TableFault::OutOfMemory);
         };
         if self.slots.len() > limit {
             self.slots.truncate(was);
-            self.held.truncate(held);
             return Err(TableFault::Full);
         }
         match self.fault {

@@ -1,6 +1,7 @@
 //! What is put into a book.
 ghost use Rattle.std.specs.Prelude.{◌≡◌, ◌+◌, ◌<◌, ◌≤◌, ◌↔◌, ◌⊎◌, length, IfOk, IfErr, IsTrue, OnErr, OnOk};
 ghost use Rattle.tree_machine.specs.declared.state.State.{State};
+ghost use Rattle.book.specs.declared.book.Merge.TheVariants.{Exact};
 ghost use Rattle.book.specs.declared.entry.Mark.{Mark};
 ghost use Rattle.book.specs.Entries.{Entry, At, Enters, IsOwn, IsTaken, Refuses, states, unknown, with_successors};
 ghost use Rattle.book.specs.Labels.{AreStepsKnownBy, bares, label_by};
@@ -8,7 +9,7 @@ ghost use Rattle.book.specs.Books.{machine_in, right_in, HoldsSteps};
 ghost use Rattle.book.specs.Law.{IsExpansion};
 ghost use Rattle.book.specs.Leftovers.{Keeps};
 
-use crate::book::{Book, EnterFault, Entered};
+use crate::book::{Book, EnterFault, Entered, Merge};
 use crate::counting::Counting;
 use crate::expansion::Expansion;
 use crate::leftovers::Leftovers;
@@ -30,15 +31,24 @@ impl<M: Machine> Book<M> {
         }
     }
 
-    /// Whether an expansion is that of a taken entry, of the book's machine and program.
-    fn is_expansion_of(&self, id: usize, expansion: &Expansion<'_, M>) -> bool
+    /// Whether an expansion is that of a taken entry, of the book's machine and program. By names the entry's state is
+    /// made by its schedule.
+    fn is_expansion_of(&self, id: usize, expansion: &Expansion<'_, M>) -> Result<bool, OutOfMemory>
         requires { IsTaken self.now.entries id }
-        ensures { IsTrue result
-            ↔ IsOwn self.now id expansion.now.machine expansion.now.program expansion.now.source }
+        ensures answer { IfOk result (λ is. IsTrue is
+            ↔ IsOwn self.now id expansion.now.machine expansion.now.program expansion.now.source) }
+        ensures refused { IfErr result (λ _. self.now.merge ≡ Exact → ⊥) }
     {
-        match self.table.state(id) {
-            Some(state) => expansion.is_of(&self.machine, &self.program, &**state),
-            None => expansion.is_told(&self.machine, &self.program, self.table.label(id)),
+        match self.merge {
+            Merge::Exact => Ok(expansion.is_coded(
+                &self.machine,
+                &self.program,
+                self.table.label(id),
+            )),
+            Merge::Names => {
+                let state = self.replayed(id)?;
+                Ok(expansion.is_of(&self.machine, &self.program, &state))
+            }
         }
     }
 
@@ -52,10 +62,10 @@ impl<M: Machine> Book<M> {
         if !self.is_taken(id) {
             return Err(EnterFault::NotTaken);
         }
-        if self.is_expansion_of(id, expansion) {
-            Ok(())
-        } else {
-            Err(EnterFault::Stranger)
+        match self.is_expansion_of(id, expansion) {
+            Ok(true) => Ok(()),
+            Ok(false) => Err(EnterFault::Stranger),
+            Err(OutOfMemory) => Err(EnterFault::OutOfMemory),
         }
     }
 
@@ -161,14 +171,15 @@ impl<M: Machine> Book<M> {
         }
     }
 
-    /// Looks for the states to which steps lead, as entering them does, and enters none: whoever enters several expansions
-    /// looks for the steps of all of them first, so that none has to wait for its own. What it answers is of no use.
+    /// Looks for the states to which steps lead, as entering them does, and enters none: whoever enters several
+    /// expansions looks for the steps of all of them first, so that none has to wait for its own. What it answers is
+    /// of no use.
     pub fn look_ahead(&self, expansion: &Successors<'_, M>) -> usize {
         self.table.look_ahead(expansion.successors.as_slice())
     }
 
-    /// Enters as `enter_leaving` does steps of which the caller knows that they are those of the entry. They are compared
-    /// with nothing.
+    /// Enters as `enter_leaving` does steps of which the caller knows that they are those of the entry. They are
+    /// compared with nothing.
     pub fn enter_own(
         &mut self,
         id: usize,

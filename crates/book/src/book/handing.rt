@@ -1,31 +1,28 @@
 //! How the entries of a layer are taken, and then handed out one by one.
 ghost use Rattle.std.specs.Prelude.{◌≡◌, ◌<◌, ℕ, length, IfNone, IfOk, IfSome};
-ghost use Rattle.tree_machine.specs.FormCode.{state_code};
 ghost use Rattle.tree_machine.specs.Step.{Fits};
 ghost use Rattle.tree_machine.specs.declared.state.State.{State};
 ghost use Rattle.book.specs.Books.{machine_in};
 ghost use Rattle.book.specs.declared.entry.Mark.{Mark};
 ghost use Rattle.book.specs.Entries.{Entry, At, IsTaken, TakesRange};
+ghost use Rattle.book.specs.Labels.{label_by};
 
-use crate::book::{Book, Merge};
+use crate::book::Book;
 use crate::counting::Counting;
 use crate::entry::PackedRow;
 use crate::finding::Finding;
+use crate::shown::Shown;
 use crate::stock::Stock;
 use sched_program::OutOfMemory;
 use std::sync::Arc;
 use tree_machine::{Bytes, Machine, State};
 
-/// The state of an entry, as a book has it, with what was found of it: shared where the book holds it, and else told by
-/// its bytes, where the entry's label is these.
+/// A taken entry as a worker expands it: its label, what was found of its state, and the state for proofs alone.
 #[derive(Drop)]
-pub struct Told<M: Machine> {
-    /// The state, where the book holds it.
-    pub state: Option<Arc<State<M>>>,
-    /// Its bytes, where the book merges exactly.
-    pub code: Option<Bytes>,
-    /// What was found of it.
+pub struct TakenEntry<M: Machine> {
+    pub label: Bytes,
     pub finding: Finding,
+    pub shown: Shown<State<M>>,
 }
 
 impl<M: Machine> Book<M> {
@@ -54,29 +51,17 @@ impl<M: Machine> Book<M> {
         if row.is_taken() { Some(row) } else { None }
     }
 
-    /// The bytes of an entry's state, where its label is these, in a list that is in stock.
-    fn code_of(&self, id: usize, stock: &mut Stock<M>) -> Result<Option<Bytes>, OutOfMemory>
-        requires { id < length self.now.entries }
-        ensures { IfOk result (λ o. IfSome o (λ code. (e : Entry (State M M.Mem M.Loc M.Form))
-            × At self.now.entries id e × (code ≡ state_code M.whole_code e.state))) }
-    {
-        match self.merge {
-            Merge::Exact => {
-                let spare = stock.spare_label(self.table.allocator());
-                let code = Bytes::copied_in(self.table.label(id), spare)?;
-                Ok(Some(code))
-            }
-            Merge::Names => Ok(None),
-        }
-    }
-
-    /// The state of a taken entry, as the book has it, with what was found of it; none where no entry of this number is
-    /// taken. Whoever has the lock of a book reads no bytes in it.
-    pub fn told(&self, id: usize, stock: &mut Stock<M>) -> Result<Option<Told<M>>, OutOfMemory>
+    /// A taken entry, with its label copied into a list that is in stock; none where no entry of this number is taken.
+    /// Whoever has the lock of a book reads no label in it.
+    pub fn taken_entry(
+        &self,
+        id: usize,
+        stock: &mut Stock<M>,
+    ) -> Result<Option<TakenEntry<M>>, OutOfMemory>
         ensures entry { IfOk result (λ o. IfSome o (λ t. (e : Entry (State M M.Mem M.Loc M.Form))
-            × At self.now.entries id e × (e.mark ≡ Mark.Taken)
-            × IfSome t.state (λ shared. shared.value ≡ e.state)
-            × IfSome t.code (λ code. code ≡ state_code M.whole_code e.state) × (e.finding ≡ t.finding)
+            × At self.now.entries id e × (e.mark ≡ Mark.Taken) × (t.shown.value ≡ e.state)
+            × (t.label ≡ label_by M.whole_code M.form_code (M.form_of self.now.machine) self.now.merge e.state)
+            × (e.finding ≡ t.finding)
             × Fits (M.rules self.now.machine) self.now.program e.state × (e.state.steps < self.now.limit))) }
         ensures none { IfOk result (λ o. IfNone o (IsTaken self.now.entries id → ⊥)) }
     {
@@ -84,24 +69,14 @@ impl<M: Machine> Book<M> {
             return Ok(None);
         };
         let finding = *row.finding();
-        match self.table.state(id) {
-            Some(state) => {
-                let state = Arc::try_clone(state)?;
-                Ok(Some(Told {
-                    state: Some(state),
-                    code: None,
-                    finding,
-                }))
-            }
-            None => {
-                let code = self.code_of(id, stock)?;
-                Ok(Some(Told {
-                    state: None,
-                    code,
-                    finding,
-                }))
-            }
-        }
+        let shown = self.table.shown(id).again();
+        let spare = stock.spare_label(self.table.allocator());
+        let label = Bytes::copied_in(self.table.label(id), spare)?;
+        Ok(Some(TakenEntry {
+            label,
+            finding,
+            shown,
+        }))
     }
 
     /// The state of a taken entry with what was found of it; none where no entry of this number is taken.

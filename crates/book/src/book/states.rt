@@ -1,9 +1,9 @@
-//! The states of entries that are not expanded: where the book holds none, they are read back from their labels.
+//! The states of entries, read back from their labels or made by their schedules.
 ghost use Rattle.std.specs.Prelude.{◌≡◌, ◌-◌, ◌<◌, ◌≤◌, length, map, IfOk, IfSome};
 ghost use Rattle.std.specs.List.{range_with_len};
 ghost use Rattle.tree_machine.specs.declared.state.State.{State};
 ghost use Rattle.book.specs.Entries.{Entry, At};
-ghost use Rattle.book.specs.Slots.{AreStatesOf, IsLeft, IsOpenFrom};
+ghost use Rattle.book.specs.Slots.{AreStatesOf};
 
 use crate::book::{Book, Merge};
 use crate::replayed::ReplayFault;
@@ -14,7 +14,7 @@ use tree_machine::{Machine, State};
 
 impl<M: Machine> Book<M> {
     /// The state of an entry, by the schedule that leads to it.
-    fn replayed(&self, id: usize) -> Result<State<M>, OutOfMemory>
+    pub(crate) fn replayed(&self, id: usize) -> Result<State<M>, OutOfMemory>
         requires { id < length self.now.entries }
         ensures { IfOk result (λ state. (e : Entry (State M M.Mem M.Loc M.Form)) × At self.now.entries id e
             × (e.state ≡ state)) }
@@ -58,22 +58,17 @@ impl<M: Machine> Book<M> {
         }
     }
 
-    /// The state of an entry that is not expanded, shared with the book where that holds it.
+    /// The state of an entry, to be shared.
     pub(crate) fn state_of(&self, id: usize) -> Result<Arc<State<M>>, OutOfMemory>
-        requires { IsLeft self.now.entries id }
+        requires { id < length self.now.entries }
         ensures { IfOk result (λ state. (e : Entry (State M M.Mem M.Loc M.Form)) × At self.now.entries id e
             × (e.state ≡ state.value)) }
     {
-        match self.table.state(id) {
-            Some(state) => Ok(Arc::try_clone(state)?),
-            None => {
-                let state = self.read_back(id)?;
-                Ok(Arc::new(self.table.allocator(), state)?)
-            }
-        }
+        let state = self.read_back(id)?;
+        Ok(Arc::new(self.table.allocator(), state)?)
     }
 
-    /// The entries from `start` to below `end`, which are open, each by its number and its state.
+    /// The entries from `start` to below `end`, each by its number and its state.
     pub(crate) fn states_of(
         &self,
         start: usize,
@@ -81,7 +76,6 @@ impl<M: Machine> Book<M> {
     ) -> Result<Vec<(usize, Arc<State<M>>)>, OutOfMemory>
         requires some { start ≤ end }
         requires within { end ≤ length self.now.entries }
-        requires open { IsOpenFrom self.now.entries start }
         ensures numbers { IfOk result (λ range. map (λ p. p.0) range.items ≡ range_with_len start (end - start)) }
         ensures states { IfOk result (λ range. AreStatesOf self.now.entries range.items) }
     {

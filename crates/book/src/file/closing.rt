@@ -1,6 +1,6 @@
 //! Whether a step leads out of a list of states.
 ghost use Rattle.std.specs.Prelude.{◌≡◌, ℕ, ◌+◌, ◌^◌, ◌<◌, ◌≤◌, ◌⊎◌};
-ghost use Rattle.std.specs.Prelude.{length, nat_eq, true, false, IfOk, IfErr, IfSome, IfNone, Some, slice_get};
+ghost use Rattle.std.specs.Prelude.{length, nat_eq, true, false, IfOk, IfErr, OnOk, Some, slice_get};
 ghost use Rattle.std.specs.Cmp.Lexicographic.{pointwise};
 ghost use Rattle.std.specs.HashSet.{contains};
 ghost use Rattle.tree_machine.specs.Alike.{AreStatesAlike};
@@ -21,9 +21,10 @@ use crate::stock::Stock;
 use sched_program::{OutOfMemory, Program, Sequence};
 use std::alloc::Global;
 use std::collections::HashSet;
+use std::snapshot::Snapshot;
 use tree_machine::{Bytes, Machine, Room, State, StepFault};
 
-/// The bytes of the forms of the states, each of which is recalled in a state that is at hand.
+/// The bytes of the forms of the states, each of which is recalled in the place of another state.
 fn forms_of<M: Machine>(
     alloc: Global,
     machine: M,
@@ -50,56 +51,58 @@ fn forms_of<M: Machine>(
     Ok(forms)
 }
 
-/// Whether the step of a thread, if it is enabled, has one of the forms. The step is made in and of what is in stock.
+/// Whether the step of a thread, if it is enabled, has one of the forms. The step is made in the state itself, and
+/// taken back.
 fn knows_step<M: Machine>(
     alloc: Global,
     machine: M,
     program: &Program,
     forms: &HashSet<Bytes>,
-    state: &State<M>,
+    state: &mut State<M>,
     thread: u8,
     stock: &mut Stock<M>,
 ) -> Result<bool, OutOfMemory>
-    requires fits { Fits (M.rules machine) program.now state.now }
-    requires room { state.now.steps + 1 < 2 ^ 64 }
+    requires fits { Fits (M.rules machine) program.now state.old }
+    requires room { state.old.steps + 1 < 2 ^ 64 }
     ensures known { IfOk result (λ yes. yes ≡ true → (next : State M M.Mem M.Loc M.Form)
-        → step (M.rules machine) program.now state.now thread ≡ Some next
+        → step (M.rules machine) program.now state.old thread ≡ Some next
         → contains (pointwise nat_eq) forms.now (named_by M.form_code (M.form_of machine) next) ≡ true) }
     ensures new { IfOk result (λ yes. yes ≡ false → (next : State M M.Mem M.Loc M.Form)
-        × (step (M.rules machine) program.now state.now thread ≡ Some next)
+        × (step (M.rules machine) program.now state.old thread ≡ Some next)
         × (contains (pointwise nat_eq) forms.now (named_by M.form_code (M.form_of machine) next) ≡ false)) }
+    ensures state { OnOk result (state.new ≡ state.old) }
 {
     // Whoever reads a program knows that it meets the limits.
     let _ = program.initial();
-    match stock.step(alloc, machine, program, state, thread) {
-        Ok(next) => {
-            let spare = stock.spare_label(alloc);
-            let form = next.form_code_in(alloc, machine, &mut stock.room, spare)?;
-            let is_known = forms.contains(&form);
-            stock.take_in(next);
-            stock.keep_label(form);
-            Ok(is_known)
-        }
-        Err(StepFault::NotEnabled) => Ok(true),
-        Err(StepFault::OutOfMemory) => Err(OutOfMemory),
+    let source = Snapshot::of(&*state);
+    match state.step_here(alloc, machine, program, thread, &mut stock.undo) {
+        Ok(()) => {}
+        Err(StepFault::NotEnabled) => return Ok(true),
+        Err(StepFault::OutOfMemory) => return Err(OutOfMemory),
     }
+    let spare = stock.spare_label(alloc);
+    let form = state.form_code_in(alloc, machine, &mut stock.room, spare)?;
+    state.take_back(alloc, &source, thread, &mut stock.undo);
+    let is_known = forms.contains(&form);
+    stock.keep_label(form);
+    Ok(is_known)
 }
 
-/// Whether some step of the state has none of the forms.
+/// Whether some step of the state has none of the forms. After a refusal of memory the state is of no use.
 fn leads_out<M: Machine>(
     alloc: Global,
     machine: M,
     program: &Program,
     forms: &HashSet<Bytes>,
-    state: &State<M>,
+    state: &mut State<M>,
     stock: &mut Stock<M>,
 ) -> Result<bool, OutOfMemory>
-    requires fits { Fits (M.rules machine) program.now state.now }
-    requires room { state.now.steps + 1 < 2 ^ 64 }
+    requires fits { Fits (M.rules machine) program.now state.old }
+    requires room { state.old.steps + 1 < 2 ^ 64 }
     ensures out { IfOk result (λ yes. yes ≡ true → IsStepUnknown (M.rules machine) program.now
-        (named_by M.form_code (M.form_of machine)) (contains (pointwise nat_eq) forms.now) state.now) }
+        (named_by M.form_code (M.form_of machine)) (contains (pointwise nat_eq) forms.now) state.old) }
     ensures none { IfOk result (λ yes. yes ≡ false → AreStepsKnown (M.rules machine) program.now
-        (named_by M.form_code (M.form_of machine)) (contains (pointwise nat_eq) forms.now) state.now) }
+        (named_by M.form_code (M.form_of machine)) (contains (pointwise nat_eq) forms.now) state.old) }
 {
     for thread in 0..program.threads().len() as u8 {
         if !knows_step(alloc, machine, program, forms, state, thread, stock)? {
@@ -137,7 +140,7 @@ pub fn test_closed<M: Machine>(
     let mut stock = Stock::new(alloc);
     for i in 0..states.len() {
         recall(alloc, machine, program, lines, states, i, &mut state)?;
-        if leads_out(alloc, machine, program, &forms, &state, &mut stock)? {
+        if leads_out(alloc, machine, program, &forms, &mut state, &mut stock)? {
             return Err(CheckFault::Open(i + 2));
         }
     }

@@ -17,7 +17,7 @@ pub struct Line {
     pub order: Sequence<OpId>,
 }
 
-/// Why the lines of a file can't be told.
+/// Why the lines of a file can't be read.
 #[derive(Clone, Copy, Debug, PartialEq, Eq)]
 pub enum FormFault {
     /// The first line that is not in the form, counted from 1.

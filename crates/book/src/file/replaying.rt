@@ -42,8 +42,9 @@ fn test_state<M: Machine>(
     }
 }
 
-/// The state of the entry after these, by its line. That of its parent is recalled in a state that is at hand.
-fn told<M: Machine>(
+/// The state of the entry after these, by its line. Its parent's is recalled in the place of another state, and the
+/// step is made there.
+fn state_of_line<M: Machine>(
     alloc: Global,
     machine: M,
     program: &Program,
@@ -58,7 +59,7 @@ fn told<M: Machine>(
         → Fits (M.rules machine) program.now s }
     requires few { (i : ℕ) (s : State M M.Mem M.Loc M.Form) → slice_get before.now i ≡ Some s → s.steps ≤ i }
     requires many { length before.now ≤ 2000000 }
-    ensures told { IfOk result (Tells (M.rules machine) program.now before.now line.now) }
+    ensures tells { IfOk result (Tells (M.rules machine) program.now before.now line.now) }
     ensures fits { IfOk result (Fits (M.rules machine) program.now) }
     ensures amiss { IfErr result (λ fault. (fault ≡ CheckFault.OutOfMemory)
         ⊎ IsAmiss {Machine = M} {Form = M.Form} (M.rules machine) program.now before.now line.now fault) }
@@ -68,18 +69,16 @@ fn told<M: Machine>(
         return Err(CheckFault::Parent(number));
     }
     recall(alloc, machine, program, lines, before, line.parent, parent)?;
-    let state = match stock.step(alloc, machine, program, parent, line.thread) {
-        Ok(state) => state,
+    match parent.step_here(alloc, machine, program, line.thread, &mut stock.undo) {
+        Ok(()) => {}
         Err(StepFault::NotEnabled) => return Err(CheckFault::Step(number)),
         Err(StepFault::OutOfMemory) => return Err(CheckFault::OutOfMemory),
-    };
+    }
     let order = line.order.as_slice();
-    if let Err(fault) = test_state(alloc, machine, program, &*state, order, number) {
+    if let Err(fault) = test_state(alloc, machine, program, &*parent, order, number) {
         return Err(fault);
     }
-    let coded = Coded::of(alloc, machine, program, &*state, &mut stock.room)?;
-    stock.take_in(state);
-    Ok(coded)
+    Ok(Coded::of(alloc, machine, program, &*parent, &mut stock.room)?)
 }
 
 /// The states of the entries, the start's first, replayed one after the other.
@@ -109,7 +108,7 @@ pub fn replay_lines<M: Machine>(
     states.push(start)?;
     for (i, line) in lines.iter().enumerate() {
         let earlier = &lines[..i];
-        match told(
+        match state_of_line(
             alloc, machine, program, earlier, &states, line, &mut state, &mut stock,
         ) {
             Ok(next) => states.push(next)?,

@@ -16,5 +16,4 @@ returns g c =
       c.in_ok-new.ensures.labels ∙ ap (λ f. f ∷ []) c.in_ok-known.ensures.label,
       c.in_ok-state.ensures.fits,
       c.in_ok-finding.ensures,
-      (λ names. c.in_ok-new.ensures.holds ∙ c.holds.ensures.1 names),
     )

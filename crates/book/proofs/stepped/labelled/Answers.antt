@@ -18,13 +18,6 @@ relabelled-requires-clause-step g c κs within =
     (get-next c.loop-step.yielded c.loop-step.step-iterator.rest.items c.args.steps.items c.in-Some.step
     c.next.new.self.rest.items c.loop-step.invariant.rest steps.0)
 
-pub relabelled-requires-clause-fits : goal.relabelled-requires-clause-fits
-relabelled-requires-clause-fits g c κs within =
-    let steps = rw c.in-Some.is at c.next.ensures.steps in
-    c.requires.fit _ c.in-Some.step
-    (get-next c.loop-step.yielded c.loop-step.step-iterator.rest.items c.args.steps.items c.in-Some.step
-    c.next.new.self.rest.items c.loop-step.invariant.rest steps.0)
-
 pub loop-step-preserved : goal.loop-step-preserved
 loop-step-preserved g c =
     let steps = rw c.in-Some.is at c.next.ensures.steps in

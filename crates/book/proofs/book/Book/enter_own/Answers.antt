@@ -56,4 +56,4 @@ pub returns-in-Ok-clause-err : goal.returns-in-Ok-clause-err
 returns-in-Ok-clause-err g c = c.put.ensures.err
 
 pub returns-in-Err-clause-refused : goal.returns-in-Err-clause-refused
-returns-in-Err-clause-refused g c = (c.is_taken.ensures.0 c.if-not-is_taken.false, c.requires.own)
+returns-in-Err-clause-refused g c = (c.is_taken.ensures.0 c.if-not-is_taken.false, λ _. c.requires.own)

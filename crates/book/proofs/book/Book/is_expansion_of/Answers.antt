@@ -1,54 +1,20 @@
-use Rattle.std.proofs.Common.{◌≡◌, ap, refl, subst, sym, ◌∙◌}
+use Rattle.std.proofs.Common.{◌≡◌, ap, refl, sym, ◌∙◌}
 use Rattle.tree_machine.specs.FormCode.{state_code}
 use Rattle.tree_machine.specs.Laws.Codes.{state_code_tells}
 use Rattle.tree_machine.specs.declared.state.State.{State}
 use Rattle.book.specs.Entries.{Contents}
-use Rattle.book.specs.Slots.{IsLeft}
 use Rattle.book.proofs.Entering.{own_from}
+use Rattle.book.proofs.EntryLabels.{exact_label}
 use Rattle.book.proofs.EntryLemmas.{get_within}
-use Rattle.book.proofs.Holding.{taken_is_left}
-use Rattle.book.proofs.ToldStates.{exact_unless_held, told_state}
 use Rattle.book.proofs.book.Book.is_expansion_of.Goals as goal
-
-pub state-requires : goal.state-requires
-state-requires g c =
-    let taken = c.requires in
-    subst
-    (λ (q : Contents g.row.M.Denot (State g.row.M.Denot g.row.M-Mem.Denot g.row.M-Loc.Denot g.row.M-Form.Denot)). IsLeft
-    q.entries c.args.id) (sym c.self.view_is) (taken_is_left c.args.self.now.entries c.args.id taken.0 taken.1 taken.2)
 
 pub label-requires : goal.label-requires
 label-requires g c =
     let taken = rw (← c.self.view_is) at c.requires in
     get_within c.self.inside.table.entries c.args.id taken.0 taken.1
 
-pub returns-in-Some : goal.returns-in-Some
-returns-in-Some g c =
-    let s = c.self.inside in
-    let b : Contents g.row.M.Denot (State g.row.M.Denot g.row.M-Mem.Denot g.row.M-Loc.Denot g.row.M-Form.Denot) =
-    record {
-      machine = s.machine;
-      program = s.program;
-      merge = s.merge;
-      limit = s.limit;
-      entries = s.table.entries;
-      met = s.met;
-    } in
-    let x = c.args.expansion.now in
-    let there = c.in-Some.ensures.some in
-    rw (← c.self.view_is) (
-      (λ yes. let own = c.is_of.ensures.0 yes in
-          own_from {X = g.row.M.Denot} b c.args.id there.0 x.machine x.program x.source c.deref.result.now there.1
-          (c.deref.ensures ∙ sym there.2) own.0 own.1 own.2),
-      (λ own. c.is_of.ensures.1 (
-        own.machine,
-        own.program,
-        own.source there.0 there.1 ∙ there.2 ∙ sym c.deref.ensures,
-      )),
-    )
-
-pub returns-in-None : goal.returns-in-None
-returns-in-None g c =
+pub returns-in-Exact-clause-answer : goal.returns-in-Exact-clause-answer
+returns-in-Exact-clause-answer g c =
     let s = c.self.inside in
     let b : Contents g.row.M.Denot (State g.row.M.Denot g.row.M-Mem.Denot g.row.M-Loc.Denot g.row.M-Form.Denot) =
     record {
@@ -62,18 +28,38 @@ returns-in-None g c =
     let x = c.args.expansion.now in
     let bound = g.met.M.Machine g.world.𝓛 g.world.𝓜 g.world.𝓡 ((λ s x. x), (λ x. x), (λ x. x), λ x. x) in
     let taken = rw (← c.self.view_is) at c.requires in
-    let exact = exact_unless_held s.merge s.table.holds c.self.invariant.3 c.in-None.ensures.none in
     let code : c.label.result.now ≡ state_code g.M.Machine.whole_code taken.0.state =
-    told_state g.M.Machine.whole_code g.M.Machine.form_code (g.M.Machine.form_of s.machine) s.merge exact s.table
-    c.self.invariant.1 c.args.id taken.0 taken.1 c.label.result.now c.label.ensures in
+    exact_label g.M.Machine.whole_code g.M.Machine.form_code (g.M.Machine.form_of s.machine) s.merge c.in-Exact.is
+    s.table c.self.invariant.1 c.args.id taken.0 taken.1 c.label.result.now c.label.ensures in
     rw (← c.self.view_is) (
-      (λ yes. let own = c.is_told.ensures.0 yes in
+      (λ yes. let own = c.is_coded.ensures.0 yes in
           own_from {X = g.row.M.Denot} b c.args.id taken.0 x.machine x.program x.source taken.0.state taken.1 refl
           own.0 own.1
           (state_code_tells g.M.Machine.whole_code bound.tells x.source taken.0.state (own.2 ∙ code))),
-      (λ own. c.is_told.ensures.1 (
+      (λ own. c.is_coded.ensures.1 (
         own.machine,
         own.program,
         ap (state_code g.M.Machine.whole_code) (own.source taken.0 taken.1) ∙ sym code,
       )),
+    )
+
+pub returns-in_ok-state-in-Names-clause-answer : goal.returns-in_ok-state-in-Names-clause-answer
+returns-in_ok-state-in-Names-clause-answer g c =
+    let s = c.self.inside in
+    let b : Contents g.row.M.Denot (State g.row.M.Denot g.row.M-Mem.Denot g.row.M-Loc.Denot g.row.M-Form.Denot) =
+    record {
+      machine = s.machine;
+      program = s.program;
+      merge = s.merge;
+      limit = s.limit;
+      entries = s.table.entries;
+      met = s.met;
+    } in
+    let x = c.args.expansion.now in
+    let there = rw (← c.self.view_is) at c.in_ok-state-in-Names.ensures in
+    rw (← c.self.view_is) (
+      (λ yes. let own = c.is_of.ensures.0 yes in
+          own_from {X = g.row.M.Denot} b c.args.id there.0 x.machine x.program x.source c.in_ok-state-in-Names.state
+          there.1 (sym there.2) own.0 own.1 own.2),
+      (λ own. c.is_of.ensures.1 (own.machine, own.program, own.source there.0 there.1 ∙ there.2)),
     )

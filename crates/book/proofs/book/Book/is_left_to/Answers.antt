@@ -1,7 +1,7 @@
 use Rattle.std.proofs.Common.{sym, ◌∙◌}
 use Rattle.std.proofs.lemmas.Bool.{leb-false, leb-true}
 use Rattle.book.proofs.EntryLemmas.{get_within}
-use Rattle.book.proofs.Holding.{first_is_left}
+use Rattle.book.proofs.Left.{first_is_left}
 use Rattle.book.proofs.InBook.{all_expanded_to, left_to, none_left_to}
 use Rattle.book.proofs.book.Book.is_left_to.Goals as goal
 

@@ -1,6 +1,6 @@
 use Rattle.std.proofs.Common.{sym, ◌∙◌}
 use Rattle.book.proofs.EntryLemmas.{get_within}
-use Rattle.book.proofs.Holding.{first_is_left, open_is_left}
+use Rattle.book.proofs.Left.{first_is_left, open_is_left}
 use Rattle.book.proofs.InBook.{none_of_expanded, none_of_open, open_is_later, open_is_next}
 use Rattle.book.proofs.book.Book.next_open.Goals as goal
 

@@ -32,7 +32,6 @@ invariant_of-result g c =
           (bound.forms c.args.machine) states_exact states forms_exact forms g.M.Machine.whole_code
           g.M.Machine.form_code (state_code_tells g.M.Machine.whole_code bound.tells)
           bound.form_tells c.args.merge,
-      first.7,
     )
 
 pub returns-clause-start : goal.returns-clause-start

@@ -1,6 +1,4 @@
-use Rattle.std.proofs.Common.{◌≡◌, ap, ◌+◌, ◌-◌, ◌^◌, ◌<◌, ◌≤◌, inl, inr, ◌∙◌, refl, length, arith}
-use Rattle.tree_machine.specs.declared.state.State.{State}
-use Rattle.book.specs.Labels.{Kept}
+use Rattle.std.proofs.Common.{◌≡◌, ◌+◌, ◌-◌, ◌^◌, ◌<◌, ◌≤◌, inl, inr, ◌∙◌, refl, length, arith}
 use Rattle.book.proofs.Leaving.{keeps_met}
 use Rattle.book.proofs.Putting.{book_entered, entered_count, entered_each, entered_few, entries_entered, grown}
 use Rattle.book.proofs.Putting.{is_taken_still, met_is_small, no_room, put_in, still_known}
@@ -12,7 +10,7 @@ overflow_sub-entered g c =
     let put =
     put_in c.self.invariant.0 c.args.self.now c.self.view_is xs g.M.Machine.whole_code g.M.Machine.form_code
     c.requires.known c.self.inside.table.labels
-    c.self.inside.table.holds c.self.invariant.1 c.self.invariant.2 c.args.id c.append_new.new.self.entries c.in-Ok.ensures.put in
+    c.self.invariant.1 c.self.invariant.2 c.args.id c.append_new.new.self.entries c.in-Ok.ensures.put in
     grown c.self.invariant.0 c.args.self.now c.self.view_is xs c.args.id c.requires.taken c.append_new.new.self.entries
     put c.len-was.result c.len.result c.len-steps.result c.len-was.ensures c.len.ensures
     (c.len-steps.ensures ∙ c.args.successors.ok.0)
@@ -23,7 +21,7 @@ overflow_sub-met g c =
     let put =
     put_in c.self.invariant.0 c.args.self.now c.self.view_is xs g.M.Machine.whole_code g.M.Machine.form_code
     c.requires.known c.self.inside.table.labels
-    c.self.inside.table.holds c.self.invariant.1 c.self.invariant.2 c.args.id c.append_new.new.self.entries c.in-Ok.ensures.put in
+    c.self.invariant.1 c.self.invariant.2 c.args.id c.append_new.new.self.entries c.in-Ok.ensures.put in
     entered_few c.self.invariant.0 c.args.self.now c.self.view_is xs c.args.id c.requires.taken
     c.append_new.new.self.entries put c.len-was.result c.len.result c.len-steps.result c.len-was.ensures
     c.len.ensures
@@ -35,7 +33,7 @@ mark_expanded-requires g c =
     let put =
     put_in c.self.invariant.0 c.args.self.now c.self.view_is xs g.M.Machine.whole_code g.M.Machine.form_code
     c.requires.known c.self.inside.table.labels
-    c.self.inside.table.holds c.self.invariant.1 c.self.invariant.2 c.args.id c.append_new.new.self.entries c.in-Ok.ensures.put in
+    c.self.invariant.1 c.self.invariant.2 c.args.id c.append_new.new.self.entries c.in-Ok.ensures.put in
     is_taken_still c.self.invariant.0 c.args.self.now c.self.view_is xs c.args.id c.requires.taken
     c.append_new.new.self.entries put (length c.self.inside.table.entries) (length c.append_new.new.self.entries)
     (length xs)
@@ -47,7 +45,7 @@ overflow_add-self g c =
     let put =
     put_in c.self.invariant.0 c.args.self.now c.self.view_is xs g.M.Machine.whole_code g.M.Machine.form_code
     c.requires.known c.self.inside.table.labels
-    c.self.inside.table.holds c.self.invariant.1 c.self.invariant.2 c.args.id c.append_new.new.self.entries c.in-Ok.ensures.put in
+    c.self.invariant.1 c.self.invariant.2 c.args.id c.append_new.new.self.entries c.in-Ok.ensures.put in
     let small : c.self.inside.met + (c.len-steps.result - (c.len.result - c.len-was.result)) < 2 ^ 64 =
     met_is_small c.self.invariant.0 c.args.self.now c.self.view_is xs c.args.id c.requires.taken
     c.append_new.new.self.entries put c.len-was.result c.len.result c.len-steps.result c.len-was.ensures
@@ -61,7 +59,7 @@ invariant_of-self-in-Ok g c =
     let put =
     put_in c.self.invariant.0 c.args.self.now c.self.view_is xs g.M.Machine.whole_code g.M.Machine.form_code
     c.requires.known c.self.inside.table.labels
-    c.self.inside.table.holds c.self.invariant.1 c.self.invariant.2 c.args.id c.append_new.new.self.entries c.in-Ok.ensures.put in (
+    c.self.invariant.1 c.self.invariant.2 c.args.id c.append_new.new.self.entries c.in-Ok.ensures.put in (
       book_entered c.self.invariant.0 c.args.self.now c.self.view_is xs c.args.id c.requires.taken
           c.append_new.new.self.entries put c.len-was.result c.len.result c.len-steps.result c.len-was.ensures
           c.len.ensures
@@ -69,11 +67,9 @@ invariant_of-self-in-Ok g c =
           c.in-Ok.ensures.room,
       still_known c.self.invariant.0 c.args.self.now c.self.view_is xs g.M.Machine.whole_code g.M.Machine.form_code
           c.requires.known c.self.inside.table.labels
-          c.self.inside.table.holds c.self.invariant.1 c.self.invariant.2 c.args.id c.append_new.new.self c.in-Ok.ensures.known
+          c.self.invariant.1 c.self.invariant.2 c.args.id c.append_new.new.self c.in-Ok.ensures.known
           c.mark_expanded.new.self c.mark_expanded.ensures,
       c.self.invariant.2,
-      (λ h. ap (λ (k : Kept (State g.row.M.Denot g.row.M-Mem.Denot g.row.M-Loc.Denot g.row.M-Form.Denot)). k.holds)
-          c.mark_expanded.ensures ∙ (c.in-Ok.ensures.holds ∙ c.self.invariant.3 h)),
     )
 
 pub returns-in-Err-Full-clause-full : goal.returns-in-Err-Full-clause-full
@@ -84,7 +80,7 @@ returns-in-Err-Full-clause-full g c =
       refl,
       no_room c.self.invariant.0 c.args.self.now c.self.view_is c.args.successors.items g.M.Machine.whole_code
           g.M.Machine.form_code c.requires.known
-          c.self.inside.table.labels c.self.inside.table.holds c.self.invariant.1 c.self.invariant.2 c.self.inside.limit full,
+          c.self.inside.table.labels c.self.invariant.1 c.self.invariant.2 c.self.inside.limit full,
     ))
 
 pub returns-in-Ok-clause-entries : goal.returns-in-Ok-clause-entries
@@ -93,7 +89,7 @@ returns-in-Ok-clause-entries g c =
     let put =
     put_in c.self.invariant.0 c.args.self.now c.self.view_is xs g.M.Machine.whole_code g.M.Machine.form_code
     c.requires.known c.self.inside.table.labels
-    c.self.inside.table.holds c.self.invariant.1 c.self.invariant.2 c.args.id c.append_new.new.self.entries c.in-Ok.ensures.put in
+    c.self.invariant.1 c.self.invariant.2 c.args.id c.append_new.new.self.entries c.in-Ok.ensures.put in
     rw (← c.self.view_is)
     (entries_entered c.self.invariant.0 c.args.self.now c.self.view_is xs c.args.id c.requires.taken
     c.append_new.new.self.entries put c.len-was.result c.len.result c.len-steps.result
@@ -106,7 +102,7 @@ returns-in-Ok-clause-counts g c =
     let put =
     put_in c.self.invariant.0 c.args.self.now c.self.view_is xs g.M.Machine.whole_code g.M.Machine.form_code
     c.requires.known c.self.inside.table.labels
-    c.self.inside.table.holds c.self.invariant.1 c.self.invariant.2 c.args.id c.append_new.new.self.entries c.in-Ok.ensures.put in
+    c.self.invariant.1 c.self.invariant.2 c.args.id c.append_new.new.self.entries c.in-Ok.ensures.put in
     let steps = c.len-steps.ensures ∙ c.args.successors.ok.0 in
     rw (← c.self.view_is) (
       entered_count c.self.invariant.0 c.args.self.now c.self.view_is xs c.args.id c.requires.taken

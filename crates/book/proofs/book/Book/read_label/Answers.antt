@@ -1,7 +1,7 @@
 use Rattle.std.proofs.Common.{sym, ◌∙◌}
 use Rattle.tree_machine.proofs.Lists.{get_at}
 use Rattle.tree_machine.specs.Laws.Codes.{state_code_tells}
-use Rattle.book.proofs.ToldStates.{told_state}
+use Rattle.book.proofs.EntryLabels.{exact_label}
 use Rattle.book.proofs.book.Book.read_label.Goals as goal
 
 pub label-label-requires : goal.label-label-requires
@@ -14,7 +14,7 @@ returns-then-is_read g c =
     let less = rw (← c.self.view_is) at c.requires in
     let at = get_at s.table.entries c.args.id less in
     let told =
-    told_state g.M.Machine.whole_code g.M.Machine.form_code (g.M.Machine.form_of s.machine) s.merge
+    exact_label g.M.Machine.whole_code g.M.Machine.form_code (g.M.Machine.form_of s.machine) s.merge
     c.in-Exact.is s.table c.self.invariant.1 c.args.id at.0 at.1 c.label-label.result.now c.label-label.ensures in
     rw (← c.self.view_is) (
       at.0,

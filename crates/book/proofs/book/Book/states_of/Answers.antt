@@ -1,8 +1,6 @@
 use Rattle.std.proofs.Common.{◌<◌, ◌≤◌, ℕ, arith, length, refl, Global}
 use Rattle.std.specs.declared.sync.Arc.{Arc}
-use Rattle.tree_machine.proofs.Lists.{get_at}
 use Rattle.tree_machine.specs.declared.state.State.{State}
-use Rattle.book.proofs.Holding.{opened_is_left}
 use Rattle.book.proofs.Ranges.{numbers_more, states_more}
 use Rattle.book.proofs.book.Book.states_of.Goals as goal
 
@@ -10,9 +8,7 @@ pub state_of-requires-after_bounds : goal.state_of-requires-after_bounds
 state_of-requires-after_bounds g c κs within =
     let less : c.loop-index.index < c.args.end = c.loop-index-test.true in
     let within : c.args.end ≤ length c.args.self.now.entries = c.requires.within in
-    let at = get_at c.args.self.now.entries c.loop-index.index (omega arith) in
-    opened_is_left c.args.self.now.entries c.loop-index.index at.0 at.1
-    (c.requires.open c.loop-index.index at.0 at.1 c.loop-index.auto.index)
+    omega arith
 
 pub loop-index-preserved : goal.loop-index-preserved
 loop-index-preserved g c =

@@ -1,13 +1,16 @@
 use Rattle.std.proofs.Common.{refl}
 use Rattle.book.specs.declared.entry.Mark.TheVariants.{Taken}
 use Rattle.book.specs.Labels.{label_by}
-use Rattle.book.proofs.Holding.{open_is_left}
+use Rattle.book.proofs.EntryLemmas.{get_within}
+use Rattle.book.proofs.Left.{open_is_left}
 use Rattle.book.proofs.InBook.{next_taken, taken_one}
 use Rattle.book.proofs.Labels.{known_mark}
 use Rattle.book.proofs.book.Book.take.Goals as goal
 
 pub state_of-requires-after_bounds : goal.state_of-requires-after_bounds
-state_of-requires-after_bounds g c κs within = open_is_left c.args.self.now.entries c.in-Some.id c.in-Some.ensures.open
+state_of-requires-after_bounds g c κs within =
+    let here = open_is_left c.args.self.now.entries c.in-Some.id c.in-Some.ensures.open in
+    get_within c.args.self.now.entries c.in-Some.id here.0 here.1
 
 pub invariant_of-self : goal.invariant_of-self
 invariant_of-self g c =
@@ -17,7 +20,6 @@ invariant_of-self g c =
       known_mark (label_by g.M.Machine.whole_code g.M.Machine.form_code (g.M.Machine.form_of s.machine) s.merge) s.table
           c.in-Some.id Taken c.self.invariant.1,
       c.self.invariant.2,
-      c.self.invariant.3,
     )
 
 pub returns-clause-taken : goal.returns-clause-taken

@@ -6,7 +6,7 @@ use Rattle.book.specs.declared.entry.Mark.TheVariants.{Taken}
 use Rattle.book.specs.Entries.{Contents, Entry, is_open}
 use Rattle.book.specs.Labels.{label_by}
 use Rattle.book.proofs.EntryLemmas.{get_within}
-use Rattle.book.proofs.Holding.{open_is_left}
+use Rattle.book.proofs.Left.{open_is_left}
 use Rattle.book.proofs.InBook.{layer_given, layer_taken, states_few, states_fit}
 use Rattle.book.proofs.Labels.{known_marks}
 use Rattle.book.proofs.book.Book.take_layer.Goals as goal
@@ -28,7 +28,6 @@ invariant_of-self g c =
       known_marks (label_by g.M.Machine.whole_code g.M.Machine.form_code (g.M.Machine.form_of s.machine) s.merge)
           s.table (range_with_len c.in-Some.start (end.result - c.in-Some.start)) Taken c.self.invariant.1,
       c.self.invariant.2,
-      c.self.invariant.3,
     )
 
 pub returns-clause-taken : goal.returns-clause-taken
@@ -39,7 +38,8 @@ returns-clause-taken g c =
     (layer_given c.self.invariant.0 c.args.self.now c.self.view_is c.in-Some.start end.result c.steps_to.result
     next.next next.open next.above
     (rw (← c.self.view_is) at c.steps_to.ensures) end.ensures.below end.ensures.above end.ensures.within
-    c.in_ok-layer.layer.items c.in_ok-layer.ensures.numbers (rw (← c.self.view_is) at c.in_ok-layer.ensures.states) _ c.mark_range_taken.ensures)
+    c.in_ok-layer.layer.items c.in_ok-layer.ensures.numbers
+    (rw (← c.self.view_is) at c.in_ok-layer.ensures.states) _ c.mark_range_taken.ensures)
 
 pub returns-clause-fits : goal.returns-clause-fits
 returns-clause-fits g c =

@@ -6,7 +6,7 @@ use Rattle.book.specs.declared.entry.Mark.TheVariants.{Taken}
 use Rattle.book.specs.Entries.{Contents, Entry, is_open}
 use Rattle.book.specs.Labels.{label_by}
 use Rattle.book.proofs.EntryLemmas.{get_within}
-use Rattle.book.proofs.Holding.{open_is_left}
+use Rattle.book.proofs.Left.{open_is_left}
 use Rattle.book.proofs.InBook.{layer_taken, range_given}
 use Rattle.book.proofs.Labels.{known_marks}
 use Rattle.book.proofs.book.Book.take_range.Goals as goal
@@ -28,7 +28,6 @@ invariant_of-self g c =
       known_marks (label_by g.M.Machine.whole_code g.M.Machine.form_code (g.M.Machine.form_of s.machine) s.merge)
           s.table (range_with_len c.in-Some.start (end.result - c.in-Some.start)) Taken c.self.invariant.1,
       c.self.invariant.2,
-      c.self.invariant.3,
     )
 
 pub returns-clause-taken : goal.returns-clause-taken

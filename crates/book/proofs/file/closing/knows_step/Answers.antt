@@ -10,33 +10,25 @@ use Rattle.book.proofs.file.closing.knows_step.Goals as goal
 pub returns-in-Err-NotEnabled-clause-known : goal.returns-in-Err-NotEnabled-clause-known
 returns-in-Err-NotEnabled-clause-known g c =
     let stuck : step (g.M.Machine.rules c.args.machine) c.args.program.now c.args.state.now c.args.thread ≡ None =
-    c.step.ensures.no_step.0 (c.in-Err-NotEnabled.is ∙ ap Err c.in-Err-NotEnabled.field-0-is) in
+    c.step_here.ensures.no_step.0 (c.in-Err-NotEnabled.is ∙ ap Err c.in-Err-NotEnabled.field-0-is) in
     λ _ next leads. absurd (let q : None ≡ Some next = sym stuck ∙ leads in cc)
 
-pub returns-in_ok-form-in-Ok-clause-known : goal.returns-in_ok-form-in-Ok-clause-known
-returns-in_ok-form-in-Ok-clause-known g c =
-    let stepped : step (g.M.Machine.rules c.args.machine) c.args.program.now c.args.state.now c.args.thread
-    ≡ Some c.deref.result.now =
-    rw c.deref.ensures c.in-Ok.ensures.step in
+pub returns-clause-known : goal.returns-clause-known
+returns-clause-known g c =
     let known =
     λ (f : List ℕ). contains (pointwise nat_eq) c.args.forms.now f in
-    let key =
-    λ (yes : c.contains-is_known.result ≡ true). subst (λ f. known f ≡ true) c.in_ok-form-in-Ok.ensures
-    (sym c.contains-is_known.ensures ∙ yes) in
     λ yes next leads. subst
     (λ (s : State g.row.M.Denot g.row.M-Mem.Denot g.row.M-Loc.Denot g.row.M-Form.Denot). known
     (named_by g.M.Machine.form_code (g.M.Machine.form_of c.args.machine) s) ≡ true)
-    (same_Some c.deref.result.now next (sym stepped ∙ leads)) (key yes)
+    (same_Some c.step_here.new.self next (sym c.in-Ok.ensures.step ∙ leads))
+    (subst (λ f. known f ≡ true) c.in_ok-form.ensures (sym c.contains-is_known.ensures ∙ yes))
 
-pub returns-in_ok-form-in-Ok-clause-new : goal.returns-in_ok-form-in-Ok-clause-new
-returns-in_ok-form-in-Ok-clause-new g c =
-    let stepped : step (g.M.Machine.rules c.args.machine) c.args.program.now c.args.state.now c.args.thread
-    ≡ Some c.deref.result.now =
-    rw c.deref.ensures c.in-Ok.ensures.step in
+pub returns-clause-new : goal.returns-clause-new
+returns-clause-new g c =
     let known =
     λ (f : List ℕ). contains (pointwise nat_eq) c.args.forms.now f in
     λ no. (
-      c.deref.result.now,
-      stepped,
-      subst (λ f. known f ≡ false) c.in_ok-form-in-Ok.ensures (sym c.contains-is_known.ensures ∙ no),
+      c.step_here.new.self,
+      c.in-Ok.ensures.step,
+      subst (λ f. known f ≡ false) c.in_ok-form.ensures (sym c.contains-is_known.ensures ∙ no),
     )

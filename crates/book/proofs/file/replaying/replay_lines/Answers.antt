@@ -10,17 +10,17 @@ loop-i-init g c =
     (rw c.in_ok-start.ensures c.in_default.ensures.shown)
     (c.in_ok-push.ensures.ok ∙ ap (λ xs. xs ++ c.in_ok-start.start ∷ []) c.new-states.ensures)
 
-pub returns-in-Err-told-clause-amiss : goal.returns-in-Err-told-clause-amiss
-returns-in-Err-told-clause-amiss g c =
+pub returns-in-Err-state_of_line-clause-amiss : goal.returns-in-Err-state_of_line-clause-amiss
+returns-in-Err-state_of_line-clause-amiss g c =
     amiss_of_next (g.M.Machine.rules c.args.machine) c.args.program.now c.args.lines.now c.loop-i.states
     c.loop-i.i c.index-lines-i.result c.loop-i-test.true c.index-lines-i.is c.loop-i.invariant
-    c.in-Err-told.fault c.in-Err-told.ensures.amiss
+    c.in-Err-state_of_line.fault c.in-Err-state_of_line.ensures.amiss
 
 pub loop-i-preserved : goal.loop-i-preserved
 loop-i-preserved g c =
     replayed_item (g.M.Machine.rules c.args.machine) c.args.program.now c.args.lines.now c.loop-i.states
     c.loop-i.i c.index-lines-i.result c.loop-i-test.true c.index-lines-i.is c.loop-i.invariant
-    c.push-in-Ok.new.self c.in-Ok.next c.in-Ok.ensures.told c.in-Ok.ensures.fits c.in_ok-push-in-Ok.ensures.ok
+    c.push-in-Ok.new.self c.in-Ok.next c.in-Ok.ensures.tells c.in-Ok.ensures.fits c.in_ok-push-in-Ok.ensures.ok
 
 pub returns-in-Err-clause-amiss : goal.returns-in-Err-clause-amiss
 returns-in-Err-clause-amiss g c =
@@ -41,14 +41,14 @@ pub returns-clause-many : goal.returns-clause-many
 returns-clause-many g c =
     let so = rw (take_all c.loop-i.i c.args.lines.now c.loop-i-test.false) at c.loop-i.invariant in so.many
 
-pub told-requires-clause-fit : goal.told-requires-clause-fit
-told-requires-clause-fit g c κs within = c.loop-i.invariant.fit
+pub state_of_line-requires-clause-fit : goal.state_of_line-requires-clause-fit
+state_of_line-requires-clause-fit g c κs within = c.loop-i.invariant.fit
 
-pub told-requires-clause-few : goal.told-requires-clause-few
-told-requires-clause-few g c κs within = c.loop-i.invariant.few
+pub state_of_line-requires-clause-few : goal.state_of_line-requires-clause-few
+state_of_line-requires-clause-few g c κs within = c.loop-i.invariant.few
 
-pub told-requires-clause-many : goal.told-requires-clause-many
-told-requires-clause-many g c κs within =
+pub state_of_line-requires-clause-many : goal.state_of_line-requires-clause-many
+state_of_line-requires-clause-many g c κs within =
     let many : length c.loop-i.states ≡ length (take c.loop-i.i c.args.lines.now) + 1 = c.loop-i.invariant.many in
     let less : c.loop-i.i < length c.args.lines.now = c.loop-i-test.true in
     let short : length (take c.loop-i.i c.args.lines.now) ≡ c.loop-i.i =
@@ -56,5 +56,5 @@ told-requires-clause-many g c κs within =
     let most : length c.args.lines.now < 2000000 = c.requires in
     omega arith
 
-pub told-requires-clause-replayed : goal.told-requires-clause-replayed
-told-requires-clause-replayed g c κs within = c.loop-i.invariant.replayed
+pub state_of_line-requires-clause-replayed : goal.state_of_line-requires-clause-replayed
+state_of_line-requires-clause-replayed g c κs within = c.loop-i.invariant.replayed

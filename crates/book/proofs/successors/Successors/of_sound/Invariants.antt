@@ -1,8 +1,8 @@
 use Rattle.std.proofs.Common.{◌≡◌, ◌≤◌}
 use Rattle.std.specs.Prelude.{vec_len, vec_capacity}
-use Rattle.tree_machine.specs.FormCode.{state_code}
+use Rattle.book.specs.Decoding.{merge_of}
 use Rattle.book.specs.Findings.{machine_of, IsFindingOf}
-use Rattle.book.specs.Labels.{AreStepsKnownBy, bares}
+use Rattle.book.specs.Labels.{AreStepsKnownBy, bares, label_by}
 use Rattle.book.proofs.Expanding.{IsFront}
 use Rattle.book.proofs.successors.Successors.of_sound.Given as goal
 
@@ -11,10 +11,12 @@ invariant-loop-thread g l =
     record {
       state : l.state ≡ l.fn.state;
       front : IsFront
-          (machine_of {Machine = g.row.M.Denot} {Form = g.row.M-Form.Denot} (g.M.Machine.rules l.machine) l.program)
-          (IsFindingOf (g.M.Machine.rules l.machine) l.program) l.fn.state l.thread (bares l.successors.items);
-      known : AreStepsKnownBy (state_code {Machine = g.row.M.Denot} {Form = g.row.M-Form.Denot} g.M.Machine.whole_code)
-          l.successors.items;
+          (machine_of {Machine = g.row.M.Denot} {Form = g.row.M-Form.Denot} (g.M.Machine.rules l.from.machine)
+          l.from.program.now)
+          (IsFindingOf (g.M.Machine.rules l.from.machine) l.from.program.now) l.from.shown.now.value l.thread
+          (bares l.successors.items);
+      known : AreStepsKnownBy (label_by g.M.Machine.whole_code g.M.Machine.form_code
+          (g.M.Machine.form_of l.from.machine) (merge_of l.from.layout)) l.successors.items;
       len : vec_len l.successors ≤ l.thread;
       room : l.threads ≤ vec_capacity l.successors;
     }

@@ -13,7 +13,3 @@ labelled-requires-clause-steps g c κs within k x at =
     subst (λ (from : State g.row.M.Denot g.row.M-Mem.Denot g.row.M-Loc.Denot g.row.M-Form.Denot).
     step (g.M.Machine.rules s.machine) s.program.now from x.thread ≡ Some x.state.state) (sym is)
     (c.self.invariant.0.steps k (bare x) (map-get bare s.successors.items k x at))
-
-pub labelled-requires-clause-fit : goal.labelled-requires-clause-fit
-labelled-requires-clause-fit g c κs within k x at =
-    c.self.invariant.0.fit k (bare x) (map-get bare c.self.inside.successors.items k x at)

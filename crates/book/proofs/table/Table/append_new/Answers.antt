@@ -22,7 +22,7 @@ first_fault_from-self-inside-requires g c =
     let l : length es ≡ length s.slots.entries = length-entries s.slots.entries in
     let n : c.len-was.result ≡ length s.slots.entries = c.len-was.ensures.len in
     let none : position (λ (e : Entry g.row.S.Denot). not (is_sound e.finding)) es ≡ None =
-    sym c.self.invariant.0.first_fault ∙ c.in-None.is in
+    sym c.self.invariant.first_fault ∙ c.in-None.is in
     λ i e at less. all_sound es more none i e (subst (λ (xs : List (Entry g.row.S.Denot)). At xs i e) put at)
     (omega arith)
 
@@ -32,13 +32,11 @@ invariant_of-self-in-None g c =
     let us : List (Successor (Labelled g.row.S.Denot)) =
     unknown (same_label) (states (map keyed_of s.slots.entries))
     c.args.successors.items in
-    let put = appended_entries s.slots.entries c.put_steps.new.slots.entries c.args.parent us c.in-Ok.ensures.put in (
-      rw put (cursors_appended (entries_of s.slots.entries) s.next_open s.first_left s.fault c.self.invariant.0
-          c.args.parent (bares us) c.first_fault_from-self-inside.result
-          (c.first_fault_from-self-inside.ensures
-          ∙ ap (position (λ (e : Entry g.row.S.Denot). not (is_sound e.finding))) put)),
-      (λ h. c.in-Ok.ensures.held h s.first_left c.self.invariant.0.left.within (c.self.invariant.1 h)),
-    )
+    let put = appended_entries s.slots.entries c.put_steps.new.slots.entries c.args.parent us c.in-Ok.ensures.put in
+    rw put (cursors_appended (entries_of s.slots.entries) s.next_open s.first_left s.fault c.self.invariant
+    c.args.parent (bares us) c.first_fault_from-self-inside.result
+    (c.first_fault_from-self-inside.ensures
+    ∙ ap (position (λ (e : Entry g.row.S.Denot). not (is_sound e.finding))) put))
 
 pub invariant_of-self-in-Some : goal.invariant_of-self-in-Some
 invariant_of-self-in-Some g c =
@@ -48,14 +46,12 @@ invariant_of-self-in-Some g c =
     c.args.successors.items in
     let put = appended_entries s.slots.entries c.put_steps.new.slots.entries c.args.parent us c.in-Ok.ensures.put in
     let some : position (λ (e : Entry g.row.S.Denot). not (is_sound e.finding)) (entries_of s.slots.entries)
-    ≡ Some c.in-Some.field-0 = sym c.self.invariant.0.first_fault ∙ c.in-Some.is in (
-      rw put (cursors_appended (entries_of s.slots.entries) s.next_open s.first_left s.fault c.self.invariant.0
-          c.args.parent (bares us) s.fault
-          (c.in-Some.is
-          ∙ sym (fault-append (entries_of s.slots.entries) (map (opened c.args.parent) (bares us)) c.in-Some.field-0
-          some))),
-      (λ h. c.in-Ok.ensures.held h s.first_left c.self.invariant.0.left.within (c.self.invariant.1 h)),
-    )
+    ≡ Some c.in-Some.field-0 = sym c.self.invariant.first_fault ∙ c.in-Some.is in
+    rw put (cursors_appended (entries_of s.slots.entries) s.next_open s.first_left s.fault c.self.invariant
+    c.args.parent (bares us) s.fault
+    (c.in-Some.is
+    ∙ sym (fault-append (entries_of s.slots.entries) (map (opened c.args.parent) (bares us)) c.in-Some.field-0
+    some)))
 
 pub returns-then-len-limit-clause-full : goal.returns-then-len-limit-clause-full
 returns-then-len-limit-clause-full g c =
@@ -127,20 +123,14 @@ invariant_of-self g c =
     let entries =
     c.truncate.ensures.entries ∙ ap (λ n. take n c.put_steps.new.slots.entries) c.len-was.ensures.len
     ∙ c.in_default.ensures.kept in
-    let held =
-    c.truncate-in_default.ensures ∙ ap (λ n. take n c.put_steps.new.held) c.len-held.ensures
-    ∙ c.in_default.ensures.held_kept in
-    rw (entries, held) c.self.invariant
+    rw entries c.self.invariant
 
 pub invariant_of-self-then-len-limit : goal.invariant_of-self-then-len-limit
 invariant_of-self-then-len-limit g c =
     let entries =
     c.truncate-then-len-limit.ensures.entries ∙ ap (λ n. take n c.put_steps.new.slots.entries) c.len-was.ensures.len
     ∙ c.in-Ok.ensures.kept in
-    let held =
-    c.truncate-then-len-limit-2.ensures ∙ ap (λ n. take n c.put_steps.new.held) c.len-held.ensures
-    ∙ c.in-Ok.ensures.held_kept in
-    rw (entries, held) c.self.invariant
+    rw entries c.self.invariant
 
 pub returns-in_default-clause-err : goal.returns-in_default-clause-err
 returns-in_default-clause-err g c =

@@ -11,7 +11,7 @@ returns-then-self-len g c =
     let n : c.len.result ≡ length s.slots.entries = c.len.ensures.len in
     let less : s.first_left < c.len.result = c.if-self-len.true in
     rw (← c.self.view_is)
-    (sym (left_at (entries_of s.slots.entries) s.next_open s.first_left s.fault c.self.invariant.0 (omega arith)))
+    (sym (left_at (entries_of s.slots.entries) s.next_open s.first_left s.fault c.self.invariant (omega arith)))
 
 pub returns-else-self-len : goal.returns-else-self-len
 returns-else-self-len g c =
@@ -20,4 +20,4 @@ returns-else-self-len g c =
     let n : c.len.result ≡ length s.slots.entries = c.len.ensures.len in
     let le : c.len.result ≤ s.first_left = c.if-self-len.false in
     rw (← c.self.view_is)
-    (sym (left_none (entries_of s.slots.entries) s.next_open s.first_left s.fault c.self.invariant.0 (omega arith)))
+    (sym (left_none (entries_of s.slots.entries) s.next_open s.first_left s.fault c.self.invariant (omega arith)))

@@ -11,7 +11,7 @@ returns-then-self-len-clause-first g c =
     let n : c.len.result ≡ length s.slots.entries = c.len.ensures.len in
     let less : s.next_open < c.len.result = c.if-self-len.true in
     rw (← c.self.view_is)
-    (sym (open_at (entries_of s.slots.entries) s.next_open s.first_left s.fault c.self.invariant.0 (omega arith)))
+    (sym (open_at (entries_of s.slots.entries) s.next_open s.first_left s.fault c.self.invariant (omega arith)))
 
 pub returns-else-self-len-clause-first : goal.returns-else-self-len-clause-first
 returns-else-self-len-clause-first g c =
@@ -20,7 +20,7 @@ returns-else-self-len-clause-first g c =
     let n : c.len.result ≡ length s.slots.entries = c.len.ensures.len in
     let le : c.len.result ≤ s.next_open = c.if-self-len.false in
     rw (← c.self.view_is)
-    (sym (open_none (entries_of s.slots.entries) s.next_open s.first_left s.fault c.self.invariant.0 (omega arith)))
+    (sym (open_none (entries_of s.slots.entries) s.next_open s.first_left s.fault c.self.invariant (omega arith)))
 
 pub returns-then-self-len-clause-above : goal.returns-then-self-len-clause-above
-returns-then-self-len-clause-above g c = rw (← c.self.view_is) c.self.invariant.0.above
+returns-then-self-len-clause-above g c = rw (← c.self.view_is) c.self.invariant.above

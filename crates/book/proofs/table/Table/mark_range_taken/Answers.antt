@@ -3,7 +3,6 @@ use Rattle.book.specs.Entries.{Entry, is_open}
 use Rattle.book.specs.Labels.{Kept}
 use Rattle.book.specs.Slots.{entries_of}
 use Rattle.book.proofs.Cursors.{cursor_is}
-use Rattle.book.proofs.Holding.{held_range, open_unexpanded}
 use Rattle.book.proofs.Ranges.{cursors_range}
 use Rattle.book.proofs.table.Table.mark_range_taken.Goals as goal
 
@@ -15,7 +14,7 @@ invariant_of-self g c =
     ap (λ (k : Kept g.row.S.Denot). position (λ (e : Entry g.row.S.Denot). is_open e.mark) k.entries)
     c.self.view_is ∙ c.requires.first in
     let start : c.args.start ≡ s.next_open =
-    cursor_is (entries_of s.slots.entries) s.next_open s.first_left s.fault c.self.invariant.0 c.args.start first in
+    cursor_is (entries_of s.slots.entries) s.next_open s.first_left s.fault c.self.invariant c.args.start first in
     let le : c.args.start ≤ c.args.end = c.requires.some in
     let within : c.args.end ≤ length c.args.self.now.entries = c.requires.within in
     let l : length (entries_of s.slots.entries) ≡ length c.args.self.now.entries =
@@ -24,10 +23,5 @@ invariant_of-self g c =
     let cursors =
     rw ends at
     (cursors_range (c.args.end - s.next_open) (entries_of s.slots.entries) s.next_open s.first_left s.fault
-    c.self.invariant.0 (omega arith)) in
-    rw (c.mark_range.ensures.entries, start) (
-      cursors,
-      (λ h. held_range (c.args.end - s.next_open) s.next_open (entries_of s.slots.entries)
-          (λ j e at ge. open_unexpanded e.mark (c.self.invariant.0.above j e at ge)) s.first_left s.held
-          (c.self.invariant.1 h)),
-    )
+    c.self.invariant (omega arith)) in
+    rw (c.mark_range.ensures.entries, start) cursors

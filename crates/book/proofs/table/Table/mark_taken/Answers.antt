@@ -3,7 +3,6 @@ use Rattle.book.specs.Entries.{Entry, is_open}
 use Rattle.book.specs.Labels.{Kept}
 use Rattle.book.specs.Slots.{entries_of}
 use Rattle.book.proofs.Cursors.{cursors_taken}
-use Rattle.book.proofs.Holding.{held_taken, left_one, open_is_left}
 use Rattle.book.proofs.table.Table.mark_taken.Goals as goal
 
 pub invariant_of-self : goal.invariant_of-self
@@ -13,9 +12,5 @@ invariant_of-self g c =
     ≡ Some c.args.index =
     ap (λ (k : Kept g.row.S.Denot). position (λ (e : Entry g.row.S.Denot). is_open e.mark) k.entries)
     c.self.view_is ∙ c.requires.first in
-    rw c.mark_at.ensures.entries (
-      cursors_taken (entries_of s.slots.entries) s.next_open s.first_left s.fault c.self.invariant.0 c.args.index first,
-      (λ h. held_taken (entries_of s.slots.entries) c.args.index
-          (left_one (entries_of s.slots.entries) c.args.index (open_is_left (entries_of s.slots.entries) c.args.index first))
-          s.first_left s.held (c.self.invariant.1 h)),
-    )
+    rw c.mark_at.ensures.entries
+    (cursors_taken (entries_of s.slots.entries) s.next_open s.first_left s.fault c.self.invariant c.args.index first)

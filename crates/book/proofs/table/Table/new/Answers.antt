@@ -8,7 +8,6 @@ use Rattle.book.specs.Findings.{is_sound}
 use Rattle.book.specs.Labels.{Labelled, same_label}
 use Rattle.book.specs.Slots.{entries_of}
 use Rattle.book.proofs.Cursors.{cursors_one, fault_of_one}
-use Rattle.book.proofs.Holding.{held_one}
 use Rattle.book.proofs.table.Table.new.Goals as goal
 use Rattle.book.proofs.table.Table.new.Goals.{then-is_sound, else-is_sound}
 
@@ -30,7 +29,4 @@ invariant_of-result g c =
       | else-is_sound w ↦ w.fault-is ∙ ap (λ b. cond b None (Some 0))
           (sym (sym c.is_sound.ensures ∙ w.if-is_sound.false))
     ]) in
-    rw (ap entries_of one) (
-      cursors_one e refl c.if-is_sound.fault (fault ∙ sym (fault_of_one e)),
-      (λ h. rw (c.in_ok-held.ensures h) (held_one e c.args.state c.requires)),
-    )
+    rw (ap entries_of one) (cursors_one e refl c.if-is_sound.fault (fault ∙ sym (fault_of_one e)))

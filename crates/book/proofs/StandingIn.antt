@@ -1,0 +1,125 @@
+-- States that count as one: they have the same findings and labels, and so have their steps.
+use Rattle.std.proofs.Common.{◌≡◌, ℕ, ◌++◌, ◌∷◌, [], ◌∙◌, IsSome, List, Option, Some, None, ap, arith, refl, subst, sym}
+use Rattle.tree_machine.specs.Alike.{AreStatesAlike}
+use Rattle.tree_machine.specs.FormCode.{content_code, state_code, IsInjective}
+use Rattle.tree_machine.specs.Rules.{Rules, AreLawful, AreFormsExact}
+use Rattle.tree_machine.specs.Step.{step, Fits}
+use Rattle.tree_machine.specs.declared.state.State.{State}
+use Rattle.tree_machine.proofs.Alike.{alike_step, alike_history, alike_ordered}
+use Rattle.tree_machine.proofs.Forms.{forms_alike, alike_turned}
+use Rattle.tree_machine.proofs.States.{step_fits}
+use Rattle.sched_program.specs.Program.{Program}
+use Rattle.lin.specs.Linearization.{IsLinearization, IsLinearizable}
+use Rattle.book.specs.declared.book.Merge.{Merge}
+use Rattle.book.specs.declared.book.Merge.TheVariants.{Exact, Names}
+use Rattle.book.specs.declared.finding.Finding.{Finding}
+use Rattle.book.specs.declared.finding.Finding.TheVariants as found
+use Rattle.book.specs.Books.{CountsAsOne}
+use Rattle.book.specs.Decoding.{StandsIn}
+use Rattle.book.specs.Entries.{Successor}
+use Rattle.book.specs.Expanding.{Puts, PutsStep}
+use Rattle.book.specs.Findings.{machine_of, IsFindingOf}
+use Rattle.book.specs.Labels.{Labelled, label_by}
+use Rattle.book.proofs.Expanding.{puts_next}
+
+module _ {Machine Memory Place Form : Type 0} (rules : Rules Memory Place) (program : Program)
+    (form_of : Memory → List (Option Place) → Form) (lawful : AreLawful rules) (forms : AreFormsExact rules form_of)
+  where
+    -- what is found of a state is found of one that is alike to it: the same fault, or the same linearization
+    pub found_alike : (r s : State Machine Memory Place Form) → Fits rules program r → Fits rules program s
+        → AreStatesAlike rules r s
+        → (finding : Finding) → IsFindingOf rules program r finding → IsFindingOf rules program s finding
+    found_alike r s r_fits s_fits alike found.Astray is = subst (λ a. IsSome a) alike.astray is
+    found_alike r s r_fits s_fits alike found.Order is = (
+      sym alike.astray ∙ is.0,
+      λ ordered. is.1
+          (alike_ordered rules s r lawful (alike_turned rules form_of forms program r s r_fits s_fits alike) ordered),
+    )
+    found_alike r s r_fits s_fits alike found.History is = (
+      sym alike.astray ∙ is.0,
+      alike_ordered rules r s lawful alike is.1,
+      subst (λ h. IsLinearizable program h → ⊥) (alike_history rules r s alike) is.2,
+    )
+    found_alike r s r_fits s_fits alike (found.Sound order) is = (
+      sym alike.astray ∙ is.0,
+      alike_ordered rules r s lawful alike is.1,
+      subst (λ h. IsLinearization program h order) (alike_history rules r s alike) is.2,
+    )
+
+    pub one_found : (merge : Merge) (r s : State Machine Memory Place Form) → Fits rules program r
+        → Fits rules program s → CountsAsOne rules merge r s → (finding : Finding)
+        → IsFindingOf rules program r finding → IsFindingOf rules program s finding
+    one_found Exact r s r_fits s_fits one finding is = subst (λ v. IsFindingOf rules program v finding) one is
+    one_found Names r s r_fits s_fits one finding is = found_alike r s r_fits s_fits one finding is
+
+    one_turned : (merge : Merge) (r s : State Machine Memory Place Form) → Fits rules program r → Fits rules program s
+        → CountsAsOne rules merge r s → CountsAsOne rules merge s r
+    one_turned Exact r s r_fits s_fits one = sym one
+    one_turned Names r s r_fits s_fits one = alike_turned rules form_of forms program r s r_fits s_fits one
+
+    one_step : (merge : Merge) (r s u : State Machine Memory Place Form) (t : ℕ) → CountsAsOne rules merge r s
+        → step rules program r t ≡ Some u
+        → (v : State Machine Memory Place Form) × (step rules program s t ≡ Some v) × CountsAsOne rules merge u v
+    one_step Exact r s u t one leads =
+        (u, subst (λ (w : State Machine Memory Place Form). step rules program w t ≡ Some u) one leads, refl)
+    one_step Names r s u t one leads = alike_step rules r s lawful one program t u leads
+
+    one_label : (whole_code : Memory → List (Option Place) → List ℕ) (form_code : Form → List ℕ) (merge : Merge)
+        (r s : State Machine Memory Place Form) → Fits rules program r → Fits rules program s
+        → CountsAsOne rules merge r s
+        → label_by whole_code form_code form_of merge r ≡ label_by whole_code form_code form_of merge s
+    one_label whole_code form_code Exact r s r_fits s_fits one = ap (state_code whole_code) one
+    one_label whole_code form_code Names r s r_fits s_fits one =
+        ap (content_code form_code) ((forms_alike rules form_of forms program program r s r_fits s_fits).1 one)
+
+    -- the state c stands in for s: the step of a thread of c is put as that of s
+    module _ (merge : Merge) (s c : State Machine Memory Place Form) (t : ℕ) (s_fits : Fits rules program s)
+        (c_fits : Fits rules program c) (one : CountsAsOne rules merge s c) where
+      module _ (n : State Machine Memory Place Form) (leads : step rules program c t ≡ Some n) where
+        twin : (u : State Machine Memory Place Form) × (step rules program s t ≡ Some u) × CountsAsOne rules merge n u
+        twin = one_step merge c s n t (one_turned merge s c s_fits c_fits one) leads
+
+        pub has_step : IsSome (step rules program s t)
+        has_step = subst (λ o. IsSome o) (sym twin.1) refl
+
+        pub puts_twin : (whole_code : Memory → List (Option Place) → List ℕ) (form_code : Form → List ℕ)
+            (old new : List (Successor (Labelled (State Machine Memory Place Form))))
+            (x : Successor (Labelled (State Machine Memory Place Form))) → step rules program s t ≡ Some x.state.state
+            → new ≡ old ++ x ∷ [] → x.thread ≡ t → Fits rules program n → IsFindingOf rules program n x.finding
+            → x.state.label ≡ label_by whole_code form_code form_of merge n
+            → PutsStep (machine_of rules program) (IsFindingOf rules program)
+            (label_by whole_code form_code form_of merge) s t old new
+        puts_twin whole_code form_code old new x goes pushed is_thread n_fits is label =
+            let u = x.state.state in
+            let same : twin.0 ≡ u = (let p : step rules program s t ≡ Some twin.0 = twin.1 in cc) in
+            let counts : CountsAsOne rules merge n u =
+            subst (λ (v : State Machine Memory Place Form). CountsAsOne rules merge n v) same twin.2 in
+            let u_fits : Fits rules program u = step_fits rules program s s_fits lawful t u goes in
+            puts_next (machine_of rules program) (IsFindingOf rules program) s
+            (label_by whole_code form_code form_of merge) t old new x u goes pushed is_thread refl
+            (one_found merge n u n_fits u_fits counts x.finding is) u_fits
+            (label ∙ one_label whole_code form_code merge n u n_fits u_fits counts)
+
+      -- where c has no step, s has none
+      pub puts_none : (label_of : State Machine Memory Place Form → List ℕ)
+          (old new : List (Successor (Labelled (State Machine Memory Place Form)))) → step rules program c t ≡ None
+          → new ≡ old → PutsStep (machine_of rules program) (IsFindingOf rules program) label_of s t old new
+      puts_none label_of old new none same = by (step rules program s t) refl
+        where
+          by : (o : Option (State Machine Memory Place Form)) → step rules program s t ≡ o
+              → Puts (machine_of rules program) (IsFindingOf rules program) label_of t old new o
+          by None is = same
+          by (Some u) is =
+              absurd (let v = one_step merge s c u t one is in
+              let q : None ≡ Some v.0 = sym none ∙ v.1 in cc)
+
+-- what is read from a label of exact merging is the state of that label
+pub whole_stands : {Machine Memory Place Form : Type 0} (rules : Rules Memory Place) (program : Program)
+    (whole_code : Memory → List (Option Place) → List ℕ) (label : List ℕ)
+    → IsInjective (state_code {Machine = Machine} {Form = Form} whole_code)
+    → (s c : State Machine Memory Place Form) → Fits rules program s → state_code whole_code s ≡ label
+    → label ≡ state_code whole_code c → StandsIn rules program Exact s c
+whole_stands {Machine} {Memory} {Place} {Form} rules program whole_code label tells s c fits is written =
+    let same : s ≡ c = tells s c (is ∙ written) in
+    subst (λ (v : State Machine Memory Place Form). StandsIn rules program Exact s v) same
+    (record { counts = refl; fits = fits; steps = omega arith })
