@@ -1,14 +1,16 @@
 -- States that count as one: they have the same findings and labels, and so have their steps.
 use Rattle.std.proofs.Common.{◌≡◌, ℕ, ◌++◌, ◌∷◌, [], ◌∙◌, IsSome, List, Option, Some, None, ap, arith, refl, subst, sym}
 use Rattle.tree_machine.specs.Alike.{AreStatesAlike}
-use Rattle.tree_machine.specs.FormCode.{content_code, state_code, IsInjective}
+use Rattle.tree_machine.specs.Flat.{number_code}
+use Rattle.tree_machine.specs.FormCode.{content_code, named_code, state_code, IsInjective}
+use Rattle.tree_machine.specs.InRange.{AreNumbersInRange}
 use Rattle.tree_machine.specs.Rules.{Rules, AreLawful, AreFormsExact}
 use Rattle.tree_machine.specs.Step.{step, Fits}
 use Rattle.tree_machine.specs.declared.state.State.{State}
 use Rattle.tree_machine.proofs.Alike.{alike_step, alike_history, alike_ordered}
-use Rattle.tree_machine.proofs.Forms.{forms_alike, alike_turned}
+use Rattle.tree_machine.proofs.Forms.{forms_alike, alike_turned, numbers_fit}
 use Rattle.tree_machine.proofs.States.{step_fits}
-use Rattle.sched_program.specs.Program.{Program}
+use Rattle.sched_program.specs.Program.{Program, IsWithinLimits}
 use Rattle.lin.specs.Linearization.{IsLinearization, IsLinearizable}
 use Rattle.book.specs.declared.book.Merge.{Merge}
 use Rattle.book.specs.declared.book.Merge.TheVariants.{Exact, Names}
@@ -70,7 +72,7 @@ module _ {Machine Memory Place Form : Type 0} (rules : Rules Memory Place) (prog
         → label_by whole_code form_code form_of merge r ≡ label_by whole_code form_code form_of merge s
     one_label whole_code form_code Exact r s r_fits s_fits one = ap (state_code whole_code) one
     one_label whole_code form_code Names r s r_fits s_fits one =
-        ap (content_code form_code) ((forms_alike rules form_of forms program program r s r_fits s_fits).1 one)
+        ap (λ f. number_code 0 ++ content_code form_code f) ((forms_alike rules form_of forms program program r s r_fits s_fits).1 one)
 
     -- the state c stands in for s: the step of a thread of c is put as that of s
     module _ (merge : Merge) (s c : State Machine Memory Place Form) (t : ℕ) (s_fits : Fits rules program s)
@@ -123,3 +125,20 @@ whole_stands {Machine} {Memory} {Place} {Form} rules program whole_code label te
     let same : s ≡ c = tells s c (is ∙ written) in
     subst (λ (v : State Machine Memory Place Form). StandsIn rules program Exact s v) same
     (record { counts = refl; fits = fits; steps = omega arith })
+
+-- what is read from a label counts as one with each state that has it
+pub read_stands : {Machine Memory Place Form : Type 0} (rules : Rules Memory Place) (program : Program)
+    (whole_code : Memory → List (Option Place) → List ℕ) (form_code : Form → List ℕ)
+    (form_of : Memory → List (Option Place) → Form) (label : List ℕ)
+    → IsInjective (state_code {Machine = Machine} {Form = Form} whole_code) → (c : State Machine Memory Place Form)
+    → ((s : State Machine Memory Place Form) → AreNumbersInRange rules s
+    → state_code whole_code c ≡ named_code form_code form_of s
+    → AreStatesAlike rules s c × ((p : Program) → Fits rules p s → Fits rules p c) × (c.steps ≡ 0))
+    → label ≡ state_code whole_code c → (merge : Merge) (s : State Machine Memory Place Form) → Fits rules program s
+    → IsWithinLimits program → label_by whole_code form_code form_of merge s ≡ label
+    → StandsIn rules program merge s c
+read_stands rules program whole_code form_code form_of label tells c decoded written Exact s fits limits is =
+    whole_stands rules program whole_code label tells s c fits is written
+read_stands rules program whole_code form_code form_of label tells c decoded written Names s fits limits is =
+    let law = decoded s (numbers_fit rules program s fits) (sym written ∙ sym is) in
+    record { counts = law.0; fits = law.1 program fits; steps = (let none = law.2 in omega (arith, none)) }

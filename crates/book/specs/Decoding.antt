@@ -7,23 +7,10 @@ use Rattle.tree_machine.specs.Rules.{Rules}
 use Rattle.tree_machine.specs.Step.{Fits}
 use Rattle.tree_machine.specs.declared.state.State.{State}
 use Rattle.book.specs.declared.book.Merge.{Merge}
-use Rattle.book.specs.declared.book.Merge.TheVariants.{Exact, Names}
-use Rattle.book.specs.declared.decoding.Layout.{Layout}
-use Rattle.book.specs.declared.decoding.Layout.TheVariants.{Whole, Form as FormAlone}
+use Rattle.tree_machine.specs.declared.cuts.Cuts.{Cuts}
 use Rattle.book.specs.declared.finding.Finding.TheVariants.{Sound}
 use Rattle.book.specs.Books.{CountsAsOne}
 use Rattle.book.specs.Findings.{IsFindingOf}
-
--- which merging has labels of this layout
-abbrev pub merge_of : Layout → Merge
-merge_of (Whole cuts) = Exact
-merge_of FormAlone = Names
-
--- the label has this layout, where the state was read from it
-abbrev pub IsLaidOut : {Machine Memory Place Form : Type 0} → (Memory → List (Option Place) → List ℕ)
-    → (Memory → List ℕ) → List ℕ → Layout → State Machine Memory Place Form → Type 0
-IsLaidOut whole_code memory_code label (Whole cuts) state = AreCutsOf whole_code memory_code label cuts state
-IsLaidOut whole_code memory_code label FormAlone state = Unit {0}
 
 -- a state counts as one with another, so that its steps may be made in place of that one's
 pub record StandsIn {Machine Memory Place Form : Type 0} (rules : Rules Memory Place) (program : Program)
@@ -32,12 +19,12 @@ pub record StandsIn {Machine Memory Place Form : Type 0} (rules : Rules Memory P
   pub fits : Fits rules program twin
   pub steps : twin.steps ≤ state.steps
 
--- a sound state, with a linearization of its history, and one that stands in for it and was read from its label
+-- a sound state, with a linearization of its history, and one that stands in for it, whose own bytes are a label
 pub record IsSource {Machine Memory Place Form : Type 0} (whole_code : Memory → List (Option Place) → List ℕ)
-    (memory_code : Memory → List ℕ) (rules : Rules Memory Place) (program : Program) (label : List ℕ) (layout : Layout)
-    (order : List OpId) (state twin : State Machine Memory Place Form) : Type 0 where
+    (memory_code : Memory → List ℕ) (rules : Rules Memory Place) (program : Program) (merge : Merge) (label : List ℕ)
+    (cuts : Cuts) (order : List OpId) (state twin : State Machine Memory Place Form) : Type 0 where
   pub fits : Fits rules program state
   pub room : state.steps + 1 < 2 ^ 64
   pub sound : IsFindingOf rules program state (Sound order)
-  pub stands : StandsIn rules program (merge_of layout) state twin
-  pub laid : IsLaidOut whole_code memory_code label layout twin
+  pub stands : StandsIn rules program merge state twin
+  pub read : AreCutsOf whole_code memory_code label cuts twin

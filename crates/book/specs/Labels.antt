@@ -2,8 +2,7 @@
 use Rattle.std.specs.Prelude.{◌≡◌, ℕ, Bool, Option, List, fold, map, nat_eq}
 use Rattle.std.specs.Cmp.Lexicographic.{pointwise}
 use Rattle.std.specs.Hash.FoldHasher.{initial, write, finish}
-use Rattle.tree_machine.specs.Alike.{state_form}
-use Rattle.tree_machine.specs.FormCode.{content_code, state_code}
+use Rattle.tree_machine.specs.FormCode.{named_code, state_code}
 use Rattle.tree_machine.specs.declared.state.State.{State}
 use Rattle.book.specs.Entries.{Entry, Successor}
 use Rattle.book.specs.declared.book.Merge.{Merge}
@@ -14,10 +13,10 @@ pub record Labelled (S : Type 0) : Type 0 where
   pub state : S
   pub label : List ℕ
 
--- the bytes of the form of a state, given those of forms and what the machine's form is
+-- the code of a state by names, given the bytes of forms and what the machine's form is
 abbrev pub named_by : {Machine Memory Place Form : Type 0} → (Form → List ℕ) → (Memory → List (Option Place) → Form)
     → State Machine Memory Place Form → List ℕ
-named_by form_code form_of state = content_code form_code (state_form form_of state)
+named_by form_code form_of state = named_code form_code form_of state
 
 -- the bytes by which a state is known, given those of memories with the places held, those of forms, and what the
 -- machine's form is: with exact merging the bytes of the whole state, by names those of its form

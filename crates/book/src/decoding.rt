@@ -4,37 +4,16 @@ ghost use Rattle.sched_program.specs.Program.{Program, IsWithinLimits};
 ghost use Rattle.tree_machine.specs.Cuts.{AreCutsOf};
 ghost use Rattle.tree_machine.specs.Step.{Fits};
 ghost use Rattle.tree_machine.specs.declared.state.State.{State};
-ghost use Rattle.book.specs.Decoding.{merge_of, IsLaidOut, StandsIn};
+ghost use Rattle.book.specs.declared.book.Merge.{Merge};
+ghost use Rattle.book.specs.Decoding.{StandsIn};
 ghost use Rattle.book.specs.Labels.{label_by};
 
 use crate::book::Merge;
-use crate::named::read_named;
 use crate::shown::Shown;
 use lin::Order;
 use sched_program::{OutOfMemory, Program};
 use std::alloc::Global;
 use tree_machine::{Cuts, Machine, State};
-
-/// What a label is made of, which a reader finds out.
-#[derive(Clone, Copy, Debug, PartialEq, Eq)]
-pub enum Layout {
-    /// The bytes of a whole state, with the places where their parts begin: a label of exact merging.
-    Whole(Cuts),
-    /// The bytes of a form: a label by names.
-    Form,
-}
-
-impl Layout {
-    /// Which merging has such labels.
-    pub fn merge(self) -> Merge
-        ensures { result ≡ merge_of self }
-    {
-        match self {
-            Layout::Whole(_) => Merge::Exact,
-            Layout::Form => Merge::Names,
-        }
-    }
-}
 
 /// A sound state of a program, which only proofs see, with its label and a linearization of its history.
 #[derive(Drop)]
@@ -43,59 +22,50 @@ pub struct Source<'a, M: Machine> {
     pub program: &'a Program,
     pub shown: &'a Shown<State<M>>,
     pub label: &'a [u8],
-    pub layout: Layout,
+    pub merge: Merge,
+    /// Where the parts of the label begin.
+    pub cuts: Cuts,
     pub order: &'a Order,
 }
 
-/// Reads a label of exact merging, as `read_state` does.
-fn read_whole<M: Machine>(
+/// Reads the bytes of a state in the place of another one, whose own bytes may be known.
+#[inline(always)]
+fn read_bytes<M: Machine>(
+    alloc: Global,
+    machine: M,
+    bytes: &[u8],
+    last: Option<(&[u8], Cuts)>,
+    state: &mut State<M>,
+) -> Result<Option<Cuts>, OutOfMemory>
+    requires { IfSome last (λ p. AreCutsOf M.whole_code M.memory_code p.0.now p.1 state.old) }
+    ensures { IfOk result (λ o. IfSome o (λ cuts. AreCutsOf M.whole_code M.memory_code bytes.now cuts state.new)) }
+{
+    match last {
+        Some((before, cuts)) => state.read_after(alloc, machine, bytes, before, cuts),
+        None => state.read_cut(alloc, machine, bytes),
+    }
+}
+
+/// Reads a label in the place of another state. What it reads counts as one with each state that has this label in a book
+/// of either merge. Where it answers none, which it may always do, or is refused memory, that place is of no use but to be
+/// read into. If the bytes of the state that stands there are known, its memory is read only where the label has other
+/// ones: states that are read one after the other mostly have one memory.
+pub fn read_state<M: Machine>(
     alloc: Global,
     machine: M,
     label: &[u8],
     last: Option<(&[u8], Cuts)>,
     state: &mut State<M>,
 ) -> Result<Option<Cuts>, OutOfMemory>
-    requires { IfSome last (λ p. AreCutsOf M.whole_code M.memory_code p.0.now p.1 state.old) }
-    ensures { IfOk result (λ o. IfSome o (λ cuts. AreCutsOf M.whole_code M.memory_code label.now cuts state.new)) }
-{
-    match last {
-        Some((before, cuts)) => state.read_after(alloc, machine, label, before, cuts),
-        None => state.read_cut(alloc, machine, label),
-    }
-}
-
-/// Reads the label of a state, for a book that merges so, in the place of another state. What it reads counts as one
-/// with each state of this label. Where it answers none, which it may always do, or is refused memory, that place is
-/// of no use but to be read into. If the bytes of the state that stands there are known, its memory is read only where
-/// the label has other ones: states that are read one after the other mostly have one memory.
-pub fn read_state<M: Machine>(
-    alloc: Global,
-    machine: M,
-    merge: Merge,
-    label: &[u8],
-    last: Option<(&[u8], Cuts)>,
-    state: &mut State<M>,
-) -> Result<Option<Layout>, OutOfMemory>
     requires last { IfSome last (λ p. AreCutsOf M.whole_code M.memory_code p.0.now p.1 state.old) }
-    ensures merge { IfOk result (λ o. IfSome o (λ layout. merge_of layout ≡ merge)) }
-    ensures laid { IfOk result
-        (λ o. IfSome o (λ layout. IsLaidOut M.whole_code M.memory_code label.now layout state.new)) }
-    ensures stands { IfOk result (λ o. IfSome o (λ layout. (program : Program) → IsWithinLimits program
+    ensures read { IfOk result
+        (λ o. IfSome o (λ cuts. AreCutsOf M.whole_code M.memory_code label.now cuts state.new)) }
+    ensures stands { IfOk result (λ o. IfSome o (λ _. (merge : Merge) (program : Program) → IsWithinLimits program
         → (s : State M M.Mem M.Loc M.Form) → Fits (M.rules machine) program s
-        → label_by M.whole_code M.form_code (M.form_of machine) (merge_of layout) s ≡ label.now
-        → StandsIn (M.rules machine) program (merge_of layout) s state.new)) }
+        → label_by M.whole_code M.form_code (M.form_of machine) merge s ≡ label.now
+        → StandsIn (M.rules machine) program merge s state.new)) }
 {
-    match merge {
-        Merge::Exact => match read_whole(alloc, machine, label, last, state)? {
-            Some(cuts) => Ok(Some(Layout::Whole(cuts))),
-            None => Ok(None),
-        },
-        Merge::Names => {
-            if read_named(alloc, machine, label, state)? {
-                Ok(Some(Layout::Form))
-            } else {
-                Ok(None)
-            }
-        }
-    }
+    let read = read_bytes(alloc, machine, label, last, state)?;
+    state.decoded_law(machine);
+    Ok(read)
 }

@@ -1,12 +1,14 @@
 //! All enabled steps of a sound state, each made in one place and taken back.
 ghost use Rattle.std.specs.Prelude.{◌≡◌, ◌+◌, ◌≤◌, ◌<◌, IfOk, IsTrue, OnOk, Some, slice_get, vec_len, vec_capacity};
+ghost use Rattle.tree_machine.specs.Cuts.{AreCutsOf};
 ghost use Rattle.tree_machine.specs.Step.{Fits, step};
-ghost use Rattle.book.specs.Decoding.{merge_of, IsLaidOut, IsSource};
+ghost use Rattle.book.specs.Decoding.{IsSource};
 ghost use Rattle.book.specs.Expanding.{PutsStep};
 ghost use Rattle.book.specs.Findings.{machine_of, IsFindingOf};
 ghost use Rattle.book.specs.Labels.{label_by};
 
-use crate::decoding::{Layout, Source};
+use crate::book::Merge;
+use crate::decoding::Source;
 use crate::finding::Finding;
 use crate::hashed::Hashed;
 use crate::known::Known;
@@ -20,7 +22,7 @@ use std::alloc::Global;
 use std::snapshot::Snapshot;
 use tree_machine::{Bytes, Machine, Room, State, StepFault};
 
-/// The label of a step, laid out as that of the source.
+/// The label of a step, for a book that merges as that of the source.
 #[inline(always)]
 fn label_here<M: Machine>(
     alloc: Global,
@@ -34,26 +36,26 @@ fn label_here<M: Machine>(
         ≡ Some here.now.next.now }
     requires was { slice_get here.now.source.now.value.threads here.now.thread ≡ Some here.now.was.now }
     requires reads { IsTrue here.now.reads → here.now.next.now.memory ≡ here.now.source.now.value.memory }
-    requires laid { IsLaidOut M.whole_code M.memory_code from.now.label.now from.now.layout here.now.source.now.value }
+    requires read { AreCutsOf M.whole_code M.memory_code from.now.label.now from.now.cuts here.now.source.now.value }
     ensures { IfOk result (λ label. label ≡ label_by M.whole_code M.form_code (M.form_of from.now.machine)
-        (merge_of from.now.layout) here.now.next.now) }
+        from.now.merge here.now.next.now) }
 {
     // Whoever reads a program knows that it meets the limits.
     let _ = from.program.initial();
-    match from.layout {
-        Layout::Whole(cuts) => here.next.code_after(
+    match from.merge {
+        Merge::Exact => here.next.code_after(
             alloc,
             from.machine,
             here.source,
             here.was,
             from.label,
-            cuts,
+            from.cuts,
             here.thread,
             here.reads,
             room,
             spare,
         ),
-        Layout::Form => here.next.form_code_in(alloc, from.machine, room, spare),
+        Merge::Names => here.next.named_code_in(alloc, from.machine, room, spare),
     }
 }
 
@@ -69,12 +71,12 @@ fn put_step_here<M: Machine>(
     steps: &mut Vec<Stepped<State<M>>>,
 ) -> Result<(), OutOfMemory>
     requires source { IsSource M.whole_code M.memory_code (M.rules from.now.machine) from.now.program.now
-        from.now.label.now from.now.layout from.now.order.now from.now.shown.now.value state.old }
+        from.now.merge from.now.label.now from.now.cuts from.now.order.now from.now.shown.now.value state.old }
     requires place { vec_len steps.old < vec_capacity steps.old }
     ensures state { OnOk result (state.new ≡ state.old) }
     ensures put { OnOk result (PutsStep (machine_of (M.rules from.now.machine) from.now.program.now)
         (IsFindingOf (M.rules from.now.machine) from.now.program.now)
-        (label_by M.whole_code M.form_code (M.form_of from.now.machine) (merge_of from.now.layout))
+        (label_by M.whole_code M.form_code (M.form_of from.now.machine) from.now.merge)
         from.now.shown.now.value thread steps.old.items steps.new.items) }
     ensures len { vec_len steps.new ≤ vec_len steps.old + 1 }
     ensures capacity { vec_capacity steps.new ≡ vec_capacity steps.old }
@@ -118,7 +120,7 @@ impl<'a, M: Machine> Successors<'a, M> {
         stock: &mut Stock<M>,
     ) -> Result<Successors<'a, M>, OutOfMemory>
         requires { IsSource M.whole_code M.memory_code (M.rules from.now.machine) from.now.program.now
-            from.now.label.now from.now.layout from.now.order.now from.now.shown.now.value state.old }
+            from.now.merge from.now.label.now from.now.cuts from.now.order.now from.now.shown.now.value state.old }
         ensures machine { IfOk result (λ x. x.machine ≡ from.now.machine) }
         ensures program { IfOk result (λ x. x.program ≡ from.now.program.now) }
         ensures source { IfOk result (λ x. x.source ≡ from.now.shown.now.value) }
@@ -132,7 +134,7 @@ impl<'a, M: Machine> Successors<'a, M> {
         Ok(Successors {
             machine: from.machine,
             program: from.program,
-            merge: from.layout.merge(),
+            merge: from.merge,
             source: from.shown.again(),
             successors,
         })

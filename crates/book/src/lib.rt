@@ -14,7 +14,6 @@ mod in_place;
 mod known;
 mod leftovers;
 mod lending;
-mod named;
 mod placing;
 mod replayed;
 mod replaying;
@@ -28,7 +27,7 @@ mod table;
 
 pub use crate::book::{Book, EnterFault, Entered, Merge, TakenEntry, Totals};
 pub use crate::counting::Counting;
-pub use crate::decoding::{Layout, Source, read_state};
+pub use crate::decoding::{Source, read_state};
 pub use crate::entry::{Mark, Origin};
 pub use crate::expansion::Expansion;
 pub use crate::file::{CheckFault, check_book};

@@ -65,7 +65,7 @@ pub(crate) fn label<M: Machine>(
     let _ = program.initial();
     let label = match merge {
         Merge::Exact => state.code_in(alloc, machine, room, spare)?,
-        Merge::Names => state.form_code_in(alloc, machine, room, spare)?,
+        Merge::Names => state.named_code_in(alloc, machine, room, spare)?,
     };
     Ok(Hashed::new(Known::by(label, Shown::of(state))))
 }

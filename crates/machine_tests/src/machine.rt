@@ -4,10 +4,13 @@
 
 mod atomic;
 mod broken;
+pub mod by_names;
 mod bytes;
 mod cells;
 mod copied;
+mod crowded;
 mod forms;
+mod lists;
 mod parts;
 mod ranges;
 mod reading;

@@ -10,6 +10,8 @@ use Rattle.sched_program.specs.Program.{Program, IsWithinLimits}
 use Rattle.tree_machine.specs.Rules.{Rules, AreLawful, AreFormsExact}
 use Rattle.tree_machine.specs.Alike.{AreStatesAlike, state_form}
 use Rattle.tree_machine.specs.FormCode.{IsInjective, content_code}
+use Rattle.tree_machine.specs.Flat.{number_code}
+use Rattle.tree_machine.specs.Laws.Flat.{number_split}
 use Rattle.tree_machine.specs.Laws.FormCode.{content_readable}
 use Rattle.tree_machine.specs.Step.{start, step, Fits}
 use Rattle.tree_machine.specs.declared.state.State.{State}
@@ -117,7 +119,8 @@ module _ {Machine Memory Place Form : Type 0} (rules : Rules Memory Place) (prog
         alike_turned rules form_of forms program s w.1 fits w_fits
             ((forms_alike rules form_of forms program program s w.1 fits w_fits).0
             (content_readable code readable (state_form form_of s) (state_form form_of w.1)
-            (exact (named_by code form_of s) (named_by code form_of w.1) w.3))),
+            (number_split 0 0 (content_code code (state_form form_of s)) (content_code code (state_form form_of w.1))
+            (exact (named_by code form_of s) (named_by code form_of w.1) w.3)).1)),
       )
 
   alike_known : (s : State Machine Memory Place Form) → Fits rules program s
@@ -126,7 +129,7 @@ module _ {Machine Memory Place Form : Type 0} (rules : Rules Memory Place) (prog
       let same : state_form form_of among.1
       ≡ state_form form_of s =
       (forms_alike rules form_of forms program program among.1 s (fit among.0 among.1 among.2) fits).1 among.3 in
-      subst (λ (f : List ℕ). known f ≡ true) (ap (content_code code) same) (has.each among.0 among.1 among.2)
+      subst (λ (f : List ℕ). known f ≡ true) (ap (λ f. number_code 0 ++ content_code code f) same) (has.each among.0 among.1 among.2)
 
   pub open_next : (i : ℕ) (s : State Machine Memory Place Form) → i < length states → s ≡ get_or states i s
       → IsStepUnknown rules program (named_by code form_of) known s

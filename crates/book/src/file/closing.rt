@@ -45,7 +45,7 @@ fn forms_of<M: Machine>(
     let mut room = Room::new(alloc);
     for index in 0..states.len() {
         recall(alloc, machine, program, lines, states, index, state)?;
-        let form = state.form_code_in(alloc, machine, &mut room, Vec::new(alloc))?;
+        let form = state.named_code_in(alloc, machine, &mut room, Vec::new(alloc))?;
         forms.insert(form)?;
     }
     Ok(forms)
@@ -81,7 +81,7 @@ fn knows_step<M: Machine>(
         Err(StepFault::OutOfMemory) => return Err(OutOfMemory),
     }
     let spare = stock.spare_label(alloc);
-    let form = state.form_code_in(alloc, machine, &mut stock.room, spare)?;
+    let form = state.named_code_in(alloc, machine, &mut stock.room, spare)?;
     state.take_back(alloc, &source, thread, &mut stock.undo);
     let is_known = forms.contains(&form);
     stock.keep_label(form);

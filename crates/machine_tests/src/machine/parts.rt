@@ -2,63 +2,72 @@
 ghost use Rattle.std.specs.Prelude.{◌≡◌, ◌<◌, ℕ, IsTrue, IfSome, OnOk};
 ghost use Rattle.std.specs.List.{All};
 ghost use Rattle.tree_machine.specs.Parts.{IsPartBelow, ArePartsInRange};
-ghost use Rattle.tree_machine.specs.Written.{with_part};
 
-use crate::machine::ranges::are_below;
+use crate::machine::ranges::{are_all_below, are_named_below};
 use sched_program::OutOfMemory;
 use std::alloc::Global;
 use std::marker::Model;
-use tree_machine::{Bytes, Parts, Room, Writer, form_parts, write_whole};
+use tree_machine::{Bytes, PartVisitor, Parts, Room, form_parts, write_whole};
 
-/// A part that is there already.
+/// A part that is there already. The records of the stack stand behind the other ones.
 #[derive(Drop)]
 pub struct Row {
-    pub facts: &'static [u64],
-    pub nodes: &'static [Option<usize>],
-    pub records: &'static [Option<usize>],
+    pub facts: &'static [u8],
+    pub nodes: &'static [Option<u16>],
+    pub records: &'static [Option<u16>],
+    pub stack: &'static [u16],
 }
 
 impl Model for Row {
+    ghost use Rattle.std.specs.Prelude.{◌++◌, Some, map};
     ghost use Rattle.tree_machine.specs.Parts.{Part as Contents};
 
     ghost Value = { Contents };
 
-    ghost view = { λ r. record { facts = r.facts.now; nodes = r.nodes.now; records = r.records.now } };
+    ghost view = { λ r. record {
+      facts = r.facts.now;
+      nodes = r.nodes.now;
+      records = r.records.now ++ map Some r.stack.now;
+    } };
 }
 
-/// A row of these.
+/// A row of these, with no stack.
 pub fn row_of(
-    facts: &'static [u64],
-    nodes: &'static [Option<usize>],
-    records: &'static [Option<usize>],
+    facts: &'static [u8],
+    nodes: &'static [Option<u16>],
+    records: &'static [Option<u16>],
 ) -> Row {
     Row {
         facts,
         nodes,
         records,
+        stack: &[],
     }
 }
 
 impl Row {
-    /// Writes it.
-    fn write(&self, writer: &mut Writer) -> Result<(), OutOfMemory>
-        requires { IsPartBelow writer.old.nodes writer.old.records self.now }
-        ensures { OnOk result (writer.new ≡ with_part writer.old self.now) }
+    /// Lets a visitor visit it.
+    fn show<V: PartVisitor>(&self, visitor: &mut V) -> Result<(), OutOfMemory>
+        requires { IsPartBelow (V.nodes_below visitor.old) (V.records_below visitor.old) self.now }
+        ensures { OnOk result (V.visited visitor.old self.now visitor.new) }
     {
-        writer.put(self.facts, self.nodes, self.records)
+        visitor.visit(self.facts, self.nodes, self.records, self.stack)
     }
 
     /// Whether it names nodes and records below these bounds.
     fn is_below(&self, nodes: usize, records: usize) -> bool
         ensures { IsTrue result → IsPartBelow nodes records self.now }
     {
-        are_below(self.nodes, nodes) && are_below(self.records, records)
+        are_named_below(self.nodes, nodes)
+            && are_named_below(self.records, records)
+            && are_all_below(self.stack, records)
     }
 }
 
-/// Rows for nodes, records and threads.
+/// Rows for nodes, of which the first are fixed, for records and for threads.
 #[derive(Clone, Copy)]
 pub struct Tables<'a> {
+    pub fixed: usize,
     pub nodes: &'a [Row],
     pub records: &'a [Row],
     pub held: &'a [Row],
@@ -79,27 +88,20 @@ impl Parts for Tables<'_> {
         self.held.len()
     }
 
-    fn write_node(&self, index: usize, writer: &mut Writer) -> Result<(), OutOfMemory> {
-        self.nodes[index].write(writer)
+    fn visit_node<V: PartVisitor>(&self, index: usize, visitor: &mut V) -> Result<(), OutOfMemory> {
+        self.nodes[index].show(visitor)
     }
 
-    fn write_record(&self, index: usize, writer: &mut Writer) -> Result<(), OutOfMemory> {
-        match self.records.get(index) {
-            Some(row) => row.write(writer),
-            None => writer.put(&[], &[], &[]),
-        }
+    fn visit_record<V: PartVisitor>(
+        &self,
+        index: usize,
+        visitor: &mut V,
+    ) -> Result<(), OutOfMemory> {
+        self.records[index].show(visitor)
     }
 
-    fn write_few(&self, _bytes: &mut Vec<u8>) -> Result<bool, OutOfMemory> {
-        Ok(false)
-    }
-
-    fn write_few_held(&self, _bytes: &mut Vec<u8>) -> Result<bool, OutOfMemory> {
-        Ok(false)
-    }
-
-    fn write_held(&self, index: usize, writer: &mut Writer) -> Result<(), OutOfMemory> {
-        self.held[index].write(writer)
+    fn visit_held<V: PartVisitor>(&self, index: usize, visitor: &mut V) -> Result<(), OutOfMemory> {
+        self.held[index].show(visitor)
     }
 }
 
@@ -129,7 +131,7 @@ fn are_in_range(fixed: usize, tables: &Tables) -> bool
 /// What is written of tables.
 #[derive(Clone, Copy)]
 pub enum Written {
-    /// The form, where node 0 is fixed.
+    /// The form.
     Form,
     /// All of them, by their numbers.
     Whole,
@@ -147,11 +149,11 @@ fn whole_of(alloc: Global, tables: &Tables) -> Result<Bytes, OutOfMemory>
 
 /// The bytes of tables; nothing where a number is out of range.
 pub fn bytes_of(alloc: Global, tables: &Tables, written: Written) -> Result<Bytes, OutOfMemory> {
-    if !are_in_range(1, tables) {
+    if !are_in_range(tables.fixed, tables) {
         return Ok(Bytes::from_vec(Vec::new(alloc)));
     }
     match written {
-        Written::Form => form_parts(alloc, 1, tables),
+        Written::Form => form_parts(alloc, tables.fixed, tables),
         Written::Whole => whole_of(alloc, tables),
     }
 }

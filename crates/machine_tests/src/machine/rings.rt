@@ -6,29 +6,29 @@ use sched_program::OutOfMemory;
 use std::alloc::Global;
 use tree_machine::Bytes;
 
-/// A root of this fact above a ring of a node and a record, which a thread holds. The record of the ring names this
+/// A root of these facts above a ring of a node and a record, which a thread holds. The record of the ring names this
 /// record, and the thread this node.
 #[derive(Clone, Copy)]
 struct Ring {
     case: Case,
-    fact: &'static [u64],
-    named_record: &'static [Option<usize>],
-    named_node: &'static [Option<usize>],
+    facts: &'static [u8],
+    named_record: &'static [Option<u16>],
+    named_node: &'static [Option<u16>],
 }
 
 const RING: &Ring = &Ring {
     case: Case::TheRing,
-    fact: &[511],
+    facts: &[255],
     named_record: &[None],
     named_node: &[Some(1)],
 };
 
-/// The bytes of a ring, and of a node and a record that nothing names. They stand in the order in which they are met.
+/// The bytes of a ring, and of a node and a record that nothing names.
 fn ring_of(alloc: Global, ring: &Ring, written: Written) -> Result<Bytes, OutOfMemory> {
     let nodes = [
-        row_of(ring.fact, &[Some(1), None], &[]),
-        row_of(&[300], &[Some(0)], &[Some(0)]),
-        row_of(ring.fact, &[Some(2)], &[Some(1)]),
+        row_of(ring.facts, &[Some(1), None], &[]),
+        row_of(&[254], &[Some(0)], &[Some(0)]),
+        row_of(&[255], &[Some(2)], &[Some(1)]),
     ];
     let records = [
         row_of(&[], &[Some(1)], ring.named_record),
@@ -41,6 +41,7 @@ fn ring_of(alloc: Global, ring: &Ring, written: Written) -> Result<Bytes, OutOfM
     bytes_of(
         alloc,
         &Tables {
+            fixed: 1,
             nodes: &nodes,
             records: &records,
             held: &held,
@@ -52,9 +53,9 @@ fn ring_of(alloc: Global, ring: &Ring, written: Written) -> Result<Bytes, OutOfM
 /// The form of `RING`, where nodes and records stand the other way round.
 fn turned_ring(alloc: Global) -> Result<Bytes, OutOfMemory> {
     let nodes = [
-        row_of(&[511], &[Some(2), None], &[]),
-        row_of(&[511], &[Some(1)], &[Some(0)]),
-        row_of(&[300], &[Some(0)], &[Some(1)]),
+        row_of(&[255], &[Some(2), None], &[]),
+        row_of(&[255], &[Some(1)], &[Some(0)]),
+        row_of(&[254], &[Some(0)], &[Some(1)]),
     ];
     let records = [
         row_of(&[4, 5], &[], &[Some(1)]),
@@ -64,6 +65,7 @@ fn turned_ring(alloc: Global) -> Result<Bytes, OutOfMemory> {
     bytes_of(
         alloc,
         &Tables {
+            fixed: 1,
             nodes: &nodes,
             records: &records,
             held: &held,
@@ -72,26 +74,26 @@ fn turned_ring(alloc: Global) -> Result<Bytes, OutOfMemory> {
     )
 }
 
-/// The form of both.
+/// The form of both: how many nodes and records are met, and then the nodes, the records and what the threads hold.
 ///
-/// Each cell: a byte that tells how many facts it has, how many nodes it names (times 5), and how many nodes and
-/// records (times 30); its facts; each node or record as its place and one, or 0 for none. Places: 0 the root, 1 and 2
-/// the threads, 3 the node, 4 the record.
+/// Each part: a byte of how many facts it has, how many nodes it names (times 5), and how many nodes and records (times
+/// 30); its facts, where 255 takes the bytes 255 and 0; each node or record as its number and one, or 0 for none.
+/// Numbers: 0 the root, 1 the node, 2 the record, behind both nodes.
 const FORM: [u8; 19] = [
-    71, 255, 255, 1, 4, 0, // the root, of fact 511
-    66, 2, 4, 5, // what the first thread holds
+    2, 1, // two nodes and a record
+    71, 255, 0, 2, 0, // the root, of fact 255
+    66, 254, 1, 3, // the node, of fact 254
+    65, 2, 0, // the record
+    66, 2, 2, 3, // what the first thread holds
     0, // what the second holds
-    66, 255, 45, 1, 5, // the node, of fact 300
-    65, 4, 0, // the record
 ];
 
-/// All of the same ring: how many nodes and records there are, and then the nodes, the records and what the threads
-/// hold, each with the numbers of what it names and one; records are numbered behind the nodes.
-const WHOLE: [u8; 31] = [
+/// All of the same ring, each part with the numbers of what it names and one; records are numbered behind the nodes.
+const WHOLE: [u8; 28] = [
     3, 2, // three nodes and two records
-    71, 255, 255, 1, 2, 0, // the root
-    66, 255, 45, 1, 4, // the node
-    66, 255, 255, 1, 3, 5, // the node that nothing names
+    71, 255, 0, 2, 0, // the root
+    66, 254, 1, 4, // the node
+    66, 255, 0, 3, 5, // the node that nothing names
     65, 2, 0, // the record
     32, 4, 5, 4, // the record that nothing names
     66, 2, 2, 4, // what the first thread holds
@@ -138,21 +140,22 @@ fn names_up_to_numbers_are_equal(rt: HostRuntime) -> Result<(), Broken> {
     }
 }
 
-/// Facts in one byte and in two.
-const OTHER_FACTS: &[(Case, &[u64])] = &[
+/// Facts in one byte and in two, and more or fewer of them.
+const OTHER_FACTS: &[(Case, &[u8])] = &[
     (Case::Fact0, &[0]),
     (Case::Fact1, &[1]),
-    (Case::Fact255, &[255]),
-    (Case::Fact256, &[256]),
-    (Case::Fact510, &[510]),
-    (Case::Fact512, &[512]),
+    (Case::Fact253, &[253]),
+    (Case::Fact254, &[254]),
+    (Case::Facts255And0, &[255, 0]),
+    (Case::Facts255Twice, &[255, 255]),
+    (Case::NoFact, &[]),
 ];
 
-/// The form tells a ring of this fact from `RING`.
-fn is_fact_told(alloc: Global, case: Case, fact: &'static [u64]) -> Result<(), Broken> {
+/// A ring of these facts has another form than `RING`.
+fn is_another(alloc: Global, case: Case, facts: &'static [u8]) -> Result<(), Broken> {
     let ring = Ring {
         case,
-        fact,
+        facts,
         named_record: &[None],
         named_node: &[Some(1)],
     };
@@ -161,14 +164,14 @@ fn is_fact_told(alloc: Global, case: Case, fact: &'static [u64]) -> Result<(), B
 
 fn other_facts(alloc: Global) -> Result<(), Broken> {
     has_form(alloc, RING, true)?;
-    for (case, fact) in OTHER_FACTS {
-        is_fact_told(alloc, *case, fact)?;
+    for (case, facts) in OTHER_FACTS {
+        is_another(alloc, *case, facts)?;
     }
     Ok(())
 }
 
 #[test]
-fn a_fact_above_a_byte_tells_apart(rt: HostRuntime) -> Result<(), Broken> {
+fn rings_of_other_facts_have_other_forms(rt: HostRuntime) -> Result<(), Broken> {
     match other_facts(rt.alloc()) {
         Ok(()) => Ok(()),
         Err(_) => other_facts(rt.alloc()),
@@ -179,15 +182,21 @@ fn a_fact_above_a_byte_tells_apart(rt: HostRuntime) -> Result<(), Broken> {
 const OTHER_REFERENCES: &[Ring] = &[
     Ring {
         case: Case::ARecordNamedByTheRecord,
-        fact: &[511],
+        facts: &[255],
         named_record: &[Some(0)],
         named_node: &[Some(1)],
     },
     Ring {
         case: Case::NoNodeNamedByTheThread,
-        fact: &[511],
+        facts: &[255],
         named_record: &[None],
         named_node: &[None],
+    },
+    Ring {
+        case: Case::TheRootNamedByTheThread,
+        facts: &[255],
+        named_record: &[None],
+        named_node: &[Some(0)],
     },
 ];
 
@@ -207,59 +216,83 @@ fn a_reference_that_one_side_has_tells_apart(rt: HostRuntime) -> Result<(), Brok
     }
 }
 
-/// A root that names nodes and records, none of which is there, and its bytes.
+/// A root with no node or record where it has places for them, and its form.
 struct Root {
     case: Case,
-    facts: &'static [u64],
-    nodes: &'static [Option<usize>],
-    records: &'static [Option<usize>],
+    facts: &'static [u8],
+    nodes: &'static [Option<u16>],
+    records: &'static [Option<u16>],
     bytes: &'static [u8],
 }
 
-/// The most that one byte tells, and one more of each. Behind a byte of 255 numbers tell it: how many facts, the first
-/// of which is how many nodes it names, and how many nodes and records.
+/// The most for which a part begins with one byte, and one more of each. Behind a byte of 255 there stand numbers: how
+/// many facts, the first of which is how many nodes it names, and how many nodes and records. In front of it all stand
+/// one node and no record.
 const ROOTS: &[Root] = &[
+    Root {
+        case: Case::NoFact,
+        facts: &[],
+        nodes: &[],
+        records: &[],
+        bytes: &[1, 0, 0],
+    },
     Root {
         case: Case::FourFacts,
         facts: &[1, 2, 3, 4],
         nodes: &[None],
         records: &[],
-        bytes: &[39, 1, 2, 3, 4, 0],
+        bytes: &[1, 0, 39, 1, 2, 3, 4, 0],
     },
     Root {
         case: Case::FiveFacts,
         facts: &[1, 2, 3, 4, 5],
         nodes: &[None],
         records: &[],
-        bytes: &[255, 6, 1, 1, 1, 2, 3, 4, 5, 0],
+        bytes: &[1, 0, 255, 6, 1, 1, 1, 2, 3, 4, 5, 0],
+    },
+    Root {
+        case: Case::FiveLargeFacts,
+        facts: &[255, 0, 254, 255, 1],
+        nodes: &[None],
+        records: &[],
+        bytes: &[1, 0, 255, 6, 1, 1, 255, 0, 0, 254, 255, 0, 1, 0],
     },
     Root {
         case: Case::FiveNodes,
         facts: &[9],
         nodes: &[None, None, None, None, None],
         records: &[],
-        bytes: &[176, 9, 0, 0, 0, 0, 0],
+        bytes: &[1, 0, 176, 9, 0, 0, 0, 0, 0],
     },
     Root {
         case: Case::SixNodes,
         facts: &[9],
         nodes: &[None, None, None, None, None, None],
         records: &[],
-        bytes: &[255, 2, 6, 6, 9, 0, 0, 0, 0, 0, 0],
+        bytes: &[1, 0, 255, 2, 6, 6, 9, 0, 0, 0, 0, 0, 0],
     },
     Root {
         case: Case::ThreeNodesAndFourRecords,
         facts: &[],
         nodes: &[None, None, None],
         records: &[None, None, None, None],
-        bytes: &[225, 0, 0, 0, 0, 0, 0, 0],
+        bytes: &[1, 0, 225, 0, 0, 0, 0, 0, 0, 0],
     },
     Root {
         case: Case::ThreeNodesAndFiveRecords,
         facts: &[],
         nodes: &[None, None, None],
         records: &[None, None, None, None, None],
-        bytes: &[255, 1, 8, 3, 0, 0, 0, 0, 0, 0, 0, 0],
+        bytes: &[1, 0, 255, 1, 8, 3, 0, 0, 0, 0, 0, 0, 0, 0],
+    },
+    Root {
+        case: Case::FourLargeFacts,
+        facts: &[255, 255, 255, 255],
+        nodes: &[None, None, None],
+        records: &[None, None, None, None],
+        bytes: &[
+            1, 0, 229, 255, 0, 255, 0, 255, 0, 255, 0, 0, 0, 0, 0, 0, 0, 0,
+        ],
     },
 ];
 
@@ -268,6 +301,7 @@ fn has_bytes(alloc: Global, root: &Root) -> Result<(), Broken> {
     let form = bytes_of(
         alloc,
         &Tables {
+            fixed: 1,
             nodes: &[row_of(root.facts, root.nodes, root.records)],
             records: &[],
             held: &[],
@@ -285,7 +319,7 @@ fn roots(alloc: Global) -> Result<(), Broken> {
 }
 
 #[test]
-fn one_byte_tells_what_is_few(rt: HostRuntime) -> Result<(), Broken> {
+fn a_small_part_begins_with_one_byte(rt: HostRuntime) -> Result<(), Broken> {
     match roots(rt.alloc()) {
         Ok(()) => Ok(()),
         Err(_) => roots(rt.alloc()),

@@ -1,6 +1,5 @@
 -- The step is put with the finding and the label of the state that it leads to, and the state is what it was.
 use Rattle.std.proofs.Common.{ap, refl, sym, Err, Some, ◌∙◌}
-use Rattle.book.specs.Decoding.{merge_of}
 use Rattle.book.specs.declared.finding.Finding.TheVariants.{Sound}
 use Rattle.book.specs.Findings.{IsFindingOf}
 use Rattle.book.specs.Labels.{label_by}
@@ -19,7 +18,7 @@ returns-clause-put g c =
     let right = IsFindingOf {Machine = g.row.M.Denot} {Form = g.row.M-Form.Denot} rules from.program.now in
     let known = c.new.ensures ∙ c.by.ensures in
     puts_twin rules from.program.now form_of (bound.lawful from.machine) (bound.forms from.machine)
-    (merge_of from.layout) from.shown.now.value c.args.state.now c.args.thread source.fits source.stands.fits
+    from.merge from.shown.now.value c.args.state.now c.args.thread source.fits source.stands.fits
     source.stands.counts next c.in-Ok.ensures.step g.M.Machine.whole_code g.M.Machine.form_code c.args.steps.now.items
     c.push_reserved.new.self.items
     (record { thread = c.args.thread; state = c.new.result; finding = c.unwrap_or.result })
@@ -36,9 +35,9 @@ returns-in-Err-NotEnabled-clause-put g c =
     let form_of = g.M.Machine.form_of from.machine in
     let source = c.requires.source in
     puts_none (g.M.Machine.rules from.machine) from.program.now form_of (bound.lawful from.machine)
-    (bound.forms from.machine) (merge_of from.layout) from.shown.now.value c.args.state.now c.args.thread source.fits
+    (bound.forms from.machine) from.merge from.shown.now.value c.args.state.now c.args.thread source.fits
     source.stands.fits source.stands.counts
-    (label_by g.M.Machine.whole_code g.M.Machine.form_code form_of (merge_of from.layout)) c.args.steps.now.items
+    (label_by g.M.Machine.whole_code g.M.Machine.form_code form_of from.merge) c.args.steps.now.items
     c.args.steps.now.items
     (c.step_here.ensures.no_step.0 (c.in-Err-NotEnabled.is ∙ ap Err c.in-Err-NotEnabled.field-0-is)) refl
 
@@ -49,7 +48,7 @@ find_here-requires-clause-sound g c κs within =
     let source = c.requires.source in
     rw c.of-source.ensures
     (one_found (g.M.Machine.rules from.machine) from.program.now (g.M.Machine.form_of from.machine)
-    (bound.lawful from.machine) (bound.forms from.machine) (merge_of from.layout) from.shown.now.value c.args.state.now
+    (bound.lawful from.machine) (bound.forms from.machine) from.merge from.shown.now.value c.args.state.now
     source.fits source.stands.fits source.stands.counts (Sound from.order.now) source.sound)
 
 pub shown_step-shown-requires-after_bounds : goal.shown_step-shown-requires-after_bounds
@@ -58,5 +57,5 @@ shown_step-shown-requires-after_bounds g c κs within =
     let from = c.args.from.now in
     let source = c.requires.source in
     has_step (g.M.Machine.rules from.machine) from.program.now (g.M.Machine.form_of from.machine)
-    (bound.lawful from.machine) (bound.forms from.machine) (merge_of from.layout) from.shown.now.value c.args.state.now
+    (bound.lawful from.machine) (bound.forms from.machine) from.merge from.shown.now.value c.args.state.now
     c.args.thread source.fits source.stands.fits source.stands.counts c.step_here.new.self c.in-Ok.ensures.step

@@ -9,8 +9,8 @@ use Rattle.book.proofs.BookFile.Recalled.{read_there}
 use Rattle.book.proofs.EntryLemmas.{get_within}
 use Rattle.book.proofs.file.closing.forms_of.Goals as goal
 
-pub form_code_in-requires-after_bounds : goal.form_code_in-requires-after_bounds
-form_code_in-requires-after_bounds g c κs within = (
+pub named_code_in-requires-after_bounds : goal.named_code_in-requires-after_bounds
+named_code_in-requires-after_bounds g c κs within = (
   c.args.program.now,
   c.initial.ensures.limits,
   c.requires.fit c.loop-index.index c.recall.new.state c.in_ok-recall.ensures,

@@ -1,6 +1,5 @@
 -- The steps are put thread by thread, and after each the state is what it was.
 use Rattle.std.proofs.Common.{◌≡◌, ◌≤◌, length, ap, refl, subst, arith, ◌∙◌}
-use Rattle.book.specs.Decoding.{merge_of}
 use Rattle.book.specs.Findings.{machine_of, IsFindingOf}
 use Rattle.book.specs.Labels.{bares, label_by}
 use Rattle.book.proofs.Expanding.{IsFront, front_none, front_put, known_put, expansion_from_front}
@@ -33,7 +32,7 @@ loop-thread-preserved g c =
     let right = IsFindingOf {Machine = g.row.M.Denot} {Form = g.row.M-Form.Denot} rules program in
     let was = c.loop-thread.successors.items in
     let label_of =
-    label_by g.M.Machine.whole_code g.M.Machine.form_code (g.M.Machine.form_of from.machine) (merge_of from.layout) in
+    label_by g.M.Machine.whole_code g.M.Machine.form_code (g.M.Machine.form_of from.machine) from.merge in
     let put = c.in_ok-put_step_here.ensures.put in
     record {
       state = c.in_ok-put_step_here.ensures.state ∙ c.loop-thread.invariant.state;
@@ -62,7 +61,7 @@ invariant_of-result g c =
     let done : c.loop-thread.thread ≡ length program.threads = omega arith in (
       rw c.again.ensures (expansion_from_front m right from.shown.now.value (bares steps)
           (subst (λ n. IsFront m right from.shown.now.value n (bares steps)) done c.loop-thread.invariant.front)),
-      rw c.merge.ensures c.loop-thread.invariant.known,
+      c.loop-thread.invariant.known,
     )
 
 pub returns-clause-state : goal.returns-clause-state

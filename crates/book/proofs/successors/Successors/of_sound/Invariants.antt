@@ -1,6 +1,5 @@
 use Rattle.std.proofs.Common.{◌≡◌, ◌≤◌}
 use Rattle.std.specs.Prelude.{vec_len, vec_capacity}
-use Rattle.book.specs.Decoding.{merge_of}
 use Rattle.book.specs.Findings.{machine_of, IsFindingOf}
 use Rattle.book.specs.Labels.{AreStepsKnownBy, bares, label_by}
 use Rattle.book.proofs.Expanding.{IsFront}
@@ -16,7 +15,7 @@ invariant-loop-thread g l =
           (IsFindingOf (g.M.Machine.rules l.from.machine) l.from.program.now) l.from.shown.now.value l.thread
           (bares l.successors.items);
       known : AreStepsKnownBy (label_by g.M.Machine.whole_code g.M.Machine.form_code
-          (g.M.Machine.form_of l.from.machine) (merge_of l.from.layout)) l.successors.items;
+          (g.M.Machine.form_of l.from.machine) l.from.merge) l.successors.items;
       len : vec_len l.successors ≤ l.thread;
       room : l.threads ≤ vec_capacity l.successors;
     }
