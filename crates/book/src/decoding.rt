@@ -1,11 +1,8 @@
 //! States read from the labels by which a book knows them.
 ghost use Rattle.std.specs.Prelude.{◌≡◌, IfOk, IfSome};
-ghost use Rattle.sched_program.specs.Program.{Program, IsWithinLimits};
+ghost use Rattle.std.specs.Option.{ForSome};
 ghost use Rattle.tree_machine.specs.Cuts.{AreCutsOf};
-ghost use Rattle.tree_machine.specs.Step.{Fits};
-ghost use Rattle.tree_machine.specs.declared.state.State.{State};
-ghost use Rattle.book.specs.Decoding.{merge_of, IsLaidOut, StandsIn};
-ghost use Rattle.book.specs.Labels.{label_by};
+ghost use Rattle.book.specs.Decoding.{merge_of, IsRead};
 
 use crate::book::Merge;
 use crate::named::read_named;
@@ -34,17 +31,27 @@ impl Layout {
             Layout::Form => Merge::Names,
         }
     }
+
+    /// Where the parts of the label begin, if that is known.
+    pub fn cuts(self) -> Option<Cuts>
+        ensures { ForSome result (λ cuts. self ≡ Layout.Whole cuts) }
+    {
+        match self {
+            Layout::Whole(cuts) => Some(cuts),
+            Layout::Form => None,
+        }
+    }
 }
 
 /// A sound state of a program, which only proofs see, with its label and a linearization of its history.
-#[derive(Drop)]
-pub struct Source<'a, M: Machine> {
+#[derive(Clone, Copy)]
+pub struct Source<'a, 's, M: Machine> {
     pub machine: M,
     pub program: &'a Program,
-    pub shown: &'a Shown<State<M>>,
-    pub label: &'a [u8],
+    pub shown: &'s Shown<State<M>>,
+    pub label: &'s [u8],
     pub layout: Layout,
-    pub order: &'a Order,
+    pub order: &'s Order,
 }
 
 /// Reads a label of exact merging, as `read_state` does.
@@ -76,14 +83,9 @@ pub fn read_state<M: Machine>(
     last: Option<(&[u8], Cuts)>,
     state: &mut State<M>,
 ) -> Result<Option<Layout>, OutOfMemory>
-    requires last { IfSome last (λ p. AreCutsOf M.whole_code M.memory_code p.0.now p.1 state.old) }
-    ensures merge { IfOk result (λ o. IfSome o (λ layout. merge_of layout ≡ merge)) }
-    ensures laid { IfOk result
-        (λ o. IfSome o (λ layout. IsLaidOut M.whole_code M.memory_code label.now layout state.new)) }
-    ensures stands { IfOk result (λ o. IfSome o (λ layout. (program : Program) → IsWithinLimits program
-        → (s : State M M.Mem M.Loc M.Form) → Fits (M.rules machine) program s
-        → label_by M.whole_code M.form_code (M.form_of machine) (merge_of layout) s ≡ label.now
-        → StandsIn (M.rules machine) program (merge_of layout) s state.new)) }
+    requires { IfSome last (λ p. AreCutsOf M.whole_code M.memory_code p.0.now p.1 state.old) }
+    ensures { IfOk result (λ o. IfSome o (λ layout. IsRead M.whole_code M.memory_code M.form_code
+        (M.form_of machine) (M.rules machine) merge label.now layout state.new)) }
 {
     match merge {
         Merge::Exact => match read_whole(alloc, machine, label, last, state)? {

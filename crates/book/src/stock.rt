@@ -1,14 +1,38 @@
 //! What expansions are made in and of, used again from one to the next.
-ghost use Rattle.std.specs.Prelude.{◌≡◌, ◌≤◌, [], IfOk, vec_capacity};
+ghost use Rattle.std.specs.Prelude.{◌≡◌, ◌≤◌, [], IfOk, IfSome, Some, vec_capacity};
+ghost use Rattle.std.specs.Option.{ForSome};
+ghost use Rattle.tree_machine.specs.Cuts.{AreCutsOf};
+ghost use Rattle.book.specs.Decoding.{IsLaidOut, IsRead};
 
+use crate::book::Merge;
+use crate::decoding::{Layout, read_state};
 use crate::leftovers::Leftovers;
 use crate::stepped::Stepped;
-use sched_program::OutOfMemory;
+use sched_program::{OutOfMemory, Program};
 use std::alloc::Global;
-use tree_machine::{Bytes, Machine, Room, State, Undo};
+use tree_machine::{Bytes, Cuts, Machine, Room, State, Undo};
 
-/// What expansions are made in, used again from one to the next: room for labels, lists for labels and for steps, and
-/// what takes steps back.
+/// A state that was read from its label.
+#[derive(Drop)]
+struct ReadBack<M: Machine> {
+    state: State<M>,
+    label: Bytes,
+    cuts: Option<Cuts>,
+    ghost laid: { ForSome cuts (λ cuts. AreCutsOf M.whole_code M.memory_code label cuts state) },
+}
+
+/// A label with its cuts, where it has any.
+fn label_with_cuts(label: &[u8], cuts: Option<Cuts>) -> Option<(&[u8], Cuts)>
+    ensures { IfSome result (λ p. (p.0.now ≡ label.now) × (cuts ≡ Some p.1)) }
+{
+    match cuts {
+        Some(cuts) => Some((label, cuts)),
+        None => None,
+    }
+}
+
+/// What expansions are made in, used again from one to the next: a state to read others into, room for labels, lists for
+/// labels and for steps, and what takes steps back.
 #[derive(Drop)]
 pub struct Stock<M: Machine> {
     pub(crate) room: Room,
@@ -20,6 +44,8 @@ pub struct Stock<M: Machine> {
     pub(crate) undo: Undo<M>,
     /// Leftovers that serve again.
     left: Option<Leftovers<State<M>>>,
+    /// The state that was read last. The next one is read into it.
+    last: Option<ReadBack<M>>,
 }
 
 impl<M: Machine> Stock<M> {
@@ -31,6 +57,7 @@ impl<M: Machine> Stock<M> {
             lists: Vec::new(alloc),
             undo: Undo::new(),
             left: None,
+            last: None,
         }
     }
 
@@ -47,6 +74,52 @@ impl<M: Machine> Stock<M> {
     /// Takes the list of a label in. A refused growth drops it.
     pub fn keep_label(&mut self, label: Bytes) {
         let _ = self.labels.push(label.into_vec());
+    }
+
+    /// Reads the label of a state, as `read_state` does, into the state that was read last. None where it can't be read.
+    #[inline(always)]
+    pub(crate) fn read(
+        &mut self,
+        alloc: Global,
+        machine: M,
+        program: &Program,
+        merge: Merge,
+        label: &[u8],
+    ) -> Result<Option<(State<M>, Layout)>, OutOfMemory>
+        ensures { IfOk result (λ o. IfSome o (λ p. IsRead M.whole_code M.memory_code M.form_code
+            (M.form_of machine) (M.rules machine) merge label.now p.1 p.0)) }
+    {
+        let Some(before) = self.last.take() else {
+            let mut state = State::start(alloc, machine, program)?;
+            return match read_state(alloc, machine, merge, label, None, &mut state)? {
+                Some(layout) => Ok(Some((state, layout))),
+                None => Ok(None),
+            };
+        };
+        let ReadBack {
+            mut state,
+            label: known,
+            cuts,
+        } = before;
+        let last = label_with_cuts(known.as_slice(), cuts);
+        let read = read_state(alloc, machine, merge, label, last, &mut state);
+        self.keep_label(known);
+        match read? {
+            Some(layout) => Ok(Some((state, layout))),
+            None => Ok(None),
+        }
+    }
+
+    /// Takes in a state that was read, with its label. The next one is read into it.
+    #[inline(always)]
+    pub(crate) fn keep_read(&mut self, state: State<M>, label: Bytes, layout: Layout)
+        requires { IsLaidOut M.whole_code M.memory_code label layout state }
+    {
+        self.last = Some(ReadBack {
+            state,
+            label,
+            cuts: layout.cuts(),
+        });
     }
 
     /// A list for steps, with nothing in it and room for so many: one that serves again, or a new one.
