@@ -14,6 +14,7 @@ use Rattle.book.specs.contracts.stepped.Stepped as Stepped
 use Rattle.book.specs.contracts.hashed.Hashed as Hashed
 use Rattle.book.specs.contracts.known.Known as Known
 use Rattle.book.specs.contracts.leftovers.Leftovers as Leftovers
+use Rattle.book.specs.contracts.stock.ReadBack as ReadBack
 use Rattle.book.specs.contracts.stock.Stock as Stock
 use Rattle.book.specs.contracts.table.Table as Table
 use Rattle.book.proofs.ShownSent.{shown_send, shown_sync}
@@ -67,15 +68,18 @@ module _ (M Mem Loc Form : RattleType) (m : IsSend M) (mem : IsSend Mem) (loc : 
   state_sync : IsSync (State.the_row M Mem Loc Form)
   state_sync = search (sendable, crosses) depth 30
 
-  pub stock_send : IsSend (Stock.the_row M Mem Loc Form)
-  stock_send = search (leftovers_send, stepped_send, state_send, state_sync, sendable, crosses) depth 30
-
 module _ (M Mem Loc Form : RattleType) (g : machine.Ghosts M.Denot Mem.Denot Loc.Denot Form.Denot)
     (mp : partial.Ghosts M.Denot) (ap : partial.Ghosts Mem.Denot) (ah : hash.Ghosts Mem.Denot)
     (lp : partial.Ghosts Loc.Denot) (lh : hash.Ghosts Loc.Denot)
     (fp : partial.Ghosts Form.Denot) (fh : hash.Ghosts Form.Denot)
     (m : IsSend M) (mem : IsSend Mem) (loc : IsSend Loc) (form : IsSend Form)
     (m' : IsSync M) (mem' : IsSync Mem) (loc' : IsSync Loc) (form' : IsSync Form) where
+  read_back_send : IsSend (ReadBack.the_row M Mem Loc Form g mp ap ah lp lh fp fh)
+  read_back_send = search (state_send, sendable, crosses) depth 30
+
+  pub stock_send : IsSend (Stock.the_row M Mem Loc Form g mp ap ah lp lh fp fh)
+  stock_send = search (read_back_send, leftovers_send, stepped_send, state_send, state_sync, sendable, crosses) depth 30
+
   pub book_send : IsSend (Book.the_row M Mem Loc Form g mp ap ah lp lh fp fh)
   book_send = search (table_send, program_send, state_send, state_sync, sendable, crosses) depth 30
 

@@ -1,12 +1,7 @@
 //! States read from the labels by which a book knows them.
 ghost use Rattle.std.specs.Prelude.{◌≡◌, IfOk, IfSome};
-ghost use Rattle.sched_program.specs.Program.{Program, IsWithinLimits};
 ghost use Rattle.tree_machine.specs.Cuts.{AreCutsOf};
-ghost use Rattle.tree_machine.specs.Step.{Fits};
-ghost use Rattle.tree_machine.specs.declared.state.State.{State};
-ghost use Rattle.book.specs.declared.book.Merge.{Merge};
-ghost use Rattle.book.specs.Decoding.{StandsIn};
-ghost use Rattle.book.specs.Labels.{label_by};
+ghost use Rattle.book.specs.Decoding.{IsRead};
 
 use crate::book::Merge;
 use crate::shown::Shown;
@@ -16,16 +11,16 @@ use std::alloc::Global;
 use tree_machine::{Cuts, Machine, State};
 
 /// A sound state of a program, which only proofs see, with its label and a linearization of its history.
-#[derive(Drop)]
-pub struct Source<'a, M: Machine> {
+#[derive(Clone, Copy)]
+pub struct Source<'a, 's, M: Machine> {
     pub machine: M,
     pub program: &'a Program,
-    pub shown: &'a Shown<State<M>>,
-    pub label: &'a [u8],
+    pub shown: &'s Shown<State<M>>,
     pub merge: Merge,
+    pub label: &'s [u8],
     /// Where the parts of the label begin.
     pub cuts: Cuts,
-    pub order: &'a Order,
+    pub order: &'s Order,
 }
 
 /// Reads the bytes of a state in the place of another one, whose own bytes may be known.
@@ -57,13 +52,9 @@ pub fn read_state<M: Machine>(
     last: Option<(&[u8], Cuts)>,
     state: &mut State<M>,
 ) -> Result<Option<Cuts>, OutOfMemory>
-    requires last { IfSome last (λ p. AreCutsOf M.whole_code M.memory_code p.0.now p.1 state.old) }
-    ensures read { IfOk result
-        (λ o. IfSome o (λ cuts. AreCutsOf M.whole_code M.memory_code label.now cuts state.new)) }
-    ensures stands { IfOk result (λ o. IfSome o (λ _. (merge : Merge) (program : Program) → IsWithinLimits program
-        → (s : State M M.Mem M.Loc M.Form) → Fits (M.rules machine) program s
-        → label_by M.whole_code M.form_code (M.form_of machine) merge s ≡ label.now
-        → StandsIn (M.rules machine) program merge s state.new)) }
+    requires { IfSome last (λ p. AreCutsOf M.whole_code M.memory_code p.0.now p.1 state.old) }
+    ensures { IfOk result (λ o. IfSome o (λ cuts. IsRead M.whole_code M.memory_code M.form_code
+        (M.form_of machine) (M.rules machine) label.now cuts state.new)) }
 {
     let read = read_bytes(alloc, machine, label, last, state)?;
     state.decoded_law(machine);

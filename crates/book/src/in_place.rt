@@ -26,7 +26,7 @@ use tree_machine::{Bytes, Machine, Room, State, StepFault};
 #[inline(always)]
 fn label_here<M: Machine>(
     alloc: Global,
-    from: &Source<'_, M>,
+    from: &Source<'_, '_, M>,
     here: &Here<'_, M>,
     room: &mut Room,
     spare: Vec<u8>,
@@ -64,7 +64,7 @@ fn label_here<M: Machine>(
 #[inline(always)]
 fn put_step_here<M: Machine>(
     alloc: Global,
-    from: &Source<'_, M>,
+    from: &Source<'_, '_, M>,
     state: &mut State<M>,
     thread: u8,
     stock: &mut Stock<M>,
@@ -115,7 +115,7 @@ impl<'a, M: Machine> Successors<'a, M> {
     /// refusal that other state is of no use but to be read into.
     pub fn of_sound(
         alloc: Global,
-        from: &Source<'a, M>,
+        from: &Source<'a, '_, M>,
         state: &mut State<M>,
         stock: &mut Stock<M>,
     ) -> Result<Successors<'a, M>, OutOfMemory>

@@ -6,6 +6,7 @@ mod book;
 mod counting;
 mod decoding;
 mod entry;
+mod entry_steps;
 mod expansion;
 mod file;
 mod finding;

@@ -1,14 +1,26 @@
 //! What expansions are made in and of, used again from one to the next.
-ghost use Rattle.std.specs.Prelude.{◌≡◌, ◌≤◌, [], IfOk, vec_capacity};
+ghost use Rattle.std.specs.Prelude.{◌≡◌, ◌≤◌, [], IfOk, IfSome, Some, vec_capacity};
+ghost use Rattle.tree_machine.specs.Cuts.{AreCutsOf};
+ghost use Rattle.book.specs.Decoding.{IsRead};
 
+use crate::decoding::read_state;
 use crate::leftovers::Leftovers;
 use crate::stepped::Stepped;
-use sched_program::OutOfMemory;
+use sched_program::{OutOfMemory, Program};
 use std::alloc::Global;
-use tree_machine::{Bytes, Machine, Room, State, Undo};
+use tree_machine::{Bytes, Cuts, Machine, Room, State, Undo};
 
-/// What expansions are made in, used again from one to the next: room for labels, lists for labels and for steps, and
-/// what takes steps back.
+/// A state that was read from a label, with the places where the parts of the label begin.
+#[derive(Drop)]
+struct ReadBack<M: Machine> {
+    state: State<M>,
+    label: Bytes,
+    cuts: Cuts,
+    ghost read: { AreCutsOf M.whole_code M.memory_code label cuts state },
+}
+
+/// What expansions are made in, used again from one to the next: a state to read others into, room for labels, lists for
+/// labels and for steps, and what takes steps back.
 #[derive(Drop)]
 pub struct Stock<M: Machine> {
     pub(crate) room: Room,
@@ -20,6 +32,8 @@ pub struct Stock<M: Machine> {
     pub(crate) undo: Undo<M>,
     /// Leftovers that serve again.
     left: Option<Leftovers<State<M>>>,
+    /// The state that was read last. The next one is read into it.
+    last: Option<ReadBack<M>>,
 }
 
 impl<M: Machine> Stock<M> {
@@ -31,6 +45,7 @@ impl<M: Machine> Stock<M> {
             lists: Vec::new(alloc),
             undo: Undo::new(),
             left: None,
+            last: None,
         }
     }
 
@@ -47,6 +62,47 @@ impl<M: Machine> Stock<M> {
     /// Takes the list of a label in. A refused growth drops it.
     pub fn keep_label(&mut self, label: Bytes) {
         let _ = self.labels.push(label.into_vec());
+    }
+
+    /// Reads the label of a state, as `read_state` does, into the state that was read last. None where it can't be read.
+    #[inline(always)]
+    pub(crate) fn read(
+        &mut self,
+        alloc: Global,
+        machine: M,
+        program: &Program,
+        label: &[u8],
+    ) -> Result<Option<(State<M>, Cuts)>, OutOfMemory>
+        ensures { IfOk result (λ o. IfSome o (λ p. IsRead M.whole_code M.memory_code M.form_code
+            (M.form_of machine) (M.rules machine) label.now p.1 p.0)) }
+    {
+        let Some(before) = self.last.take() else {
+            let mut state = State::start(alloc, machine, program)?;
+            return match read_state(alloc, machine, label, None, &mut state)? {
+                Some(cuts) => Ok(Some((state, cuts))),
+                None => Ok(None),
+            };
+        };
+        let ReadBack {
+            mut state,
+            label: known,
+            cuts,
+        } = before;
+        let last = Some((known.as_slice(), cuts));
+        let read = read_state(alloc, machine, label, last, &mut state);
+        self.keep_label(known);
+        match read? {
+            Some(cuts) => Ok(Some((state, cuts))),
+            None => Ok(None),
+        }
+    }
+
+    /// Takes in a state that was read, with its label. The next one is read into it.
+    #[inline(always)]
+    pub(crate) fn keep_read(&mut self, state: State<M>, label: Bytes, cuts: Cuts)
+        requires { AreCutsOf M.whole_code M.memory_code label cuts state }
+    {
+        self.last = Some(ReadBack { state, label, cuts });
     }
 
     /// A list for steps, with nothing in it and room for so many: one that serves again, or a new one.

@@ -108,9 +108,7 @@ fn bytes_unless_refused(
 /// many threads.
 fn is_counted(bytes: &[u8], (nodes, records): (u8, u8), threads: usize) -> bool {
     let count = nodes as usize + records as usize;
-    threads <= 4
-        && bytes.len() == 2 + 2 * (count + threads)
-        && bytes.starts_with(&[nodes, records])
+    threads <= 4 && bytes.len() == 2 + 2 * (count + threads) && bytes.starts_with(&[nodes, records])
 }
 
 /// A crowd has bytes with these two numbers in front, or is refused, as is expected.
@@ -121,7 +119,10 @@ fn is_written(
     written: Written,
     expected: Option<(u8, u8)>,
 ) -> Result<(), Broken> {
-    let is_right = match (bytes_unless_refused(alloc, leaves, crowd, written), expected) {
+    let is_right = match (
+        bytes_unless_refused(alloc, leaves, crowd, written),
+        expected,
+    ) {
         (Some(bytes), Some(counts)) => is_counted(bytes.as_slice(), counts, crowd.threads),
         (None, None) => true,
         _ => false,

@@ -47,11 +47,7 @@ const STACKS: &[Stack] = &[
 ];
 
 /// The bytes of a root, of two records and of a thread with a stack.
-fn stack_of(
-    alloc: Global,
-    stack: &'static [u16],
-    written: Written,
-) -> Result<Bytes, OutOfMemory> {
+fn stack_of(alloc: Global, stack: &'static [u16], written: Written) -> Result<Bytes, OutOfMemory> {
     let held = [Row {
         facts: &[1, 2, 3, 4],
         nodes: &[None],

@@ -58,9 +58,10 @@ impl Row {
     fn is_below(&self, nodes: usize, records: usize) -> bool
         ensures { IsTrue result → IsPartBelow nodes records self.now }
     {
-        are_named_below(self.nodes, nodes)
-            && are_named_below(self.records, records)
-            && are_all_below(self.stack, records)
+        if !are_named_below(self.nodes, nodes) || !are_named_below(self.records, records) {
+            return false;
+        }
+        are_all_below(self.stack, records)
     }
 }
 

@@ -3,6 +3,7 @@ ghost use Rattle.tree_machine.specs.Atomic.{atomic_rules};
 ghost use Rattle.tree_machine.specs.Step.{Fits};
 
 use crate::machine::broken::{Broken, Case, ensure};
+use crate::machine::by_names::is_read_by_names;
 use crate::machine::states::{after, copy_of, form_of, has_form, two_inserts};
 use sched_program::{OpId, Program};
 use std::alloc::Global;
@@ -215,6 +216,46 @@ fn is_read(alloc: Global, program: &Program, state: &State<Atomic>, row: &Row) -
     Ok(())
 }
 
+/// Whether bytes are others with a 0 in place of the first one.
+fn begins_with_0(bytes: &[u8], others: &[u8]) -> bool {
+    match (bytes.split_first(), others.split_first()) {
+        (Some((first, rest)), Some((_, other_rest))) => *first == 0 && rest == other_rest,
+        _ => false,
+    }
+}
+
+/// The code of a state by names is the bytes of a row, but with no steps.
+fn has_code_by_names(
+    alloc: Global,
+    program: &Program,
+    state: &State<Atomic>,
+    row: &Row,
+) -> Result<(), Broken>
+    requires { Fits atomic_rules program.now state.now }
+{
+    // Whoever reads a program knows that it meets the limits.
+    let _ = program.initial();
+    let code = state.named_code_in(alloc, Atomic, &mut Room::new(alloc), Vec::new(alloc))?;
+    ensure(begins_with_0(code.as_slice(), row.code), row.case)
+}
+
+/// A state is read from its code by names into the state of each row.
+fn is_read_from_names(
+    alloc: Global,
+    program: &Program,
+    state: &State<Atomic>,
+    row: &Row,
+) -> Result<(), Broken>
+    requires { Fits atomic_rules program.now state.now }
+{
+    for other in ROWS {
+        let mut shell = after(alloc, program, other.schedule)?;
+        let is_read = is_read_by_names(alloc, Atomic, program, state, &mut shell)?;
+        ensure(is_read && shell.memory().as_slice() == row.keys, row.case)?;
+    }
+    Ok(())
+}
+
 /// A copy of a state has its form.
 fn keeps_form(
     alloc: Global,
@@ -237,6 +278,8 @@ pub enum Look {
     Replies,
     Code,
     Read,
+    CodeByNames,
+    ReadByNames,
     FormOfCopy,
 }
 
@@ -249,6 +292,8 @@ fn is_seen(alloc: Global, program: &Program, row: &Row, look: Look) -> Result<()
         Look::Replies => has_replies(alloc, program, &state, row),
         Look::Code => has_code(alloc, program, &state, row),
         Look::Read => is_read(alloc, program, &state, row),
+        Look::CodeByNames => has_code_by_names(alloc, program, &state, row),
+        Look::ReadByNames => is_read_from_names(alloc, program, &state, row),
         Look::FormOfCopy => keeps_form(alloc, program, &state, row),
     }
 }
@@ -299,5 +344,21 @@ fn states_are_read_from_their_bytes(rt: HostRuntime) -> Result<(), Broken> {
     match are_seen(rt.alloc(), Look::Read) {
         Ok(()) => Ok(()),
         Err(_) => are_seen(rt.alloc(), Look::Read),
+    }
+}
+
+#[test]
+fn a_code_by_names_has_no_steps(rt: HostRuntime) -> Result<(), Broken> {
+    match are_seen(rt.alloc(), Look::CodeByNames) {
+        Ok(()) => Ok(()),
+        Err(_) => are_seen(rt.alloc(), Look::CodeByNames),
+    }
+}
+
+#[test]
+fn states_are_read_from_their_code_by_names(rt: HostRuntime) -> Result<(), Broken> {
+    match are_seen(rt.alloc(), Look::ReadByNames) {
+        Ok(()) => Ok(()),
+        Err(_) => are_seen(rt.alloc(), Look::ReadByNames),
     }
 }

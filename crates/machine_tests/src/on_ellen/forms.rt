@@ -8,7 +8,7 @@ use ellen::{Ellen, EllenLoc, SearchLoc};
 use sched_program::{OutOfMemory, Program};
 use std::alloc::Global;
 use std::test::Fail;
-use tree_machine::{State, StateForm, StepFault, Thread};
+use tree_machine::{Bytes, Room, State, StateForm, StepFault, Thread};
 
 const WHOLE: Ellen = Ellen {
     mark: true,
@@ -135,6 +135,27 @@ fn have_equal_forms(
     Ok(*left == *right)
 }
 
+/// The code by names of the state to which the program of a text comes by a schedule.
+fn code_after(alloc: Global, text: &str, stretches: &[(u8, u64)]) -> Result<Bytes, StepFault> {
+    let program = program_of(alloc, text)?;
+    let state = after(alloc, WHOLE, &program, stretches)?;
+    // Whoever reads a program knows that it meets the limits.
+    let _ = program.initial();
+    Ok(state.named_code_in(alloc, WHOLE, &mut Room::new(alloc), Vec::new(alloc))?)
+}
+
+/// Whether two schedules lead to states of equal codes by names.
+fn have_equal_codes(
+    alloc: Global,
+    text: &str,
+    stretches: &[(u8, u64)],
+    others: &[(u8, u64)],
+) -> Result<bool, StepFault> {
+    let left = code_after(alloc, text, stretches)?;
+    let right = code_after(alloc, text, others)?;
+    Ok(left == right)
+}
+
 /// The parent at which a thread looks for its key, if it does.
 fn parent_at(thread: &Thread<EllenLoc>) -> Option<u16> {
     match &thread.place {
@@ -157,7 +178,7 @@ fn parent_of_find(
 }
 
 /// Two schedules of a program, each with the parent at which thread 1 looks for its key then, and whether the states
-/// that they lead to are equal, and their forms.
+/// that they lead to are equal, and their forms with their codes by names.
 struct Pair {
     name: &'static str,
     text: &'static str,
@@ -195,7 +216,7 @@ static PAIRS: [Pair; 3] = [
     },
 ];
 
-/// Whether the states and forms of a pair are as it says.
+/// Whether the states, forms and codes of a pair are as it says.
 fn is_right(alloc: Global, pair: &Pair) -> Result<bool, StepFault> {
     let (first, first_parent) = pair.first;
     let (second, second_parent) = pair.second;
@@ -203,7 +224,9 @@ fn is_right(alloc: Global, pair: &Pair) -> Result<bool, StepFault> {
     let is_there_too = parent_of_find(alloc, pair.text, second)? == second_parent;
     let states = are_equal(alloc, pair.text, first, second)?;
     let forms = have_equal_forms(alloc, pair.text, first, second)?;
-    Ok(is_there && is_there_too && states == pair.states && forms == pair.forms)
+    let codes = have_equal_codes(alloc, pair.text, first, second)?;
+    let are_so = states == pair.states && forms == pair.forms && codes == pair.forms;
+    Ok(is_there && is_there_too && are_so)
 }
 
 #[test]
@@ -218,5 +241,44 @@ fn forms(rt: HostRuntime) -> Result<(), Fail> {
         }
         assert!(rt; answer?, "{name}");
     }
+    Ok(())
+}
+
+/// Over 10, T0 looks for 10.
+const FIND: &str =
+    r#"{"version":1,"tree":"ellen","initial":[10],"threads":[[{"op":"find","key":10}]]}"#;
+
+/// After its first step T0 is about to read a child of the root, with no node above.
+///
+/// The walk begins with the root and the thread. It meets nodes 5 and 2 at the root, and nodes 3 and 4 at node 5; nothing
+/// leads to node 1. So the names are, from 1 on, those of nodes 0, 5, 2, 3, 4.
+const CODE: [u8; 36] = [
+    0, // no steps
+    1, 1, // one thread, without replies
+    1, 1, 16, 0, // one thread, with one note of one count, 0
+    0, // none astray
+    5, 0, // five nodes and no record
+    102, 102, 0, 2, 3, 0, // node 0: of key 102, over nodes 5 and 2, untouched
+    102, 101, 0, 4, 5, 0, // node 5
+    1, 102, // node 2
+    1, 10, // node 3
+    1, 101, // node 4
+    133, 1, 0, 0, 0, 1, 0, 0, // the thread
+];
+
+/// Whether that is its code by names.
+fn is_code(alloc: Global) -> Result<bool, StepFault> {
+    let code = code_after(alloc, FIND, &[(0, 1)])?;
+    Ok(code.as_slice() == CODE.as_slice())
+}
+
+#[test]
+fn a_code_by_names_has_nodes_in_the_order_met(rt: HostRuntime) -> Result<(), Fail> {
+    // One request for memory may be refused.
+    let mut answer = is_code(rt.alloc());
+    if answer.is_err() {
+        answer = is_code(rt.alloc());
+    }
+    assert!(rt; answer?);
     Ok(())
 }

@@ -2,6 +2,7 @@
 ghost use Rattle.tree_machine.specs.Step.{Fits};
 ghost use Rattle.ellen.specs.EllenRules.{ellen_rules};
 
+use crate::machine::by_names::is_read_by_names;
 use crate::on_ellen::states::{next, program_of, start};
 use crate::on_ellen::transcript::thread_of;
 use ellen::Ellen;
@@ -42,18 +43,45 @@ fn is_read_back(
     Ok(is_same && are_cuts_refused(alloc, machine, bytes.as_slice(), used)?)
 }
 
+/// Which bytes of a state it is read from.
+#[derive(Clone, Copy)]
+pub enum ReadFrom {
+    /// All of its own.
+    Bytes,
+    /// Its code by names.
+    Names,
+}
+
+/// Whether a state is read back from these bytes.
+fn is_read_from(
+    alloc: Global,
+    machine: Ellen,
+    program: &Program,
+    from: ReadFrom,
+    state: &State<Ellen>,
+    used: &mut State<Ellen>,
+) -> Result<bool, OutOfMemory>
+    requires { Fits (ellen_rules machine) program.now state.now }
+{
+    match from {
+        ReadFrom::Bytes => is_read_back(alloc, machine, program, state, used),
+        ReadFrom::Names => is_read_by_names(alloc, machine, program, state, used),
+    }
+}
+
 /// After how many steps of a schedule, each the first byte of a line, a state is not read back, if that is so of any.
 fn lost(
     alloc: Global,
     machine: Ellen,
     program: &Program,
+    from: ReadFrom,
     lines: &str,
 ) -> Result<Option<u64>, StepFault> {
     let mut used = start(alloc, machine, program)?;
     let mut state = start(alloc, machine, program)?;
     for line in lines.lines() {
         state = next(alloc, machine, program, &state, thread_of(line)?)?;
-        if !is_read_back(alloc, machine, program, &state, &mut used)? {
+        if !is_read_from(alloc, machine, program, from, &state, &mut used)? {
             return Ok(Some(state.steps()));
         }
     }
@@ -64,9 +92,10 @@ fn lost(
 pub fn first_lost(
     alloc: Global,
     machine: Ellen,
+    from: ReadFrom,
     text: &str,
     lines: &str,
 ) -> Result<Option<u64>, StepFault> {
     let program = program_of(alloc, text)?;
-    lost(alloc, machine, &program, lines)
+    lost(alloc, machine, &program, from, lines)
 }

@@ -3,7 +3,7 @@ mod deletes;
 mod inserts;
 mod without_step;
 
-use crate::on_ellen::read_back::first_lost;
+use crate::on_ellen::read_back::{ReadFrom, first_lost};
 use crate::on_ellen::schedules::deletes::{
     BACKTRACK, DELETE_HELPS_DELETE, DELETE_HELPS_INSERT, HELPER_BACKTRACKS, LATE_DELETE,
     LATE_DELETE_HELPER, LATE_SPLICE, NESTED_DELETES,
@@ -101,12 +101,18 @@ fn variants(rt: HostRuntime) -> Result<(), Fail> {
     Ok(())
 }
 
-/// Fails unless each state along the lines is read back from its bytes, in each program.
-fn reads_all(rt: &impl Abort, alloc: Global, machine: Ellen, cases: &[(&str, &str)]) {
+/// Fails unless each state along the lines is read back from these bytes of it, in each program.
+fn reads_all(
+    rt: &impl Abort,
+    alloc: Global,
+    machine: Ellen,
+    from: ReadFrom,
+    cases: &[(&str, &str)],
+) {
     for (program, lines) in cases {
-        let mut answer = first_lost(alloc, machine, program, lines);
+        let mut answer = first_lost(alloc, machine, from, program, lines);
         if answer.is_err() {
-            answer = first_lost(alloc, machine, program, lines);
+            answer = first_lost(alloc, machine, from, program, lines);
         }
         match answer {
             Ok(None) => {}
@@ -116,11 +122,33 @@ fn reads_all(rt: &impl Abort, alloc: Global, machine: Ellen, cases: &[(&str, &st
     }
 }
 
+/// The same of each machine, in the programs that it has.
+fn reads_each(rt: &impl Abort, alloc: Global, from: ReadFrom) {
+    reads_all(rt, alloc, WHOLE, from, OF_WHOLE.as_slice());
+    reads_all(
+        rt,
+        alloc,
+        WITHOUT_MARK_STEP,
+        from,
+        OF_WITHOUT_MARK.as_slice(),
+    );
+    reads_all(
+        rt,
+        alloc,
+        WITHOUT_FLAG_STEP,
+        from,
+        OF_WITHOUT_FLAG.as_slice(),
+    );
+}
+
 #[test]
 fn states_are_read_back(rt: HostRuntime) -> Result<(), Fail> {
-    let alloc = rt.alloc();
-    reads_all(&rt, alloc, WHOLE, OF_WHOLE.as_slice());
-    reads_all(&rt, alloc, WITHOUT_MARK_STEP, OF_WITHOUT_MARK.as_slice());
-    reads_all(&rt, alloc, WITHOUT_FLAG_STEP, OF_WITHOUT_FLAG.as_slice());
+    reads_each(&rt, rt.alloc(), ReadFrom::Bytes);
+    Ok(())
+}
+
+#[test]
+fn states_are_read_from_their_code_by_names(rt: HostRuntime) -> Result<(), Fail> {
+    reads_each(&rt, rt.alloc(), ReadFrom::Names);
     Ok(())
 }

@@ -2,6 +2,7 @@
 ghost use Rattle.tree_machine.specs.Step.{Fits};
 ghost use Rattle.natmit.specs.NatMitRules.{natmit_rules};
 
+use crate::machine::by_names::is_read_by_names;
 use crate::on_natmit::follow::{Broken, WHOLE, advance, program_of};
 use natmit::{NatMit, NatMitLoc, NatMitMem};
 use sched_program::{Program, Sequence, ShortList};
@@ -233,6 +234,30 @@ fn read_after(alloc: Global, text: &str, schedule: &[u8]) -> Result<(), Broken> 
     read_after_along(alloc, WHOLE, &program, schedule)
 }
 
+/// Reads each state along a schedule from its code by names, into the one that was read before.
+fn read_named_along(
+    alloc: Global,
+    machine: NatMit,
+    program: &Program,
+    schedule: &[u8],
+) -> Result<(), Broken> {
+    let mut desk = desk_of(alloc)?;
+    let mut state = State::start(alloc, machine, program)?;
+    for (step, thread) in schedule.iter().enumerate() {
+        if !is_read_by_names(alloc, machine, program, &state, &mut desk.shell)? {
+            return Err(Broken::Row(step));
+        }
+        state = advance(alloc, machine, program, state, *thread, 1)?;
+    }
+    Ok(())
+}
+
+/// The same along a schedule of the program of a text.
+fn read_named(alloc: Global, text: &str, schedule: &[u8]) -> Result<(), Broken> {
+    let program = program_of(alloc, text)?;
+    read_named_along(alloc, WHOLE, &program, schedule)
+}
+
 /// How many bytes are told to be those of the memory, where what one thread holds stands behind them. That is then read once
 /// more, alone.
 fn front_of(alloc: Global, bytes: &[u8]) -> Result<Option<usize>, Broken> {
@@ -299,6 +324,17 @@ fn states_are_read_one_after_the_other(rt: HostRuntime) -> Result<(), Fail> {
     // Once more where a growth was refused: that happens once at most.
     let end = match read_after(rt.alloc(), DELETE_AND_INSERT, &HELPED) {
         Err(Broken::OutOfMemory) => read_after(rt.alloc(), DELETE_AND_INSERT, &HELPED),
+        end => end,
+    };
+    assert!(rt; end == Ok(()));
+    Ok(())
+}
+
+#[test]
+fn states_are_read_from_their_code_by_names(rt: HostRuntime) -> Result<(), Fail> {
+    // Once more where a growth was refused: that happens once at most.
+    let end = match read_named(rt.alloc(), DELETE_AND_INSERT, &HELPED) {
+        Err(Broken::OutOfMemory) => read_named(rt.alloc(), DELETE_AND_INSERT, &HELPED),
         end => end,
     };
     assert!(rt; end == Ok(()));
