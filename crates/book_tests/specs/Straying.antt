@@ -1,10 +1,10 @@
 -- A machine each of whose operations goes astray at its second step, for the tests. A place says whether the first is
 -- done.
 use Rattle.std.specs.Prelude.{◌≡◌, ◌↔◌, ℕ, Bool, true, false, refl, List, [], ◌∷◌, map, Option, Some, None}
-use Rattle.std.proofs.Common.{◌∙◌, ap, arith}
+use Rattle.std.proofs.Common.{◌∙◌, ap, arith, sym, subst}
 use Rattle.std.proofs.lemmas.Option.{same_Some}
 use Rattle.sched_program.specs.declared.operation.Op.{Op}
-use Rattle.tree_machine.specs.Rules.{Rules, AreLawful, IsOutcomeInRange}
+use Rattle.tree_machine.specs.Rules.{Rules, ArePlacesInRange, AreLawful, DecodesForms, IsOutcomeInRange}
 use Rattle.tree_machine.specs.FormCode.{TellsWholly}
 use Rattle.tree_machine.specs.Pairing.{AreAlike}
 use Rattle.tree_machine.specs.Unnumbered.{equal_pairs}
@@ -94,4 +94,14 @@ straying_forms memory other held twins =
     let alike = equal_alike memory other held twins in (
       (λ same. alike.0 (straying_tells memory other held twins same)),
       (λ h. let same = alike.1 h in λ i. straying_form (same.0 i) (same.1 i)),
+    )
+
+-- so bytes that are equal are of forms that are
+pub straying_decodes : DecodesForms straying_rules straying_form (λ bytes. bytes) straying_form
+straying_decodes memory other held twins range places e =
+    let same = straying_tells other memory twins held e in (
+      tt,
+      subst (λ m. ArePlacesInRange straying_rules m twins) (sym same.0)
+          (subst (ArePlacesInRange straying_rules memory) (sym same.1) places),
+      (straying_forms memory other held twins).0 (sym e),
     )

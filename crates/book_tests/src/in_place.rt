@@ -1,47 +1,18 @@
-//! Steps that are made in their source and taken back, entered into a book of either merge.
+//! The steps of taken entries, made in what is read from their labels, entered into a book of either merge.
 ghost use Rattle.std.specs.Prelude.{◌≡◌, ◌+◌, ◌^◌, ◌<◌, IfOk, IfSome};
 ghost use Rattle.tree_machine.specs.Atomic.{atomic_rules};
 ghost use Rattle.tree_machine.specs.Step.{Fits};
-ghost use Rattle.book.specs.declared.finding.Finding.TheVariants.{Sound};
 ghost use Rattle.book.specs.Findings.{IsFindingOf};
 
 use crate::fixtures::{Broken, TWO_INSERTS, open, settled, take_number};
-use book::{Book, Entered, Finding, Merge, Order, Stock, Successors, Totals};
-use sched_program::Program;
+use crate::replays::{ONE, ZERO, is_order};
+use book::{Book, Entered, Merge, Stock, Successors, Totals};
+use sched_program::OpId;
 use std::alloc::Global;
 use std::test::Fail;
-use tree_machine::{Atomic, Room, State};
+use tree_machine::Atomic;
 
-/// The steps of a sound state, made in a state that is read from its bytes, if it can be.
-fn steps_here<'a>(
-    alloc: Global,
-    program: &'a Program,
-    source: &State<Atomic>,
-    order: &Order,
-    stock: &mut Stock<Atomic>,
-) -> Result<Option<Successors<'a, Atomic>>, Broken>
-    requires fits { Fits atomic_rules program.now source.now }
-    requires room { source.now.steps + 1 < 2 ^ 64 }
-    requires sound { IsFindingOf atomic_rules program.now source.now (Sound order.now) }
-    ensures program { IfOk result (λ o. IfSome o (λ x. x.program ≡ program.now)) }
-    ensures source { IfOk result (λ o. IfSome o (λ x. x.source ≡ source.now)) }
-{
-    // Whoever reads a program knows that it meets the limits.
-    let _ = program.initial();
-    let mut room = Room::new(alloc);
-    let told = source.code_in(alloc, Atomic, &mut room, Vec::new(alloc))?;
-    let bytes = told.as_slice();
-    let mut state = source.copy(alloc, Atomic)?;
-    let Some(cuts) = state.read_cut(alloc, Atomic, bytes)? else {
-        return Ok(None);
-    };
-    let steps = Successors::of_sound(
-        alloc, Atomic, program, &mut state, bytes, cuts, order, stock,
-    )?;
-    Ok(Some(steps))
-}
-
-/// Takes the next entry and enters its steps, made so. None where it is not sound or its state can't be read.
+/// Takes the next entry and enters its steps, made from its label. None where they can't be made so.
 fn enter_here(
     alloc: Global,
     book: &mut Book<Atomic>,
@@ -49,14 +20,12 @@ fn enter_here(
 ) -> Result<Option<Entered>, Broken> {
     let id = take_number(book)?;
     book.law();
-    let Some((source, finding)) = book.handed_out(id)? else {
-        return Ok(None);
-    };
-    let Finding::Sound(order) = &finding else {
+    let Some(entry) = book.taken_entry(id, stock)? else {
         return Ok(None);
     };
     let program = book.program().copy(alloc)?;
-    let Some(steps) = steps_here(alloc, &program, &*source, order, stock)? else {
+    let (machine, merge) = (book.machine(), book.merge());
+    let Some(steps) = Successors::of_entry(alloc, machine, &program, merge, entry, stock)? else {
         return Ok(None);
     };
     let mut leftovers = stock.leftovers(alloc, steps.len())?;
@@ -79,6 +48,20 @@ const ALL_EXPANDED: Totals = Totals {
     met: 0,
 };
 
+/// The linearization of each entry: each step's operation stands behind those of its source.
+const ORDERS: [&[OpId]; 5] = [&[], &[ZERO], &[ONE], &[ZERO, ONE], &[ONE, ZERO]];
+
+/// Whether these are the linearizations of the entries, one by one.
+fn have_orders(book: &Book<Atomic>) -> bool {
+    for (id, order) in ORDERS.iter().enumerate() {
+        match book.finding_of(id) {
+            Some(finding) if is_order(finding, order) => {}
+            _ => return false,
+        }
+    }
+    book.len() == ORDERS.len()
+}
+
 fn are_entered(alloc: Global, merge: Merge) -> Result<bool, Broken> {
     let mut book = open(alloc, Atomic, TWO_INSERTS, 100, merge)?;
     let mut stock = Stock::new(alloc);
@@ -88,12 +71,11 @@ fn are_entered(alloc: Global, merge: Merge) -> Result<bool, Broken> {
             _ => return Ok(false),
         }
     }
-    Ok(book.totals() == ALL_EXPANDED)
+    Ok(book.totals() == ALL_EXPANDED && have_orders(&*book))
 }
 
-// By names the book asks for the states of the steps, which are made once more for it.
 #[test]
-fn steps_made_in_their_source_are_entered(rt: HostRuntime) -> Result<(), Fail> {
+fn steps_made_from_labels_are_entered(rt: HostRuntime) -> Result<(), Fail> {
     let alloc = rt.alloc();
     for merge in [Merge::Exact, Merge::Names] {
         let are_so = settled!(are_entered(alloc, merge))?;

@@ -15,8 +15,6 @@ mod in_place;
 #[cfg(test)]
 mod layers;
 #[cfg(test)]
-mod lending;
-#[cfg(test)]
 mod refused;
 #[cfg(test)]
 mod replays;

@@ -3,7 +3,7 @@ ghost use Rattle.std.specs.Prelude.{◌≡◌, ◌++◌, [], map, refl, OnOk};
 ghost use Rattle.sched_program.specs.Laws.Exact.{bool_exact, list_exact, nat_exact};
 ghost use Rattle.tree_machine.specs.Alike.{places_of};
 ghost use Rattle.book_tests.specs.Straying.{straying_rules, straying_lawful, straying_form, straying_forms};
-ghost use Rattle.book_tests.specs.Straying.{straying_tells, held_code};
+ghost use Rattle.book_tests.specs.Straying.{straying_decodes, straying_tells, held_code};
 
 use crate::held_byte::held_byte;
 use sched_program::{Op, OutOfMemory};
@@ -165,6 +165,8 @@ impl Machine for Straying {
     ghost lawful = { λ _. straying_lawful };
 
     ghost forms = { λ _ memory other held twins _ _ _ _ _. straying_forms memory other held twins };
+
+    ghost decodes = { λ _. straying_decodes };
 
     ghost form_tells = { λ a b same. same };
 

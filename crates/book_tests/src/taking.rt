@@ -1,7 +1,8 @@
 //! Entries that are taken at once.
 
 use crate::fixtures::{Broken, expanded, has_none_left, settled};
-use book::{Book, Merge, Stock};
+use book::{Book, Merge, Stock, read_state};
+use sched_program::OutOfMemory;
 use std::alloc::Global;
 use std::sync::Arc;
 use std::test::Fail;
@@ -52,78 +53,51 @@ fn hands_out_no_other(book: &mut Book<Atomic>) -> Result<bool, Broken> {
 
 /// Hands out the steps of the start, which are open and then taken, and nothing else.
 fn hands_out_a_layer(alloc: Global) -> Result<bool, Broken> {
-    let mut book = expanded(alloc, Merge::Exact, Merge::Exact, 1)?;
+    let mut book = expanded(alloc, Merge::Exact, 1)?;
     let too_early = book.handed_out(1)?.is_some();
     Ok(!too_early && hands_out_both(&mut *book)? && hands_out_no_other(&mut *book)?)
 }
 
-/// Whether a state of one step is read from these bytes.
-fn is_read(
+/// The steps of the state that is read from this label, if one can be read.
+fn steps_read(
     alloc: Global,
     book: &Book<Atomic>,
-    code: &Bytes,
-    stock: &mut Stock<Atomic>,
-) -> Result<bool, Broken> {
-    Ok(
-        match stock.read(alloc, Atomic, book.program(), code.as_slice())? {
-            Some((state, _)) => state.steps() == 1,
-            None => false,
-        },
-    )
+    label: &Bytes,
+) -> Result<Option<u64>, OutOfMemory> {
+    let mut state = State::start(alloc, Atomic, book.program())?;
+    let read = read_state(alloc, Atomic, label.as_slice(), None, &mut state)?;
+    Ok(read.map(|_cuts| state.steps()))
 }
 
-/// Whether the entry of this number is told by bytes from which its state is read.
-fn is_told_by_bytes(
+/// Whether the entry of this number is taken and sound, and a state of so many steps is read from its label.
+fn has_label(
     alloc: Global,
     book: &Book<Atomic>,
     id: usize,
+    steps: u64,
     stock: &mut Stock<Atomic>,
 ) -> Result<bool, Broken> {
-    let Some(told) = book.told(id, stock)? else {
+    let Some(entry) = book.taken_entry(id, stock)? else {
         return Ok(false);
     };
-    let is_alone = told.state.is_none() && told.finding.is_sound();
-    match &told.code {
-        Some(code) => Ok(is_alone && is_read(alloc, book, code, stock)?),
-        None => Ok(false),
-    }
+    let read = steps_read(alloc, book, &entry.label)?;
+    Ok(entry.finding.is_sound() && read == Some(steps))
 }
 
-/// Whether the entry of this number is told by its state.
-fn is_told_by_state(
-    book: &Book<Atomic>,
-    id: usize,
-    stock: &mut Stock<Atomic>,
-) -> Result<bool, Broken> {
-    let Some(told) = book.told(id, stock)? else {
-        return Ok(false);
-    };
-    let is_alone = told.code.is_none() && told.finding.is_sound();
-    match &told.state {
-        Some(state) => Ok(is_alone && state.steps() == 1),
-        None => Ok(false),
-    }
-}
-
-/// With exact merging the steps of the start are told by their bytes, once they are taken.
-fn tells_bytes(alloc: Global) -> Result<bool, Broken> {
-    let mut book = expanded(alloc, Merge::Exact, Merge::Exact, 1)?;
+/// The labels of the steps of the start, once they are taken. A label says the number of steps only where the book merges
+/// exactly.
+fn has_labels(alloc: Global, merge: Merge, steps: u64) -> Result<bool, Broken> {
+    let mut book = expanded(alloc, merge, 1)?;
     let mut stock = Stock::new(alloc);
-    let too_early = book.told(1, &mut stock)?.is_some();
+    let too_early = book.taken_entry(1, &mut stock)?.is_some();
     let _range = book.take_range();
-    Ok(!too_early && is_told_by_bytes(alloc, &*book, 1, &mut stock)?)
-}
-
-/// By names they are told by their states.
-fn tells_states(alloc: Global) -> Result<bool, Broken> {
-    let mut book = expanded(alloc, Merge::Names, Merge::Names, 1)?;
-    let mut stock = Stock::new(alloc);
-    let _range = book.take_range();
-    is_told_by_state(&*book, 1, &mut stock)
+    let both = has_label(alloc, &*book, 1, steps, &mut stock)?
+        && has_label(alloc, &*book, 2, steps, &mut stock)?;
+    Ok(!too_early && both)
 }
 
 fn takes_the_first_steps(alloc: Global) -> Result<bool, Broken> {
-    let mut book = expanded(alloc, Merge::Exact, Merge::Exact, 1)?;
+    let mut book = expanded(alloc, Merge::Exact, 1)?;
     takes_a_layer(&mut *book)
 }
 
@@ -136,11 +110,12 @@ fn a_layer_is_handed_out_one_by_one(rt: HostRuntime) -> Result<(), Fail> {
 }
 
 #[test]
-fn an_entry_is_told_by_its_bytes_or_its_state(rt: HostRuntime) -> Result<(), Fail> {
+fn a_state_is_read_from_the_label_of_a_taken_entry(rt: HostRuntime) -> Result<(), Fail> {
     let alloc = rt.alloc();
-    let by_bytes = settled!(tells_bytes(alloc))?;
-    let by_state = settled!(tells_states(alloc))?;
-    assert!(rt; by_bytes && by_state);
+    for (merge, steps) in [(Merge::Exact, 1), (Merge::Names, 0)] {
+        let is_read = settled!(has_labels(alloc, merge, steps))?;
+        assert!(rt; is_read, "{merge:?}");
+    }
     Ok(())
 }
 
