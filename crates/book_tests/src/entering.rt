@@ -24,7 +24,7 @@ fn refuses(
     requires room { state.now.steps + 1 < 2 ^ 64 }
 {
     let before = book.totals();
-    let answer = enter_under(alloc, book, id, state, Merge::Exact);
+    let answer = enter_under(alloc, book, id, state);
     Ok(is_broken(answer, fault)? && book.totals() == before)
 }
 
@@ -38,7 +38,7 @@ fn enters_once(
     requires fits { Fits atomic_rules book.old.program state.now }
     requires room { state.now.steps + 1 < 2 ^ 64 }
 {
-    let first = enter_under(alloc, book, id, state, Merge::Exact)?;
+    let first = enter_under(alloc, book, id, state)?;
     let is_again = refuses(alloc, book, id, state, Broken::NotTaken)?;
     Ok(first.entered == 2 && first.met == 0 && is_again)
 }
@@ -50,7 +50,7 @@ fn enters_the_start_once(alloc: Global, book: &mut Book<Atomic>) -> Result<bool,
 }
 
 fn is_entered_once(alloc: Global) -> Result<bool, Broken> {
-    let mut book = expanded(alloc, Merge::Exact, Merge::Exact, 0)?;
+    let mut book = expanded(alloc, Merge::Exact, 0)?;
     enters_the_start_once(alloc, &mut *book)
 }
 
@@ -83,7 +83,7 @@ fn refuses_a_stranger(alloc: Global, book: &mut Book<Atomic>) -> Result<bool, Br
 }
 
 fn is_stranger_refused(alloc: Global) -> Result<bool, Broken> {
-    let mut book = expanded(alloc, Merge::Exact, Merge::Exact, 1)?;
+    let mut book = expanded(alloc, Merge::Exact, 1)?;
     Ok(refuses_a_stranger(alloc, &mut *book)? && has_none_left(&mut *book)?)
 }
 
@@ -97,7 +97,7 @@ fn a_stranger_is_refused(rt: HostRuntime) -> Result<(), Fail> {
 
 /// Enters the two steps of the start into a book that has room for one.
 fn refuses_too_many(alloc: Global, book: &mut Book<Atomic>) -> Result<bool, Broken> {
-    let answer = expand_next(alloc, book, Merge::Exact);
+    let answer = expand_next(alloc, book);
     let totals = book.totals();
     Ok(is_broken(answer, Broken::Full)? && totals.entries == 1 && totals.taken == 1)
 }

@@ -141,22 +141,20 @@ pub fn has_none_left(book: &mut Book<Atomic>) -> Result<bool, Broken> {
     Ok(book.take()?.is_none())
 }
 
-/// Enters the steps of a state of this program under the number of an entry. They are labelled for a book that merges
-/// so.
+/// Enters the steps of a state of this program under the number of an entry.
 fn enter_of<M: Machine>(
     alloc: Global,
     book: &mut Book<M>,
     id: usize,
     program: &Program,
     state: &State<M>,
-    labels: Merge,
 ) -> Result<Entered, Broken>
     requires fits { Fits (M.rules book.old.machine) program.now state.now }
     requires room { state.now.steps + 1 < 2 ^ 64 }
     ensures machine { book.new.machine ≡ book.old.machine }
     ensures program { book.new.program ≡ book.old.program }
 {
-    let expansion = Expansion::for_merge(alloc, book.machine(), program, state, labels)?;
+    let expansion = Expansion::of(alloc, book.machine(), program, state)?;
     Ok(book.enter(id, expansion)?)
 }
 
@@ -166,7 +164,6 @@ pub fn enter_under<M: Machine>(
     book: &mut Book<M>,
     id: usize,
     state: &State<M>,
-    labels: Merge,
 ) -> Result<Entered, Broken>
     requires fits { Fits (M.rules book.old.machine) book.old.program state.now }
     requires room { state.now.steps + 1 < 2 ^ 64 }
@@ -174,7 +171,7 @@ pub fn enter_under<M: Machine>(
     ensures program { book.new.program ≡ book.old.program }
 {
     let program = book.program().copy(alloc)?;
-    enter_of(alloc, book, id, &program, state, labels)
+    enter_of(alloc, book, id, &program, state)
 }
 
 /// Whether the steps of a state were refused for this.
@@ -190,34 +187,31 @@ pub fn is_broken(answer: Result<Entered, Broken>, reason: Broken) -> Result<bool
 pub fn expand_next<M: Machine>(
     alloc: Global,
     book: &mut Book<M>,
-    labels: Merge,
 ) -> Result<Entered, Broken> {
     let (id, state) = take_next(book)?;
-    enter_under(alloc, book, id, &state, labels)
+    enter_under(alloc, book, id, &state)
 }
 
 /// Takes so many entries, one after the other, and enters the steps of each.
 fn expand(
     alloc: Global,
     book: &mut Book<Atomic>,
-    labels: Merge,
     entries: usize,
 ) -> Result<(), Broken> {
     for _entry in 0..entries {
-        expand_next(alloc, book, labels)?;
+        expand_next(alloc, book)?;
     }
     Ok(())
 }
 
-/// The book of the two inserts, with the steps of so many entries, which are labelled for a merge.
+/// The book of the two inserts, with the steps of so many entries.
 pub fn expanded(
     alloc: Global,
     merge: Merge,
-    labels: Merge,
     entries: usize,
 ) -> Result<Box<Book<Atomic>>, Broken> {
     let mut book = open(alloc, Atomic, TWO_INSERTS, 100, merge)?;
-    expand(alloc, &mut *book, labels, entries)?;
+    expand(alloc, &mut *book, entries)?;
     Ok(book)
 }
 

@@ -6,14 +6,6 @@ use std::alloc::Global;
 use std::test::Fail;
 use tree_machine::Machine;
 
-/// How a book merges, and for which merge the steps that are entered are labelled.
-const MERGES_AND_LABELS: [(Merge, Merge); 4] = [
-    (Merge::Exact, Merge::Exact),
-    (Merge::Names, Merge::Names),
-    (Merge::Names, Merge::Exact),
-    (Merge::Exact, Merge::Names),
-];
-
 /// The totals of two steps of both threads: five entries, the later ones open.
 const WHOLE: Totals = Totals {
     entries: 5,
@@ -54,18 +46,18 @@ fn is_two_layers<M: Machine>(alloc: Global, book: &Book<M>, merge: Merge) -> Res
     Ok(is_way(alloc, book, 4, &[1, 0])? && is_told)
 }
 
-fn has_two_layers(alloc: Global, merge: Merge, labels: Merge) -> Result<bool, Broken> {
-    let book = expanded(alloc, merge, labels, 3)?;
+fn has_two_layers(alloc: Global, merge: Merge) -> Result<bool, Broken> {
+    let book = expanded(alloc, merge, 3)?;
     is_two_layers(alloc, &book, merge)
 }
 
-// Steps that are labelled for another merge are labelled anew.
+// The steps are labelled for the book that they are entered into.
 #[test]
 fn a_book_of_two_layers(rt: HostRuntime) -> Result<(), Fail> {
     let alloc = rt.alloc();
-    for (merge, labels) in MERGES_AND_LABELS {
-        let is_whole = settled!(has_two_layers(alloc, merge, labels))?;
-        assert!(rt; is_whole, "{merge:?} of {labels:?}");
+    for merge in [Merge::Exact, Merge::Names] {
+        let is_whole = settled!(has_two_layers(alloc, merge))?;
+        assert!(rt; is_whole, "{merge:?}");
     }
     Ok(())
 }
@@ -79,7 +71,7 @@ const CLOSED: [(Merge, usize, bool); 3] = [
 
 /// Whether the book with the steps of so many entries is closed.
 fn is_closed(alloc: Global, merge: Merge, entries: usize) -> Result<bool, Broken> {
-    Ok(expanded(alloc, merge, merge, entries)?.closed())
+    Ok(expanded(alloc, merge, entries)?.closed())
 }
 
 #[test]

@@ -67,7 +67,7 @@ fn takes_the_first_layer(book: &mut Book<Atomic>) -> Result<bool, Broken> {
 
 fn enters_both_steps(alloc: Global, book: &mut Book<Atomic>) -> Result<bool, Broken> {
     let start = State::start(alloc, Atomic, book.program())?;
-    let told = enter_under(alloc, book, 0, &start, Merge::Exact)?;
+    let told = enter_under(alloc, book, 0, &start)?;
     Ok(told.entered == 2 && told.met == 0)
 }
 
@@ -127,7 +127,7 @@ fn is_made(
 }
 
 fn is_made_on_the_start(alloc: Global, call: Call, totals: Totals) -> Result<bool, Broken> {
-    let mut book = expanded(alloc, Merge::Exact, Merge::Exact, 0)?;
+    let mut book = expanded(alloc, Merge::Exact, 0)?;
     is_made(alloc, &mut *book, call, totals)
 }
 

@@ -1,11 +1,11 @@
 //! Entries that are taken at once.
 
 use crate::fixtures::{Broken, expanded, has_none_left, settled};
-use book::{Book, Merge, Stock};
+use book::{Book, Merge, Stock, read_state};
 use std::alloc::Global;
 use std::sync::Arc;
 use std::test::Fail;
-use tree_machine::{Atomic, Bytes, State};
+use tree_machine::{Atomic, State};
 
 /// Whether an entry has this number and a state of one step.
 fn is_first_step(entry: &(usize, Arc<State<Atomic>>), id: usize) -> bool {
@@ -52,78 +52,49 @@ fn hands_out_no_other(book: &mut Book<Atomic>) -> Result<bool, Broken> {
 
 /// Hands out the steps of the start, which are open and then taken, and nothing else.
 fn hands_out_a_layer(alloc: Global) -> Result<bool, Broken> {
-    let mut book = expanded(alloc, Merge::Exact, Merge::Exact, 1)?;
+    let mut book = expanded(alloc, Merge::Exact, 1)?;
     let too_early = book.handed_out(1)?.is_some();
     Ok(!too_early && hands_out_both(&mut *book)? && hands_out_no_other(&mut *book)?)
 }
 
-/// Whether a state of one step is read from these bytes.
+/// Whether the entry of this number is given with a label from which a state of one step is read.
 fn is_read(
     alloc: Global,
     book: &Book<Atomic>,
-    code: &Bytes,
-    stock: &mut Stock<Atomic>,
-) -> Result<bool, Broken> {
-    Ok(
-        match stock.read(alloc, Atomic, book.program(), code.as_slice())? {
-            Some((state, _)) => state.steps() == 1,
-            None => false,
-        },
-    )
-}
-
-/// Whether the entry of this number is told by bytes from which its state is read.
-fn is_told_by_bytes(
-    alloc: Global,
-    book: &Book<Atomic>,
     id: usize,
     stock: &mut Stock<Atomic>,
 ) -> Result<bool, Broken> {
-    let Some(told) = book.told(id, stock)? else {
+    let Some(entry) = book.taken_entry(id, stock)? else {
         return Ok(false);
     };
-    let is_alone = told.state.is_none() && told.finding.is_sound();
-    match &told.code {
-        Some(code) => Ok(is_alone && is_read(alloc, book, code, stock)?),
-        None => Ok(false),
-    }
+    let mut state = State::start(alloc, Atomic, book.program())?;
+    let label = entry.label.as_slice();
+    let read = read_state(alloc, Atomic, Merge::Exact, label, None, &mut state)?;
+    Ok(entry.finding.is_sound() && read.is_some() && state.steps() == 1)
 }
 
-/// Whether the entry of this number is told by its state.
-fn is_told_by_state(
-    book: &Book<Atomic>,
-    id: usize,
-    stock: &mut Stock<Atomic>,
-) -> Result<bool, Broken> {
-    let Some(told) = book.told(id, stock)? else {
-        return Ok(false);
-    };
-    let is_alone = told.code.is_none() && told.finding.is_sound();
-    match &told.state {
-        Some(state) => Ok(is_alone && state.steps() == 1),
-        None => Ok(false),
-    }
-}
-
-/// With exact merging the steps of the start are told by their bytes, once they are taken.
-fn tells_bytes(alloc: Global) -> Result<bool, Broken> {
-    let mut book = expanded(alloc, Merge::Exact, Merge::Exact, 1)?;
+/// With exact merging the states of the steps of the start are read from their labels, once they are taken.
+fn gives_labels(alloc: Global) -> Result<bool, Broken> {
+    let mut book = expanded(alloc, Merge::Exact, 1)?;
     let mut stock = Stock::new(alloc);
-    let too_early = book.told(1, &mut stock)?.is_some();
+    let too_early = book.taken_entry(1, &mut stock)?.is_some();
     let _range = book.take_range();
-    Ok(!too_early && is_told_by_bytes(alloc, &*book, 1, &mut stock)?)
+    Ok(!too_early && is_read(alloc, &*book, 1, &mut stock)?)
 }
 
-/// By names they are told by their states.
-fn tells_states(alloc: Global) -> Result<bool, Broken> {
-    let mut book = expanded(alloc, Merge::Names, Merge::Names, 1)?;
+/// By names they have labels too.
+fn gives_names(alloc: Global) -> Result<bool, Broken> {
+    let mut book = expanded(alloc, Merge::Names, 1)?;
     let mut stock = Stock::new(alloc);
     let _range = book.take_range();
-    is_told_by_state(&*book, 1, &mut stock)
+    Ok(match book.taken_entry(1, &mut stock)? {
+        Some(entry) => entry.finding.is_sound() && !entry.label.as_slice().is_empty(),
+        None => false,
+    })
 }
 
 fn takes_the_first_steps(alloc: Global) -> Result<bool, Broken> {
-    let mut book = expanded(alloc, Merge::Exact, Merge::Exact, 1)?;
+    let mut book = expanded(alloc, Merge::Exact, 1)?;
     takes_a_layer(&mut *book)
 }
 
@@ -136,11 +107,11 @@ fn a_layer_is_handed_out_one_by_one(rt: HostRuntime) -> Result<(), Fail> {
 }
 
 #[test]
-fn an_entry_is_told_by_its_bytes_or_its_state(rt: HostRuntime) -> Result<(), Fail> {
+fn an_entry_is_given_with_its_label(rt: HostRuntime) -> Result<(), Fail> {
     let alloc = rt.alloc();
-    let by_bytes = settled!(tells_bytes(alloc))?;
-    let by_state = settled!(tells_states(alloc))?;
-    assert!(rt; by_bytes && by_state);
+    let by_bytes = settled!(gives_labels(alloc))?;
+    let by_names = settled!(gives_names(alloc))?;
+    assert!(rt; by_bytes && by_names);
     Ok(())
 }
 

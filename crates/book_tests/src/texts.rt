@@ -33,7 +33,7 @@ fn is_text_of(
     entries: usize,
     text: Option<&str>,
 ) -> Result<bool, Broken> {
-    let book = expanded(alloc, merge, merge, entries)?;
+    let book = expanded(alloc, merge, entries)?;
     is_text(alloc, &book, text)
 }
 

@@ -27,7 +27,7 @@ const FIRST_WAYS: &[(usize, &[u8])] = &[(0, &[]), (1, &[0]), (2, &[1]), (3, &[0,
 fn expanded(alloc: Global, merge: Merge, entries: usize) -> Result<Box<Book<Ellen>>, Broken> {
     let mut book = open(alloc, WHOLE, TWO_FINDS, 100, merge)?;
     for _entry in 0..entries {
-        expand_next(alloc, &mut *book, merge)?;
+        expand_next(alloc, &mut *book)?;
     }
     Ok(book)
 }
