@@ -1,4 +1,4 @@
-//! A layer of entries, and how a worker has some of them handed out.
+//! A layer of entries, and how a worker gets some of them.
 ghost use Rattle.std.specs.Prelude.{◌≡◌, ◌+◌, ◌<◌, ◌^◌, All, IfOk};
 ghost use Rattle.claims.specs.Seats.{IsSeatOf};
 
@@ -7,7 +7,7 @@ use crate::ready::Ready;
 use crate::tally::Ledgers;
 use crate::tied::{Made, Tie, Tied};
 use crate::waiting::read_soon;
-use book::{Merge, Stock};
+use book::Stock;
 use claims::{Claims, Seat};
 use sched_program::{OutOfMemory, Program};
 use std::alloc::Global;
@@ -15,24 +15,16 @@ use std::marker::{Model, PhantomData};
 use std::sync::{RwLock, Wait};
 use tree_machine::{Machine, State};
 
-/// How many places a worker draws in one round at most, by names: it has the states of all of them in hand, and they would
-/// drive each other out of the processor's caches.
-const ROUND: usize = 64;
-
-/// How many with exact merging, where an entry is a copy of its bytes until it is opened.
-const LONG_ROUND: usize = 256;
+/// How many places a worker draws in one round at most.
+const ROUND: usize = 256;
 
 /// How many places a worker draws in one round: several, so that it waits for the lock less often than once for each
 /// entry, but few beside its portion of the layer, so that all workers come to the layer's end at about the same time.
-pub fn round_of(places: usize, workers: usize, merge: Merge) -> usize
+pub fn round_of(places: usize, workers: usize) -> usize
     requires some { 0 < workers }
     requires few { workers < 2 ^ 8 }
 {
-    let most = match merge {
-        Merge::Exact => LONG_ROUND,
-        Merge::Names => ROUND,
-    };
-    (places / (8 * workers)).clamp(1, most)
+    (places / (8 * workers)).clamp(1, ROUND)
 }
 
 /// Draws the places of one round, fewer where no more are left.
@@ -56,22 +48,10 @@ fn places_of(
     Ok(places)
 }
 
-/// Looks at the states of entries. The sum of what it sees is of no use: a state that a book holds was last touched a layer
-/// ago, by whichever worker made it, and looked at one right after the other they come into the processor's caches all at
-/// once, so that no expansion has to wait for its own.
-fn look_at<K: Tie<M, State<M>>, M: Machine>(drawn: &[(usize, Ready<'_, K, M>)]) -> usize {
-    let mut seen = 0usize;
-    for (_, ready) in drawn {
-        seen = seen.wrapping_add(ready.look_at());
-    }
-    seen
-}
-
 /// The entries of a layer, which are taken, and the counter of their places. Contracts see the counter.
 #[derive(Drop)]
 pub struct Layer<'a, K: Tie<M, State<M>>, M: Machine> {
     pub alloc: Global,
-    pub merge: Merge,
     pub machine: M,
     pub program: &'a Program,
     /// How many steps its states have.
@@ -100,7 +80,7 @@ impl<'a, K: Tie<M, State<M>>, M: Machine> Model for Layer<'a, K, M> {
 }
 
 impl<'a, K: Tie<M, State<M>>, M: Machine> Layer<'a, K, M> {
-    /// The entries at some places, each beside its place, as the book has them.
+    /// The entries at some places, each beside its place.
     fn entries_at<J: Ledgers>(
         &self,
         desk: &Tied<J, K, M>,
@@ -119,7 +99,7 @@ impl<'a, K: Tie<M, State<M>>, M: Machine> Layer<'a, K, M> {
         Ok(entries)
     }
 
-    /// The same, all in one holding of the lock.
+    /// The entries at some places, all in one holding of the lock.
     fn hand_out<J: Ledgers>(
         &self,
         rt: &impl Wait,
@@ -133,8 +113,7 @@ impl<'a, K: Tie<M, State<M>>, M: Machine> Layer<'a, K, M> {
         self.entries_at(&*desk, places, stock)
     }
 
-    /// Makes the expansion of an entry, whose state is at hand meanwhile. The book is asked once more for a state that can't be
-    /// read from its bytes.
+    /// Makes the expansion of an entry. The book makes the state of one whose label can't be read.
     fn expand_one<J: Ledgers>(
         &self,
         rt: &impl Wait,
@@ -142,12 +121,17 @@ impl<'a, K: Tie<M, State<M>>, M: Machine> Layer<'a, K, M> {
         ready: &mut Ready<'a, K, M>,
         stock: &mut Stock<M>,
     ) -> Result<Option<Made<'a, K, M>>, OutOfMemory> {
-        if !ready.open(self.alloc, stock)? {
-            read_soon(rt, desk).fill(ready)?;
+        if let Some(made) = ready.expand(self.alloc, stock)? {
+            return Ok(Some(made));
         }
-        let made = ready.expand(self.alloc, self.merge, stock)?;
-        ready.close(stock);
-        Ok(made)
+        let state = read_soon(rt, desk).state_of(&*ready)?;
+        match state {
+            Some(state) => {
+                let made = ready.expand_anew(self.alloc, &*state)?;
+                Ok(Some(made))
+            }
+            None => Ok(None),
+        }
     }
 
     /// Draws the places of one round. The answer is the entries there.
@@ -179,7 +163,6 @@ impl<'a, K: Tie<M, State<M>>, M: Machine> Layer<'a, K, M> {
         made: &mut Vec<Made<'a, K, M>>,
         stock: &mut Stock<M>,
     ) -> Result<(), OutOfMemory> {
-        let _seen = look_at(drawn);
         made.reserve(drawn.len())?;
         for (place, ready) in drawn.iter_mut() {
             if let Some(one) = self.expand_one(rt, desk, ready, stock)? {

@@ -37,7 +37,7 @@ fn expand_next<M: Machine>(
         unreachable!();
     };
     book.law();
-    let expansion = Expansion::for_merge(alloc, book.machine(), program, &*state, book.merge())?;
+    let expansion = Expansion::of(alloc, book.machine(), program, &*state)?;
     expansion.law();
     match book.enter(id, expansion) {
         Ok(counts) => {

@@ -97,7 +97,6 @@ fn explore_together<J: Ledgers + Send + Sync, M: Machine, G: Gate, R: Threads + 
         alloc,
         machine,
         program,
-        merge: options.merge(),
         workers: options.workers(),
         gate,
         stocks: &stocks,

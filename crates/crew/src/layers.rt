@@ -108,7 +108,6 @@ impl<'a, M: Machine, G: Gate, R: Threads + Wait + Sync> Exploration<'a, M, G, R>
             alloc: self.alloc,
             machine: self.machine,
             program: self.program,
-            merge: self.merge,
             workers: self.workers,
             gate: self.gate,
             stocks: self.stocks,
@@ -134,13 +133,12 @@ impl<'a, M: Machine, G: Gate, R: Threads + Wait + Sync> Exploration<'a, M, G, R>
         let places = end - start;
         let (claims, seats) = Claims::new(self.alloc, places, workers.len())?;
         seat_all(&claims, workers, seats);
-        let round = round_of(places, workers.len(), self.merge);
+        let round = round_of(places, workers.len());
         let shift = Shift {
             exploration: self.again(),
             layer: Layer {
                 alloc: self.alloc,
-                merge: self.merge,
-                machine: self.machine,
+                    machine: self.machine,
                 program: self.program,
                 number,
                 start,

@@ -1,6 +1,7 @@
 //! What was made of an entry, and the book that it goes into, tied together by a type: the workers of one layer know by it
 //! that each expansion is that of its entry, and nothing has to be compared under the lock.
-ghost use Rattle.std.specs.Prelude.{◌≡◌, ◌+◌, ◌≤◌, IfOk, Option, Some, None, length};
+ghost use Rattle.std.specs.Prelude.{◌≡◌, ◌+◌, ◌≤◌, IfOk, IfSome, Option, Some, None, length};
+ghost use Rattle.sched_program.specs.Program.{Program};
 ghost use Rattle.tree_machine.specs.declared.state.State.{State};
 ghost use Rattle.book.specs.Entries.{Contents};
 ghost use Rattle.crew.specs.Working.{HasEntries, IsTiedTo};
@@ -10,6 +11,7 @@ use crate::tally::{Desk, Ledgers, Tally};
 use book::{EnterFault, Leftovers, Stock, Successors};
 use sched_program::{OutOfMemory, Program};
 use std::marker::{Brand, Model, PhantomData};
+use std::sync::Arc;
 use tree_machine::{Machine, State};
 
 /// A book as it was when it gave its entries out: what types of one tie hold is of entries of that book. It is known to
@@ -97,7 +99,7 @@ impl<J: Ledgers, K: Tie<M, State<M>>, M: Machine> Tied<J, K, M> {
         }
     }
 
-    /// An entry of the tie's book, where it is taken still, as the book has it.
+    /// An entry of the tie's book, where it is taken still.
     pub fn ready<'a>(
         &self,
         machine: M,
@@ -109,18 +111,22 @@ impl<J: Ledgers, K: Tie<M, State<M>>, M: Machine> Tied<J, K, M> {
     {
         let book = &self.desk.book;
         book.law();
-        let Some(told) = book.told(id, stock)? else {
+        let merge = book.merge();
+        let Some(entry) = book.taken_entry(id, stock)? else {
             return Ok(None);
         };
-        Ok(Some(Ready::new(id, machine, program, told)))
+        Ok(Some(Ready::new(id, machine, program, merge, entry)))
     }
 
-    /// Gives an entry its state, whatever it takes the book to have it.
-    pub fn fill(&self, ready: &mut Ready<'_, K, M>) -> Result<(), OutOfMemory> {
-        if let Some((state, _)) = self.desk.book.handed_out(ready.id)? {
-            ready.fill(state);
+    /// The state of an entry, whatever it takes the book to make it.
+    pub fn state_of(&self, ready: &Ready<'_, K, M>) -> Result<Option<Arc<State<M>>>, OutOfMemory>
+        ensures { IfOk result (λ o. IfSome o (λ shared. (machine : M) × (program : Program)
+            × IsTiedTo K.book machine program ready.now shared.value)) }
+    {
+        match self.desk.book.handed_out(ready.id)? {
+            Some((state, _)) => Ok(Some(state)),
+            None => Ok(None),
         }
-        Ok(())
     }
 
     /// Looks for the steps of an expansion, as the book does. What it answers is of no use.

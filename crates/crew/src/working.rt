@@ -9,7 +9,7 @@ use crate::ready::Ready;
 use crate::tally::{Ledgers, Tally};
 use crate::tied::{Made, Tie, Tied};
 use crate::waiting::{read_soon, write_soon};
-use book::{EnterFault, Leftovers, Merge, Stock};
+use book::{EnterFault, Leftovers, Stock};
 use claims::Seat;
 use sched_program::{OutOfMemory, Program};
 use std::alloc::Global;
@@ -52,7 +52,7 @@ pub struct Worker<J: Ledgers> {
 /// How many entries a worker expands between two tests of the lock, where others wait for it.
 const STRIDE: usize = 8;
 
-/// How many where none does, with exact merging: the steps of more entries are looked for at once.
+/// How many where none does: the steps of more entries are looked for at once.
 const LONG_STRIDE: usize = 16;
 
 /// With how many expansions that are not entered a worker waits for the lock before it draws once more.
@@ -104,7 +104,6 @@ pub struct Exploration<'a, M: Machine, G: Gate, R: Wait> {
     pub alloc: Global,
     pub machine: M,
     pub program: &'a Program,
-    pub merge: Merge,
     /// How many workers there are.
     pub workers: u8,
     pub gate: &'a G,
@@ -117,10 +116,7 @@ impl<'a, M: Machine, G: Gate, R: Wait> Exploration<'a, M, G, R> {
     fn stride(&self) -> usize
         ensures { 0 < result }
     {
-        match self.merge {
-            Merge::Exact if self.workers == 1 => LONG_STRIDE,
-            _ => STRIDE,
-        }
+        if self.workers == 1 { LONG_STRIDE } else { STRIDE }
     }
 
     /// The lock of the desk. Where it need not be had at once, it is none where another worker has it.
@@ -192,12 +188,6 @@ impl<'a, M: Machine, G: Gate, R: Wait> Exploration<'a, M, G, R> {
         entered
     }
 
-    /// Whether a worker has to enter what it made before it draws once more: where much is left, and by names, since there
-    /// the states of entries serve again only once the book has given them back.
-    fn has_to_enter<K: Tie<M, State<M>>>(&self, pile: &Pile<'a, K, M>) -> bool {
-        pile.made.len() >= PILE || self.merge == Merge::Names
-    }
-
     /// Expands the entries drawn, some at a time, and enters what is made whenever no other worker has the lock.
     fn expand_all<J: Ledgers, K: Tie<M, State<M>>>(
         &self,
@@ -219,14 +209,13 @@ impl<'a, M: Machine, G: Gate, R: Wait> Exploration<'a, M, G, R> {
             }
             self.enter(desk, pile, false, tally, stock)?;
         }
-        if self.has_to_enter(pile) {
+        if pile.made.len() >= PILE {
             return self.enter(desk, pile, true, tally, stock);
         }
         Ok(())
     }
 
-    /// Expands the entries at the next places that the worker draws. Whether there were any. Their states serve again: those
-    /// that a book holds it gave back when their entries were expanded.
+    /// Expands the entries at the next places that the worker draws. Whether there were any.
     fn turn<J: Ledgers, K: Tie<M, State<M>>>(
         &self,
         desk: &RwLock<Tied<J, K, M>>,
@@ -255,9 +244,6 @@ impl<'a, M: Machine, G: Gate, R: Wait> Exploration<'a, M, G, R> {
             tally,
             stock,
         )?;
-        for (_, ready) in drawn {
-            ready.leave_in(stock);
-        }
         Ok(true)
     }
 
