@@ -73,7 +73,7 @@ fn replies(
     reply: bool,
 ) -> Result<bool, OutOfMemory> {
     match Atomic.act(alloc, op, &AtomicLoc::Do, keys)? {
-        Outcome::Replies(told) => Ok(told == reply),
+        Outcome::Replies(given) => Ok(given == reply),
         _ => Ok(false),
     }
 }
@@ -218,7 +218,7 @@ fn compared_forms(alloc: Global) -> Result<(), Broken> {
 }
 
 #[test]
-fn forms_tell_keys_and_places(rt: HostRuntime) -> Result<(), Broken> {
+fn other_keys_and_places_have_other_forms(rt: HostRuntime) -> Result<(), Broken> {
     match compared_forms(rt.alloc()) {
         Ok(()) => Ok(()),
         Err(_) => compared_forms(rt.alloc()),

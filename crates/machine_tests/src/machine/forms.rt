@@ -67,7 +67,7 @@ fn forms_of_states(alloc: Global) -> Result<(), Broken> {
 }
 
 #[test]
-fn forms_tell_replies_apart_and_copies_not(rt: HostRuntime) -> Result<(), Broken> {
+fn other_replies_have_other_forms_and_copies_the_same(rt: HostRuntime) -> Result<(), Broken> {
     match forms_of_states(rt.alloc()) {
         Ok(()) => Ok(()),
         Err(_) => forms_of_states(rt.alloc()),

@@ -109,7 +109,7 @@ const REFUSED: &[Refused] = &[
 /// The bytes of a state of two threads and no key.
 const WHOLE: &[u8] = &[0, 2, 1, 1, 2, 0, 0, 0, 1, 1, 0];
 
-/// Whether a state has what a row tells.
+/// Whether a state has what a row says.
 fn is_state(state: &State<Atomic>, row: &Row) -> bool {
     state.steps() == row.steps
         && state.threads.len() == row.thread_count
@@ -117,7 +117,7 @@ fn is_state(state: &State<Atomic>, row: &Row) -> bool {
         && state.memory().as_slice() == row.keys
 }
 
-/// A state is read from the bytes of each row, and is what the row tells.
+/// A state is read from the bytes of each row, and is what the row says.
 fn are_read(alloc: Global, state: &mut State<Atomic>) -> Result<(), Broken> {
     for row in ROWS {
         let read = state.read_in(alloc, Atomic, row.bytes)?;
@@ -146,7 +146,7 @@ fn are_read_whole(alloc: Global, state: &mut State<Atomic>) -> Result<(), Broken
 }
 
 /// All of this, each with one state that was another before.
-fn are_as_told(alloc: Global) -> Result<(), Broken> {
+fn are_as_written(alloc: Global) -> Result<(), Broken> {
     let program = two_inserts(alloc)?;
     let mut state = after(alloc, &program, &[0])?;
     are_read(alloc, &mut state)?;
@@ -156,8 +156,8 @@ fn are_as_told(alloc: Global) -> Result<(), Broken> {
 
 #[test]
 fn bytes_are_read_or_refused(rt: HostRuntime) -> Result<(), Broken> {
-    match are_as_told(rt.alloc()) {
+    match are_as_written(rt.alloc()) {
         Ok(()) => Ok(()),
-        Err(_) => are_as_told(rt.alloc()),
+        Err(_) => are_as_written(rt.alloc()),
     }
 }

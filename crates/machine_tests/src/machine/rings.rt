@@ -178,7 +178,7 @@ fn rings_of_other_facts_have_other_forms(rt: HostRuntime) -> Result<(), Broken> 
     }
 }
 
-/// One side has a reference, and the other has none.
+/// One side has a reference, and the other has none or another one.
 const OTHER_REFERENCES: &[Ring] = &[
     Ring {
         case: Case::ARecordNamedByTheRecord,
@@ -209,7 +209,7 @@ fn other_references(alloc: Global) -> Result<(), Broken> {
 }
 
 #[test]
-fn a_reference_that_one_side_has_tells_apart(rt: HostRuntime) -> Result<(), Broken> {
+fn rings_of_other_references_have_other_forms(rt: HostRuntime) -> Result<(), Broken> {
     match other_references(rt.alloc()) {
         Ok(()) => Ok(()),
         Err(_) => other_references(rt.alloc()),

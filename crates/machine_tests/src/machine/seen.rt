@@ -148,7 +148,7 @@ fn are_enabled(program: &Program, state: &State<Atomic>, expected: &[bool; 3]) -
         && state.enabled(program, 2) == expected[2]
 }
 
-/// Whether a row tells of a state.
+/// Whether a state is what a row says.
 fn is_state(program: &Program, state: &State<Atomic>, row: &Row) -> bool {
     state.memory().as_slice() == row.keys
         && are_threads(state.threads.as_slice(), &row.threads)
@@ -157,7 +157,7 @@ fn is_state(program: &Program, state: &State<Atomic>, row: &Row) -> bool {
         && are_enabled(program, state, &row.enabled)
 }
 
-/// A copy of the state of a row is equal to it, and so told by the row too.
+/// A copy of the state of a row is equal to it, and so what the row says too.
 fn is_copied(
     alloc: Global,
     program: &Program,
@@ -283,7 +283,7 @@ pub enum Look {
     FormOfCopy,
 }
 
-/// The schedule of a row leads to its state, by `start` and `step`; or the row tells this of it.
+/// The schedule of a row leads to its state, by `start` and `step`; or what the row says of it is looked at.
 fn is_seen(alloc: Global, program: &Program, row: &Row, look: Look) -> Result<(), Broken> {
     let state = after(alloc, program, row.schedule)?;
     match look {

@@ -150,7 +150,7 @@ fn read_along(
     Ok(())
 }
 
-/// Reads all states of a program that have fewer steps than a schedule, and tells the kinds of places met.
+/// Reads all states of a program that have fewer steps than a schedule. The answer is the kinds of places met.
 fn read_all(alloc: Global, text: &str) -> Result<u32, Broken> {
     let program = program_of(alloc, text)?;
     let mut desk = desk_of(alloc)?;
@@ -258,7 +258,7 @@ fn read_named(alloc: Global, text: &str, schedule: &[u8]) -> Result<(), Broken> 
     read_named_along(alloc, WHOLE, &program, schedule)
 }
 
-/// How many bytes are told to be those of the memory, where what one thread holds stands behind them. That is then read once
+/// How many bytes are answered to be those of the memory, where what one thread holds stands behind them. That is then read once
 /// more, alone.
 fn front_of(alloc: Global, bytes: &[u8]) -> Result<Option<usize>, Broken> {
     let mut mem = NatMitMem {
@@ -290,7 +290,7 @@ fn front_at_last(alloc: Global, bytes: &[u8]) -> Result<Option<usize>, Broken> {
 }
 
 #[test]
-fn the_bytes_of_the_memory_are_told(rt: HostRuntime) -> Result<(), Fail> {
+fn the_bytes_of_the_memory_are_counted(rt: HostRuntime) -> Result<(), Fail> {
     assert!(rt; front_at_last(rt.alloc(), &LEAF_AND_IDLE) == Ok(Some(4)));
     assert!(rt; front_at_last(rt.alloc(), &THREE_AND_BEGUN) == Ok(Some(11)));
     assert!(rt; front_at_last(rt.alloc(), &LEAF_AND_IDLE[..4]) == Ok(None));
