@@ -20,12 +20,13 @@ fn enter_here(
 ) -> Result<Option<Entered>, Broken> {
     let id = take_number(book)?;
     book.law();
+    let merge = book.merge();
     let Some(entry) = book.taken_entry(id, stock)? else {
         return Ok(None);
     };
     let program = book.program().copy(alloc)?;
-    let (machine, merge) = (book.machine(), book.merge());
-    let Some(steps) = Successors::of_entry(alloc, machine, &program, merge, entry, stock)? else {
+    let steps = Successors::of_entry(alloc, Atomic, &program, merge, entry, stock)?;
+    let Some(steps) = steps else {
         return Ok(None);
     };
     let mut leftovers = stock.leftovers(alloc, steps.len())?;
