@@ -61,10 +61,6 @@ impl Machine for Straying {
         Ok(*loc)
     }
 
-    fn look_at(&self, _mem: &bool) -> u8 {
-        0
-    }
-
     fn build(&self, _alloc: Global, _initial: &[u8]) -> Result<bool, OutOfMemory> {
         Ok(false)
     }

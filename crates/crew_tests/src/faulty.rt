@@ -62,10 +62,6 @@ impl Machine for Faulty {
         Ok(*loc)
     }
 
-    fn look_at(&self, _mem: &bool) -> u8 {
-        0
-    }
-
     fn build(&self, _alloc: Global, _initial: &[u8]) -> Result<bool, OutOfMemory> {
         Ok(false)
     }

@@ -100,19 +100,6 @@ impl Machine for NatMit {
         !matches!(loc, NatMitLoc::Put { .. } | NatMitLoc::Swing { .. })
     }
 
-    #[inline(always)]
-    fn look_at(&self, mem: &NatMitMem) -> u8 {
-        // Nodes that lie six apart, ten bytes each, are in all pieces that the processor fetches of the first twenty.
-        let nodes = mem.nodes.as_slice();
-        let mut keys = 0u8;
-        for piece in 0..4 {
-            if let Some(node) = nodes.get(6 * piece) {
-                keys = keys.wrapping_add(key_in(*node));
-            }
-        }
-        keys
-    }
-
     fn ordered(&self, mem: &NatMitMem) -> bool {
         keeps_search_order(mem)
     }

@@ -194,34 +194,4 @@ impl<M: Machine> State<M> {
             }
         }
     }
-
-    /// The same, made in the place of another state, in the room that this one has: of memory the step asks for no more
-    /// than what that lacks. Where the thread has no step the other state is unchanged; after a refusal of memory it is
-    /// of no use.
-    pub fn step_into(
-        &self,
-        alloc: Global,
-        machine: M,
-        program: &Program,
-        t: u8,
-        next: &mut State<M>,
-    ) -> Result<(), StepFault>
-        requires fits { Fits (M.rules machine) program.now self.now }
-        requires room { self.now.steps + 1 < 2 ^ 64 }
-        ensures step { OnOk result (step (M.rules machine) program.now self.now t ≡ Some next.new) }
-        ensures fits { OnOk result (Fits (M.rules machine) program.now next.new) }
-        ensures not_enabled { IsErrOf result StepFault.NotEnabled ↔ ¬ IsEnabled program.now self.now t }
-        ensures no_step { IsErrOf result StepFault.NotEnabled ↔ (step (M.rules machine) program.now self.now t ≡ None) }
-        ensures alike { OnOk result ((twin : State M M.Mem M.Loc M.Form)
-            → AreStatesAlike (M.rules machine) self.now twin
-            → IsSomeAnd (step (M.rules machine) program.now twin t) (AreStatesAlike (M.rules machine) next.new)) }
-        ensures kept { IsErrOf result StepFault.NotEnabled → next.new ≡ next.old }
-    {
-        let Some((thread, op)) = self.ready(program, t) else {
-            return Err(StepFault::NotEnabled);
-        };
-        machine.copy_mem_into(alloc, &self.memory, &mut next.memory)?;
-        self.access(alloc, machine, t, thread, op, next)?;
-        Ok(())
-    }
 }
