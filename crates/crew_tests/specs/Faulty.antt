@@ -2,11 +2,11 @@
 -- second step, and a find leaves the memory out of order. A place says whether the operation's first step is done, the
 -- memory whether it is out of order.
 use Rattle.std.specs.Prelude.{◌≡◌, ◌↔◌, ℕ, Bool, true, false, refl, List, [], ◌∷◌, map, Option, Some, None}
-use Rattle.std.proofs.Common.{◌∙◌, ap, arith}
+use Rattle.std.proofs.Common.{◌∙◌, ap, arith, sym, subst}
 use Rattle.std.proofs.lemmas.Option.{same_Some}
 use Rattle.sched_program.specs.declared.operation.Op.{Op}
 use Rattle.sched_program.specs.declared.operation.Op.TheVariants.{Insert, Delete, Find}
-use Rattle.tree_machine.specs.Rules.{Rules, AreLawful, IsOutcomeInRange}
+use Rattle.tree_machine.specs.Rules.{Rules, ArePlacesInRange, AreLawful, DecodesForms, IsOutcomeInRange}
 use Rattle.tree_machine.specs.FormCode.{TellsWholly}
 use Rattle.tree_machine.specs.Pairing.{AreAlike}
 use Rattle.tree_machine.specs.Unnumbered.{equal_pairs}
@@ -100,4 +100,14 @@ faulty_forms memory other held twins =
     let alike = equal_alike memory other held twins in (
       (λ same. alike.0 (faulty_tells memory other held twins same)),
       (λ h. let same = alike.1 h in λ i. faulty_form (same.0 i) (same.1 i)),
+    )
+
+-- so bytes that are equal are of forms that are
+pub faulty_decodes : DecodesForms faulty_rules faulty_form (λ bytes. bytes) faulty_form
+faulty_decodes memory other held twins range places e =
+    let same = faulty_tells other memory twins held e in (
+      tt,
+      subst (λ m. ArePlacesInRange faulty_rules m twins) (sym same.0)
+          (subst (ArePlacesInRange faulty_rules memory) (sym same.1) places),
+      (faulty_forms memory other held twins).0 (sym e),
     )

@@ -2,8 +2,8 @@
 ghost use Rattle.std.specs.Prelude.{◌≡◌, ◌++◌, [], map, refl, OnOk};
 ghost use Rattle.sched_program.specs.Laws.Exact.{bool_exact, list_exact, nat_exact};
 ghost use Rattle.tree_machine.specs.Alike.{places_of};
-ghost use Rattle.crew_tests.specs.Faulty.{faulty_rules, faulty_lawful, faulty_form, faulty_forms, faulty_tells};
-ghost use Rattle.crew_tests.specs.Faulty.{held_code};
+ghost use Rattle.crew_tests.specs.Faulty.{faulty_rules, faulty_lawful, faulty_form, faulty_forms};
+ghost use Rattle.crew_tests.specs.Faulty.{faulty_decodes, faulty_tells, held_code};
 
 use crate::held_byte::held_byte;
 use sched_program::{Op, OutOfMemory};
@@ -171,6 +171,8 @@ impl Machine for Faulty {
     ghost lawful = { λ _. faulty_lawful };
 
     ghost forms = { λ _ memory other held twins _ _ _ _ _. faulty_forms memory other held twins };
+
+    ghost decodes = { λ _. faulty_decodes };
 
     ghost form_tells = { λ a b same. same };
 
