@@ -198,11 +198,7 @@ fn expand(alloc: Global, book: &mut Book<Atomic>, entries: usize) -> Result<(), 
 }
 
 /// The book of the two inserts, with the steps of so many entries.
-pub fn expanded(
-    alloc: Global,
-    merge: Merge,
-    entries: usize,
-) -> Result<Box<Book<Atomic>>, Broken> {
+pub fn expanded(alloc: Global, merge: Merge, entries: usize) -> Result<Box<Book<Atomic>>, Broken> {
     let mut book = open(alloc, Atomic, TWO_INSERTS, 100, merge)?;
     expand(alloc, &mut *book, entries)?;
     Ok(book)

@@ -138,7 +138,7 @@ impl<'a, M: Machine, G: Gate, R: Threads + Wait + Sync> Exploration<'a, M, G, R>
             exploration: self.again(),
             layer: Layer {
                 alloc: self.alloc,
-                    machine: self.machine,
+                machine: self.machine,
                 program: self.program,
                 number,
                 start,

@@ -116,7 +116,11 @@ impl<'a, M: Machine, G: Gate, R: Wait> Exploration<'a, M, G, R> {
     fn stride(&self) -> usize
         ensures { 0 < result }
     {
-        if self.workers == 1 { LONG_STRIDE } else { STRIDE }
+        if self.workers == 1 {
+            LONG_STRIDE
+        } else {
+            STRIDE
+        }
     }
 
     /// The lock of the desk. Where it need not be had at once, it is none where another worker has it.

@@ -10,6 +10,6 @@ of_entry-requires-clause-finding c κs =
     let entry = c.in-Some.entry in
     let found = c.law.ensures.law.law.findings c.in_ok-id.id at.0 at.1 in
     subst (λ p. IsFindingOf atomic_rules p entry.shown.value entry.finding)
-        (sym (c.in_ok-program.ensures ∙ c.program.ensures))
-        (subst (λ s. IsFindingOf atomic_rules c.take_number.new.book.program s entry.finding) (sym at.3)
-            (subst (λ f. IsFindingOf atomic_rules c.take_number.new.book.program at.0.state f) at.5 found))
+    (sym (c.in_ok-program.ensures ∙ c.program.ensures))
+    (subst (λ s. IsFindingOf atomic_rules c.take_number.new.book.program s entry.finding) (sym at.3)
+    (subst (λ f. IsFindingOf atomic_rules c.take_number.new.book.program at.0.state f) at.5 found))

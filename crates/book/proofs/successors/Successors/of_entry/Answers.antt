@@ -13,5 +13,5 @@ of_sound-requires-after_bounds g c κs within =
       stands = read.stands c.args.merge c.args.program.now c.initial.ensures.limits c.args.entry.shown.value
           c.requires.fits (sym c.requires.label ∙ sym c.as_slice.ensures);
       read = subst (λ bytes. AreCutsOf g.M.Machine.whole_code g.M.Machine.memory_code bytes c.in-Some.cuts
-      c.in-Some.state) (c.as_slice.ensures ∙ sym c.as_slice-2.ensures) read.read;
+          c.in-Some.state) (c.as_slice.ensures ∙ sym c.as_slice-2.ensures) read.read;
     }
