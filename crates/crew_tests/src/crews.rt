@@ -3,6 +3,7 @@ use crate::faulty::Faulty;
 use crate::gates::{Both, Slow};
 use crate::rows::{DELETES, FINDS, INSERTS};
 use crate::told::{Bounds, Line, Told, told_of};
+use book::Merge;
 use crew::Share;
 use sched_program::OutOfMemory;
 use std::alloc::Global;
@@ -25,6 +26,7 @@ fn meet_in_a_layer<R: Abort + Threads + Wait + Sync>(
     let bounds = Bounds {
         steps: 2,
         limit: 200_000,
+        merge: Merge::Exact,
         workers,
     };
     let told = told_of(rt, alloc, Atomic, INSERTS, bounds, &gate)?;
@@ -44,12 +46,13 @@ fn two_workers_and_more_are_in_one_layer_at_once(rt: HostRuntime) {
     }
 }
 
-/// A program, how far it is explored, and the answer with the number of states.
+/// A program, how far it is explored, how states are merged, and the answer with the number of states.
 #[derive(Clone, Copy)]
 struct Row {
     text: &'static [u8],
     steps: u16,
     limit: u32,
+    merge: Merge,
     line: Line,
     entries: usize,
 }
@@ -78,6 +81,7 @@ fn try_row<M: Machine, R: Abort + Threads + Wait + Sync>(
     let bounds = Bounds {
         steps: row.steps,
         limit: row.limit,
+        merge: row.merge,
         workers,
     };
     let told = told_of(rt, alloc, machine, row.text, bounds, &gate)?;
@@ -97,26 +101,57 @@ fn compare_all<M: Machine, R: Abort + Threads + Wait + Sync>(
     }
 }
 
+/// Two inserts, with these steps and limit, this answer, and this many states.
+fn compare_inserts<R: Abort + Threads + Wait + Sync>(
+    rt: &R,
+    alloc: Global,
+    merge: Merge,
+    rows: &[(u16, u32, Line, usize)],
+) {
+    for (steps, limit, line, entries) in rows {
+        let row = Row {
+            text: INSERTS,
+            steps: *steps,
+            limit: *limit,
+            merge,
+            line: *line,
+            entries: *entries,
+        };
+        compare_all(rt, alloc, Atomic, row);
+    }
+}
+
 #[test]
 fn the_number_of_workers_changes_no_answer(rt: HostRuntime) {
-    let alloc = rt.alloc();
-    for (steps, limit, line, entries) in [
+    let rows = [
         (0, 200_000, Line::Holds(0), 1),
         (1, 200_000, Line::Holds(1), 3),
         (2, 200_000, Line::Holds(2), 5),
         (400, 5, Line::Holds(400), 5),
         (2, 4, Line::Stopped(4, 1), 4),
         (2, 2, Line::Stopped(2, 0), 1),
-    ] {
-        let row = Row {
-            text: INSERTS,
-            steps,
-            limit,
-            line,
-            entries,
-        };
-        compare_all(&rt, alloc, Atomic, row);
-    }
+    ];
+    compare_inserts(&rt, rt.alloc(), Merge::Exact, rows.as_slice());
+}
+
+/// No thread has a third step, so an exploration to three steps or more covers every schedule.
+#[test]
+fn the_number_of_workers_changes_no_answer_by_names(rt: HostRuntime) {
+    let rows = [
+        (0, 200_000, Line::Holds(0), 1),
+        (1, 200_000, Line::Holds(1), 3),
+        (2, 200_000, Line::Holds(2), 5),
+        (3, 200_000, Line::Every, 5),
+        (400, 5, Line::Every, 5),
+        (2, 4, Line::Stopped(4, 1), 4),
+        (2, 2, Line::Stopped(2, 0), 1),
+    ];
+    compare_inserts(&rt, rt.alloc(), Merge::Names, rows.as_slice());
+}
+
+/// The workers can read no label of this machine, by either merge.
+#[test]
+fn the_number_of_workers_changes_no_fault(rt: HostRuntime) {
     for (text, steps, limit, line, entries) in [
         (INSERTS, 20, 5, Line::History(2), 5),
         (INSERTS, 1, 5, Line::Holds(1), 3),
@@ -125,14 +160,17 @@ fn the_number_of_workers_changes_no_answer(rt: HostRuntime) {
         (FINDS, 20, 200_000, Line::Order(1), 3),
         (FINDS, 20, 2, Line::Stopped(2, 0), 1),
     ] {
-        let row = Row {
-            text,
-            steps,
-            limit,
-            line,
-            entries,
-        };
-        compare_all(&rt, alloc, Faulty, row);
+        for merge in [Merge::Exact, Merge::Names] {
+            let row = Row {
+                text,
+                steps,
+                limit,
+                merge,
+                line,
+                entries,
+            };
+            compare_all(&rt, rt.alloc(), Faulty, row);
+        }
     }
 }
 
@@ -142,6 +180,7 @@ fn step_once<R: Abort + Threads + Wait + Sync>(rt: &R, alloc: Global) -> Result<
     let bounds = Bounds {
         steps: 1,
         limit: 200_000,
+        merge: Merge::Exact,
         workers: 2,
     };
     let told = told_of(rt, alloc, Atomic, INSERTS, bounds, &gate)?;

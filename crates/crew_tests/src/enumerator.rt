@@ -3,7 +3,7 @@
 ghost use Rattle.std.specs.Prelude.{◌<◌};
 
 use crate::told::{Bounds, Line, explored, program_of};
-use book::{ReplayFault, replay};
+use book::{Merge, ReplayFault, replay};
 use crew::Open;
 use sched_program::{OutOfMemory, Program};
 use std::alloc::{AllocError, Global};
@@ -207,6 +207,7 @@ fn compare_within<R: Abort + Threads + Wait + Sync>(
         let bounds = Bounds {
             steps,
             limit,
+            merge: Merge::Exact,
             workers,
         };
         compare(rt, alloc, &*program, bounds)?;

@@ -1,6 +1,7 @@
 //! Explorations of small programs by one worker, with the answers worked out by hand.
 use crate::faulty::Faulty;
 use crate::told::{Bounds, Line, Told, told_of};
+use book::Merge;
 use crew::{Open, Share};
 use sched_program::OutOfMemory;
 use std::alloc::Global;
@@ -60,6 +61,7 @@ fn try_row<M: Machine, R: Abort + Threads + Wait + Sync>(
     let bounds = Bounds {
         steps: row.steps,
         limit: row.limit,
+        merge: Merge::Exact,
         workers: 1,
     };
     let told = told_of(rt, alloc, machine, row.text, bounds, &Open)?;

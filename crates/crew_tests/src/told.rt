@@ -21,11 +21,12 @@ pub enum Line {
     Stopped(u32, u16),
 }
 
-/// How far an exploration goes, and by how many workers.
+/// How far an exploration goes, how it merges states, and by how many workers.
 #[derive(Clone, Copy)]
 pub struct Bounds {
     pub steps: u16,
     pub limit: u32,
+    pub merge: Merge,
     pub workers: u8,
 }
 
@@ -82,7 +83,7 @@ pub fn explored<M: Machine, G: Gate, R: Abort + Threads + Wait + Sync>(
     bounds: Bounds,
     gate: &G,
 ) -> Result<Box<Told>, OutOfMemory> {
-    let options = Options::new(bounds.steps, bounds.limit, Merge::Exact, bounds.workers);
+    let options = Options::new(bounds.steps, bounds.limit, bounds.merge, bounds.workers);
     let options = options.expect(rt, "bounds in range");
     let Report {
         answer,
