@@ -59,7 +59,7 @@ impl<'a, M: Machine> Successors<'a, M> {
             cuts,
             order: &order,
         };
-        let steps = Successors::of_sound(alloc, &from, &mut state, stock)?;
+        let steps = Successors::of_sound(alloc, &from, &mut *state, stock)?;
         stock.keep_read(state, label, cuts);
         Ok(Some(steps))
     }

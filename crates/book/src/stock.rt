@@ -10,13 +10,14 @@ use sched_program::{OutOfMemory, Program};
 use std::alloc::Global;
 use tree_machine::{Bytes, Cuts, Machine, Room, State, Undo};
 
-/// A state that was read from a label, with the places where the parts of the label begin.
+/// A state that was read from a label, with the places where the parts of the label begin. It stands in a box, since it is
+/// passed on for each entry.
 #[derive(Drop)]
 struct ReadBack<M: Machine> {
-    state: State<M>,
+    state: Box<State<M>>,
     label: Bytes,
     cuts: Cuts,
-    ghost read: { AreCutsOf M.whole_code M.memory_code label cuts state },
+    ghost read: { AreCutsOf M.whole_code M.memory_code label cuts state.value },
 }
 
 /// What expansions are made in, used again from one to the next: a state to read others into, room for labels, lists for
@@ -72,13 +73,13 @@ impl<M: Machine> Stock<M> {
         machine: M,
         program: &Program,
         label: &[u8],
-    ) -> Result<Option<(State<M>, Cuts)>, OutOfMemory>
+    ) -> Result<Option<(Box<State<M>>, Cuts)>, OutOfMemory>
         ensures { IfOk result (λ o. IfSome o (λ p. IsRead M.whole_code M.memory_code M.form_code
-            (M.form_of machine) (M.rules machine) label.now p.1 p.0)) }
+            (M.form_of machine) (M.rules machine) label.now p.1 p.0.value)) }
     {
         let Some(before) = self.last.take() else {
-            let mut state = State::start(alloc, machine, program)?;
-            return match read_state(alloc, machine, label, None, &mut state)? {
+            let mut state = Box::new(alloc, State::start(alloc, machine, program)?)?;
+            return match read_state(alloc, machine, label, None, &mut *state)? {
                 Some(cuts) => Ok(Some((state, cuts))),
                 None => Ok(None),
             };
@@ -89,7 +90,7 @@ impl<M: Machine> Stock<M> {
             cuts,
         } = before;
         let last = Some((known.as_slice(), cuts));
-        let read = read_state(alloc, machine, label, last, &mut state);
+        let read = read_state(alloc, machine, label, last, &mut *state);
         self.keep_label(known);
         match read? {
             Some(cuts) => Ok(Some((state, cuts))),
@@ -99,8 +100,8 @@ impl<M: Machine> Stock<M> {
 
     /// Takes in a state that was read, with its label. The next one is read into it.
     #[inline(always)]
-    pub(crate) fn keep_read(&mut self, state: State<M>, label: Bytes, cuts: Cuts)
-        requires { AreCutsOf M.whole_code M.memory_code label cuts state }
+    pub(crate) fn keep_read(&mut self, state: Box<State<M>>, label: Bytes, cuts: Cuts)
+        requires { AreCutsOf M.whole_code M.memory_code label cuts state.value }
     {
         self.last = Some(ReadBack { state, label, cuts });
     }
