@@ -187,7 +187,10 @@ impl Parts for MemoryView<'_> {
         index: usize,
         visitor: &mut V,
     ) -> Result<(), OutOfMemory> {
-        visit_record(self.memory.records.as_slice()[index], visitor)
+        match self.memory.records.get(index) {
+            Some(kept) => visit_record(*kept, visitor),
+            None => visitor.visit(&[], &[], &[], &[]),
+        }
     }
 
     #[inline(always)]

@@ -214,9 +214,9 @@ impl Parts for MemoryView<'_> {
     fn visit_record<V: PartVisitor>(
         &self,
         _index: usize,
-        _visitor: &mut V,
+        visitor: &mut V,
     ) -> Result<(), OutOfMemory> {
-        unreachable!()
+        visitor.visit(&[], &[], &[], &[])
     }
 
     #[inline(always)]

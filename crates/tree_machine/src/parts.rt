@@ -71,10 +71,10 @@ pub trait Parts {
             (part_at (parts self.now).nodes index) }
         ensures { OnOk result (V.visited visitor.old (part_at (parts self.now).nodes index) visitor.new) };
 
-    /// Lets a visitor visit a record.
+    /// Lets a visitor visit a record, or a part that names nothing where there is no record of this number: a tree may have
+    /// no records.
     fn visit_record<V: PartVisitor>(&self, index: usize, visitor: &mut V) -> Result<(), OutOfMemory>
-        requires in_range { index < length (parts self.now).records }
-        requires named { IsPartBelow (V.nodes_below visitor.old) (V.records_below visitor.old)
+        requires { IsPartBelow (V.nodes_below visitor.old) (V.records_below visitor.old)
             (part_at (parts self.now).records index) }
         ensures { OnOk result (V.visited visitor.old (part_at (parts self.now).records index) visitor.new) };
 

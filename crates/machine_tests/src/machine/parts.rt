@@ -98,7 +98,10 @@ impl Parts for Tables<'_> {
         index: usize,
         visitor: &mut V,
     ) -> Result<(), OutOfMemory> {
-        self.records[index].show(visitor)
+        match self.records.get(index) {
+            Some(row) => row.show(visitor),
+            None => visitor.visit(&[], &[], &[], &[]),
+        }
     }
 
     fn visit_held<V: PartVisitor>(&self, index: usize, visitor: &mut V) -> Result<(), OutOfMemory> {

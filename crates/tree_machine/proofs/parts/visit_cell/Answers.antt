@@ -11,8 +11,8 @@ visit_node-requires-clause-named g c =
     (g.V.PartVisitor.records_below c.args.visitor.now) s.nodes c.args.cell c.requires.nodes c.requires.records
     c.requires.parts_in_range.1.nodes
 
-pub visit_record-requires-clause-named : goal.visit_record-requires-clause-named
-visit_record-requires-clause-named g c =
+pub visit_record-requires : goal.visit_record-requires
+visit_record-requires g c =
     let s = g.P.Parts.parts c.args.parts.now in
     part_below (length s.nodes) (length s.records) (g.V.PartVisitor.nodes_below c.args.visitor.now)
     (g.V.PartVisitor.records_below c.args.visitor.now) s.records (c.args.cell - c.node_count-nodes.result)
