@@ -9,16 +9,16 @@ link, an image, or the definition of a reference, outside code. Links with a sch
 Each broken link is one line, 'PAGE:LINE: TARGET: REASON', and the last line is 'N links, M broken'. The status is 0 if
 no link is broken, 1 if one is, and 2 if a page can't be read.
 """
-import argparse
+from __future__ import annotations
+
 import re
-import sys
 from collections.abc import Iterator
 from dataclasses import dataclass
 from pathlib import Path
 from urllib.parse import unquote
 
-TOP = Path(__file__).resolve().parent.parent
-FOLDERS = (".", "docs", "bench", "examples")
+from common import RIGHT, TOP, WRONG, end, page_text, pages_of, words_of
+
 FENCE = re.compile(r" {0,3}(`{3,}|~{3,})(.*)")
 CODE_SPAN = re.compile(r"(?<!`)(`+)(?!`)(.+?)(?<!`)\1(?!`)")
 INLINE = re.compile(r"\]\(\s*(<[^>]*>|[^\s()]*(?:\([^\s()]*\)[^\s()]*)*)(?:\s+[\"'(].*?[\"')])?\s*\)")
@@ -91,14 +91,14 @@ def reason_of(page: Path, target: str, top: Path) -> str | None:
         return "outside the repository"
     if not path.exists():
         return "no such file"
-    if anchor and path.suffix == ".md" and unquote(anchor) not in anchors_of(path.read_text(encoding="utf-8")):
+    if anchor and path.suffix == ".md" and unquote(anchor) not in anchors_of(page_text(path)):
         return "no such heading"
     return None
 
 
 def check(page: Path, top: Path) -> tuple[int, list[str]]:
     """How many relative links a page has, and a line for each that is broken."""
-    links = [link for link in links_of(page.read_text(encoding="utf-8")) if not SCHEME.match(link.target)]
+    links = [link for link in links_of(page_text(page)) if not SCHEME.match(link.target)]
     broken: list[str] = []
     for link in links:
         if reason := reason_of(page, link.target, top):
@@ -106,33 +106,22 @@ def check(page: Path, top: Path) -> tuple[int, list[str]]:
     return len(links), broken
 
 
-def pages_of(top: Path) -> list[Path]:
-    """The pages of a repository."""
-    return [page for folder in FOLDERS for page in sorted((top / folder).glob("*.md"))]
-
-
 def main() -> int:
     """Checks the pages and returns the status."""
-    parser = argparse.ArgumentParser(
-        description=__doc__, formatter_class=argparse.RawDescriptionHelpFormatter, usage=argparse.SUPPRESS
-    )
-    parser.add_argument("pages", metavar="PAGE", type=Path, nargs="*")
+    parser = words_of(__doc__)
+    parser.add_argument("pages", metavar="PAGE", type=Path, nargs="*", default=pages_of(TOP))
     words = parser.parse_args()
     count = 0
     broken: list[str] = []
-    try:
-        for page in [page.resolve() for page in words.pages] or pages_of(TOP):
-            links, lines = check(page, TOP)
-            count += links
-            broken.extend(lines)
-    except (OSError, ValueError) as fault:
-        print(f"check_links: {fault}", file=sys.stderr)
-        return 2
+    for page in words.pages:
+        links, lines = check(page.resolve(), TOP)
+        count += links
+        broken.extend(lines)
     for line in broken:
         print(line)
     print(f"{count} links, {len(broken)} broken")
-    return 1 if broken else 0
+    return WRONG if broken else RIGHT
 
 
 if __name__ == "__main__":
-    sys.exit(main())
+    end(main)

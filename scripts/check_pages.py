@@ -3,7 +3,7 @@
 
 usage: scripts/check_pages.py [--program PROGRAM] [PAGE ..]
 
-Without pages, README.md and the pages of docs/, examples/ and bench/ are meant; without PROGRAM, the script
+Without pages, those at the top and in docs/, examples/ and bench/ are meant; without PROGRAM, the script
 `treesched` at the top.
 
 An example is a line `$ COMMAND` and the lines that the command prints, in a fenced block of kind `console` or in
@@ -37,7 +37,7 @@ from collections.abc import Iterator
 from dataclasses import dataclass, field
 from pathlib import Path
 
-from common import EXAMPLES, PROGRAM, RIGHT, TOP, WRONG, Unusable, end, runnable, words_of
+from common import PROGRAM, RIGHT, TOP, WRONG, Unusable, end, page_text, pages_of, runnable, words_of
 
 FENCE, KIND, INDENT, PROMPT, FURTHER = "```", "console", "    ", "$ ", "..."
 SKIPPED = "<!-- not run -->"
@@ -111,12 +111,7 @@ def indented_end(lines: list[str], start: int) -> int:
 
 def blocks_of(page: Path) -> Iterator[Block]:
     """The blocks of a page that may have examples."""
-    try:
-        lines = page.read_text(encoding="utf-8").split("\n")
-    except OSError as fault:
-        raise Unusable(f"can't read {page}: {fault.strerror}") from None
-    except UnicodeDecodeError:
-        raise Unusable(f"can't read {page}: it is not UTF-8") from None
+    lines = page_text(page).split("\n")
     place, is_skipped = 0, False
     while place < len(lines):
         line = lines[place]
@@ -258,17 +253,11 @@ def check(page: Path, examples: list[Example], program: Path) -> int:
     return count
 
 
-def all_pages() -> list[Path]:
-    """The pages that may have examples."""
-    readmes = [TOP / "README.md", EXAMPLES / "README.md", TOP / "bench" / "README.md"]
-    return [*readmes, *sorted((TOP / "docs").glob("*.md"))]
-
-
 def main() -> int:
     """Checks the pages, and answers the status."""
     parser = words_of(__doc__)
     parser.add_argument("--program", metavar="PROGRAM", type=Path, default=PROGRAM, help="what ./treesched means")
-    parser.add_argument("pages", metavar="PAGE", type=Path, nargs="*", default=all_pages())
+    parser.add_argument("pages", metavar="PAGE", type=Path, nargs="*", default=pages_of())
     words = parser.parse_args()
     pages = {page: examples_of(page) for page in words.pages}
     program = runnable(words.program)

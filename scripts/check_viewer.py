@@ -31,11 +31,11 @@ from dataclasses import dataclass
 from pathlib import Path
 from typing import Any
 
+from common import TOP
 from viewer.browser import Browser, BrowserFault, find_browser
 from viewer.measures import MEASURE, SHOWN
 from viewer.replays import read_replay, show_list
 
-TOP = Path(__file__).resolve().parent.parent
 PICTURES = TOP / "docs" / "pictures"
 WIDTHS = {1280: 900, 390: 844}
 LEAST_LETTER, LEAST_CONTRAST, MOST_BYTES = 12.0, 4.5, 200_000

@@ -1,4 +1,4 @@
-"""What the scripts share: the program that they run, what it answers and refuses, and how a script ends.
+"""What the scripts share: the program that they run, what it answers and refuses, the pages, and how a script ends.
 
 A script's `main` returns its status. `end` runs it, and prints whatever the user can mend as one line.
 """
@@ -20,6 +20,7 @@ PROGRAM = TOP / "treesched"
 MOST_STEPS = 400
 MOST_STATES = 2_000_000
 MOST_PROCESSES = 256
+PAGES = ("*.md", "docs/*.md", "bench/*.md", "examples/*.md")
 
 # The statuses of a script. What it was asked for is wrong, or one answer is; the words or a file are unusable.
 RIGHT, WRONG, UNUSABLE, INTERRUPTED = 0, 1, 2, 130
@@ -78,6 +79,21 @@ def refusal_of(errors: str) -> str | None:
     """The refusal of a text or a book that stands on the standard error: `P3 Version`, `C6 at line 4`."""
     found = REFUSAL.fullmatch(errors)
     return found[1] if found else None
+
+
+def pages_of(top: Path = TOP) -> list[Path]:
+    """The pages of the repository that stands there."""
+    return [page for pattern in PAGES for page in sorted(top.glob(pattern))]
+
+
+def page_text(page: Path) -> str:
+    """The text of a page."""
+    try:
+        return page.read_text(encoding="utf-8")
+    except OSError as fault:
+        raise Unusable(f"can't read {page}: {fault.strerror}") from None
+    except UnicodeDecodeError:
+        raise Unusable(f"can't read {page}: it is not UTF-8") from None
 
 
 def runnable(program: Path) -> Path:

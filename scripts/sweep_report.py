@@ -31,33 +31,31 @@ WIDTH = 100
 LISTED = 6
 NUMBERS = ["no", "one", "two", "three", "four", "five", "six"]
 
+
+def listed(items: list[str], last: str = "and") -> str:
+    """A list in words."""
+    return f" {last} ".join([", ".join(items[:-1]), items[-1]] if len(items) > 1 else items)
+
+
 HEAD = [
     "# Results",
-    "What the program answered for every program of some families. `scripts/sweep_report.py` makes this page; its last"
-    " section has the commands.",
-    f"The sweep explores each program by names to {MOST_STEPS} steps.",
+    "What the program answered for every program of some families, on the trees of [MACHINES.md](MACHINES.md) and their"
+    f" broken variants. The sweep explores each program by names to {MOST_STEPS} steps.",
     "- *Every schedule holds*: `treesched explore` printed `holds for every schedule` and wrote the book, and"
-    " `treesched check` passed that book with the same number of states. So no schedule of the program, of any length,"
-    " leaves replies that no order explains, a memory that is no search tree, or a thread at a place that its table"
-    " lacks.\n"
+    " `treesched check` passed that book with the same number of states.\n"
     "- *Fault*: the program printed a shortest schedule with a fault, and `treesched replay` found the same fault on"
-    " that schedule.",
-    "Threads are alike, so of programs that differ in the order of their threads alone there is one. States are"
-    " counted by names: states that differ in nothing but the numbers of nodes, of records and of steps, and in what"
-    " neither the root nor a thread leads to, are one."
-    " [MACHINES.md](MACHINES.md) has the place tables, those of the variants too.",
-    "A name is short for a program file. `ellen:10,20:i5,d10:f15` is the tree `ellen` with the initial keys 10 and 20,"
-    " inserted in this order, a thread that inserts 5 and then deletes 10, and a thread that finds 15. In"
-    " `nm:10:i5:f5@0.0`, of version 2, the find waits until the operation `0.0`, the insert of 5, has ended."
-    " `scripts/sweep.py --show NAME` prints the file.",
+    " that schedule. Lists have program, kind of fault and schedule.",
+    f"Every operation is an {listed(list(WORDS.values()), 'or')} of one of the keys. Threads are alike, so of programs"
+    " that differ only in the order of their threads there is one. States that count as one"
+    " ([by names](FORMATS.md#command-line)) are counted once. [A name](SWEEPS.md#a-name) is short for a program file.",
 ]
 
 LIMITS = [
     "## What is not covered",
-    "Other numbers of threads, of operations, of keys or of initial keys; initial keys inserted in another order; keys"
-    " that lie otherwise between the initial keys; and operations that wait for anything but one insert. That all"
-    " programs of these families hold says nothing of a greater program, and proves neither tree. That no program of a"
-    " family shows some fault of a variant does not exclude that fault.",
+    "Other numbers of threads, operations, keys or initial keys; initial keys inserted in another order; keys that lie"
+    " otherwise between the initial keys; and operations that wait for anything but one insert. That all programs of"
+    " these families hold says nothing of a greater program, and proves neither tree. That no program of a family"
+    " shows some fault of a variant does not exclude that fault.",
 ]
 
 
@@ -123,11 +121,6 @@ def count(number: int) -> str:
     return f"{number:,}"
 
 
-def listed(items: list[str], last: str = "and") -> str:
-    """A list in words."""
-    return f" {last} ".join([", ".join(items[:-1]), items[-1]] if len(items) > 1 else items)
-
-
 def filled(text: str) -> str:
     """A paragraph, or items of a list, in lines of the page's width."""
     lines = []
@@ -151,16 +144,14 @@ def title_of(family: Family) -> str:
 
 
 def in_words(swept: Swept) -> str:
-    """A family in words, with how many programs it has."""
+    """The keys of a family and what waits in it, in words, with how many programs it has."""
     family = swept.family
     initials = listed([f"[{initial.strip('-').replace(',', ', ')}]" for initial in family.initials])
     keys = listed([str(key) for key in family.keys])
-    threads = f"{NUMBERS[family.threads].capitalize()} threads have {operations_of(family)} each."
-    words = f"Every operation is an {listed(list(WORDS.values()), 'or')} of one of the keys {keys};"
-    words += f" the initial lists are {initials}."
-    waits = " The programs are of version 2: there is a find, and each find waits for one insert of another thread."
-    programs = f"That is {count(len(swept.results) // len(family.trees))} programs of each tree, and all were run."
-    return f"{threads} {words}{waits if family.waits else ''} {programs}"
+    words = f"Keys {keys}; initial lists {initials}."
+    waits = " There is a find, and each find waits for one insert of another thread (version 2)."
+    programs = f"All {count(len(swept.results) // len(family.trees))} programs of each tree were run."
+    return f"{words}{waits if family.waits else ''} {programs}"
 
 
 def greatest(results: list[Result], measure: Callable[[Result], int]) -> str:
@@ -222,7 +213,7 @@ def smallest(tree: str, wrong: list[Result]) -> str:
     else:
         words += f" with more operations there are faults of {overall}."
     first = shortest[:LISTED]
-    lines = [f"- `{result.program}`: `fault {result.verdict}`, schedule `{result.schedule}`" for result in first]
+    lines = [f"- `{result.program}`: `{result.verdict}`, `{result.schedule}`" for result in first]
     more = [f"- and {len(shortest) - LISTED} more"] if len(shortest) > LISTED else []
     return "\n".join([filled(words), *lines, *more, ""])
 
@@ -239,10 +230,9 @@ def page(sweeps: list[Swept], notes: list[str], commands: list[str]) -> str:
     results = [result for swept in sweeps for result in swept.results]
     commits = sorted({f"`{result.commit}`" for result in results})
     sources = f"The sources are those of commit {listed(commits)}."
-    explored = sum(result.seconds for result in results) / 60
-    whole = sum(result.seconds_all for result in results) / 60
-    programs = f"One after the other the {count(len(results))} programs took {whole:.0f} minutes"
-    ending = map(filled, [*notes, f"{programs}, {explored:.0f} of them to explore."])
+    minutes = [sum(taken) / 60 for taken in zip(*((result.seconds_all, result.seconds) for result in results))]
+    times = "One after the other these {} programs took {:.0f} minutes, {:.0f} of them to explore."
+    ending = map(filled, [*notes, times.format(count(len(results)), *minutes)])
     head = map(filled, [*HEAD, sources])
     return "\n".join([*head, *map(section, sweeps), *map(filled, LIMITS), again, *ending])
 

@@ -1,6 +1,7 @@
-"""Tests of scripts/check_links.py: python3 -m unittest discover scripts/tests"""
+"""Tests of check_links.py, on small pages."""
+from __future__ import annotations
+
 import contextlib
-import importlib.util
 import io
 import sys
 import tempfile
@@ -8,12 +9,9 @@ import unittest
 from pathlib import Path
 from unittest import mock
 
-SCRIPT = Path(__file__).resolve().parent.parent / "check_links.py"
-SPEC = importlib.util.spec_from_file_location("check_links", SCRIPT)
-assert SPEC and SPEC.loader
-check_links = importlib.util.module_from_spec(SPEC)
-sys.modules["check_links"] = check_links
-SPEC.loader.exec_module(check_links)
+from script_runs import run_script
+
+import check_links  # isort: skip
 
 
 def targets(text: str) -> list[str]:
@@ -102,10 +100,11 @@ class Pages(unittest.TestCase):
         )
 
     def test_a_page_that_is_no_text(self) -> None:
-        (self.top / "docs" / "A.md").write_bytes(b"\xff")
-        with contextlib.redirect_stderr(io.StringIO()) as errors:
-            self.assertEqual(self.run_main("")[0], 2)
-        self.assertTrue(errors.getvalue().startswith("check_links: "))
+        page = self.top / "docs" / "A.md"
+        page.write_bytes(b"\xff")
+        ended = run_script("scripts/check_links.py", page)
+        self.assertEqual((ended.returncode, ended.stdout), (2, ""))
+        self.assertEqual(ended.stderr, f"check_links: can't read {page}: it is not UTF-8\n")
 
 
 if __name__ == "__main__":

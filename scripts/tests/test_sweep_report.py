@@ -58,7 +58,7 @@ class Reports(unittest.TestCase):
         status, out, _ = self.report(file)
         self.assertEqual(status, 0)
         self.assertIn("On `nm-no-tag` 1 program goes wrong with 2 operations, and none with fewer.", out)
-        self.assertIn("- `nm-no-tag::i5:f5`: `fault history`, schedule `0,1,0,1`", out)
+        self.assertIn("- `nm-no-tag::i5:f5`: `history`, `0,1,0,1`", out)
 
     def test_an_incomplete_family_leaves_the_page_as_it_is(self) -> None:
         family = Family(["nm"], ["-"], [5], 2, 1)

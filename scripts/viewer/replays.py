@@ -8,7 +8,7 @@ import sys
 from dataclasses import dataclass, replace
 from pathlib import Path
 
-MOST_STEPS = 400
+from common import MOST_STEPS
 
 
 class Refusal(Exception):

@@ -8,7 +8,7 @@ from typing import Any
 
 from place_tables import Atomic, Ellen, NatMit
 from viewer.accesses import access_of, key_text, node_text, update_text
-from viewer.layout import HEIGHT, LEAF, Layout, Spot
+from viewer.layout import HEIGHT, Layout, Spot
 from viewer.steps import KeyState, Step, Walk
 
 LETTER = 7.3

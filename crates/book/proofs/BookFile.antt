@@ -1,9 +1,12 @@
 -- Book files.
 pub mod Replayed
 pub mod Passing
+pub mod Twins
+pub mod Amiss
 pub mod Known
 pub mod Exclusive
 pub mod Written
 pub mod Writable
 pub mod Whole
+pub mod Placed
 pub mod Recalled

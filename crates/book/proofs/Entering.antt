@@ -1,20 +1,17 @@
 -- An expansion is entered.
-use Rattle.std.proofs.Common.{◌≡◌, ◌⊎◌, inl, inr, Result, Ok, Err, OnOk, IfOk, IfErr, ℕ, zero, suc, ◌+◌, ◌-◌, ◌^◌, ◌<◌}
-use Rattle.std.proofs.Common.{◌≤◌, Bool, Some, List, [], ◌∷◌, ◌++◌, length, map, refl, sym, ap, ◌∙◌, arith, slice_get}
-use Rattle.std.proofs.Common.{length-append, subst}
+use Rattle.std.proofs.Common.{◌≡◌, ℕ, zero, suc, ◌+◌, ◌-◌, ◌^◌, ◌<◌, ◌≤◌, Bool, Some, List, [], ◌∷◌, ◌++◌, length, map, refl, sym, ap, ◌∙◌, arith, slice_get}
+use Rattle.std.proofs.Common.{length-append}
 use Rattle.std.proofs.lemmas.Bool.{cond_both}
 use Rattle.std.proofs.Math.ListN.{length-map}
 use Rattle.sched_program.specs.Program.{Program}
 use Rattle.tree_machine.proofs.Lists.{get-append_left}
-use Rattle.book.specs.declared.book.Entered.{Entered}
-use Rattle.book.specs.declared.book.EnterFault.{EnterFault}
-use Rattle.book.specs.declared.book.EnterFault.TheVariants.{NotTaken, Stranger, Full, OutOfMemory}
 use Rattle.book.specs.declared.finding.Finding.{Finding}
 use Rattle.book.specs.declared.entry.Mark.{Mark}
 use Rattle.book.specs.declared.entry.Mark.TheVariants.{Taken, Expanded}
 use Rattle.book.specs.Schedule.{AreOneBy, StepMachine, IsMachine, Merges}
-use Rattle.book.specs.Entries.{Entry, Successor, Steps, Contents, At, Enters, IsOwn, IsTaken, Refuses, with_mark}
-use Rattle.book.specs.Entries.{with_successors, knows, unknown, opened, states}
+use Rattle.book.specs.Entries.{Entry, Successor, Contents, At, IsOwn, IsTaken, with_mark}
+use Rattle.book.specs.Entries.{opened, states}
+use Rattle.book.specs.Unknown.{with_successors, knows, unknown}
 use Rattle.book.specs.Law.{IsLawfulBook, IsExpansion}
 use Rattle.book.proofs.EntryLemmas.{get_within}
 use Rattle.book.proofs.LawfulBooks.{entered_book, met_fits}
@@ -113,58 +110,3 @@ module _ {X S : Type 0} (m : StepMachine S) (same : S → S → Bool) (right : S
 
   pub small_met : (met : ℕ) → met ≤ length xs → b.met + met < 2 ^ 64
   small_met met le = met_fits m same right machine merges b book i e at taken xs expansion met le
-
--- what an expansion holds is right for the entry that it is of
-pub expansion_of_own : {X P S : Type 0} (machine_for : X → P → StepMachine S) (right_for : X → P → S → Finding → Type 0)
-    (x y : X) (p q : P) (s r : S) (xs : List (Successor S))
-    → x ≡ y → p ≡ q → s ≡ r → IsExpansion (machine_for x p) (right_for x p) s xs
-    → IsExpansion (machine_for y q) (right_for y q) r xs
-expansion_of_own {X} {P} {S} machine_for right_for x y p q s r xs e f h is =
-    subst (λ (v : S). IsExpansion (machine_for y q) (right_for y q) v xs) h
-    (subst (λ (u : P). IsExpansion (machine_for y u) (right_for y u) s xs) f
-    (subst (λ (u : X). IsExpansion (machine_for u p) (right_for u p) s xs) e is))
-
--- what putting the steps of an entry answers, of the expansion that they came of
-module _ {X S : Type 0} (same : S → S → Bool) (old new : Contents X S) (i : ℕ) (x : Steps X S) (xs : List (Successor S))
-    (steps : xs ≡ x.successors)
-    (taken : IsTaken old.entries i) (own : IsOwn old i x.machine x.program x.source) where
-  pub enters_by : (answer : Result Entered EnterFault)
-      → OnOk answer (new.entries ≡ with_successors same old.entries i xs)
-      → IfOk answer
-      (λ r. (r.entered ≡ length (unknown same (states old.entries) xs)) × (r.entered + r.met ≡ length xs)
-      × (new.met ≡ old.met + r.met))
-      → IfOk answer (λ r. length old.entries + r.entered ≤ old.limit)
-      → (new.machine ≡ old.machine) × (new.program ≡ old.program) × (new.merge ≡ old.merge) × (new.limit ≡ old.limit)
-      → IfOk answer (λ r. Enters same old new i x r.entered r.met)
-  enters_by (Ok r) entries counts room rest = record {
-    taken = taken;
-    own = own;
-    room = room;
-    entries = entries ∙ ap (with_successors same old.entries i) steps;
-    new_states = counts.0 ∙ ap (λ ys. length (unknown same (states old.entries) ys)) steps;
-    each = counts.1 ∙ ap length steps;
-    met_in_all = counts.2;
-    machine = rest.0;
-    program = rest.1;
-    merge = rest.2;
-    limit = rest.3;
-  }
-  enters_by (Err fault) entries counts room rest = tt
-
-  pub refuses_by : (answer : Result Entered EnterFault)
-      → IfErr answer
-      (λ fault. (fault ≡ OutOfMemory)
-      ⊎ ((fault ≡ Full) × (old.limit < length old.entries + length (unknown same (states old.entries) xs))))
-      → IfErr answer (Refuses same old i x)
-  refuses_by (Ok r) full = tt
-  refuses_by (Err NotTaken) (inl e) = cc
-  refuses_by (Err NotTaken) (inr e) = absurd (let q : NotTaken ≡ Full = e.0 in cc)
-  refuses_by (Err Stranger) (inl e) = absurd (cc)
-  refuses_by (Err Stranger) (inr e) = absurd (let q : Stranger ≡ Full = e.0 in cc)
-  refuses_by (Err Full) (inl e) = absurd (cc)
-  refuses_by (Err Full) (inr e) = (
-    taken,
-    own,
-    subst (λ ys. old.limit < length old.entries + length (unknown same (states old.entries) ys)) steps e.1,
-  )
-  refuses_by (Err OutOfMemory) full = (taken, λ _. own)

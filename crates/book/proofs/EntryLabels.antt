@@ -1,12 +1,20 @@
 -- The labels of a book, entry by entry.
-use Rattle.std.proofs.Common.{◌≡◌, ℕ, Option, Some, List, ap, slice_get, ◌∙◌}
+use Rattle.std.proofs.Common.{◌≡◌, ℕ, ◌<◌, ◌≤◌, Option, Some, List, ap, arith, refl, sym, slice_get, subst, ◌∙◌}
+use Rattle.sched_program.specs.Program.{Program}
+use Rattle.tree_machine.specs.Rules.{Rules}
+use Rattle.tree_machine.specs.Step.{Fits}
 use Rattle.tree_machine.proofs.Lists.{map-get}
 use Rattle.tree_machine.specs.FormCode.{state_code}
 use Rattle.tree_machine.specs.declared.state.State.{State}
 use Rattle.book.specs.declared.book.Merge.{Merge}
 use Rattle.book.specs.declared.book.Merge.TheVariants.{Exact}
-use Rattle.book.specs.Entries.{Entry, At}
+use Rattle.book.specs.declared.finding.Finding.{Finding}
+use Rattle.book.specs.Books.{IsBook}
+use Rattle.book.specs.ByLabel.{IsTakenOf}
+use Rattle.book.specs.Entries.{Contents, Entry, At}
+use Rattle.book.specs.Findings.{IsFindingOf}
 use Rattle.book.specs.Labels.{AreKnownBy, Kept, label_by}
+use Rattle.book.proofs.InBook.{state_few}
 
 -- the label of an entry is that of its state
 pub label_there : {S : Type 0} (label_of : S → List ℕ) (kept : Kept S) → AreKnownBy label_of kept
@@ -27,3 +35,33 @@ pub exact_label : {Machine Memory Place Form : Type 0} (whole_code : Memory → 
 exact_label whole_code form_code form_of merge exact kept known i e at label there =
     label_there (label_by whole_code form_code form_of merge) kept known i e at label there
     ∙ ap (λ (m : Merge). label_by whole_code form_code form_of m e.state) exact
+
+-- an entry of a book, as it is handed out
+pub taken_of : {Machine Memory Place Form : Type 0} (rules : Machine → Rules Memory Place)
+    (whole_code : Memory → List (Option Place) → List ℕ) (form_code : Form → List ℕ)
+    (form_of : Machine → Memory → List (Option Place) → Form)
+    {b : Contents Machine (State Machine Memory Place Form)}
+    → IsBook rules (label_by whole_code form_code (form_of b.machine) b.merge) b
+    → (i : ℕ) (e : Entry (State Machine Memory Place Form)) → At b.entries i e
+    → (program : Program) → program ≡ b.program
+    → (label : List ℕ) → label ≡ label_by whole_code form_code (form_of b.machine) b.merge e.state
+    → (finding : Finding) → finding ≡ e.finding
+    → IsTakenOf rules whole_code form_code form_of (record {
+      key = record { id = i; machine = b.machine; program = program; merge = b.merge; label = label };
+      finding = finding;
+    })
+taken_of {Machine} {Memory} {Place} {Form} rules whole_code form_code form_of {b} book i e at program own label is
+    finding found =
+    record {
+      state = e.state;
+      fits = subst (λ (p : Program). Fits (rules b.machine) p e.state) (sym own) (book.law.law.fit i e at);
+      few =
+          (let less : e.state.steps < b.limit = state_few book i e.state (e, at, refl) in
+          let most : b.limit ≤ 2000000 = book.law.limit in
+          omega arith);
+      label = sym is;
+      finding =
+          subst (λ (p : Program). IsFindingOf (rules b.machine) p e.state finding) (sym own)
+          (subst (λ (f : Finding). IsFindingOf (rules b.machine) b.program e.state f) (sym found)
+          (book.law.law.findings i e at));
+    }

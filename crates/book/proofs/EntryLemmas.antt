@@ -1,39 +1,16 @@
 -- An entry by its number, in lists of entries that are made of others.
-use Rattle.std.proofs.Common.{◌≡◌, ◌≢◌, ℕ, zero, suc, ◌+◌, ◌<◌, ◌≤◌, ◌⊎◌, inl, inr, Some, None, List, [], ◌∷◌, ◌++◌}
-use Rattle.std.proofs.Common.{length, refl, sym, ap, ◌∙◌, append_assoc, append-nil, arith, slice_get, count_by, cond}
+use Rattle.std.proofs.Common.{◌≡◌, ◌≢◌, ℕ, zero, suc, ◌+◌, ◌<◌, ◌≤◌, ◌⊎◌, inl, inr, Some, None, List, [], ◌∷◌}
+use Rattle.std.proofs.Common.{length, refl, sym, ap, arith, slice_get, count_by, cond}
 use Rattle.std.proofs.lemmas.List.Sums.{sum_by-cons}
 use Rattle.book.specs.declared.entry.Mark.{Mark}
 use Rattle.book.specs.declared.entry.Mark.TheVariants.{Open, Taken, Expanded}
-use Rattle.tree_machine.proofs.Lists.{get-append_right}
 use Rattle.book.specs.Entries.{Entry, At, is_open, is_taken, is_expanded, with_mark}
 
 module _ {X : Type 0} where
-  -- the first of those that are left of a list, once some have been taken
-  pub get-next : (taken left all : List X) (x : X) (more : List X) → taken ++ left ≡ all → left ≡ x ∷ more
-      → slice_get all (length taken + 0) ≡ Some x
-  get-next taken left all x more rest next = ap (λ xs. slice_get xs (length taken + 0)) (sym rest)
-      ∙ get-append_right taken left 0 x (ap (λ xs. slice_get xs 0) next)
-
-  -- and those that are left after it
-  pub taken_next : (taken left all : List X) (x : X) (more : List X) → taken ++ left ≡ all → left ≡ x ∷ more
-      → (taken ++ x ∷ []) ++ more ≡ all
-  taken_next taken left all x more rest next =
-      append_assoc taken (x ∷ []) more ∙ ap (λ xs. taken ++ xs) (sym next) ∙ rest
-
-  -- and all of them, once none is left
-  pub all_taken : (taken left all : List X) → taken ++ left ≡ all → length left ≡ 0 → taken ≡ all
-  all_taken taken [] all rest none = sym (append-nil taken) ∙ rest
-  all_taken taken (x ∷ left) all rest none = absurd (let q : suc (length left) ≡ 0 = none in cc)
-
   pub get_within : (xs : List X) (i : ℕ) (x : X) → slice_get xs i ≡ Some x → i < length xs
   get_within [] i x h = cc
   get_within (y ∷ xs) zero x h = omega arith
   get_within (y ∷ xs) (suc i) x h = let l : i < length xs = get_within xs i x h in omega arith
-
-  pub none_past : (xs : List X) (i : ℕ) → slice_get xs i ≡ None → length xs ≤ i
-  none_past [] i e = omega arith
-  none_past (x ∷ xs) zero e = cc
-  none_past (x ∷ xs) (suc i) e = omega (arith, none_past xs i e)
 
   pub get_none : (xs : List X) (i : ℕ) → length xs ≤ i → slice_get xs i ≡ None
   get_none [] i h = refl

@@ -8,7 +8,8 @@ use Rattle.book.specs.declared.finding.Finding.{Finding}
 use Rattle.book.specs.declared.entry.Mark.{Mark}
 use Rattle.book.specs.declared.entry.Mark.TheVariants.{Open, Taken, Expanded}
 use Rattle.book.specs.Schedule.{AreOneBy, StepMachine, IsMachine, Merges}
-use Rattle.book.specs.Entries.{Entry, Successor, Takes, At, IsNext, with_mark, with_successors, unknown, opened, states}
+use Rattle.book.specs.Entries.{Entry, Successor, Takes, At, IsNext, with_mark, opened, states}
+use Rattle.book.specs.Unknown.{with_successors, unknown}
 use Rattle.book.specs.Entries.{is_expanded}
 use Rattle.book.specs.Law.{IsLawful, IsExpansion}
 use Rattle.book.specs.Layers.{IsExpandedTo, IsLeftTo, NoneTaken, GrowsFrom, IsThrough}

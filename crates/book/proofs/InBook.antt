@@ -10,16 +10,16 @@ use Rattle.tree_machine.specs.declared.state.State.{State}
 use Rattle.tree_machine.proofs.Lists.{get_at}
 use Rattle.book.specs.declared.entry.Mark.TheVariants.{Taken}
 use Rattle.book.specs.declared.entry.Origin.{Origin}
-use Rattle.book.specs.Books.{machine_in, right_in, counted_as_one, CountsAsOne, IsBook, IsLawfulIn}
+use Rattle.book.specs.Books.{machine_in, right_in, CountsAsOne, IsBook, IsLawfulIn}
 use Rattle.book.specs.Entries.{Entry, Contents, At, IsNext, Takes, TakesLayer, TakesRange, is_expanded, is_open}
 use Rattle.book.specs.Entries.{with_mark, with_marks}
 use Rattle.book.specs.Law.{FindsAlike, StandsForReached}
-use Rattle.book.specs.Labels.{Kept}
+use Rattle.book.specs.Labels.{Kept, same_as}
 use Rattle.book.specs.Slots.{AllStates, AreStatesOf, IsOpenFrom}
 use Rattle.book.specs.Layers.{IsExpandedTo, IsLeftTo}
 use Rattle.book.specs.Ways.{IsWay}
-use Rattle.book.specs.Schedule.{after, AreOneBy}
-use Rattle.book.proofs.Agreeing.{Agree, book_as, finds_as, reached_as}
+use Rattle.book.specs.Schedule.{after, AreOneBy, IsDecided}
+use Rattle.book.proofs.Agreeing.{book_as, finds_as, reached_as}
 use Rattle.book.proofs.Coverage.{stands_along}
 use Rattle.book.proofs.Growth.{all_expanded, few_steps, is_left, none_left}
 use Rattle.book.proofs.LawfulBooks.{taken_book}
@@ -36,13 +36,12 @@ pub record IsTakenOne {Machine Memory Place Form : Type 0} (rules : Machine → 
   pub fits : Fits (rules b.machine) b.program state
   pub few : state.steps < b.limit
 
-module _ {Machine Memory Place Form : Type 0} {rules : Machine → Rules Memory Place} {place_eq : Place → Place → Bool}
-    {memory_eq : Memory → Memory → Bool}
-    {form_eq : Form → Form → Bool} {form_of : Machine → Memory → List (Option Place) → Form}
+module _ {Machine Memory Place Form : Type 0} {rules : Machine → Rules Memory Place}
+    {label_of : State Machine Memory Place Form → List ℕ}
     {b : Contents Machine (State Machine Memory Place Form)}
-    (book : IsBook rules place_eq memory_eq form_eq form_of b) where
+    (book : IsBook rules label_of b) where
   abbrev pub same_in : State Machine Memory Place Form → State Machine Memory Place Form → Bool
-  same_in = counted_as_one place_eq memory_eq form_eq (form_of b.machine) b.merge
+  same_in = same_as label_of
 
   -- each entry has fewer steps than the book may have entries
   few_at : (i : ℕ) (e : Entry (State Machine Memory Place Form)) → At b.entries i e → e.state.steps < b.limit
@@ -58,7 +57,7 @@ module _ {Machine Memory Place Form : Type 0} {rules : Machine → Rules Memory 
         × IsNext (machine_in rules q).steps q.entries i e) (sym view) next
 
     -- the book with the next entry taken
-    pub next_taken : IsBook rules place_eq memory_eq form_eq form_of
+    pub next_taken : IsBook rules label_of
         (record {
           machine = b.machine;
           program = b.program;
@@ -75,6 +74,7 @@ module _ {Machine Memory Place Form : Type 0} {rules : Machine → Rules Memory 
           machine = book.machine;
           merges = book.merges;
           findings = book.findings;
+          counts = book.counts;
         }
 
     pub taken_one : (r : State Machine Memory Place Form) → (e : Entry (State Machine Memory Place Form))
@@ -118,11 +118,6 @@ module _ {Machine Memory Place Form : Type 0} {rules : Machine → Rules Memory 
   -- what is so of each state of the entries is so of one that is lent
   module _ (i : ℕ) (state : State Machine Memory Place Form)
       (at : (e : Entry (State Machine Memory Place Form)) × At b.entries i e × (e.state ≡ state)) where
-    pub state_fits : Fits (rules b.machine) b.program state
-    state_fits =
-        subst (λ (v : State Machine Memory Place Form). Fits (rules b.machine) b.program v) at.2
-        (book.law.law.fit i at.0 at.1)
-
     pub state_few : state.steps < b.limit
     state_few = subst (λ (v : State Machine Memory Place Form). v.steps < b.limit) at.2 (few_at i at.0 at.1)
 
@@ -142,7 +137,7 @@ module _ {Machine Memory Place Form : Type 0} {rules : Machine → Rules Memory 
         end k steps below beyond within
 
     -- the book with it taken
-    pub layer_taken : IsBook rules place_eq memory_eq form_eq form_of
+    pub layer_taken : IsBook rules label_of
         (record {
           machine = b.machine;
           program = b.program;
@@ -159,6 +154,7 @@ module _ {Machine Memory Place Form : Type 0} {rules : Machine → Rules Memory 
           machine = book.machine;
           merges = book.merges;
           findings = book.findings;
+          counts = book.counts;
         }
 
     pub layer_given : {A : Type 0} (range : List (ℕ × Arc (State Machine Memory Place Form) A))
@@ -238,22 +234,24 @@ module _ {Machine Memory Place Form : Type 0} {rules : Machine → Rules Memory 
   stands_for_reached =
       stands_along (machine_in rules b) same_in (right_in rules b) book.machine book.merges b.entries book.law.law
 
-  -- what is known by the test is so by what counts as one
-  module _ (counts : Agree (machine_in rules b) (AreOneBy same_in) (CountsAsOne (rules b.machine) b.merge)) where
-    pub lawful_in : IsLawfulIn rules b
-    lawful_in =
-        book_as (machine_in rules b) book.machine (AreOneBy same_in) (CountsAsOne (rules b.machine) b.merge) counts
-        (right_in rules b) b book.law
+  -- what is known by labels is so by what counts as one
+  pub lawful_in : IsLawfulIn rules b
+  lawful_in =
+      book_as (machine_in rules b) book.machine (AreOneBy same_in) (CountsAsOne (rules b.machine) b.merge) book.counts
+      (right_in rules b) b book.law
 
-    pub finds_in : FindsAlike (machine_in rules b) (CountsAsOne (rules b.machine) b.merge) (right_in rules b)
-    finds_in =
-        finds_as (machine_in rules b) book.machine (AreOneBy same_in) (CountsAsOne (rules b.machine) b.merge) counts
-        (right_in rules b) book.findings
+  pub finds_in : FindsAlike (machine_in rules b) (CountsAsOne (rules b.machine) b.merge) (right_in rules b)
+  finds_in =
+      finds_as (machine_in rules b) book.machine (AreOneBy same_in) (CountsAsOne (rules b.machine) b.merge) book.counts
+      (right_in rules b) book.findings
 
-    pub reached_in : StandsForReached (machine_in rules b) (CountsAsOne (rules b.machine) b.merge) b.entries
-    reached_in =
-        reached_as (machine_in rules b) book.machine (AreOneBy same_in) (CountsAsOne (rules b.machine) b.merge) counts
-        b.entries book.law.law.fit stands_for_reached
+  pub reached_in : StandsForReached (machine_in rules b) (CountsAsOne (rules b.machine) b.merge) b.entries
+  reached_in =
+      reached_as (machine_in rules b) book.machine (AreOneBy same_in) (CountsAsOne (rules b.machine) b.merge)
+      book.counts b.entries book.law.law.fit stands_for_reached
+
+  pub decided_in : IsDecided (machine_in rules b) (CountsAsOne (rules b.machine) b.merge)
+  decided_in = (same_in, book.merges, book.counts)
 
   -- the way to an entry, followed back
   module _ (now : Contents Machine (State Machine Memory Place Form)) (view : b ≡ now) where

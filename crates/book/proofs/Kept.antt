@@ -6,7 +6,8 @@ use Rattle.tree_machine.proofs.Lists.{get-append_cases, get-append_left, get-app
 use Rattle.book.specs.declared.finding.Finding.{Finding}
 use Rattle.book.specs.declared.entry.Mark.TheVariants.{Open, Taken, Expanded}
 use Rattle.book.specs.Schedule.{AreOneBy, StepMachine, IsMachine, Merges}
-use Rattle.book.specs.Entries.{Entry, Successor, At, IsNext, with_mark, with_successors, unknown, opened, states}
+use Rattle.book.specs.Entries.{Entry, Successor, At, IsNext, with_mark, opened, states}
+use Rattle.book.specs.Unknown.{with_successors, unknown}
 use Rattle.book.specs.Layers.{GrowsFrom, NoneTaken}
 use Rattle.book.specs.Law.{StandsFor, IsStep, IsLawful, IsExpansion}
 use Rattle.book.proofs.EntryLemmas.{SameButMark, at-with_mark, with_mark-at, length-with_mark, get_within}
@@ -18,7 +19,6 @@ module _ {S : Type 0} (m : StepMachine S) (same : S → S → Bool) (right : S �
     (machine : IsMachine m) (merges : Merges m same) where
   step_of_same : (a b c d : S) (t : ℕ) → b ≡ a → d ≡ c → m.step a t ≡ Some c → m.step b t ≡ Some d
   step_of_same a b c d t p q h = cc
-
   right_of_same : (a b : S) (x y : Finding) → b ≡ a → y ≡ x → right a x → right b y
   right_of_same a b x y p q h = subst (λ (v : S). right v y) (sym p) (subst (λ (v : Finding). right a v) (sym q) h)
 

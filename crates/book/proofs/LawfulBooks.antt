@@ -11,7 +11,8 @@ use Rattle.book.specs.declared.book.Merge.{Merge}
 use Rattle.book.specs.declared.entry.Mark.{Mark}
 use Rattle.book.specs.declared.entry.Mark.TheVariants.{Open, Taken, Expanded}
 use Rattle.book.specs.Schedule.{AreOneBy, StepMachine, IsMachine, Merges, enabled_threads}
-use Rattle.book.specs.Entries.{Entry, Successor, Contents, At, IsNext, with_mark, with_successors, unknown, opened}
+use Rattle.book.specs.Entries.{Entry, Successor, Contents, At, IsNext, with_mark, opened}
+use Rattle.book.specs.Unknown.{with_successors, unknown}
 use Rattle.book.specs.Entries.{states, is_expanded}
 use Rattle.book.specs.Law.{IsExpansion, IsLawfulBook, steps_entered}
 use Rattle.book.proofs.EntryLemmas.{length-with_mark, get_within}

@@ -2,19 +2,17 @@ pub mod EntryLemmas
 mod Marks
 pub mod Unknown
 pub mod Coverage
-pub mod Leaving
 pub mod EnabledThreads
 pub mod Kept
 pub mod Next
 pub mod LawfulBooks
-pub mod Exact
 pub mod Entering
 pub mod Growth
 pub mod Counts
 pub mod Closed
 pub mod Ways
 pub mod Agreeing
-mod Expanding
+mod ThreadSteps
 mod SlotLemmas
 mod Labels
 mod Cursors
@@ -33,4 +31,5 @@ pub mod Text
 pub mod BookFile
 mod Stopping
 mod EntryLabels
+mod OwnSteps
 mod ShownSent

@@ -3,7 +3,7 @@ use Rattle.std.proofs.Common.{◌≡◌, ◌≢◌, ℕ, ◌<◌, ◌≤◌, inl
 use Rattle.std.proofs.Common.{◌∷◌, length, refl, sym, ap, ◌∙◌, arith, slice_get, position, get_or}
 use Rattle.std.specs.List.{position_or_len}
 use Rattle.std.proofs.lemmas.Bool.{true≢false, cases_lt, lt-ltb}
-use Rattle.std.proofs.lemmas.Option.{get_or_from_slice_get, slice_get_read}
+use Rattle.std.proofs.lemmas.Option.{get_or_from_slice_get}
 use Rattle.std.proofs.lemmas.List.Quantifiers.{position-Some}
 use Rattle.std.proofs.lemmas.List.Sums.{fails_before_first}
 use Rattle.tree_machine.proofs.Lists.{get_at}
@@ -20,11 +20,6 @@ module _ {X : Type 0} (p : X → Bool) where
   position-within : (xs : List X) (i : ℕ) → position p xs ≡ Some i → i < length xs
   position-within [] i h = absurd (let q : None ≡ Some i = h in cc)
   position-within (x ∷ xs) i h = (position-Some p (x ∷ xs) i x h).0
-
--- what is read at the place that `position` gives
-pub at_position : {X : Type 0} (p : X → Bool) (xs : List X) (i : ℕ) (x : X) → position p xs ≡ Some i → x ≡ get_or xs i x
-    → slice_get xs i ≡ Some x
-at_position p xs i x h r = slice_get_read xs (length xs) i x refl (position-within p xs i h) r
 
 module _ {X : Type 0} (p : X → Bool) (xs : List X) where
   -- the first that passes does, and none before it

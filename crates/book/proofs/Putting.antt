@@ -1,160 +1,209 @@
 -- The steps of a taken entry are put in, and it is marked expanded: what follows for the book that they are put in.
-use Rattle.std.proofs.Common.{◌≡◌, ℕ, ◌+◌, ◌-◌, ◌^◌, ◌<◌, ◌≤◌, ◌++◌, Bool, Option, List, length, map, refl, sym, ap}
-use Rattle.std.proofs.Common.{◌∙◌, arith, subst}
+use Rattle.std.proofs.Common.{◌≡◌, ℕ, zero, suc, ◌+◌, ◌-◌, ◌^◌, ◌<◌, ◌≤◌, inl, inr, Bool, true, false, cond, Some, None}
+use Rattle.std.proofs.Common.{IsSome, Option, List, [], ◌∷◌, ◌++◌, length, map, refl, sym, ap, ◌∙◌, arith, slice_get}
+use Rattle.std.proofs.Common.{subst, true≢false}
+use Rattle.std.specs.List.{All}
+use Rattle.std.specs.Prelude.{slice_index_or, unwrap_or}
 use Rattle.std.proofs.Math.ListN.{length-map}
 use Rattle.tree_machine.specs.Rules.{Rules}
 use Rattle.tree_machine.specs.declared.state.State.{State}
+use Rattle.tree_machine.proofs.Lists.{get-append_cases, get_at}
 use Rattle.book.specs.declared.entry.Mark.TheVariants.{Taken, Expanded}
-use Rattle.book.specs.Books.{machine_in, right_in, counted_as_one, IsBook}
-use Rattle.book.specs.Entries.{Entry, Successor, Contents, At, IsTaken, opened, states, unknown, with_mark}
-use Rattle.book.specs.Entries.{with_successors}
-use Rattle.book.specs.Labels.{AreKnownBy, AreStepsKnownBy, Kept, Labelled, bare, bares, label_by, same_as}
+use Rattle.book.specs.Books.{machine_in, right_in, CountsAsOne, IsBook}
+use Rattle.book.specs.ByLabel.{AreStepsOf}
+use Rattle.book.specs.Entries.{AreNew, At, Contents, Enters, Entry, IsFullFor, IsOwn, IsTaken, Knows, Successor, opened}
+use Rattle.book.specs.Entries.{states, with_mark}
+use Rattle.book.specs.Unknown.{knows, unknown}
+use Rattle.book.specs.Labels.{same_as, steps_of}
 use Rattle.book.specs.Law.{IsExpansion}
+use Rattle.book.specs.Schedule.{AreOneBy, StepMachine}
+use Rattle.book.proofs.Agreeing.{Agree}
 use Rattle.book.proofs.Entering.{length_appended, entered_is, few_entered, still_taken, entered_entries, lawful_entered}
 use Rattle.book.proofs.Entering.{small_met}
-use Rattle.book.proofs.Labels.{known_mark}
+use Rattle.book.proofs.Unknown.{at-states, list_any-false, list_any-true}
 
-module _ {Machine Memory Place Form : Type 0} {rules : Machine → Rules Memory Place} {place_eq : Place → Place → Bool}
-    {memory_eq : Memory → Memory → Bool}
-    {form_eq : Form → Form → Bool} {form_of : Machine → Memory → List (Option Place) → Form}
-    {b : Contents Machine (State Machine Memory Place Form)}
-    (book : IsBook rules place_eq memory_eq form_eq form_of b)
-    (now : Contents Machine (State Machine Memory Place Form)) (view : b ≡ now)
-    (xs : List (Successor (Labelled (State Machine Memory Place Form)))) where
+-- what is new by a test is new by a relation that agrees with it
+module _ {S : Type 0} (m : StepMachine S) (same : S → S → Bool) (Same : S → S → Type 0)
+    (agree : Agree m (AreOneBy same) Same) where
+  module _ (known : List S) (fit : (k : ℕ) (r : S) → slice_get known k ≡ Some r → m.Fits r) (s : S) (fits : m.Fits s)
+    where
+      knows_by : knows same known s ≡ true → Knows Same known s
+      knows_by h =
+          let w = list_any-true (λ r. same r s) known h in
+          (w.0, w.1, w.2, (agree w.1 s (fit w.0 w.1 w.2) fits).0 w.3)
+
+      knows_not : knows same known s ≡ false → Knows Same known s → ⊥
+      knows_not h w =
+          true≢false (sym ((agree w.1 s (fit w.0 w.1 w.2) fits).1 w.3)
+          ∙ list_any-false (λ r. same r s) known h w.0 w.1 w.2)
+
+      fit_more : (k : ℕ) (r : S) → slice_get (known ++ s ∷ []) k ≡ Some r → m.Fits r
+      fit_more k r at = elim (get-append_cases known (s ∷ []) k r at) [
+        | inl there ↦ fit k r there
+        | inr last ↦ one last.0 last.2
+      ]
+        where
+          one : (j : ℕ) → slice_get (s ∷ []) j ≡ Some r → m.Fits r
+          one zero h = let q : s ≡ r = cc in subst m.Fits q fits
+          one (suc j) h = absurd (let q : None ≡ Some r = h in cc)
+
+  pub are_new : (known : List S) → ((k : ℕ) (r : S) → slice_get known k ≡ Some r → m.Fits r)
+      → (xs : List (Successor S)) → ((k : ℕ) (x : Successor S) → slice_get xs k ≡ Some x → m.Fits x.state)
+      → AreNew Same known xs (unknown same known xs)
+  are_new known fit [] fits = refl
+  are_new known fit (x ∷ xs) fits =
+      by (knows same known x.state) refl (are_new known fit xs (λ k. fits (suc k)))
+      (are_new (known ++ x.state ∷ []) (fit_more known fit x.state (fits 0 x refl)) xs (λ k. fits (suc k)))
+    where
+      by : (b : Bool) → knows same known x.state ≡ b → AreNew Same known xs (unknown same known xs)
+          → AreNew Same (known ++ x.state ∷ []) xs (unknown same (known ++ x.state ∷ []) xs)
+          → AreNew Same known (x ∷ xs)
+          (cond b (unknown same known xs) (x ∷ unknown same (known ++ x.state ∷ []) xs))
+      by true h here there = inl (knows_by known fit x.state (fits 0 x refl) h, here)
+      by false h here there =
+          inr (
+            knows_not known fit x.state (fits 0 x refl) h,
+            (unknown same (known ++ x.state ∷ []) xs, refl, there),
+          )
+
+-- steps that lead somewhere are those of enabled threads
+pub steps_enabled : {S : Type 0} (step : S → ℕ → Option S) (s : S) (xs : List (Successor (List ℕ)))
+    → ((k : ℕ) (y : Successor S) → slice_get (steps_of step s xs) k ≡ Some y → step s y.thread ≡ Some y.state)
+    → All (λ x. IsSome (step s x.thread)) xs
+steps_enabled step s [] leads k d less = absurd (omega arith)
+steps_enabled {S} step s (x ∷ xs) leads zero d less =
+    some (step s x.thread) (leads 0 _ refl)
+  where
+    some : (o : Option S) → o ≡ Some (unwrap_or (step s x.thread) s) → IsSome o
+    some None h = absurd (let q : None ≡ Some (unwrap_or (step s x.thread) s) = h in cc)
+    some (Some r) h = refl
+steps_enabled step s (x ∷ xs) leads (suc k) d less =
+    steps_enabled step s xs (λ j. leads (suc j)) k d (omega arith)
+
+module _ {Machine Memory Place Form : Type 0} {rules : Machine → Rules Memory Place}
+    {label_of : State Machine Memory Place Form → List ℕ} {b : Contents Machine (State Machine Memory Place Form)}
+    (book : IsBook rules label_of b) (i : ℕ) (e : Entry (State Machine Memory Place Form)) (at : At b.entries i e)
+    (xs : List (Successor (List ℕ)))
+    (steps : AreStepsOf (machine_in rules b) (right_in rules b) label_of e.state xs) where
   abbrev same : State Machine Memory Place Form → State Machine Memory Place Form → Bool
-  same = counted_as_one place_eq memory_eq form_eq (form_of b.machine) b.merge
+  same = same_as label_of
 
-  -- by which label the book knows a state
-  abbrev pub label_in : (Memory → List (Option Place) → List ℕ) → (Form → List ℕ)
-      → State Machine Memory Place Form → List ℕ
-  label_in whole_code form_code = label_by whole_code form_code (form_of b.machine) b.merge
+  -- the steps, and the new ones of them
+  abbrev ys : List (Successor (State Machine Memory Place Form))
+  ys = steps_of (machine_in rules b).step e.state xs
 
-  module _ (whole_code : Memory → List (Option Place) → List ℕ) (form_code : Form → List ℕ)
-      (steps_known : AreStepsKnownBy (label_by whole_code form_code (form_of now.machine) now.merge) xs) where
-    -- the steps are known by the labels by which the book knows its states
-    steps_here : AreStepsKnownBy (label_in whole_code form_code) xs
-    steps_here =
-        subst (λ (q : Contents Machine (State Machine Memory Place Form)). AreStepsKnownBy
-        (label_by whole_code form_code (form_of q.machine) q.merge) xs) (sym view) steps_known
+  abbrev news : List (Successor (State Machine Memory Place Form))
+  news = unknown same (states b.entries) ys
 
-    module _ (labels : List (List ℕ))
-        (known : AreKnownBy (label_in whole_code form_code) (record { entries = b.entries; labels = labels }))
-        (tests : same_as (label_in whole_code form_code) ≡ same) where
-      -- what is put in by labels is put in by what counts as one
-      pub put_in : (i : ℕ) (appended : List (Entry (State Machine Memory Place Form)))
-          → ((f : State Machine Memory Place Form → List ℕ)
-          → AreKnownBy f (record { entries = b.entries; labels = labels }) → AreStepsKnownBy f xs
-          → appended ≡ b.entries ++ map (opened i)
-          (unknown (same_as f) (states b.entries) (bares xs)))
-          → appended ≡ b.entries ++ map (opened i) (unknown same (states b.entries) (bares xs))
-      put_in i appended put =
-          subst
-          (λ (test : State Machine Memory Place Form → State Machine Memory Place Form → Bool).
-          appended ≡ b.entries ++ map (opened i) (unknown test (states b.entries) (bares xs))) tests
-          (put (label_in whole_code form_code) known steps_here)
+  pub here_enabled : All (λ x. IsSome ((machine_in rules b).step e.state x.thread)) xs
+  here_enabled = steps_enabled (machine_in rules b).step e.state xs steps.expansion.steps
 
-      pub no_room : (limit : ℕ)
-          → ((f : State Machine Memory Place Form → List ℕ)
-          → AreKnownBy f (record { entries = b.entries; labels = labels }) → AreStepsKnownBy f xs
-          → limit < length b.entries
-          + length
-          (unknown (same_as f) (states b.entries) (bares xs)))
-          → limit < length b.entries + length (unknown same (states b.entries) (bares xs))
-      no_room limit full =
-          subst
-          (λ (test : State Machine Memory Place Form → State Machine Memory Place Form → Bool).
-          limit < length b.entries + length (unknown test (states b.entries) (bares xs))) tests
-          (full (label_in whole_code form_code) known steps_here)
+  news_are : AreNew (CountsAsOne (rules b.machine) b.merge) (states b.entries) ys news
+  news_are =
+      are_new (machine_in rules b) same (CountsAsOne (rules b.machine) b.merge) book.counts (states b.entries)
+      (λ k r there. let d = at-states b.entries k r there in
+      subst (machine_in rules b).Fits d.2 (book.law.law.fit k d.0 d.1))
+      ys steps.expansion.fit
 
-      -- and all are known by their labels
-      pub still_known : (i : ℕ) (kept : Kept (State Machine Memory Place Form))
-          → ((f : State Machine Memory Place Form → List ℕ)
-          → AreKnownBy f (record { entries = b.entries; labels = labels }) → AreStepsKnownBy f xs → AreKnownBy f kept)
-          → (new : Kept (State Machine Memory Place Form))
-          → new ≡ record { entries = with_mark kept.entries i Expanded; labels = kept.labels }
-          → AreKnownBy (label_in whole_code form_code) new
-      still_known i kept all new is =
-          subst (λ (k : Kept (State Machine Memory Place Form)). AreKnownBy (label_in whole_code form_code) k) (sym is)
-          (known_mark (label_in whole_code form_code) kept i Expanded
-          (all (label_in whole_code form_code) known steps_here))
+  pub full_for : b.limit < length b.entries + length news → IsFullFor (CountsAsOne (rules b.machine) b.merge) b ys
+  full_for more = (news, news_are, more)
 
-  module _ (i : ℕ) (taken : (e : Entry (State Machine Memory Place Form)) × At now.entries i e × (e.mark ≡ Taken)
-      × IsExpansion (machine_in rules now) (right_in rules now) e.state (bares xs))
-      (appended : List (Entry (State Machine Memory Place Form)))
-      (put : appended ≡ b.entries ++ map (opened i) (unknown same (states b.entries) (bares xs)))
-      (was len steps : ℕ) (was_is : was ≡ length b.entries) (len_is : len ≡ length appended)
-      (steps_are : steps ≡ length xs) where
-    here : (e : Entry (State Machine Memory Place Form)) × At b.entries i e × (e.mark ≡ Taken)
-        × IsExpansion (machine_in rules b) (right_in rules b) e.state (bares xs)
-    here =
-        subst (λ (q : Contents Machine (State Machine Memory Place Form)).
-        (e : Entry (State Machine Memory Place Form)) × At q.entries i e × (e.mark ≡ Taken)
-        × IsExpansion (machine_in rules q) (right_in rules q) e.state (bares xs)) (sym view) taken
-
-    all_steps : steps ≡ length (bares xs)
-    all_steps = steps_are ∙ sym (length-map xs bare)
+  module _ (taken : e.mark ≡ Taken) (appended : List (Entry (State Machine Memory Place Form)))
+      (put : appended ≡ b.entries ++ map (opened i) news)
+      (was len n : ℕ) (was_is : was ≡ length b.entries) (len_is : len ≡ length appended) (n_is : n ≡ length xs) where
+    all_steps : n ≡ length ys
+    all_steps = n_is ∙ sym (length-map xs _)
 
     -- so many more entries there are as steps are unknown
     pub grown : was ≤ len
     grown =
-        let more : length appended ≡ length b.entries + length (unknown same (states b.entries) (bares xs)) =
-        length_appended (machine_in rules b) same (right_in rules b) book.machine book.merges b book.law i here.0 here.1
-        here.2 (bares xs) here.3 appended put in
+        let more : length appended ≡ length b.entries + length news =
+        length_appended (machine_in rules b) same (right_in rules b) book.machine book.merges b book.law i e at taken ys
+        steps.expansion appended put in
         omega arith
 
-    pub entered_count : len - was ≡ length (unknown same (states b.entries) (bares xs))
+    pub entered_count : len - was ≡ length news
     entered_count =
-        entered_is (machine_in rules b) same (right_in rules b) book.machine book.merges b book.law i here.0 here.1
-        here.2 (bares xs) here.3 appended put (len - was) was len refl was_is len_is
+        entered_is (machine_in rules b) same (right_in rules b) book.machine book.merges b book.law i e at taken ys
+        steps.expansion appended put (len - was) was len refl was_is len_is
 
-    pub entered_few : len - was ≤ steps
+    pub entered_few : len - was ≤ n
     entered_few =
-        few_entered (machine_in rules b) same (right_in rules b) book.machine book.merges b book.law i here.0 here.1
-        here.2 (bares xs) here.3 appended put (len - was) was len steps refl was_is len_is all_steps
+        few_entered (machine_in rules b) same (right_in rules b) book.machine book.merges b book.law i e at taken ys
+        steps.expansion appended put (len - was) was len n refl was_is len_is all_steps
 
-    pub entered_each : (len - was) + (steps - (len - was)) ≡ length (bares xs)
-    entered_each = let le : len - was ≤ steps = entered_few in let all : steps ≡ length (bares xs) = all_steps in
-        omega arith
+    entered_each : (len - was) + (n - (len - was)) ≡ length ys
+    entered_each = let le : len - was ≤ n = entered_few in let all : n ≡ length ys = all_steps in omega arith
 
     pub is_taken_still : IsTaken appended i
     is_taken_still =
-        still_taken (machine_in rules b) same (right_in rules b) book.machine book.merges b book.law i here.0 here.1
-        here.2 (bares xs) here.3 appended put
+        still_taken (machine_in rules b) same (right_in rules b) book.machine book.merges b book.law i e at taken ys
+        steps.expansion appended put
 
-    pub met_is_small : b.met + (steps - (len - was)) < 2 ^ 64
+    pub met_is_small : b.met + (n - (len - was)) < 2 ^ 64
     met_is_small =
-        let all : steps ≡ length (bares xs) = all_steps in
-        small_met (machine_in rules b) same (right_in rules b) book.machine book.merges b book.law i here.0 here.1
-        here.2 (bares xs) here.3 appended put (steps - (len - was)) (omega arith)
+        let all : n ≡ length ys = all_steps in
+        small_met (machine_in rules b) same (right_in rules b) book.machine book.merges b book.law i e at taken ys
+        steps.expansion appended put (n - (len - was)) (omega arith)
 
-    module _ {labels : List (List ℕ)} (new : Kept (State Machine Memory Place Form))
-        (marked : new ≡ record { entries = with_mark appended i Expanded; labels = labels }) where
-      entries_marked : new.entries ≡ with_mark appended i Expanded
-      entries_marked = ap (λ (k : Kept (State Machine Memory Place Form)). k.entries) marked
-
-      pub entries_entered : new.entries ≡ with_successors same b.entries i (bares xs)
-      entries_entered =
-          entered_entries (machine_in rules b) same (right_in rules b) book.machine book.merges b book.law i here.0
-          here.1 here.2 (bares xs) here.3 appended put new.entries entries_marked
-
+    module _ (new : List (Entry (State Machine Memory Place Form))) (marked : new ≡ with_mark appended i Expanded)
+        (room : length appended ≤ b.limit) where
       -- the book with them
-      pub book_entered : length appended ≤ b.limit
-          → IsBook rules place_eq memory_eq form_eq form_of
-          (record {
+      abbrev now : Contents Machine (State Machine Memory Place Form)
+      now =
+          record {
             machine = b.machine;
             program = b.program;
             merge = b.merge;
             limit = b.limit;
-            entries = new.entries;
-            met = b.met + (steps - (len - was));
-          })
-      book_entered room =
+            entries = new;
+            met = b.met + (n - (len - was));
+          }
+
+      pub book_entered : IsBook rules label_of now
+      book_entered =
           record {
-            law = lawful_entered (machine_in rules b) same (right_in rules b) book.machine book.merges b book.law i
-                here.0 here.1 here.2 (bares xs) here.3 appended put new.entries (len - was) (steps - (len - was))
-                entries_marked entered_count entered_each room;
+            law = lawful_entered (machine_in rules b) same (right_in rules b) book.machine book.merges b book.law i e at
+                taken ys steps.expansion appended put new (len - was) (n - (len - was)) marked entered_count
+                entered_each room;
             limits = book.limits;
             machine = book.machine;
             merges = book.merges;
             findings = book.findings;
+            counts = book.counts;
+          }
+
+      pub enters : Enters (CountsAsOne (rules b.machine) b.merge) b now i (record {
+        machine = b.machine;
+        program = b.program;
+        source = e.state;
+        successors = ys;
+      }) (len - was) (n - (len - was))
+      enters =
+          record {
+            taken = (e, at, taken);
+            own = record {
+              machine = refl;
+              program = refl;
+              source =
+                  (λ d there. let same_entry : e ≡ d = (let u : slice_get b.entries i ≡ Some e = at in
+                  let v : slice_get b.entries i ≡ Some d = there in cc) in
+                  ap (λ (x : Entry (State Machine Memory Place Form)). x.state) same_entry);
+            };
+            added = news;
+            are_new = news_are;
+            room =
+                (let count : len - was ≡ length news = entered_count in
+                let le : was ≤ len = grown in
+                omega arith);
+            entries =
+                entered_entries (machine_in rules b) same (right_in rules b) book.machine book.merges b book.law i e at
+                taken ys steps.expansion appended put new marked;
+            count = entered_count;
+            each = entered_each;
+            met_in_all = refl;
+            machine = refl;
+            program = refl;
+            merge = refl;
+            limit = refl;
           }

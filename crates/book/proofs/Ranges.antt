@@ -14,7 +14,7 @@ use Rattle.book.specs.Entries.{Entry, Contents, At, IsNext, TakesLayer, TakesRan
 use Rattle.book.specs.Law.{IsLawfulBook}
 use Rattle.book.specs.Slots.{AllStates, AreCursors, AreStatesOf, IsOpenFrom}
 use Rattle.book.proofs.EntryLemmas.{at-with_mark, length-with_mark}
-use Rattle.book.proofs.Expanding.{range-more}
+use Rattle.book.proofs.ThreadSteps.{range-more}
 use Rattle.book.proofs.Next.{first_passes}
 use Rattle.book.proofs.Cursors.{open_at, cursors_taken}
 use Rattle.book.proofs.LawfulBooks.{taken_book}

@@ -1,19 +1,23 @@
 -- Rows put under keys that are new.
-use Rattle.std.proofs.Common.{◌≡◌, ℕ, zero, suc, Bool, true, false, cond, Some, None, is_some, List, [], ◌∷◌, ◌++◌}
-use Rattle.std.proofs.Common.{length, map, take, refl, sym, ap, ◌∙◌, append-nil, append_assoc, slice_get, ◌||◌}
+use Rattle.std.proofs.Common.{◌≡◌, ℕ, zero, suc, ◌+◌, ◌<◌, ◌≤◌, Bool, true, false, cond, Option, Some, None, is_some}
+use Rattle.std.proofs.Common.{List, [], ◌∷◌, ◌++◌, length, map, take, drop, refl, sym, ap, ◌∙◌, append-nil, append_assoc}
+use Rattle.std.proofs.Common.{slice_get, ◌||◌, inl, inr, arith}
 use Rattle.std.specs.List.{list_any}
 use Rattle.std.specs.Map.{lookup, keys_of, values_of}
 use Rattle.std.proofs.Math.ListN.{length-map}
-use Rattle.std.proofs.lemmas.List.{map-append}
+use Rattle.std.proofs.lemmas.Bool.{cases_lt}
+use Rattle.std.proofs.lemmas.List.{map-append, take-append-drop}
 use Rattle.std.proofs.lemmas.Map.Made.{is_some-lookup}
+use Rattle.tree_machine.proofs.Lists.{get-append_cases}
 use Rattle.indexmap.specs.IndexMap.{insert_entry, set_value_at}
 use Rattle.book.specs.declared.entry.Mark.{Mark}
 use Rattle.book.specs.declared.entry.Mark.TheVariants.{Open}
-use Rattle.book.specs.declared.entry.Row.{Row}
+use Rattle.book.specs.declared.entry.Origin.{Origin}
 use Rattle.book.specs.declared.finding.Finding.{Finding}
-use Rattle.book.specs.Entries.{Entry, Successor, with_mark, knows, unknown, opened, states}
-use Rattle.book.specs.Labels.{Labelled}
-use Rattle.book.specs.Slots.{unlisted, keyed_of, entry_of, entries_of, labels_of}
+use Rattle.book.specs.Entries.{Entry, Successor, with_mark, opened, states}
+use Rattle.book.specs.Unknown.{knows, unknown}
+use Rattle.book.specs.Slots.{AreSteps, IsGrown, unlisted, keyed_of, entries_of, labels_of}
+use Rattle.book.proofs.EntryLemmas.{get_within}
 
 module _ {K V : Type 0} (eq : K → K → Bool) where
   -- a key that is not there goes last
@@ -65,60 +69,64 @@ take_kept (x ∷ old) (y ∷ mid) new rest h e =
     ap (take (suc (length old))) e ∙ ap (λ xs. y ∷ xs) (take_kept old mid (mid ++ rest) rest tail refl)
     ∙ ap (λ z. z ∷ old) head
 
+-- and it is found there
+pub stood_there : {X : Type 0} (old new : List X) (i : ℕ) (x : X) → take (length old) new ≡ old → i < length old
+    → slice_get new i ≡ Some x → slice_get old i ≡ Some x
+stood_there {X} old new i x kept less at =
+    let back : take (length old) new ++ drop (length old) new ≡ new = take-append-drop (length old) new in
+    let whole : old ++ drop (length old) new ≡ new =
+    ap (λ (xs : List X). xs ++ drop (length old) new) (sym kept) ∙ back in
+    let there : slice_get (old ++ drop (length old) new) i ≡ Some x =
+    ap (λ (xs : List X). slice_get xs i) whole ∙ at in
+    elim (get-append_cases old (drop (length old) new) i x there) [
+      | inl l ↦ l
+      | inr r ↦ absurd (omega (arith, r.1))
+    ]
+
 module _ {S : Type 0} where
   -- a row written with another mark
-  pub write_mark_at : (es : List (Labelled S × Row)) (i : ℕ) (r w : Row) (mark : Mark)
+  pub write_mark_at : (es : List (List ℕ × Entry S)) (i : ℕ) (r w : Entry S) (mark : Mark)
       → slice_get (values_of es) i ≡ Some r → w ≡ record r { mark = mark }
       → entries_of (set_value_at es i w) ≡ with_mark (entries_of es) i mark
   write_mark_at [] i r w mark at is = refl
   write_mark_at (p ∷ es) zero r w mark at is =
       let same : r ≡ p.1 = cc in
-      ap (λ (x : Row). entry_of (p.0, x) ∷ entries_of es) (is ∙ ap (λ (x : Row). record x { mark = mark }) same)
-  write_mark_at (p ∷ es) (suc i) r w mark at is = ap (λ xs. entry_of p ∷ xs) (write_mark_at es i r w mark at is)
+      ap (λ (x : Entry S). x ∷ entries_of es) (is ∙ ap (λ (x : Entry S). record x { mark = mark }) same)
+  write_mark_at (p ∷ es) (suc i) r w mark at is = ap (λ xs. p.1 ∷ xs) (write_mark_at es i r w mark at is)
 
   -- the keys stay
-  pub write_keeps_labels : (es : List (Labelled S × Row)) (i : ℕ) (w : Row)
+  pub write_keeps_labels : (es : List (List ℕ × Entry S)) (i : ℕ) (w : Entry S)
       → labels_of (set_value_at es i w) ≡ labels_of es
   write_keeps_labels [] i w = refl
   write_keeps_labels (p ∷ es) zero w = refl
-  write_keeps_labels (p ∷ es) (suc i) w = ap (λ xs. p.0.label ∷ xs) (write_keeps_labels es i w)
+  write_keeps_labels (p ∷ es) (suc i) w = ap (λ xs. p.0 ∷ xs) (write_keeps_labels es i w)
 
   -- where there is no row, none is marked
-  pub no_mark_at : (es : List (Labelled S × Row)) (i : ℕ) (mark : Mark) → slice_get (values_of es) i ≡ None
+  pub no_mark_at : (es : List (List ℕ × Entry S)) (i : ℕ) (mark : Mark) → slice_get (values_of es) i ≡ None
       → entries_of es ≡ with_mark (entries_of es) i mark
   no_mark_at [] i mark none = refl
   no_mark_at (e ∷ es) zero mark none = absurd (let q : Some e.1 ≡ None = none in cc)
-  no_mark_at (e ∷ es) (suc i) mark none = ap (λ xs. entry_of e ∷ xs) (no_mark_at es i mark none)
+  no_mark_at (e ∷ es) (suc i) mark none = ap (λ xs. e.1 ∷ xs) (no_mark_at es i mark none)
 
-  pub entry_at : (es : List (Labelled S × Row)) (i : ℕ) (p : Labelled S × Row) → slice_get es i ≡ Some p
-      → slice_get (entries_of es) i ≡ Some (entry_of p)
-  entry_at [] i p h = absurd (let q : None ≡ Some p = h in cc)
-  entry_at (e ∷ es) zero p h = let q : e ≡ p = cc in ap (λ x. Some (entry_of x)) q
-  entry_at (e ∷ es) (suc i) p h = entry_at es i p h
-
-  pub no_entry_at : (es : List (Labelled S × Row)) (i : ℕ) → slice_get es i ≡ None
-      → slice_get (entries_of es) i ≡ None
-  no_entry_at [] i h = refl
-  no_entry_at (e ∷ es) zero h = absurd (let q : Some e ≡ None = h in cc)
-  no_entry_at (e ∷ es) (suc i) h = no_entry_at es i h
-
-  pub length-entries : (es : List (Labelled S × Row)) → length (entries_of es) ≡ length es
-  length-entries es = length-map es entry_of
+  pub length-entries : (es : List (List ℕ × Entry S)) → length (entries_of es) ≡ length es
+  length-entries es = length-map es (λ slot. slot.1)
 
 -- ---- rows that are put in for steps
-module _ {K : Type 0} (eq : K → K → Bool) (same : K → K → Bool) (as_same : (k l : K) → eq k l ≡ same l k) where
-  known_as : (es : List (K × Row)) (k : K) → list_any (eq k) (keys_of es) ≡ knows same (states (map keyed_of es)) k
+module _ {S : Type 0} (eq : List ℕ → List ℕ → Bool) (same : List ℕ → List ℕ → Bool)
+    (as_same : (k l : List ℕ) → eq k l ≡ same l k) where
+  known_as : (es : List (List ℕ × Entry S)) (k : List ℕ)
+      → list_any (eq k) (keys_of es) ≡ knows same (states (map keyed_of es)) k
   known_as [] k = refl
   known_as (p ∷ es) k =
       ap (λ b. b || list_any (eq k) (keys_of es)) (as_same k p.0) ∙ ap (λ b. same p.0 k || b) (known_as es k)
 
-  opens_by : (i : ℕ) (x : Successor K) (k : K) (w : Row) (b : Bool) → keyed_of (k, w) ≡ opened i x
+  opens_by : (i : ℕ) (x : Successor (List ℕ)) (k : List ℕ) (w : Entry S) (b : Bool) → keyed_of (k, w) ≡ opened i x
       → map keyed_of (cond b [] ((k, w) ∷ [])) ≡ map (opened i) (cond b [] (x ∷ []))
   opens_by i x k w true is = refl
   opens_by i x k w false is = ap (λ e. e ∷ []) is
 
   -- a row that is put in for a step
-  pub put_step : (es new : List (K × Row)) (i : ℕ) (x : Successor K) (k : K) (w : Row)
+  pub put_step : (es new : List (List ℕ × Entry S)) (i : ℕ) (x : Successor (List ℕ)) (k : List ℕ) (w : Entry S)
       → new ≡ es ++ unlisted eq (keys_of es) ((k, w) ∷ []) → keyed_of (k, w) ≡ opened i x
       → map keyed_of new ≡ map keyed_of es ++ map (opened i) (unknown same (states (map keyed_of es)) (x ∷ []))
   put_step es new i x k w put is =
@@ -126,7 +134,48 @@ module _ {K : Type 0} (eq : K → K → Bool) (same : K → K → Bool) (as_same
       ∙ ap (λ xs. map keyed_of es ++ xs)
       (opens_by i x k w (list_any (eq k) (keys_of es)) is
       ∙ ap (λ b. map (opened i) (cond b [] (x ∷ [])))
-      (known_as es k ∙ ap (λ (e : Entry K). knows same (states (map keyed_of es)) e.state) is))
+      (known_as es k ∙ ap (λ (e : Entry (List ℕ)). knows same (states (map keyed_of es)) e.state) is))
+
+-- what was put in for a step is the step
+module _ {S : Type 0} (step : S → ℕ → Option S) (s : S) where
+  pub no_steps : (es new : List (List ℕ × Entry S)) → new ≡ es → AreSteps step s es new
+  no_steps es new is i slot le at =
+      let at_old : slice_get es i ≡ Some slot = ap (λ (xs : List (List ℕ × Entry S)). slice_get xs i) (sym is) ∙ at in
+      let less : i < length es = get_within es i slot at_old in
+      absurd (omega arith)
+
+  pub one_step : (eq : List ℕ → List ℕ → Bool) (es new : List (List ℕ × Entry S)) (k : List ℕ) (w : Entry S)
+      (o : Origin) → new ≡ es ++ unlisted eq (keys_of es) ((k, w) ∷ []) → w.origin ≡ Some o
+      → step s o.thread ≡ Some w.state → AreSteps step s es new
+  one_step eq es new k w o put origin leads i slot le at =
+      by (list_any (eq k) (keys_of es)) (ap (λ (xs : List (List ℕ × Entry S)). slice_get xs i) (sym put) ∙ at)
+    where
+      by : (b : Bool) → slice_get (es ++ cond b [] ((k, w) ∷ [])) i ≡ Some slot
+          → (p : Origin) × (slot.1.origin ≡ Some p) × (step s p.thread ≡ Some slot.1.state)
+      by b there = elim (get-append_cases es (cond b [] ((k, w) ∷ [])) i slot there) [
+        | inl old ↦ absurd (let less : i < length es = get_within es i slot old in omega arith)
+        | inr r ↦ only b r.0 r.2
+      ]
+        where
+          only : (b : Bool) (j : ℕ) → slice_get (cond b [] ((k, w) ∷ [])) j ≡ Some slot
+              → (p : Origin) × (slot.1.origin ≡ Some p) × (step s p.thread ≡ Some slot.1.state)
+          only true j h = absurd (let q : None ≡ Some slot = h in cc)
+          only false zero h =
+              let same : (k, w) ≡ slot = cc in (
+                o,
+                ap (λ (p : List ℕ × Entry S). p.1.origin) (sym same) ∙ origin,
+                leads ∙ ap (λ (p : List ℕ × Entry S). Some p.1.state) same,
+              )
+          only false (suc j) h = absurd (let q : None ≡ Some slot = h in cc)
+
+  -- and so on
+  pub more_steps : (old mid new : List (List ℕ × Entry S)) → IsGrown mid new → AreSteps step s old mid
+      → AreSteps step s mid new → AreSteps step s old new
+  more_steps old mid new kept first then i slot le at =
+      elim (cases_lt i (length mid)) [
+        | inl l ↦ first i slot le (stood_there mid new i slot kept l at)
+        | inr ge ↦ then i slot ge at
+      ]
 
 -- ---- step after step
 module _ {S : Type 0} (same : S → S → Bool) where
@@ -173,9 +222,17 @@ module _ {S : Type 0} (same : S → S → Bool) where
       ∙ ap (map (opened i)) (sym (unknown_push (states old) xs x)))
 
 -- the row that is made of a step's fields
-pub step_row : {K : Type 0} (i : ℕ) (x : Successor K) (k : K) (t : ℕ) (f : Finding) → t ≡ x.thread → k ≡ x.state
-    → f ≡ x.finding
-    → keyed_of (k, record { finding = f; origin = Some (record { parent = i; thread = t }); mark = Open }) ≡ opened i x
-step_row {K} i x k t f p q r =
-    let e : Entry K =
+pub step_row : {S : Type 0} (i : ℕ) (x : Successor (List ℕ)) (k : List ℕ) (t : ℕ) (f : Finding) (s : S) → t ≡ x.thread
+    → k ≡ x.state → f ≡ x.finding
+    → keyed_of (
+      k,
+      record {
+        state = s;
+        finding = f;
+        origin = Some (record { parent = i; thread = t });
+        mark = Open;
+      },
+    ) ≡ opened i x
+step_row i x k t f s p q r =
+    let e : Entry (List ℕ) =
     record { state = k; finding = f; origin = Some (record { parent = i; thread = t }); mark = Open } in cc

@@ -1,28 +1,32 @@
 -- States that count as one: they have the same findings and labels, and so have their steps.
-use Rattle.std.proofs.Common.{◌≡◌, ℕ, ◌++◌, ◌∷◌, [], ◌∙◌, IsSome, List, Option, Some, None, ap, arith, refl, subst, sym}
+use Rattle.std.proofs.Common.{◌≡◌, ◌<◌, ◌≤◌, ℕ, ◌++◌, ◌∷◌, [], ◌∙◌, IsSome, List, Option, Some, None}
+use Rattle.std.proofs.Common.{ap, arith, refl, subst, sym}
 use Rattle.tree_machine.specs.Alike.{AreStatesAlike}
 use Rattle.tree_machine.specs.Flat.{number_code}
-use Rattle.tree_machine.specs.FormCode.{content_code, named_code, state_code, IsInjective}
+use Rattle.tree_machine.specs.FormCode.{content_code, named_code, state_code}
 use Rattle.tree_machine.specs.InRange.{AreNumbersInRange}
 use Rattle.tree_machine.specs.Rules.{Rules, AreLawful, AreFormsExact}
 use Rattle.tree_machine.specs.Step.{step, Fits}
+use Rattle.tree_machine.specs.declared.code_offsets.CodeOffsets.{CodeOffsets}
+use Rattle.tree_machine.specs.declared.front.Front.{Front}
 use Rattle.tree_machine.specs.declared.state.State.{State}
 use Rattle.tree_machine.proofs.Alike.{alike_step, alike_history, alike_ordered}
 use Rattle.tree_machine.proofs.Forms.{forms_alike, alike_turned, numbers_fit}
 use Rattle.tree_machine.proofs.States.{step_fits}
 use Rattle.sched_program.specs.Program.{Program, IsWithinLimits}
+use Rattle.sched_program.specs.declared.operation.OpId.{OpId}
 use Rattle.lin.specs.Linearization.{IsLinearization, IsLinearizable}
 use Rattle.book.specs.declared.book.Merge.{Merge}
 use Rattle.book.specs.declared.book.Merge.TheVariants.{Exact, Names}
 use Rattle.book.specs.declared.finding.Finding.{Finding}
 use Rattle.book.specs.declared.finding.Finding.TheVariants as found
 use Rattle.book.specs.Books.{CountsAsOne}
-use Rattle.book.specs.Decoding.{StandsIn}
-use Rattle.book.specs.Entries.{Successor}
+use Rattle.book.specs.Decoding.{IsRead, IsSource, StandsIn}
+use Rattle.book.specs.declared.successor.Successor.{Successor}
 use Rattle.book.specs.Expanding.{Puts, PutsStep}
 use Rattle.book.specs.Findings.{machine_of, IsFindingOf}
-use Rattle.book.specs.Labels.{Labelled, label_by}
-use Rattle.book.proofs.Expanding.{puts_next}
+use Rattle.book.specs.Labels.{label_by}
+use Rattle.book.proofs.ThreadSteps.{puts_next}
 
 module _ {Machine Memory Place Form : Type 0} (rules : Rules Memory Place) (program : Program)
     (form_of : Memory → List (Option Place) → Form) (lawful : AreLawful rules) (forms : AreFormsExact rules form_of)
@@ -72,7 +76,29 @@ module _ {Machine Memory Place Form : Type 0} (rules : Rules Memory Place) (prog
         → label_by whole_code form_code form_of merge r ≡ label_by whole_code form_code form_of merge s
     one_label whole_code form_code Exact r s r_fits s_fits one = ap (state_code whole_code) one
     one_label whole_code form_code Names r s r_fits s_fits one =
-        ap (λ f. number_code 0 ++ content_code form_code f) ((forms_alike rules form_of forms program program r s r_fits s_fits).1 one)
+        ap (λ f. number_code 0 ++ content_code form_code f)
+        ((forms_alike rules form_of forms program program r s r_fits s_fits).1 one)
+
+    -- what is read from the label of a sound state is the source of the steps of each state with that label
+    pub source_of : (front_code : Front → Memory → List ℕ)
+        (behind_code : Front → Memory → List (Option Place) → List ℕ)
+        (whole_code : Memory → List (Option Place) → List ℕ) (form_code : Form → List ℕ) (merge : Merge)
+        (label : List ℕ) (offsets : CodeOffsets) (order : List OpId) (s c : State Machine Memory Place Form)
+        → IsRead front_code behind_code whole_code form_code form_of rules label offsets c → IsWithinLimits program
+        → Fits rules program s → s.steps < 2000000 → label_by whole_code form_code form_of merge s ≡ label
+        → IsFindingOf rules program s (found.Sound order)
+        → IsSource front_code behind_code whole_code form_code form_of rules program merge label offsets order c
+    source_of front_code behind_code whole_code form_code merge label offsets order s c read limits fits few is sound =
+        let stands : StandsIn rules program merge s c = read.stands merge program limits s fits is in
+        let fewer : c.steps ≤ s.steps = stands.steps in
+        record {
+          read = read.read;
+          labelled = (s, fits, sym is);
+          fits = stands.fits;
+          room = omega (arith, fewer, few);
+          sound = one_found merge s c fits stands.fits stands.counts (found.Sound order) sound;
+          counts = (λ r r_fits r_is. (read.stands merge program limits r r_fits r_is).counts);
+        }
 
     -- the state c stands in for s: the step of a thread of c is put as that of s
     module _ (merge : Merge) (s c : State Machine Memory Place Form) (t : ℕ) (s_fits : Fits rules program s)
@@ -81,30 +107,24 @@ module _ {Machine Memory Place Form : Type 0} (rules : Rules Memory Place) (prog
         twin : (u : State Machine Memory Place Form) × (step rules program s t ≡ Some u) × CountsAsOne rules merge n u
         twin = one_step merge c s n t (one_turned merge s c s_fits c_fits one) leads
 
-        pub has_step : IsSome (step rules program s t)
-        has_step = subst (λ o. IsSome o) (sym twin.1) refl
-
         pub puts_twin : (whole_code : Memory → List (Option Place) → List ℕ) (form_code : Form → List ℕ)
-            (old new : List (Successor (Labelled (State Machine Memory Place Form))))
-            (x : Successor (Labelled (State Machine Memory Place Form))) → step rules program s t ≡ Some x.state.state
-            → new ≡ old ++ x ∷ [] → x.thread ≡ t → Fits rules program n → IsFindingOf rules program n x.finding
-            → x.state.label ≡ label_by whole_code form_code form_of merge n
+            (old new : List (Successor (List ℕ))) (x : Successor (List ℕ)) → new ≡ old ++ x ∷ [] → x.thread ≡ t
+            → x.state ≡ label_by whole_code form_code form_of merge n → Fits rules program n
+            → IsFindingOf rules program n x.finding
             → PutsStep (machine_of rules program) (IsFindingOf rules program)
             (label_by whole_code form_code form_of merge) s t old new
-        puts_twin whole_code form_code old new x goes pushed is_thread n_fits is label =
-            let u = x.state.state in
-            let same : twin.0 ≡ u = (let p : step rules program s t ≡ Some twin.0 = twin.1 in cc) in
-            let counts : CountsAsOne rules merge n u =
-            subst (λ (v : State Machine Memory Place Form). CountsAsOne rules merge n v) same twin.2 in
-            let u_fits : Fits rules program u = step_fits rules program s s_fits lawful t u goes in
+        puts_twin whole_code form_code old new x pushed is_thread label n_fits is =
+            let u = twin.0 in
+            let counts : CountsAsOne rules merge n u = twin.2 in
+            let u_fits : Fits rules program u = step_fits rules program s s_fits lawful t u twin.1 in
             puts_next (machine_of rules program) (IsFindingOf rules program) s
-            (label_by whole_code form_code form_of merge) t old new x u goes pushed is_thread refl
-            (one_found merge n u n_fits u_fits counts x.finding is) u_fits
+            (label_by whole_code form_code form_of merge) t old new x u twin.1 pushed is_thread
             (label ∙ one_label whole_code form_code merge n u n_fits u_fits counts)
+            (one_found merge n u n_fits u_fits counts x.finding is) u_fits
 
       -- where c has no step, s has none
       pub puts_none : (label_of : State Machine Memory Place Form → List ℕ)
-          (old new : List (Successor (Labelled (State Machine Memory Place Form)))) → step rules program c t ≡ None
+          (old new : List (Successor (List ℕ))) → step rules program c t ≡ None
           → new ≡ old → PutsStep (machine_of rules program) (IsFindingOf rules program) label_of s t old new
       puts_none label_of old new none same = by (step rules program s t) refl
         where
@@ -115,30 +135,20 @@ module _ {Machine Memory Place Form : Type 0} (rules : Rules Memory Place) (prog
               absurd (let v = one_step merge s c u t one is in
               let q : None ≡ Some v.0 = sym none ∙ v.1 in cc)
 
--- what is read from a label of exact merging is the state of that label
-pub whole_stands : {Machine Memory Place Form : Type 0} (rules : Rules Memory Place) (program : Program)
-    (whole_code : Memory → List (Option Place) → List ℕ) (label : List ℕ)
-    → IsInjective (state_code {Machine = Machine} {Form = Form} whole_code)
-    → (s c : State Machine Memory Place Form) → Fits rules program s → state_code whole_code s ≡ label
-    → label ≡ state_code whole_code c → StandsIn rules program Exact s c
-whole_stands {Machine} {Memory} {Place} {Form} rules program whole_code label tells s c fits is written =
-    let same : s ≡ c = tells s c (is ∙ written) in
-    subst (λ (v : State Machine Memory Place Form). StandsIn rules program Exact s v) same
-    (record { counts = refl; fits = fits; steps = omega arith })
-
 -- what is read from a label counts as one with each state that has it
 pub read_stands : {Machine Memory Place Form : Type 0} (rules : Rules Memory Place) (program : Program)
     (whole_code : Memory → List (Option Place) → List ℕ) (form_code : Form → List ℕ)
-    (form_of : Memory → List (Option Place) → Form) (label : List ℕ)
-    → IsInjective (state_code {Machine = Machine} {Form = Form} whole_code) → (c : State Machine Memory Place Form)
-    → ((s : State Machine Memory Place Form) → AreNumbersInRange rules s
-    → state_code whole_code c ≡ named_code form_code form_of s
+    (form_of : Memory → List (Option Place) → Form) (code : List ℕ) (c : State Machine Memory Place Form)
+    → ((s : State Machine Memory Place Form) → code ≡ state_code whole_code s → c ≡ s)
+    → ((s : State Machine Memory Place Form) → AreNumbersInRange rules s → code ≡ named_code form_code form_of s
     → AreStatesAlike rules s c × ((p : Program) → Fits rules p s → Fits rules p c) × (c.steps ≡ 0))
-    → label ≡ state_code whole_code c → (merge : Merge) (s : State Machine Memory Place Form) → Fits rules program s
-    → IsWithinLimits program → label_by whole_code form_code form_of merge s ≡ label
-    → StandsIn rules program merge s c
-read_stands rules program whole_code form_code form_of label tells c decoded written Exact s fits limits is =
-    whole_stands rules program whole_code label tells s c fits is written
-read_stands rules program whole_code form_code form_of label tells c decoded written Names s fits limits is =
-    let law = decoded s (numbers_fit rules program s fits) (sym written ∙ sym is) in
+    → (label : List ℕ) → label ≡ code → (merge : Merge) (s : State Machine Memory Place Form) → Fits rules program s
+    → label_by whole_code form_code form_of merge s ≡ label → StandsIn rules program merge s c
+read_stands {Machine} {Memory} {Place} {Form} rules program whole_code form_code form_of code c whole named label
+    written Exact s fits is =
+    let same : s ≡ c = sym (whole s (sym (is ∙ written))) in
+    subst (λ (v : State Machine Memory Place Form). StandsIn rules program Exact s v) same
+    (record { counts = refl; fits = fits; steps = omega arith })
+read_stands rules program whole_code form_code form_of code c whole named label written Names s fits is =
+    let law = named s (numbers_fit rules program s fits) (sym (is ∙ written)) in
     record { counts = law.0; fits = law.1 program fits; steps = (let none = law.2 in omega (arith, none)) }

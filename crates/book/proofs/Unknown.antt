@@ -4,7 +4,8 @@ use Rattle.std.proofs.Common.{refl, sym, ap, ◌∙◌, slice_get}
 use Rattle.std.specs.List.{list_any}
 use Rattle.std.proofs.lemmas.Bool.{or_cases, or_parts, true≢false, cond_both}
 use Rattle.book.specs.Schedule.{StepMachine, Merges}
-use Rattle.book.specs.Entries.{Entry, Successor, At, knows, unknown, states}
+use Rattle.book.specs.Entries.{Entry, Successor, At, states}
+use Rattle.book.specs.Unknown.{knows, unknown}
 
 -- an element passes the test
 pub list_any-true : {X : Type 0} (test : X → Bool) (xs : List X) → list_any test xs ≡ true

@@ -1,7 +1,8 @@
 -- Book files.
 pub mod Replays
 pub mod Closing
-pub mod Forms
+pub mod Places
+pub mod Kept
 pub mod Checks
 pub mod Writing
 pub mod Written

@@ -1,9 +1,9 @@
 -- A book of the states of a program on a machine.
-use Rattle.std.specs.Prelude.{◌≡◌, ◌-◌, Bool, List, Option, length, count_by}
+use Rattle.std.specs.Prelude.{◌≡◌, ◌↔◌, ◌-◌, ℕ, true, List, length, count_by}
 use Rattle.sched_program.specs.Program.{IsWithinLimits}
 use Rattle.tree_machine.specs.Rules.{Rules}
-use Rattle.tree_machine.specs.Alike.{AreStatesAlike, state_form}
-use Rattle.tree_machine.specs.StateEq.{state_eq, state_form_eq}
+use Rattle.tree_machine.specs.Alike.{AreStatesAlike}
+use Rattle.tree_machine.specs.Step.{Fits}
 use Rattle.tree_machine.specs.declared.state.State.{State}
 use Rattle.book.specs.declared.book.Merge.{Merge}
 use Rattle.book.specs.declared.book.Merge.TheVariants.{Exact, Names}
@@ -12,6 +12,7 @@ use Rattle.book.specs.declared.finding.Finding.{Finding}
 use Rattle.book.specs.Schedule.{AreOneBy, StepMachine, IsMachine, Merges}
 use Rattle.book.specs.Findings.{machine_of, IsFindingOf}
 use Rattle.book.specs.Entries.{Contents, Steps, is_open, is_taken, is_expanded}
+use Rattle.book.specs.Labels.{same_as}
 use Rattle.book.specs.Law.{FindsAlike, IsLawfulBook, IsExpansion}
 
 -- which states count as one: equal ones with exact merging, and by names those that are alike
@@ -19,16 +20,6 @@ abbrev pub CountsAsOne : {Machine Memory Place Form : Type 0} → Rules Memory P
     → State Machine Memory Place Form → State Machine Memory Place Form → Type 0
 CountsAsOne rules Exact state twin = state ≡ twin
 CountsAsOne rules Names state twin = AreStatesAlike rules state twin
-
--- Whether two states count as one, given the tests of places, memories and forms, and what the machine's form is: with
--- exact merging, whether they test equal; by names, whether their forms do
-abbrev pub counted_as_one : {Machine Memory Place Form : Type 0} → (Place → Place → Bool) → (Memory → Memory → Bool)
-    → (Form → Form → Bool)
-    → (Memory → List (Option Place) → Form) → Merge → State Machine Memory Place Form → State Machine Memory Place Form
-    → Bool
-counted_as_one place_eq memory_eq form_eq form_of Exact = state_eq place_eq memory_eq
-counted_as_one place_eq memory_eq form_eq form_of Names =
-    λ state twin. state_form_eq form_eq (state_form form_of state) (state_form form_of twin)
 
 module _ {Machine Memory Place Form : Type 0} (rules : Machine → Rules Memory Place) where
   -- the machine of a book, as it runs the book's program
@@ -52,22 +43,20 @@ module _ {Machine Memory Place Form : Type 0} (rules : Machine → Rules Memory 
   IsLawfulIn book =
       IsLawfulBook (machine_in book) (CountsAsOne (rules book.machine) book.merge) (right_in book) book
 
--- A lawful book of a program that meets the limits, by the test that counts its states as one, and what follows for its
--- machine: it is a step machine, and states of it that count as one step alike and have the same findings.
+-- A lawful book of a program that meets the limits, whose labels count its states as one, and what follows for its
+-- machine: it is a step machine, and states of it with one label step alike and have the same findings; they are those
+-- that count as one.
 pub record IsBook {Machine Memory Place Form : Type 0} (rules : Machine → Rules Memory Place)
-    (place_eq : Place → Place → Bool)
-    (memory_eq : Memory → Memory → Bool) (form_eq : Form → Form → Bool)
-    (form_of : Machine → Memory → List (Option Place) → Form)
+    (label_of : State Machine Memory Place Form → List ℕ)
     (book : Contents Machine (State Machine Memory Place Form)) : Type 0 where
-  pub law : IsLawfulBook (machine_in rules book)
-      (AreOneBy (counted_as_one place_eq memory_eq form_eq (form_of book.machine) book.merge)) (right_in rules book)
-      book
+  pub law : IsLawfulBook (machine_in rules book) (AreOneBy (same_as label_of)) (right_in rules book) book
   pub limits : IsWithinLimits book.program
   pub machine : IsMachine (machine_in rules book)
-  pub merges : Merges (machine_in rules book)
-      (counted_as_one place_eq memory_eq form_eq (form_of book.machine) book.merge)
-  pub findings : FindsAlike (machine_in rules book)
-      (AreOneBy (counted_as_one place_eq memory_eq form_eq (form_of book.machine) book.merge)) (right_in rules book)
+  pub merges : Merges (machine_in rules book) (same_as label_of)
+  pub findings : FindsAlike (machine_in rules book) (AreOneBy (same_as label_of)) (right_in rules book)
+  pub counts : (r s : State Machine Memory Place Form) → Fits (rules book.machine) book.program r
+      → Fits (rules book.machine) book.program s
+      → (same_as label_of r s ≡ true) ↔ CountsAsOne (rules book.machine) book.merge r s
 
 -- the totals of a book
 abbrev pub totals_of : {X S : Type 0} → Contents X S → Totals

@@ -2,16 +2,17 @@
 use Rattle.std.specs.Prelude.{◌≡◌, ℕ, ◌+◌, ◌^◌, ◌<◌, ◌≤◌, List, Option}
 use Rattle.sched_program.specs.Program.{Program, IsWithinLimits}
 use Rattle.sched_program.specs.declared.operation.OpId.{OpId}
-use Rattle.tree_machine.specs.Cuts.{AreCutsOf}
+use Rattle.tree_machine.specs.Offsets.{AreOffsetsOf}
 use Rattle.tree_machine.specs.Rules.{Rules}
 use Rattle.tree_machine.specs.Step.{Fits}
 use Rattle.tree_machine.specs.declared.state.State.{State}
 use Rattle.book.specs.declared.book.Merge.{Merge}
-use Rattle.tree_machine.specs.declared.cuts.Cuts.{Cuts}
+use Rattle.tree_machine.specs.declared.code_offsets.CodeOffsets.{CodeOffsets}
+use Rattle.tree_machine.specs.declared.front.Front.{Front}
 use Rattle.book.specs.declared.finding.Finding.TheVariants.{Sound}
 use Rattle.book.specs.Books.{CountsAsOne}
 use Rattle.book.specs.Findings.{IsFindingOf}
-use Rattle.book.specs.Labels.{label_by}
+use Rattle.book.specs.Labels.{HoldsOfLabel, label_by}
 
 -- a state counts as one with another, so that its steps may be made in place of that one's
 pub record StandsIn {Machine Memory Place Form : Type 0} (rules : Rules Memory Place) (program : Program)
@@ -21,20 +22,27 @@ pub record StandsIn {Machine Memory Place Form : Type 0} (rules : Rules Memory P
   pub steps : twin.steps ≤ state.steps
 
 -- the state was read from the label: it stands in for each state that has this label in a book of either merge
-pub record IsRead {Machine Memory Place Form : Type 0} (whole_code : Memory → List (Option Place) → List ℕ)
-    (memory_code : Memory → List ℕ) (form_code : Form → List ℕ) (form_of : Memory → List (Option Place) → Form)
-    (rules : Rules Memory Place) (label : List ℕ) (cuts : Cuts) (twin : State Machine Memory Place Form) : Type 0 where
-  pub read : AreCutsOf whole_code memory_code label cuts twin
-  pub stands : (merge : Merge) (program : Program) → IsWithinLimits program → (state : State Machine Memory Place Form)
-      → Fits rules program state → label_by whole_code form_code form_of merge state ≡ label
-      → StandsIn rules program merge state twin
+pub record IsRead {Machine Memory Place Form : Type 0} (front_code : Front → Memory → List ℕ)
+    (behind_code : Front → Memory → List (Option Place) → List ℕ) (whole_code : Memory → List (Option Place) → List ℕ)
+    (form_code : Form → List ℕ) (form_of : Memory → List (Option Place) → Form) (rules : Rules Memory Place)
+    (label : List ℕ) (offsets : CodeOffsets) (twin : State Machine Memory Place Form) : Type 0 where
+  pub read : AreOffsetsOf front_code behind_code label offsets twin
+  pub stands : (merge : Merge) (program : Program) → IsWithinLimits program
+      → HoldsOfLabel rules program (label_by whole_code form_code form_of merge) label
+      (λ state. StandsIn rules program merge state twin)
 
--- a sound state, with a linearization of its history, and one that stands in for it, whose own bytes are a label
-pub record IsSource {Machine Memory Place Form : Type 0} (whole_code : Memory → List (Option Place) → List ℕ)
-    (memory_code : Memory → List ℕ) (rules : Rules Memory Place) (program : Program) (merge : Merge) (label : List ℕ)
-    (cuts : Cuts) (order : List OpId) (state twin : State Machine Memory Place Form) : Type 0 where
-  pub fits : Fits rules program state
-  pub room : state.steps + 1 < 2 ^ 64
-  pub sound : IsFindingOf rules program state (Sound order)
-  pub stands : StandsIn rules program merge state twin
-  pub read : AreCutsOf whole_code memory_code label cuts twin
+-- states with this label, of which there is one, are sound with this linearization; this one, whose own bytes are the
+-- label, stands in for them
+pub record IsSource {Machine Memory Place Form : Type 0} (front_code : Front → Memory → List ℕ)
+    (behind_code : Front → Memory → List (Option Place) → List ℕ) (whole_code : Memory → List (Option Place) → List ℕ)
+    (form_code : Form → List ℕ) (form_of : Memory → List (Option Place) → Form) (rules : Rules Memory Place)
+    (program : Program) (merge : Merge) (label : List ℕ) (offsets : CodeOffsets) (order : List OpId)
+    (twin : State Machine Memory Place Form) : Type 0 where
+  pub read : AreOffsetsOf front_code behind_code label offsets twin
+  pub labelled : (state : State Machine Memory Place Form) × Fits rules program state
+      × (label ≡ label_by whole_code form_code form_of merge state)
+  pub fits : Fits rules program twin
+  pub room : twin.steps + 1 < 2 ^ 64
+  pub sound : IsFindingOf rules program twin (Sound order)
+  pub counts : HoldsOfLabel rules program (label_by whole_code form_code form_of merge) label
+      (λ state. CountsAsOne rules merge state twin)

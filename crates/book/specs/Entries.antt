@@ -1,12 +1,13 @@
 -- The entries of a book.
-use Rattle.std.specs.Prelude.{◌≡◌, ◌≢◌, ℕ, zero, suc, ◌+◌, ◌-◌, ◌<◌, ◌≤◌, Bool, true, false, if◌then◌else◌, Option}
+use Rattle.std.specs.Prelude.{◌≡◌, ◌≢◌, ℕ, zero, suc, ◌+◌, ◌-◌, ◌<◌, ◌≤◌, ◌⊎◌, Bool, true, false, Option}
 use Rattle.std.specs.Prelude.{Some, List, [], ◌∷◌, ◌++◌, length, map, slice_get}
-use Rattle.std.specs.List.{list_any, range_with_len}
+use Rattle.std.specs.List.{range_with_len}
 use Rattle.std.specs.declared.sync.Arc.{Arc}
 use Rattle.book.specs.declared.finding.Finding.{Finding}
 use Rattle.book.specs.declared.entry.Mark.{Mark}
 use Rattle.book.specs.declared.entry.Mark.TheVariants.{Open, Taken, Expanded}
 use Rattle.book.specs.declared.entry.Origin.{Origin}
+pub use Rattle.book.specs.declared.successor.Successor.{Successor}
 use Rattle.book.specs.declared.book.Merge.{Merge}
 use Rattle.book.specs.declared.book.Merge.TheVariants.{Exact}
 use Rattle.sched_program.specs.Program.{Program}
@@ -19,12 +20,6 @@ pub record Entry (S : Type 0) : Type 0 where
   pub finding : Finding
   pub origin : Option Origin
   pub mark : Mark
-
--- the step of a thread, and what was found of the state that it leads to
-pub record Successor (S : Type 0) : Type 0 where
-  pub thread : ℕ
-  pub state : S
-  pub finding : Finding
 
 abbrev pub is_open : Mark → Bool
 is_open Open = true
@@ -57,17 +52,17 @@ module _ {S : Type 0} where
   with_marks entries [] mark = entries
   with_marks entries (i ∷ is) mark = with_marks (with_mark entries i mark) is mark
 
-  -- whether one of the states counts as the same
-  abbrev pub knows : (S → S → Bool) → List S → S → Bool
-  knows same known s = list_any (λ r. same r s) known
+  -- one of the states is the same as s
+  abbrev pub Knows : (S → S → Type 0) → List S → S → Type 0
+  Knows Same known s = (k : ℕ) × (r : S) × (slice_get known k ≡ Some r) × Same r s
 
-  -- the successors, in order, whose states are neither known nor those of earlier ones
-  abbrev pub unknown : (S → S → Bool) → List S → List (Successor S) → List (Successor S)
-  unknown same known [] = []
-  unknown same known (x ∷ xs) =
-      if knows same known x.state
-      then unknown same known xs
-      else x ∷ unknown same (known ++ x.state ∷ []) xs
+  -- the successors, in order, whose states are the same as none that is known, nor as that of an earlier one
+  abbrev pub AreNew : (S → S → Type 0) → List S → List (Successor S) → List (Successor S) → Type 0
+  AreNew Same known [] new = new ≡ []
+  AreNew Same known (x ∷ xs) new =
+      (Knows Same known x.state × AreNew Same known xs new)
+      ⊎ ((Knows Same known x.state → ⊥)
+      × ((rest : List (Successor S)) × (new ≡ x ∷ rest) × AreNew Same (known ++ x.state ∷ []) xs rest))
 
   -- an open entry for a successor of entry i
   abbrev pub opened : ℕ → Successor S → Entry S
@@ -81,10 +76,6 @@ module _ {S : Type 0} where
 
   abbrev pub states : List (Entry S) → List S
   states entries = map (λ e. e.state) entries
-
-  -- the entries once those of entry i's successors that are new are entered, in their order, and i is expanded
-  abbrev pub with_successors : (S → S → Bool) → List (Entry S) → ℕ → List (Successor S) → List (Entry S)
-  with_successors same entries i xs = with_mark entries i Expanded ++ map (opened i) (unknown same (states entries) xs)
 
 -- i is the lowest-numbered open entry among those of the fewest steps that are not expanded
 pub record IsNext {S : Type 0} (steps : S → ℕ) (entries : List (Entry S)) (i : ℕ) (e : Entry S) : Type 0 where
@@ -154,14 +145,16 @@ pub record IsOwn {X S : Type 0} (book : Contents X S) (i : ℕ) (x : X) (p : Pro
   pub program : p ≡ book.program
   pub source : (e : Entry S) → At book.entries i e → s ≡ e.state
 
--- the expansion of entry i was entered: so many of its states are new, and so many known
-pub record Enters {X S : Type 0} (same : S → S → Bool) (old new : Contents X S) (i : ℕ) (expansion : Steps X S)
+-- the expansion of entry i was entered: so many of its states are new, in their order, and so many known
+pub record Enters {X S : Type 0} (Same : S → S → Type 0) (old new : Contents X S) (i : ℕ) (expansion : Steps X S)
     (entered met : ℕ) : Type 0 where
   pub taken : IsTaken old.entries i
   pub own : IsOwn old i expansion.machine expansion.program expansion.source
+  pub added : List (Successor S)
+  pub are_new : AreNew Same (states old.entries) expansion.successors added
   pub room : length old.entries + entered ≤ old.limit
-  pub entries : new.entries ≡ with_successors same old.entries i expansion.successors
-  pub new_states : entered ≡ length (unknown same (states old.entries) expansion.successors)
+  pub entries : new.entries ≡ with_mark old.entries i Expanded ++ map (opened i) added
+  pub count : entered ≡ length added
   pub each : entered + met ≡ length expansion.successors
   pub met_in_all : new.met ≡ old.met + met
   pub machine : new.machine ≡ old.machine
@@ -169,12 +162,17 @@ pub record Enters {X S : Type 0} (same : S → S → Bool) (old new : Contents X
   pub merge : new.merge ≡ old.merge
   pub limit : new.limit ≡ old.limit
 
+-- the book has no room for the new ones of these successors
+abbrev pub IsFullFor : {X S : Type 0} → (S → S → Type 0) → Contents X S → List (Successor S) → Type 0
+IsFullFor {X} {S} Same book xs = (added : List (Successor S)) × AreNew Same (states book.entries) xs added
+    × (book.limit < length book.entries + length added)
+
 -- When the expansion of entry i is refused, and for what. By names memory may be refused before it is known whether the
 -- expansion is that entry's
-abbrev pub Refuses : {X S : Type 0} → (S → S → Bool) → Contents X S → ℕ → Steps X S → EnterFault → Type 0
-Refuses same book i x NotTaken = IsTaken book.entries i → ⊥
-Refuses same book i x Stranger = IsTaken book.entries i × (IsOwn book i x.machine x.program x.source → ⊥)
-Refuses same book i x Full = IsTaken book.entries i × IsOwn book i x.machine x.program x.source
-    × (book.limit < length book.entries + length (unknown same (states book.entries) x.successors))
-Refuses same book i x OutOfMemory = IsTaken book.entries i
+abbrev pub Refuses : {X S : Type 0} → (S → S → Type 0) → Contents X S → ℕ → Steps X S → EnterFault → Type 0
+Refuses Same book i x NotTaken = IsTaken book.entries i → ⊥
+Refuses Same book i x Stranger = IsTaken book.entries i × (IsOwn book i x.machine x.program x.source → ⊥)
+Refuses Same book i x Full = IsTaken book.entries i × IsOwn book i x.machine x.program x.source
+    × IsFullFor Same book x.successors
+Refuses Same book i x OutOfMemory = IsTaken book.entries i
     × (book.merge ≡ Exact → IsOwn book i x.machine x.program x.source)

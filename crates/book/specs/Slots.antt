@@ -3,11 +3,10 @@ use Rattle.std.specs.Prelude.{◌≡◌, ◌≢◌, ℕ, ◌<◌, ◌≤◌, Boo
 use Rattle.std.specs.Prelude.{length, map, take, if◌then◌else◌}
 use Rattle.std.specs.List.{list_any}
 use Rattle.std.specs.declared.sync.Arc.{Arc}
-use Rattle.book.specs.declared.entry.Row.{Row}
+use Rattle.book.specs.declared.entry.Origin.{Origin}
 use Rattle.book.specs.declared.entry.Mark.TheVariants.{Open, Expanded}
 use Rattle.book.specs.Entries.{Entry, At}
 use Rattle.book.specs.Findings.{is_sound}
-use Rattle.book.specs.Labels.{Labelled}
 
 module _ {K V : Type 0} (eq : K → K → Bool) where
   -- the pairs, in order, whose keys are neither known nor those of earlier ones
@@ -18,20 +17,23 @@ module _ {K V : Type 0} (eq : K → K → Bool) where
       then unlisted known xs
       else x ∷ unlisted (known ++ x.0 ∷ []) xs
 
--- a key with its row, as an entry
-abbrev pub keyed_of : {K : Type 0} → K × Row → Entry K
+-- a label with its row, as an entry of labels in place of states
+abbrev pub keyed_of : {S : Type 0} → List ℕ × Entry S → Entry (List ℕ)
 keyed_of slot = record { state = slot.0; finding = slot.1.finding; origin = slot.1.origin; mark = slot.1.mark }
 
--- a labelled state with its row, as an entry
-abbrev pub entry_of : {S : Type 0} → Labelled S × Row → Entry S
-entry_of slot = record { state = slot.0.state; finding = slot.1.finding; origin = slot.1.origin; mark = slot.1.mark }
-
-abbrev pub entries_of : {S : Type 0} → List (Labelled S × Row) → List (Entry S)
-entries_of slots = map entry_of slots
+-- the rows
+abbrev pub entries_of : {S : Type 0} → List (List ℕ × Entry S) → List (Entry S)
+entries_of slots = map (λ slot. slot.1) slots
 
 -- the label by which each state is known
-abbrev pub labels_of : {S : Type 0} → List (Labelled S × Row) → List (List ℕ)
-labels_of slots = map (λ slot. slot.0.label) slots
+abbrev pub labels_of : {S : Type 0} → List (List ℕ × Entry S) → List (List ℕ)
+labels_of slots = map (λ slot. slot.0) slots
+
+-- each row that came behind the old ones is the step of its thread from this state
+abbrev pub AreSteps : {S : Type 0} → (S → ℕ → Option S) → S → List (List ℕ × Entry S) → List (List ℕ × Entry S)
+    → Type 0
+AreSteps {S} step s old new = (i : ℕ) (slot : List ℕ × Entry S) → length old ≤ i → slice_get new i ≡ Some slot
+    → (o : Origin) × (slot.1.origin ≡ Some o) × (step s o.thread ≡ Some slot.1.state)
 
 -- each number is that of an entry, whose state stands beside it
 abbrev pub AreStatesOf : {S A : Type 0} → List (Entry S) → List (ℕ × Arc S A) → Type 0

@@ -1,37 +1,34 @@
 //! The book of states: how it is opened, and what is taken from it.
 
-ghost use Rattle.std.specs.Prelude.{◌≡◌, ℕ, ◌+◌, ◌-◌, ◌<◌, ◌≤◌, ◌↔◌, [], ◌∷◌, IsTrue};
-ghost use Rattle.std.specs.Prelude.{length, IfOk, IfSome, IfNone, OnErr, Some, None, position, true};
+ghost use Rattle.std.specs.Prelude.{◌≡◌, ℕ, ◌+◌, ◌-◌, ◌<◌, ◌≤◌, [], ◌∷◌};
+ghost use Rattle.std.specs.Prelude.{length, IfOk, IfSome, IfNone, OnErr, Some, None, position};
 ghost use Rattle.sched_program.specs.Program.{IsWithinLimits};
 ghost use Rattle.tree_machine.specs.Step.{Fits, start};
 ghost use Rattle.tree_machine.specs.declared.state.State.{State};
 ghost use Rattle.book.specs.Entries.{Entry, At, IsNext, Takes, TakesLayer, is_open};
-ghost use Rattle.book.specs.Findings.{IsFindingOf, IsSound};
+ghost use Rattle.book.specs.Findings.{IsFindingOf};
 ghost use Rattle.book.specs.declared.finding.Finding.{Finding};
-ghost use Rattle.book.specs.Slots.{AllStates, IsLeft, IsOpenFrom};
-ghost use Rattle.book.specs.Labels.{label_by};
+ghost use Rattle.book.specs.Slots.{AllStates, IsOpenFrom};
+ghost use Rattle.book.specs.Labels.{label_by, naming_of};
 ghost use Rattle.book.specs.Books.{machine_in, right_in, CountsAsOne, IsLawfulIn};
 ghost use Rattle.book.specs.Law.{FindsAlike, StandsForReached};
-ghost use Rattle.book.specs.Schedule.{IsMachine, Merges};
+ghost use Rattle.book.specs.Schedule.{IsDecided, IsMachine};
 
-use crate::counting::Counting;
 use crate::entry::Mark;
 use crate::finding::find;
-use crate::stepped::label;
+use crate::shown::Shown;
+use crate::successor::label;
 use crate::table::Table;
-use sched_program::{OutOfMemory, Program, same};
+use sched_program::{OutOfMemory, Program};
 use std::alloc::Global;
 use std::marker::Model;
 use std::sync::Arc;
-use tree_machine::{Machine, Room, State};
+use tree_machine::{Encode, EncodeBuffer, Naming, State};
 
 mod entering;
 mod handing;
-mod states;
-
-pub use crate::book::handing::TakenEntry;
-
 mod reading;
+mod states;
 
 /// Which states a book counts as one.
 #[derive(Clone, Copy, Debug, PartialEq, Eq)]
@@ -41,6 +38,18 @@ pub enum Merge {
     /// States that differ in nothing but the numbers of their nodes and records, their step counts, and what neither
     /// the root nor a thread leads to.
     Names,
+}
+
+impl Merge {
+    /// The numbers by which labels name nodes and records.
+    pub(crate) fn naming(self) -> Naming
+        ensures { result ≡ naming_of self }
+    {
+        match self {
+            Merge::Exact => Naming::Own,
+            Merge::Names => Naming::Canonical,
+        }
+    }
 }
 
 /// How many entries a book has, and what became of the steps that were entered.
@@ -82,7 +91,7 @@ pub enum EnterFault {
 
 /// The states that were reached, each with the step that led to it and what was found of it.
 #[derive(Drop)]
-pub struct Book<M: Machine> {
+pub struct Book<M: Encode> {
     machine: M,
     program: Program,
     merge: Merge,
@@ -91,12 +100,12 @@ pub struct Book<M: Machine> {
     met: usize,
 }
 
-impl<M: Machine> Model for Book<M> {
+impl<M: Encode> Model for Book<M> {
     ghost use Rattle.tree_machine.specs.declared.state.State.{State};
     ghost use Rattle.book.specs.Entries.{Contents};
     ghost use Rattle.std.specs.Prelude.{◌≡◌};
-    ghost use Rattle.book.specs.Books.{IsBook, counted_as_one};
-    ghost use Rattle.book.specs.Labels.{AreKnownBy, label_by, same_as};
+    ghost use Rattle.book.specs.Books.{IsBook};
+    ghost use Rattle.book.specs.Labels.{AreKnownBy, label_by};
 
     ghost Value = { Contents M (State M M.Mem M.Loc M.Form) };
 
@@ -109,7 +118,7 @@ impl<M: Machine> Model for Book<M> {
       met = b.met;
     } };
 
-    ghost invariant = { λ b. IsBook M.rules M.Loc.PartialEq.eq M.Mem.PartialEq.eq M.Form.PartialEq.eq M.form_of
+    ghost invariant = { λ b. IsBook M.rules (label_by M.whole_code M.form_code (M.form_of b.machine) b.merge)
         (record {
           machine = b.machine;
           program = b.program;
@@ -118,13 +127,11 @@ impl<M: Machine> Model for Book<M> {
           entries = b.table.entries;
           met = b.met;
         })
-        × AreKnownBy (label_by M.whole_code M.form_code (M.form_of b.machine) b.merge) b.table
-        × (same_as {S = State M M.Mem M.Loc M.Form} (label_by M.whole_code M.form_code (M.form_of b.machine) b.merge)
-        ≡ counted_as_one M.Loc.PartialEq.eq M.Mem.PartialEq.eq M.Form.PartialEq.eq (M.form_of b.machine) b.merge) };
+        × AreKnownBy (label_by M.whole_code M.form_code (M.form_of b.machine) b.merge) b.table };
 }
 
 /// The table with the start of a program alone, which is open.
-fn first_table<M: Machine>(
+fn first_table<M: Encode>(
     alloc: Global,
     machine: M,
     program: &Program,
@@ -138,20 +145,19 @@ fn first_table<M: Machine>(
 {
     let state = State::start(alloc, machine, program)?;
     let finding = find(alloc, machine, program, &state)?;
-    let mut room = Room::new(alloc);
-    let known = label(
-        alloc,
+    let mut buffer = EncodeBuffer::new(alloc);
+    let label = label(
         machine,
         program,
         &state,
         merge,
-        &mut room,
+        &mut buffer,
         Vec::new(alloc),
     )?;
-    Ok(Table::new(alloc, known, finding)?)
+    Ok(Table::new(alloc, label, Shown::of(&state), finding)?)
 }
 
-impl<M: Machine> Book<M> {
+impl<M: Encode> Book<M> {
     /// A book with the start alone, which is open. The limit is 1 to 2,000,000 entries.
     pub fn open(
         alloc: Global,
@@ -180,23 +186,15 @@ impl<M: Machine> Book<M> {
         })
     }
 
-    /// A book is lawful at every moment, and its machine is a step machine. It counts states of its program as one
-    /// exactly if they are equal, with exact merging, or alike, by names. States that it counts as one step alike and
-    /// have the same findings, so where one of two such states is sound the other is. An entry that stands for a state
-    /// stands for all that this reaches within the steps that are worked out.
+    /// A book is lawful at every moment, and its machine is a step machine. States count as one exactly if they are
+    /// equal, with exact merging, or alike, by names, and a test decides which do. States that count as one step alike
+    /// and have the same findings. An entry that stands for a state stands for all that this reaches within the steps
+    /// that are worked out.
     pub fn law(&self)
         ensures law { IsLawfulIn M.rules self.now }
         ensures machine { IsMachine (machine_in M.rules self.now) }
-        ensures merges { Merges (machine_in M.rules self.now)
-            (⟦<M as Counting>⟧.counted self.now.machine self.now.merge) }
-        ensures alike { (r s : State M M.Mem M.Loc M.Form) → Fits (M.rules self.now.machine) self.now.program r
-            → Fits (M.rules self.now.machine) self.now.program s
-            → ⟦<M as Counting>⟧.counted self.now.machine self.now.merge r s ≡ true
-            → IsSound (right_in M.rules self.now) r → IsSound (right_in M.rules self.now) s }
-        ensures counts { (r s : State M M.Mem M.Loc M.Form) → Fits (M.rules self.now.machine) self.now.program r
-            → Fits (M.rules self.now.machine) self.now.program s
-            → (⟦<M as Counting>⟧.counted self.now.machine self.now.merge r s ≡ true)
-            ↔ CountsAsOne (M.rules self.now.machine) self.now.merge r s }
+        ensures test { IsDecided (machine_in M.rules self.now)
+            (CountsAsOne (M.rules self.now.machine) self.now.merge) }
         ensures findings { FindsAlike (machine_in M.rules self.now)
             (CountsAsOne (M.rules self.now.machine) self.now.merge) (right_in M.rules self.now) }
         ensures reaches { StandsForReached (machine_in M.rules self.now)

@@ -1,62 +1,88 @@
 //! States read from the labels by which a book knows them.
-ghost use Rattle.std.specs.Prelude.{◌≡◌, IfOk, IfSome};
-ghost use Rattle.tree_machine.specs.Cuts.{AreCutsOf};
+ghost use Rattle.std.specs.Prelude.{IfOk, IfSome};
+ghost use Rattle.tree_machine.specs.Offsets.{AreOffsetsOf};
 ghost use Rattle.book.specs.Decoding.{IsRead};
 
-use crate::book::Merge;
-use crate::shown::Shown;
-use lin::Order;
-use sched_program::{OutOfMemory, Program};
+use sched_program::OutOfMemory;
 use std::alloc::Global;
-use tree_machine::{Cuts, Machine, State};
+use tree_machine::{CodeOffsets, Encode, State};
 
-/// A sound state of a program, which only proofs see, with its label and a linearization of its history.
-#[derive(Clone, Copy)]
-pub struct Source<'a, 's, M: Machine> {
-    pub machine: M,
-    pub program: &'a Program,
-    pub shown: &'s Shown<State<M>>,
-    pub merge: Merge,
-    pub label: &'s [u8],
-    /// Where the parts of the label begin.
-    pub cuts: Cuts,
-    pub order: &'s Order,
+/// A state that was decoded, with the label that it was decoded from and the places where the parts
+/// of that begin. The state stands in a box, since it is passed on for each entry.
+#[derive(Drop)]
+pub(crate) struct Decoded<M: Encode> {
+    pub(crate) state: Box<State<M>>,
+    pub(crate) label: Vec<u8>,
+    pub(crate) offsets: CodeOffsets,
+    pub(crate) ghost read: { AreOffsetsOf M.front_code M.behind_code label.items offsets state.value },
 }
 
-/// Reads the bytes of a state in the place of another one, whose own bytes may be known.
+/// Reads the code of a state in the place of another one. `last` is that one's own code with the
+/// places where its parts begin, if they are known: then its memory is decoded only where the new
+/// code has another one. States that are read one after the other mostly have one memory.
 #[inline(always)]
-fn read_bytes<M: Machine>(
+fn read_code<M: Encode>(
     alloc: Global,
     machine: M,
     bytes: &[u8],
-    last: Option<(&[u8], Cuts)>,
+    last: Option<(&[u8], CodeOffsets)>,
     state: &mut State<M>,
-) -> Result<Option<Cuts>, OutOfMemory>
-    requires { IfSome last (λ p. AreCutsOf M.whole_code M.memory_code p.0.now p.1 state.old) }
-    ensures { IfOk result (λ o. IfSome o (λ cuts. AreCutsOf M.whole_code M.memory_code bytes.now cuts state.new)) }
+) -> Result<Option<CodeOffsets>, OutOfMemory>
+    requires { IfSome last (λ (own, offsets). AreOffsetsOf M.front_code M.behind_code own.now offsets state.old) }
+    ensures { IfOk result (λ o. IfSome o
+        (λ offsets. AreOffsetsOf M.front_code M.behind_code bytes.now offsets state.new)) }
 {
     match last {
-        Some((before, cuts)) => state.read_after(alloc, machine, bytes, before, cuts),
-        None => state.read_cut(alloc, machine, bytes),
+        Some((own, offsets)) => state.read_after(alloc, machine, bytes, own, offsets),
+        None => state.read_in(alloc, machine, bytes),
     }
 }
 
-/// Reads a label in the place of another state. What it reads counts as one with each state that has this label in a book
-/// of either merge. Where it answers none, which it may always do, or is refused memory, that place is of no use but to be
-/// read into. If the bytes of the state that stands there are known, its memory is read only where the label has other
-/// ones: states that are read one after the other mostly have one memory.
-pub fn read_state<M: Machine>(
+/// Decodes a label in the place of another state, whose own code may be known. What it reads counts
+/// as one with each state that has this label in a book of either merge. It may always return none:
+/// then, and after a refusal of memory, that place is of no use but to be read into.
+pub(crate) fn read_state<M: Encode>(
     alloc: Global,
     machine: M,
     label: &[u8],
-    last: Option<(&[u8], Cuts)>,
+    last: Option<(&[u8], CodeOffsets)>,
     state: &mut State<M>,
-) -> Result<Option<Cuts>, OutOfMemory>
-    requires { IfSome last (λ p. AreCutsOf M.whole_code M.memory_code p.0.now p.1 state.old) }
-    ensures { IfOk result (λ o. IfSome o (λ cuts. IsRead M.whole_code M.memory_code M.form_code
-        (M.form_of machine) (M.rules machine) label.now cuts state.new)) }
+) -> Result<Option<CodeOffsets>, OutOfMemory>
+    requires { IfSome last (λ (own, offsets). AreOffsetsOf M.front_code M.behind_code own.now offsets state.old) }
+    ensures { IfOk result (λ o. IfSome o (λ offsets. IsRead M.front_code M.behind_code M.whole_code M.form_code
+        (M.form_of machine) (M.rules machine) label.now offsets state.new)) }
 {
-    let read = read_bytes(alloc, machine, label, last, state)?;
+    let read = read_code(alloc, machine, label, last, state)?;
     state.decoded_law(machine);
     Ok(read)
+}
+
+/// Decodes a label as `read_state` does, and copies it into the list that holds the other state's
+/// own code, if it is known where the parts of that begin.
+pub(crate) fn decode<M: Encode>(
+    alloc: Global,
+    machine: M,
+    label: &[u8],
+    mut state: Box<State<M>>,
+    mut list: Vec<u8>,
+    known: Option<CodeOffsets>,
+) -> Result<Option<Decoded<M>>, OutOfMemory>
+    requires { IfSome known (λ offsets. AreOffsetsOf M.front_code M.behind_code list.items offsets state.value) }
+    ensures { IfOk result (λ o. IfSome o (λ d. IsRead M.front_code M.behind_code M.whole_code M.form_code
+        (M.form_of machine) (M.rules machine) label.now d.offsets d.state.value)) }
+{
+    let last = match known {
+        Some(offsets) => Some((list.as_slice(), offsets)),
+        None => None,
+    };
+    let Some(offsets) = read_state(alloc, machine, label, last, &mut *state)? else {
+        return Ok(None);
+    };
+    list.clear();
+    list.extend_from_slice(label)?;
+    Ok(Some(Decoded {
+        state,
+        label: list,
+        offsets,
+    }))
 }

@@ -1,12 +1,11 @@
-//! An entry, apart from its state.
-ghost use Rattle.std.specs.Prelude.{◌≡◌, ◌<◌, ◌≤◌, IfErr, IfOk, IfSome, IsSome};
+//! An entry, packed.
+ghost use Rattle.std.specs.Prelude.{◌≡◌, ◌<◌, IfSome};
 ghost use Rattle.book.specs.Findings.{is_sound};
 ghost use Rattle.book.specs.Entries.{is_open, is_taken, is_expanded};
 
 use crate::finding::Finding;
-use std::alloc::AllocError;
+use crate::shown::Shown;
 use std::marker::Model;
-use tree_machine::number_of;
 
 /// How far an entry is worked on.
 #[derive(Clone, Copy, Debug, PartialEq, Eq)]
@@ -28,57 +27,63 @@ pub struct Origin {
     pub thread: u8,
 }
 
-/// What the book keeps of a state.
-#[derive(Drop)]
-pub struct Row {
-    pub finding: Finding,
-    pub origin: Option<Origin>,
-    pub mark: Mark,
-}
-
 /// The number of a parent that stands for none.
 const NO_PARENT: u32 = u32::MAX;
 
-/// A row in 20 bytes, since a book has one for each state. Contracts see the row itself.
+/// What a book keeps of an entry beside its label, in 20 bytes, since there is one for each state. Contracts see the
+/// entry, with its state.
 #[derive(Drop)]
-pub struct PackedRow {
+pub struct Row<S> {
     parent: u32,
     finding: Finding,
     thread: u8,
     mark: Mark,
+    shown: Shown<S>,
 }
 
-impl Model for PackedRow {
+impl<S> Model for Row<S> {
     ghost use Rattle.book.specs.Packed.{origin_of};
-    ghost use Rattle.book.specs.declared.entry.Row.{Row};
+    ghost use Rattle.book.specs.Entries.{Entry};
 
-    ghost Value = { Row };
+    ghost Value = { Entry S };
 
-    ghost view = { λ r. record { finding = r.finding; origin = origin_of r.parent r.thread; mark = r.mark } };
+    ghost view = { λ r. record {
+      state = r.shown.value;
+      finding = r.finding;
+      origin = origin_of r.parent r.thread;
+      mark = r.mark;
+    } };
 }
 
-impl PackedRow {
-    /// A row, packed. Where the parent's number is too large to be, it is refused as memory that there is not.
-    pub fn new(row: Row) -> Result<PackedRow, AllocError>
-        ensures row { IfOk result (λ packed. packed ≡ row) }
-        ensures refused { IfErr result
-            (λ _. IfSome row.origin (λ origin. 4294967295 ≤ origin.parent) × IsSome row.origin) }
+impl<S> Row<S> {
+    /// An open entry.
+    pub fn open(shown: Shown<S>, finding: Finding, origin: Option<Origin>) -> Row<S>
+        requires { IfSome origin (λ origin. origin.parent < 4294967295) }
+        ensures { result ≡ record {
+          state = shown.value;
+          finding = finding;
+          origin = origin;
+          mark = Mark.Open;
+        } }
     {
-        let Row {
-            finding,
-            origin,
-            mark,
-        } = row;
         let (parent, thread) = match origin {
             None => (NO_PARENT, 0),
-            Some(origin) => (parent_number(origin.parent)?, origin.thread),
+            Some(origin) => (origin.parent as u32, origin.thread),
         };
-        Ok(PackedRow {
+        Row {
             parent,
             finding,
             thread,
-            mark,
-        })
+            mark: Mark::Open,
+            shown,
+        }
+    }
+
+    /// The state, for proofs alone.
+    pub fn shown(&self) -> &Shown<S>
+        ensures { result.now.value ≡ self.now.state }
+    {
+        &self.shown
     }
 
     /// What was found of the state.
@@ -101,46 +106,38 @@ impl PackedRow {
         })
     }
 
-    /// Marks the row, and leaves the rest as it is.
+    /// Marks the entry, and leaves the rest as it is.
     pub fn set_mark(&mut self, mark: Mark)
         ensures { self.new ≡ record self.old { mark = mark } }
     {
         self.mark = mark;
     }
 
+    /// Whether it is not begun.
     pub fn is_open(&self) -> bool
         ensures { result ≡ is_open self.now.mark }
     {
         matches!(self.mark, Mark::Open)
     }
 
+    /// Whether it is given out, and its steps are not entered.
     pub fn is_taken(&self) -> bool
         ensures { result ≡ is_taken self.now.mark }
     {
         matches!(self.mark, Mark::Taken)
     }
 
+    /// Whether its steps are entered.
     pub fn is_expanded(&self) -> bool
         ensures { result ≡ is_expanded self.now.mark }
     {
         matches!(self.mark, Mark::Expanded)
     }
 
+    /// Whether its state shows no fault.
     pub fn is_sound(&self) -> bool
         ensures { result ≡ is_sound self.now.finding }
     {
         self.finding.is_sound()
-    }
-}
-
-/// A parent's number in four bytes, unless it is too large.
-fn parent_number(parent: usize) -> Result<u32, AllocError>
-    ensures number { IfOk result (λ number. number ≡ parent) }
-    ensures some { IfOk result (λ number. number < 4294967295) }
-    ensures refused { IfErr result (λ _. 4294967295 ≤ parent) }
-{
-    match number_of(parent) {
-        Ok(number) if number < NO_PARENT => Ok(number),
-        _ => Err(AllocError),
     }
 }

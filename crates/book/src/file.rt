@@ -3,8 +3,8 @@
 
 mod check;
 mod closing;
-mod coded;
 mod fault;
+mod labels;
 mod line;
 mod printing;
 mod reading;

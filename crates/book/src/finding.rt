@@ -9,7 +9,7 @@ ghost use Rattle.book.specs.Findings.{is_sound, IsFindingOf};
 use lin::{Order, judge_order};
 use sched_program::{OutOfMemory, Program};
 use std::alloc::Global;
-use tree_machine::{Machine, State};
+use tree_machine::{Encode, State};
 
 /// What was found of a state: the first of these that applies. All but `Sound` are faults.
 #[derive(Clone, Copy)]
@@ -34,7 +34,7 @@ impl Finding {
 }
 
 /// The fault that a state shows without its history, if it shows one.
-pub(crate) fn fault_in<M: Machine>(machine: M, state: &State<M>) -> Option<Finding>
+pub(crate) fn fault_in<M: Encode>(machine: M, state: &State<M>) -> Option<Finding>
     requires { (M.rules machine).IsInRange state.now.memory }
     ensures some { IfSome result (λ fault. (program : Program)
         → IsFindingOf (M.rules machine) program state.now fault) }
@@ -50,7 +50,7 @@ pub(crate) fn fault_in<M: Machine>(machine: M, state: &State<M>) -> Option<Findi
 }
 
 /// A linearization of the history of a state, if there is one.
-pub(crate) fn judge_anew<M: Machine>(
+pub(crate) fn judge_anew<M: Encode>(
     alloc: Global,
     program: &Program,
     state: &State<M>,
@@ -65,7 +65,7 @@ pub(crate) fn judge_anew<M: Machine>(
 }
 
 /// The finding of a state that shows no fault without its history, which is judged from nothing.
-pub(crate) fn judged<M: Machine>(
+pub(crate) fn judged<M: Encode>(
     alloc: Global,
     machine: M,
     program: &Program,
@@ -84,7 +84,7 @@ pub(crate) fn judged<M: Machine>(
 }
 
 /// The finding of a state, judged from nothing.
-pub(crate) fn find<M: Machine>(
+pub(crate) fn find<M: Encode>(
     alloc: Global,
     machine: M,
     program: &Program,

@@ -1,142 +1,150 @@
 //! All enabled steps of a sound state, each made in one place and taken back.
-ghost use Rattle.std.specs.Prelude.{◌≡◌, ◌+◌, ◌≤◌, ◌<◌, IfOk, IsTrue, OnOk, Some, slice_get, vec_len, vec_capacity};
-ghost use Rattle.tree_machine.specs.Cuts.{AreCutsOf};
+ghost use Rattle.std.specs.Prelude.{◌≡◌, ◌+◌, ◌≤◌, ◌<◌, IfOk, OnOk, Some, vec_len, vec_capacity};
 ghost use Rattle.tree_machine.specs.Step.{Fits, step};
+ghost use Rattle.tree_machine.specs.Undoing.{TakesBack};
+ghost use Rattle.tree_machine.specs.declared.state.State.{State};
 ghost use Rattle.book.specs.Decoding.{IsSource};
 ghost use Rattle.book.specs.Expanding.{PutsStep};
 ghost use Rattle.book.specs.Findings.{machine_of, IsFindingOf};
-ghost use Rattle.book.specs.Labels.{label_by};
+ghost use Rattle.book.specs.ByLabel.{AreStepsOf};
+ghost use Rattle.book.specs.Labels.{HoldsOfLabel, label_by};
 
 use crate::book::Merge;
-use crate::decoding::Source;
 use crate::finding::Finding;
-use crate::hashed::Hashed;
-use crate::known::Known;
-use crate::lending::{Here, find_here};
-use crate::shown::shown_step;
-use crate::stepped::Stepped;
-use crate::stock::Stock;
-use crate::successors::Successors;
-use sched_program::OutOfMemory;
+use crate::label::Label;
+use crate::lending::{StepInPlace, find_here};
+use crate::scratch::Scratch;
+use crate::successor::Successor;
+use lin::Order;
+use sched_program::{OutOfMemory, Program};
 use std::alloc::Global;
 use std::snapshot::Snapshot;
-use tree_machine::{Bytes, Machine, Room, State, StepFault};
+use tree_machine::{CodeOffsets, Encode, EncodeBuffer, State, StepFault, StepOrigin};
+
+/// A sound state that was decoded from a label, with a linearization of its history.
+#[derive(Clone, Copy)]
+pub(crate) struct Source<'a, 's, M: Encode> {
+    pub(crate) machine: M,
+    pub(crate) program: &'a Program,
+    pub(crate) merge: Merge,
+    pub(crate) label: &'s [u8],
+    /// Where the parts of the label begin.
+    pub(crate) offsets: CodeOffsets,
+    pub(crate) order: &'s Order,
+}
 
 /// The label of a step, for a book that merges as that of the source.
 #[inline(always)]
-fn label_here<M: Machine>(
+fn label_here<M: Encode>(
     alloc: Global,
     from: &Source<'_, '_, M>,
-    here: &Here<'_, M>,
-    room: &mut Room,
+    here: &StepInPlace<'_, M>,
+    buffer: &mut EncodeBuffer,
     spare: Vec<u8>,
-) -> Result<Bytes, OutOfMemory>
+) -> Result<Label, OutOfMemory>
+    requires source { IsSource M.front_code M.behind_code M.whole_code M.form_code (M.form_of from.now.machine)
+        (M.rules from.now.machine) from.now.program.now from.now.merge from.now.label.now from.now.offsets
+        from.now.order.now here.now.source.now.value }
     requires fits { Fits (M.rules from.now.machine) from.now.program.now here.now.next.now }
     requires step { step (M.rules from.now.machine) from.now.program.now here.now.source.now.value here.now.thread
         ≡ Some here.now.next.now }
-    requires was { slice_get here.now.source.now.value.threads here.now.thread ≡ Some here.now.was.now }
-    requires reads { IsTrue here.now.reads → here.now.next.now.memory ≡ here.now.source.now.value.memory }
-    requires read { AreCutsOf M.whole_code M.memory_code from.now.label.now from.now.cuts here.now.source.now.value }
+    requires back { TakesBack here.now.source.now.value here.now.thread here.now.undo.now.thread
+        here.now.undo.now.reads here.now.undo.now.memory here.now.next.now }
     ensures { IfOk result (λ label. label ≡ label_by M.whole_code M.form_code (M.form_of from.now.machine)
         from.now.merge here.now.next.now) }
 {
     // Whoever reads a program knows that it meets the limits.
     let _ = from.program.initial();
-    match from.merge {
-        Merge::Exact => here.next.code_after(
-            alloc,
-            from.machine,
-            here.source,
-            here.was,
-            from.label,
-            from.cuts,
-            here.thread,
-            here.reads,
-            room,
-            spare,
-        ),
-        Merge::Names => here.next.named_code_in(alloc, from.machine, room, spare),
-    }
+    let naming = from.merge.naming();
+    let origin = StepOrigin {
+        label: from.label,
+        offsets: from.offsets,
+        state: here.source,
+        thread: here.thread,
+        undo: here.undo,
+    };
+    let bytes = here
+        .next
+        .label_after(alloc, from.machine, naming, &origin, buffer, spare)?;
+    Ok(Label::new(bytes))
 }
 
-/// Puts the step of a thread of the source, if it is enabled, behind those in a list, with its finding and its label.
-/// The step is made in the state that stands in for the source, and taken back.
+/// Puts the step of a thread, if it is enabled, behind those in a list, with its finding and its
+/// label. The step is made in the place of the source, and taken back. What is put is right for
+/// each state that has the source's label.
 #[inline(always)]
-fn put_step_here<M: Machine>(
+fn put_step_here<M: Encode>(
     alloc: Global,
     from: &Source<'_, '_, M>,
     state: &mut State<M>,
     thread: u8,
-    stock: &mut Stock<M>,
-    steps: &mut Vec<Stepped<State<M>>>,
+    scratch: &mut Scratch<M>,
+    steps: &mut Vec<Successor<Label>>,
 ) -> Result<(), OutOfMemory>
-    requires source { IsSource M.whole_code M.memory_code (M.rules from.now.machine) from.now.program.now
-        from.now.merge from.now.label.now from.now.cuts from.now.order.now from.now.shown.now.value state.old }
+    requires source { IsSource M.front_code M.behind_code M.whole_code M.form_code (M.form_of from.now.machine)
+        (M.rules from.now.machine) from.now.program.now from.now.merge from.now.label.now from.now.offsets
+        from.now.order.now state.old }
     requires place { vec_len steps.old < vec_capacity steps.old }
     ensures state { OnOk result (state.new ≡ state.old) }
-    ensures put { OnOk result (PutsStep (machine_of (M.rules from.now.machine) from.now.program.now)
+    ensures put { OnOk result (HoldsOfLabel (M.rules from.now.machine) from.now.program.now
+        (label_by M.whole_code M.form_code (M.form_of from.now.machine) from.now.merge) from.now.label.now
+        (λ (of : State M M.Mem M.Loc M.Form). PutsStep (machine_of (M.rules from.now.machine) from.now.program.now)
         (IsFindingOf (M.rules from.now.machine) from.now.program.now)
         (label_by M.whole_code M.form_code (M.form_of from.now.machine) from.now.merge)
-        from.now.shown.now.value thread steps.old.items steps.new.items) }
+        of thread steps.old.items steps.new.items)) }
     ensures len { vec_len steps.new ≤ vec_len steps.old + 1 }
     ensures capacity { vec_capacity steps.new ≡ vec_capacity steps.old }
 {
     // Whoever reads a program knows that it meets the limits.
     let _ = from.program.initial();
     let source = Snapshot::of(&*state);
-    match state.step_here(alloc, from.machine, from.program, thread, &mut stock.undo) {
+    match state.step_here(alloc, from.machine, from.program, thread, &mut scratch.undo) {
         Ok(()) => {}
         Err(StepFault::NotEnabled) => return Ok(()),
         Err(StepFault::OutOfMemory) => return Err(OutOfMemory),
     }
-    let spare = stock.spare_label(alloc);
-    let here = Here {
+    let spare = scratch.spare_label(alloc);
+    let here = StepInPlace {
         source: &source,
-        was: stock.undo.thread(),
         next: &*state,
         thread,
-        reads: stock.undo.reads(),
+        undo: &scratch.undo,
     };
     let found = find_here(alloc, from.machine, from.program, &here, from.order)?;
-    let label = label_here(alloc, from, &here, &mut stock.room, spare)?;
-    let shown = shown_step(from.machine, from.program, from.shown, thread);
-    state.take_back(alloc, &source, thread, &mut stock.undo);
-    steps.push_reserved(Stepped {
+    let label = label_here(alloc, from, &here, &mut scratch.buffer, spare)?;
+    state.take_back(alloc, &source, thread, &mut scratch.undo);
+    steps.push_reserved(Successor {
         thread,
-        known: Hashed::new(Known::by(label, shown)),
+        state: label,
         finding: found.unwrap_or(Finding::Sound(*from.order)),
     });
     Ok(())
 }
 
-impl<'a, M: Machine> Successors<'a, M> {
-    /// The enabled steps of a sound state, in the order of the threads, each with its finding, and labelled as the
-    /// state is. They are made in another state, which `read_state` read from that label, and taken back. After a
-    /// refusal that other state is of no use but to be read into.
-    pub fn of_sound(
-        alloc: Global,
-        from: &Source<'a, '_, M>,
-        state: &mut State<M>,
-        stock: &mut Stock<M>,
-    ) -> Result<Successors<'a, M>, OutOfMemory>
-        requires { IsSource M.whole_code M.memory_code (M.rules from.now.machine) from.now.program.now
-            from.now.merge from.now.label.now from.now.cuts from.now.order.now from.now.shown.now.value state.old }
-        ensures machine { IfOk result (λ x. x.machine ≡ from.now.machine) }
-        ensures program { IfOk result (λ x. x.program ≡ from.now.program.now) }
-        ensures source { IfOk result (λ x. x.source ≡ from.now.shown.now.value) }
-        ensures state { OnOk result (state.new ≡ state.old) }
-    {
-        let threads = from.program.threads().len();
-        let mut successors = stock.list(alloc, threads)?;
-        for thread in 0..threads as u8 {
-            put_step_here(alloc, from, state, thread, stock, &mut successors)?;
-        }
-        Ok(Successors {
-            machine: from.machine,
-            program: from.program,
-            merge: from.merge,
-            source: from.shown.again(),
-            successors,
-        })
+/// The enabled steps of a sound state, in the order of the threads, each with its finding, and
+/// labelled as the state is: those of each state that has its label. They are made in its place,
+/// and taken back. After a refusal that place is of no use but to be decoded into.
+pub(crate) fn steps_here<M: Encode>(
+    alloc: Global,
+    from: &Source<'_, '_, M>,
+    state: &mut State<M>,
+    scratch: &mut Scratch<M>,
+) -> Result<Vec<Successor<Label>>, OutOfMemory>
+    requires { IsSource M.front_code M.behind_code M.whole_code M.form_code (M.form_of from.now.machine)
+        (M.rules from.now.machine) from.now.program.now from.now.merge from.now.label.now from.now.offsets
+        from.now.order.now state.old }
+    ensures state { OnOk result (state.new ≡ state.old) }
+    ensures steps { IfOk result (λ steps. HoldsOfLabel (M.rules from.now.machine) from.now.program.now
+        (label_by M.whole_code M.form_code (M.form_of from.now.machine) from.now.merge) from.now.label.now
+        (λ (of : State M M.Mem M.Loc M.Form). AreStepsOf
+        (machine_of (M.rules from.now.machine) from.now.program.now)
+        (IsFindingOf (M.rules from.now.machine) from.now.program.now)
+        (label_by M.whole_code M.form_code (M.form_of from.now.machine) from.now.merge) of steps.items)) }
+{
+    let threads = from.program.threads().len();
+    let mut steps = scratch.list(alloc, threads)?;
+    for thread in 0..threads as u8 {
+        put_step_here(alloc, from, state, thread, scratch, &mut steps)?;
     }
+    Ok(steps)
 }

@@ -1,10 +1,11 @@
 //! Orders that a state lends to its steps.
-ghost use Rattle.std.specs.Prelude.{◌≡◌, ◌≤◌, ◌↔◌, ℕ, All, IsTrue, length, IfOk, IfSome, IfNone, MatchOption, Some};
+ghost use Rattle.std.specs.Prelude.{◌≡◌, ◌≤◌, ◌↔◌, All, IsTrue, length, IfOk, IfSome, IfNone, MatchOption, Some};
 ghost use Rattle.std.specs.Prelude.{None, slice_get, slice_index};
 ghost use Rattle.sched_program.specs.Program.{Program};
 ghost use Rattle.lin.specs.Linearization.{IsLinearization};
 ghost use Rattle.tree_machine.specs.History.{history_of};
 ghost use Rattle.tree_machine.specs.Step.{Fits, step};
+ghost use Rattle.tree_machine.specs.Undoing.{TakesBack};
 ghost use Rattle.tree_machine.specs.declared.state.State.{State};
 ghost use Rattle.tree_machine.specs.declared.state.Thread.{Thread as Standing};
 ghost use Rattle.book.specs.declared.finding.Finding.TheVariants.{Sound};
@@ -15,28 +16,22 @@ use lin::{Order, order_with_reply};
 use sched_program::{OpId, OutOfMemory, Program};
 use std::alloc::Global;
 use std::snapshot::Snapshot;
-use tree_machine::{Machine, ShortNote, State, Thread};
+use tree_machine::{Encode, ShortNote, State, Thread, Undo};
 
 /// A step that was made in the place of its source.
 #[derive(Drop)]
-pub(crate) struct Here<'a, M: Machine> {
+pub(crate) struct StepInPlace<'a, M: Encode> {
     /// The source as it was, for proofs alone.
     pub(crate) source: &'a Snapshot<State<M>>,
-    /// The thread as it was.
-    pub(crate) was: &'a Thread<M::Loc>,
     /// Where the step leads.
     pub(crate) next: &'a State<M>,
     pub(crate) thread: u8,
-    /// Whether the step is known to leave the memory as it was.
-    pub(crate) reads: bool,
+    /// What takes the step back.
+    pub(crate) undo: &'a Undo<M>,
 }
 
 /// The operation that a thread has ended since it stood so, with its reply, if it ended one.
-fn reply_since<M: Machine>(
-    was: &Thread<M::Loc>,
-    next: &State<M>,
-    thread: u8,
-) -> Option<(OpId, bool)>
+fn reply_since<M: Encode>(was: &Thread<M::Loc>, next: &State<M>, thread: u8) -> Option<(OpId, bool)>
     ensures { MatchOption result
         ((b : Standing M.Loc) → slice_get next.now.threads thread ≡ Some b
         → slice_get b.replies (length was.now.replies) ≡ None)
@@ -67,7 +62,7 @@ fn is_in_no_note(notes: &[ShortNote], name: OpId) -> bool
 }
 
 /// Whether no operation of a state began after this one ended.
-fn is_last<M: Machine>(state: &State<M>, name: OpId) -> bool
+fn is_last<M: Encode>(state: &State<M>, name: OpId) -> bool
     ensures { IsTrue result
         ↔ All (λ thread. All (λ note. slice_index note name.thread ≤ name.index) thread.notes) state.now.threads }
 {
@@ -79,14 +74,14 @@ fn is_last<M: Machine>(state: &State<M>, name: OpId) -> bool
     true
 }
 
-/// The finding of a step that ended this operation with this reply, and shows no fault without its history. It takes
-/// the order that is lent with that operation, if the operation replied what it replies there. Only where it did not
-/// does it make the history and judge that anew.
-fn finding_by_reply<M: Machine>(
+/// The finding of a step that ended this operation with this reply, and shows no fault without its
+/// history. It takes the order that is lent with that operation, if the operation replied what it
+/// replies there. Only where it did not does it make the history and judge that anew.
+fn finding_by_reply<M: Encode>(
     alloc: Global,
     machine: M,
     program: &Program,
-    here: &Here<'_, M>,
+    here: &StepInPlace<'_, M>,
     name: OpId,
     reply: bool,
     order: &Order,
@@ -111,30 +106,16 @@ fn finding_by_reply<M: Machine>(
     judged(alloc, machine, program, here.next)
 }
 
-/// Whether the step of a thread that stood so leaves search order as it is. Where it answers no, the step may disturb
-/// it.
-fn keeps_order<M: Machine>(machine: M, was: &Thread<M::Loc>) -> bool
-    ensures { IsTrue result → (program : Program) (source next : State M M.Mem M.Loc M.Form) (thread : ℕ)
-        → slice_get source.threads thread ≡ Some was.now
-        → step (M.rules machine) program source thread ≡ Some next
-        → (M.rules machine).IsOrdered source.memory → (M.rules machine).IsOrdered next.memory }
-{
-    match &was.place {
-        Some(place) => machine.keeps_order(place),
-        None => false,
-    }
-}
-
-/// The fault that a thread's step shows without its history, if it shows one. It may be known that its memory keeps
-/// search order.
-fn fault_here<M: Machine>(machine: M, next: &State<M>, is_ordered: bool) -> Option<Finding>
+/// The fault that a step shows without its history, if it shows one. Where it left the memory as it
+/// was, that keeps search order as before.
+fn fault_here<M: Encode>(machine: M, next: &State<M>, reads: bool) -> Option<Finding>
     requires range { (M.rules machine).IsInRange next.now.memory }
-    requires ordered { IsTrue is_ordered → (M.rules machine).IsOrdered next.now.memory }
+    requires ordered { IsTrue reads → (M.rules machine).IsOrdered next.now.memory }
     ensures some { IfSome result (λ fault. (program : Program)
         → IsFindingOf (M.rules machine) program next.now fault) }
     ensures none { IfNone result ((next.now.astray ≡ None) × (M.rules machine).IsOrdered next.now.memory) }
 {
-    if !is_ordered {
+    if !reads {
         return fault_in(machine, next);
     }
     if next.astray().is_some() {
@@ -143,32 +124,31 @@ fn fault_here<M: Machine>(machine: M, next: &State<M>, is_ordered: bool) -> Opti
     None
 }
 
-/// The finding of a step that was made in the place of a sound source, whose order is lent. None where the order stands
-/// as it is, since the step ended no operation.
+/// The finding of a step that was made in the place of a sound source, whose order is lent. None
+/// where the order stands as it is, since the step ended no operation.
 #[inline(always)]
-pub(crate) fn find_here<M: Machine>(
+pub(crate) fn find_here<M: Encode>(
     alloc: Global,
     machine: M,
     program: &Program,
-    here: &Here<'_, M>,
+    here: &StepInPlace<'_, M>,
     order: &Order,
 ) -> Result<Option<Finding>, OutOfMemory>
     requires fits { Fits (M.rules machine) program.now here.now.next.now }
     requires step { step (M.rules machine) program.now here.now.source.now.value here.now.thread
         ≡ Some here.now.next.now }
-    requires was { slice_get here.now.source.now.value.threads here.now.thread ≡ Some here.now.was.now }
-    requires reads { IsTrue here.now.reads → here.now.next.now.memory ≡ here.now.source.now.value.memory }
+    requires back { TakesBack here.now.source.now.value here.now.thread here.now.undo.now.thread
+        here.now.undo.now.reads here.now.undo.now.memory here.now.next.now }
     requires sound { IsFindingOf (M.rules machine) program.now here.now.source.now.value (Sound order.now) }
     ensures some { IfOk result
         (λ found. IfSome found (IsFindingOf (M.rules machine) program.now here.now.next.now)) }
     ensures none { IfOk result
         (λ found. IfNone found (IsFindingOf (M.rules machine) program.now here.now.next.now (Sound order.now))) }
 {
-    let is_ordered = here.reads || keeps_order(machine, here.was);
-    if let Some(fault) = fault_here(machine, here.next, is_ordered) {
+    if let Some(fault) = fault_here(machine, here.next, here.undo.reads()) {
         return Ok(Some(fault));
     }
-    let Some((name, reply)) = reply_since(here.was, here.next, here.thread) else {
+    let Some((name, reply)) = reply_since(here.undo.thread(), here.next, here.thread) else {
         return Ok(None);
     };
     let finding = finding_by_reply(alloc, machine, program, here, name, reply, order)?;

@@ -1,61 +1,76 @@
 //! Steps put into the entries of a book.
-ghost use Rattle.std.specs.Prelude.{◌≡◌, ◌++◌, ◌∷◌, [], length, map, OnOk, Some};
-ghost use Rattle.book.specs.Entries.{opened, states, unknown};
+ghost use Rattle.std.specs.Prelude.{◌≡◌, ◌<◌, ◌++◌, ◌∷◌, [], map, IsSome, OnOk};
+ghost use Rattle.std.specs.List.{All};
+ghost use Rattle.tree_machine.specs.Step.{step};
+ghost use Rattle.book.specs.Entries.{opened, states};
 ghost use Rattle.book.specs.Labels.{same_label};
-ghost use Rattle.book.specs.Leftovers.{KeepsMet};
-ghost use Rattle.book.specs.Slots.{keyed_of, IsGrown};
+ghost use Rattle.book.specs.Slots.{keyed_of, AreSteps, IsGrown};
+ghost use Rattle.book.specs.Unknown.{unknown};
 
-use crate::entry::{Mark, Origin, PackedRow, Row};
-use crate::hashed::Hashed;
-use crate::known::Known;
-use crate::leftovers::Leftovers;
+use crate::entry::{Origin, Row};
+use crate::label::Label;
+use crate::recycled::Recycled;
+use crate::shown::{Shown, shown_step};
 use crate::slots::put_new;
-use crate::stepped::Stepped;
+use crate::successor::Successor;
 use indexmap::IndexMap;
+use sched_program::Program;
 use std::alloc::AllocError;
+use tree_machine::{Encode, State};
 
-/// Puts in an open row for a step that leads to a new state. Else the state goes to the leftovers.
-fn put_step<S>(
-    slots: &mut IndexMap<Hashed<Known<S>>, PackedRow>,
+/// Puts in an open row for a step of an entry, if its label is new. Else the label is recycled.
+fn put_step<M: Encode>(
+    slots: &mut IndexMap<Label, Row<State<M>>>,
+    machine: M,
+    program: &Program,
+    source: &Shown<State<M>>,
     parent: usize,
-    step: Stepped<S>,
-    leftovers: &mut Leftovers<S>,
+    one: Successor<Label>,
+    recycled: &mut Recycled,
 ) -> Result<(), AllocError>
+    requires few { parent < 4294967295 }
+    requires enabled { IsSome (step (M.rules machine) program.now source.now.value one.thread) }
     ensures put { OnOk result (map keyed_of slots.new.entries ≡ map keyed_of slots.old.entries
-        ++ map (opened parent) (unknown same_label (states (map keyed_of slots.old.entries)) (step ∷ []))) }
+        ++ map (opened parent) (unknown same_label (states (map keyed_of slots.old.entries)) (one ∷ []))) }
     ensures kept { IsGrown slots.old.entries slots.new.entries }
-    ensures left { OnOk result (KeepsMet leftovers.old leftovers.new
-        (length slots.old.entries) (length slots.new.entries) 1) }
+    ensures steps { AreSteps (step (M.rules machine) program.now) source.now.value slots.old.entries
+        slots.new.entries }
 {
-    let (thread, known, finding) = step.into_fields();
-    let row = PackedRow::new(Row {
+    let Successor {
+        thread,
+        state: label,
         finding,
-        origin: Some(Origin { parent, thread }),
-        mark: Mark::Open,
-    })?;
-    let known = put_new(slots, known, row)?;
-    leftovers.keep(known);
+    } = one;
+    let shown = shown_step(machine, program, source, thread);
+    let row = Row::open(shown, finding, Some(Origin { parent, thread }));
+    if let Some(known) = put_new(slots, label, row)? {
+        recycled.keep_label(known.into_vec());
+    }
     Ok(())
 }
 
-/// Puts in, in their order, open rows for the steps that lead to new states. The states of the others go to the
-/// leftovers, and so does the list that the steps lay in.
-pub(crate) fn put_steps<S>(
-    slots: &mut IndexMap<Hashed<Known<S>>, PackedRow>,
+/// Puts in, in their order, open rows for the steps of an entry that lead to new states. The labels of the others are
+/// recycled, and so is the list that the steps lay in.
+pub(crate) fn put_steps<M: Encode>(
+    slots: &mut IndexMap<Label, Row<State<M>>>,
+    machine: M,
+    program: &Program,
+    source: &Shown<State<M>>,
     parent: usize,
-    mut successors: Vec<Stepped<S>>,
-    leftovers: &mut Leftovers<S>,
+    mut steps: Vec<Successor<Label>>,
+    recycled: &mut Recycled,
 ) -> Result<(), AllocError>
+    requires few { parent < 4294967295 }
+    requires enabled { All (λ x. IsSome (step (M.rules machine) program.now source.now.value x.thread)) steps.items }
     ensures put { OnOk result (map keyed_of slots.new.entries ≡ map keyed_of slots.old.entries
-        ++ map (opened parent)
-        (unknown same_label (states (map keyed_of slots.old.entries)) successors.items)) }
+        ++ map (opened parent) (unknown same_label (states (map keyed_of slots.old.entries)) steps.items)) }
     ensures kept { IsGrown slots.old.entries slots.new.entries }
-    ensures left { OnOk result (KeepsMet leftovers.old leftovers.new
-        (length slots.old.entries) (length slots.new.entries) (length successors.items)) }
+    ensures steps { AreSteps (step (M.rules machine) program.now) source.now.value slots.old.entries
+        slots.new.entries }
 {
-    for step in successors.drain(..) {
-        put_step(slots, parent, step, leftovers)?;
+    for one in steps.drain(..) {
+        put_step(slots, machine, program, source, parent, one, recycled)?;
     }
-    leftovers.keep_list(successors);
+    recycled.keep_list(steps);
     Ok(())
 }

@@ -3,11 +3,11 @@ ghost use Rattle.std.specs.Prelude.{◌≡◌};
 
 use crate::finding::Finding;
 use sched_program::OutOfMemory;
-use tree_machine::{Machine, State};
+use tree_machine::{Encode, State};
 
 /// What a schedule leads to.
 #[derive(Drop)]
-pub struct Replay<M: Machine> {
+pub struct Replay<M: Encode> {
     /// The last state.
     pub state: State<M>,
     /// What was found of it.

@@ -1,5 +1,5 @@
 //! The replay of a schedule, without a book.
-ghost use Rattle.std.specs.Prelude.{◌≡◌, ◌+◌, ◌^◌, ◌<◌, ◌≤◌, length, IfOk, IfErr, Some, None, take};
+ghost use Rattle.std.specs.Prelude.{◌≡◌, ◌+◌, ◌<◌, IfOk, IfErr, Some};
 ghost use Rattle.tree_machine.specs.Step.{Fits};
 ghost use Rattle.book.specs.Schedule.{after};
 ghost use Rattle.book.specs.Findings.{machine_of, IsFindingOf};
@@ -9,10 +9,10 @@ use crate::finding::find;
 use crate::replayed::{Replay, ReplayFault};
 use sched_program::{OutOfMemory, Program};
 use std::alloc::Global;
-use tree_machine::{Machine, State, StepFault};
+use tree_machine::{Encode, State, StepFault};
 
 /// The state after a schedule, with its finding. A refusal names the first step whose thread is not enabled.
-pub fn replay<M: Machine>(
+pub fn replay<M: Encode>(
     alloc: Global,
     machine: M,
     program: &Program,

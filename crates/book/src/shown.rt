@@ -5,7 +5,7 @@ ghost use Rattle.tree_machine.specs.Step.{step};
 
 use sched_program::Program;
 use std::marker::{Model, PhantomData, Send, Sync};
-use tree_machine::{Machine, State};
+use tree_machine::{Encode, State};
 
 /// An `S` as clauses see it. It has no bytes and owns nothing: a clause alone ties `value` to what memory holds.
 pub struct Shown<S> {
@@ -36,8 +36,8 @@ impl<S> Shown<S> {
         Shown::any(value)
     }
 
-    /// The value once more.
-    pub fn again(&self) -> Shown<S>
+    /// The same value.
+    pub fn copy(&self) -> Shown<S>
         ensures { result.value ≡ self.now.value }
     {
         Shown::any(self)
@@ -57,7 +57,7 @@ impl<S> Drop for Shown<S> {
 
 /// A thread of a shown state.
 #[derive(Drop)]
-struct Turn<M: Machine> {
+struct Turn<M: Encode> {
     machine: M,
     program: Shown<Program>,
     source: Shown<State<M>>,
@@ -65,7 +65,7 @@ struct Turn<M: Machine> {
 }
 
 /// The step that a thread of a shown state has.
-pub fn shown_step<M: Machine>(
+pub fn shown_step<M: Encode>(
     machine: M,
     program: &Program,
     source: &Shown<State<M>>,
@@ -77,7 +77,7 @@ pub fn shown_step<M: Machine>(
     let turn = Turn {
         machine,
         program: Shown::of(program),
-        source: source.again(),
+        source: source.copy(),
         thread,
     };
     Shown::any(&turn)

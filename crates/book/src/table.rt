@@ -1,41 +1,47 @@
-//! The entries by number and by state, and the places among them that are looked for again and again.
+//! The entries by number and by label, and the places among them that are looked for again and again.
 ghost use Rattle.std.specs.Prelude.{◌≡◌, ℕ, ◌+◌, ◌-◌, ◌^◌, ◌<◌, ◌≤◌, ◌++◌, ◌∷◌, [], count_by, length, map, not};
-ghost use Rattle.std.specs.Prelude.{position, true, false, OnOk, OnErr, IfOk, IfErr, IfSome, IfNone, Some, None};
-ghost use Rattle.std.specs.Prelude.{List, slice_get, take};
-ghost use Rattle.std.specs.List.{range_with_len};
-ghost use Rattle.book.specs.Entries.{Entry, At, IsTaken, is_open, is_taken, is_expanded, opened, states, unknown};
+ghost use Rattle.std.specs.Prelude.{position, true, OnOk, OnErr, IfOk, IfErr, IfSome, Some, None, IsSome};
+ghost use Rattle.std.specs.Prelude.{List, slice_get};
+ghost use Rattle.std.specs.List.{All, range_with_len};
+ghost use Rattle.std.specs.Option.{option_copied};
+ghost use Rattle.tree_machine.specs.Step.{step};
+ghost use Rattle.tree_machine.specs.declared.state.State.{State};
+ghost use Rattle.book.specs.Entries.{Entry, At, IsTaken, is_open, is_taken, is_expanded, opened, states};
 ghost use Rattle.book.specs.Entries.{with_mark, with_marks};
 ghost use Rattle.book.specs.Findings.{is_sound};
-ghost use Rattle.book.specs.Labels.{AreKnownBy, AreStepsKnownBy, bares, same_as};
-ghost use Rattle.book.specs.Leftovers.{KeepsMet};
+ghost use Rattle.book.specs.Labels.{AreKnownBy, labelled, same_as, steps_of};
 ghost use Rattle.book.specs.Slots.{entries_of, labels_of, IsFirstLeft, IsOpenFrom};
+ghost use Rattle.book.specs.Unknown.{unknown};
 
 use crate::book::Totals;
-use crate::entry::{Mark, Origin, PackedRow, Row};
+use crate::entry::{Mark, Origin, Row};
 use crate::finding::Finding;
-use crate::hashed::Hashed;
-use crate::known::Known;
-use crate::leftovers::Leftovers;
+use crate::label::Label;
 use crate::placing::put_steps;
+use crate::recycled::Recycled;
 use crate::rows::{expanded_rows, open_rows, taken_rows};
 use crate::shown::Shown;
 use crate::slots::put_new;
-use crate::stepped::Stepped;
+use crate::successor::Successor;
 use indexmap::IndexMap;
+use sched_program::Program;
 use std::alloc::{AllocError, Global};
 use std::marker::Model;
+use tree_machine::{Encode, State};
 
 /// Why rows were not put in.
 #[derive(Clone, Copy, PartialEq, Eq)]
 pub enum TableFault {
+    /// There would be more rows than the limit.
     Full,
+    /// A growth was refused.
     OutOfMemory,
 }
 
-/// The entries of a book: states, each with its row. The key of a row is the state's label, and no state is held.
+/// The entries of a book: a row for each label. No state is held.
 #[derive(Drop)]
 pub struct Table<S> {
-    slots: IndexMap<Hashed<Known<S>>, PackedRow>,
+    slots: IndexMap<Label, Row<S>>,
     next_open: usize,
     first_left: usize,
     fault: Option<usize>,
@@ -56,7 +62,7 @@ impl<S> Model for Table<S> {
 }
 
 /// Marks the row at an index.
-fn mark_at<S>(slots: &mut IndexMap<Hashed<Known<S>>, PackedRow>, index: usize, mark: Mark)
+fn mark_at<S>(slots: &mut IndexMap<Label, Row<S>>, index: usize, mark: Mark)
     ensures entries { entries_of slots.new.entries ≡ with_mark (entries_of slots.old.entries) index mark }
     ensures labels { labels_of slots.new.entries ≡ labels_of slots.old.entries }
 {
@@ -66,12 +72,7 @@ fn mark_at<S>(slots: &mut IndexMap<Hashed<Known<S>>, PackedRow>, index: usize, m
 }
 
 /// Marks the rows at the indices from `start` to below `end`.
-fn mark_range<S>(
-    slots: &mut IndexMap<Hashed<Known<S>>, PackedRow>,
-    start: usize,
-    end: usize,
-    mark: Mark,
-)
+fn mark_range<S>(slots: &mut IndexMap<Label, Row<S>>, start: usize, end: usize, mark: Mark)
     requires { start ≤ end }
     ensures entries { entries_of slots.new.entries
         ≡ with_marks (entries_of slots.old.entries) (range_with_len start (end - start)) mark }
@@ -82,37 +83,25 @@ fn mark_range<S>(
     }
 }
 
-/// The row at an index.
-fn row_at<S>(slots: &IndexMap<Hashed<Known<S>>, PackedRow>, index: usize) -> &PackedRow
+/// The slot at an index.
+fn slot_at<S>(slots: &IndexMap<Label, Row<S>>, index: usize) -> (&Label, &Row<S>)
     requires { index < length slots.now.entries }
-    ensures { (e : Entry S) × At (entries_of slots.now.entries) index e × (e.finding ≡ result.now.finding)
-        × (e.origin ≡ result.now.origin) × (e.mark ≡ result.now.mark) }
+    ensures label { slice_get (labels_of slots.now.entries) index ≡ Some result.0.now }
+    ensures row { At (entries_of slots.now.entries) index result.1.now }
 {
-    let Some((_, row)) = slots.get_index(index) else {
-        unreachable!();
-    };
-    row
-}
-
-/// The state of the row at an index, by its label.
-fn known_at<S>(slots: &IndexMap<Hashed<Known<S>>, PackedRow>, index: usize) -> &Known<S>
-    requires { index < length slots.now.entries }
-    ensures label { slice_get (labels_of slots.now.entries) index ≡ Some result.now.label }
-    ensures state { (e : Entry S) × At (entries_of slots.now.entries) index e × (e.state ≡ result.now.state) }
-{
-    let Some((known, _)) = slots.get_index(index) else {
-        unreachable!();
-    };
-    known.value()
+    match slots.get_index(index) {
+        Some(slot) => slot,
+        None => unreachable!(),
+    }
 }
 
 /// The first row that is not sound, where all before `start` are.
-fn first_fault_from<S>(slots: &IndexMap<Hashed<Known<S>>, PackedRow>, start: usize) -> Option<usize>
+fn first_fault_from<S>(slots: &IndexMap<Label, Row<S>>, start: usize) -> Option<usize>
     requires { (i : ℕ) (e : Entry S) → At (entries_of slots.now.entries) i e → i < start → is_sound e.finding ≡ true }
     ensures { result ≡ position (λ e. not (is_sound e.finding)) (entries_of slots.now.entries) }
 {
     for index in start..slots.len() {
-        if !row_at(slots, index).is_sound() {
+        if !slot_at(slots, index).1.is_sound() {
             return Some(index);
         }
     }
@@ -120,14 +109,14 @@ fn first_fault_from<S>(slots: &IndexMap<Hashed<Known<S>>, PackedRow>, start: usi
 }
 
 /// The first row that is not expanded, where all before `start` are, or the number of rows.
-fn first_left_from<S>(slots: &IndexMap<Hashed<Known<S>>, PackedRow>, start: usize) -> usize
+fn first_left_from<S>(slots: &IndexMap<Label, Row<S>>, start: usize) -> usize
     requires before { (i : ℕ) (e : Entry S) → At (entries_of slots.now.entries) i e → i < start
         → e.mark ≡ Mark.Expanded }
     requires within { start ≤ length slots.now.entries }
     ensures { IsFirstLeft (entries_of slots.now.entries) result }
 {
     for index in start..slots.len() {
-        if !row_at(slots, index).is_expanded() {
+        if !slot_at(slots, index).1.is_expanded() {
             return index;
         }
     }
@@ -135,14 +124,9 @@ fn first_left_from<S>(slots: &IndexMap<Hashed<Known<S>>, PackedRow>, start: usiz
 }
 
 impl<S> Table<S> {
-    /// What the entries take memory of.
+    /// The allocator of the entries.
     pub fn allocator(&self) -> Global {
         *self.slots.allocator()
-    }
-
-    /// Leftovers that keep nothing.
-    pub fn no_leftovers(&self) -> Leftovers<S> {
-        Leftovers::none(self.allocator())
     }
 
     /// The number of entries.
@@ -152,17 +136,23 @@ impl<S> Table<S> {
         self.slots.len()
     }
 
-    /// The row of an entry.
-    pub fn row(&self, index: usize) -> Option<&PackedRow>
-        ensures some { IfSome result (λ row. (e : Entry S) × At self.now.entries index e × (e.finding ≡ row.now.finding)
-            × (e.origin ≡ row.now.origin) × (e.mark ≡ row.now.mark)) }
-        ensures none { IfNone result (slice_get self.now.entries index ≡ None) }
+    /// The row of an entry, if there is such an entry.
+    pub fn row(&self, index: usize) -> Option<&Row<S>>
+        ensures { option_copied result ≡ slice_get self.now.entries index }
     {
         if index < self.slots.len() {
-            Some(row_at(&self.slots, index))
+            Some(self.entry(index))
         } else {
             None
         }
+    }
+
+    /// The row of an entry.
+    pub fn entry(&self, index: usize) -> &Row<S>
+        requires { index < length self.now.entries }
+        ensures { At self.now.entries index result.now }
+    {
+        slot_at(&self.slots, index).1
     }
 
     /// The label of an entry.
@@ -170,23 +160,15 @@ impl<S> Table<S> {
         requires { index < length self.now.entries }
         ensures { slice_get self.now.labels index ≡ Some result.now }
     {
-        known_at(&self.slots, index).label()
-    }
-
-    /// The state of an entry.
-    pub fn shown(&self, index: usize) -> &Shown<S>
-        requires { index < length self.now.entries }
-        ensures { (e : Entry S) × At self.now.entries index e × (e.state ≡ result.now.value) }
-    {
-        known_at(&self.slots, index).shown()
+        slot_at(&self.slots, index).0.as_slice()
     }
 
     /// Looks for the labels of steps, one right after the other, so that what there is of them comes into the
-    /// processor's caches all at once. How many there are is of no use.
-    pub fn look_ahead(&self, steps: &[Stepped<S>]) -> usize {
+    /// processor's caches all at once. It returns how many there are, only so that the look-ups are made.
+    pub fn prefetch(&self, steps: &[Successor<Label>]) -> usize {
         let mut there = 0usize;
         for step in steps {
-            if self.slots.contains_key(&step.known) {
+            if self.slots.contains_key(&step.state) {
                 there = there.wrapping_add(1);
             }
         }
@@ -252,7 +234,7 @@ impl<S> Table<S> {
         requires { index < length self.now.entries }
         ensures { (e : Entry S) × At self.now.entries index e × (e.origin ≡ result) }
     {
-        row_at(&self.slots, index).origin()
+        self.entry(index).origin()
     }
 
     /// How many entries there are, and how many are marked each way, with so many steps that led to known states.
@@ -283,21 +265,18 @@ impl<S> Table<S> {
     /// A table with one open entry, which has no parent.
     pub fn new(
         alloc: Global,
-        known: Hashed<Known<S>>,
+        label: Label,
+        shown: Shown<S>,
         finding: Finding,
     ) -> Result<Table<S>, AllocError>
         ensures entries { IfOk result (λ t. t.entries
-            ≡ record { state = known.state; finding = finding; origin = None; mark = Mark.Open } ∷ []) }
-        ensures labels { IfOk result (λ t. t.labels ≡ known.label ∷ []) }
+            ≡ record { state = shown.value; finding = finding; origin = None; mark = Mark.Open } ∷ []) }
+        ensures labels { IfOk result (λ t. t.labels ≡ label ∷ []) }
     {
         let fault = if finding.is_sound() { None } else { Some(0) };
-        let row = PackedRow::new(Row {
-            finding,
-            origin: None,
-            mark: Mark::Open,
-        })?;
+        let row = Row::open(shown, finding, None);
         let mut slots = IndexMap::new(alloc);
-        put_new(&mut slots, known, row)?;
+        put_new(&mut slots, label, row)?;
         Ok(Table {
             slots,
             next_open: 0,
@@ -314,34 +293,44 @@ impl<S> Table<S> {
         mark_at(&mut self.slots, index, Mark::Expanded);
         self.first_left = first_left_from(&self.slots, self.first_left);
     }
+}
 
-    /// Appends, in their order, open entries for the steps that lead to new states, or, if they have no room or
-    /// memory is refused, none. The steps that lead to known states go to the leftovers.
-    pub fn append_new(
+impl<M: Encode> Table<State<M>> {
+    /// Appends, in their order, open entries for the steps of an entry that lead to new states, or,
+    /// if they have no room or memory is refused, none.
+    pub fn append(
         &mut self,
+        machine: M,
+        program: &Program,
         limit: usize,
         parent: usize,
-        successors: Vec<Stepped<S>>,
-        leftovers: &mut Leftovers<S>,
+        steps: Vec<Successor<Label>>,
+        recycled: &mut Recycled,
     ) -> Result<(), TableFault>
-        requires { length self.old.entries ≤ limit }
-        ensures put { OnOk result ((label_of : S → List ℕ) → AreKnownBy label_of self.old
-            → AreStepsKnownBy label_of successors.items
-            → (self.new.entries ≡ self.old.entries ++ map (opened parent)
-            (unknown (same_as label_of) (states self.old.entries) (bares successors.items)))) }
-        ensures known { OnOk result ((label_of : S → List ℕ) → AreKnownBy label_of self.old
-            → AreStepsKnownBy label_of successors.items → AreKnownBy label_of self.new) }
-        ensures full { IfErr result (λ fault. fault ≡ TableFault.Full → (label_of : S → List ℕ)
-            → AreKnownBy label_of self.old → AreStepsKnownBy label_of successors.items
-            → limit < length self.old.entries
-            + length (unknown (same_as label_of) (states self.old.entries) (bares successors.items))) }
-        ensures room { OnOk result (length self.new.entries ≤ limit) }
-        ensures left { OnOk result (KeepsMet leftovers.old leftovers.new (length self.old.entries)
-            (length self.new.entries) (length successors.items)) }
+        requires room { length self.old.entries ≤ limit }
+        requires few { limit ≤ 2000000 }
+        requires within { parent < length self.old.entries }
+        requires enabled { (e : Entry (State M M.Mem M.Loc M.Form)) → At self.old.entries parent e
+            → All (λ x. IsSome (step (M.rules machine) program.now e.state x.thread)) steps.items }
+        ensures put { OnOk result ((label_of : State M M.Mem M.Loc M.Form → List ℕ)
+            (e : Entry (State M M.Mem M.Loc M.Form)) → AreKnownBy label_of self.old → At self.old.entries parent e
+            → steps.items ≡ map (labelled label_of) (steps_of (step (M.rules machine) program.now) e.state steps.items)
+            → (self.new.entries ≡ self.old.entries ++ map (opened parent) (unknown (same_as label_of)
+            (states self.old.entries) (steps_of (step (M.rules machine) program.now) e.state steps.items)))
+            × AreKnownBy label_of self.new) }
+        ensures full { IfErr result (λ fault. fault ≡ TableFault.Full
+            → (label_of : State M M.Mem M.Loc M.Form → List ℕ) (e : Entry (State M M.Mem M.Loc M.Form))
+            → AreKnownBy label_of self.old → At self.old.entries parent e
+            → steps.items ≡ map (labelled label_of) (steps_of (step (M.rules machine) program.now) e.state steps.items)
+            → limit < length self.old.entries + length (unknown (same_as label_of) (states self.old.entries)
+            (steps_of (step (M.rules machine) program.now) e.state steps.items))) }
+        ensures within { OnOk result (length self.new.entries ≤ limit) }
         ensures err { OnErr result (self.new ≡ self.old) }
     {
         let was = self.slots.len();
-        let Ok(()) = put_steps(&mut self.slots, parent, successors, leftovers) else {
+        let source = self.entry(parent).shown().copy();
+        let slots = &mut self.slots;
+        let Ok(()) = put_steps(slots, machine, program, &source, parent, steps, recycled) else {
             self.slots.truncate(was);
             return Err(TableFault::OutOfMemory);
         };
@@ -349,12 +338,9 @@ impl<S> Table<S> {
             self.slots.truncate(was);
             return Err(TableFault::Full);
         }
-        match self.fault {
-            Some(_) => Ok(()),
-            None => {
-                self.fault = first_fault_from(&self.slots, was);
-                Ok(())
-            }
+        if self.fault.is_none() {
+            self.fault = first_fault_from(&self.slots, was);
         }
+        Ok(())
     }
 }

@@ -80,26 +80,30 @@ all_read (place ∷ held) (twin ∷ twins) e =
 abbrev pub straying_form : Bool → List (Option Bool) → List ℕ
 straying_form memory held = held_code (Some memory) ∷ map held_code held
 
--- it tells both
-pub straying_tells : TellsWholly straying_form
-straying_tells memory other held twins same =
+-- equal forms are of equal memories with equal places held
+form_read : (memory other : Bool) (held twins : List (Option Bool))
+    → straying_form memory held ≡ straying_form other twins → (memory ≡ other) × (held ≡ twins)
+form_read memory other held twins same =
     let first : held_code (Some memory) ≡ held_code (Some other) = cc in
     let rest : map held_code held ≡ map held_code twins = cc in
     (same_Some memory other (held_read (Some memory) (Some other) first), all_read held twins rest)
+
+pub straying_tells : TellsWholly straying_form straying_form
+straying_tells memory other held twins many same = form_read memory other held twins same
 
 -- forms are equal exactly if the memories and the places are
 pub straying_forms : (memory other : Bool) (held twins : List (Option Bool))
     → (straying_form memory held ≡ straying_form other twins) ↔ AreAlike straying_rules.pairs memory held other twins
 straying_forms memory other held twins =
     let alike = equal_alike memory other held twins in (
-      (λ same. alike.0 (straying_tells memory other held twins same)),
+      (λ same. alike.0 (form_read memory other held twins same)),
       (λ h. let same = alike.1 h in λ i. straying_form (same.0 i) (same.1 i)),
     )
 
 -- so bytes that are equal are of forms that are
 pub straying_decodes : DecodesForms straying_rules straying_form (λ bytes. bytes) straying_form
-straying_decodes memory other held twins range places e =
-    let same = straying_tells other memory twins held e in (
+straying_decodes memory other held twins range places many e =
+    let same = form_read other memory twins held e in (
       tt,
       subst (λ m. ArePlacesInRange straying_rules m twins) (sym same.0)
           (subst (ArePlacesInRange straying_rules memory) (sym same.1) places),

@@ -5,14 +5,17 @@ ghost use Rattle.tree_machine.specs.Step.{Fits};
 
 use crate::fixtures::{
     Broken, TWO_INSERTS, enter_under, expand_next, expanded, has_none_left, is_broken, open,
-    settled, take_next, take_number,
+    program_of, replayed, settled, take_next, take_number,
 };
-use book::{Book, Merge};
+use crate::picture::Picture;
+use book::{Book, Expansion, Merge};
+use sched_program::Program;
 use std::alloc::Global;
 use std::test::Fail;
 use tree_machine::{Atomic, State};
 
-/// Whether the steps of a state are refused for this under the number of an entry, and the book is left as it is.
+/// Whether the steps of a state are refused for this under the number of an entry, and the book is
+/// left as it is.
 fn refuses(
     alloc: Global,
     book: &mut Book<Atomic>,
@@ -23,9 +26,9 @@ fn refuses(
     requires fits { Fits atomic_rules book.old.program state.now }
     requires room { state.now.steps + 1 < 2 ^ 64 }
 {
-    let before = book.totals();
+    let before = Picture::of(alloc, book)?;
     let answer = enter_under(alloc, book, id, state);
-    Ok(is_broken(answer, fault)? && book.totals() == before)
+    Ok(is_broken(answer, fault)? && before.is_of(alloc, book)?)
 }
 
 /// Enters the steps of a state, and then the same ones under the same number.
@@ -112,5 +115,35 @@ fn a_full_book_is_left_as_it_is(rt: HostRuntime) -> Result<(), Fail> {
     let alloc = rt.alloc();
     let is_left = settled!(is_full_book_left(alloc))?;
     assert!(rt; is_left);
+    Ok(())
+}
+
+/// Schedules of the two inserts, each with how many threads are enabled behind it.
+const ENABLED: [(&[u8], usize); 3] = [(&[], 2), (&[0], 1), (&[1, 0], 0)];
+
+/// How many steps the expansion of a state of this program has.
+fn step_count(alloc: Global, program: &Program, state: &State<Atomic>) -> Result<usize, Broken>
+    requires { Fits atomic_rules program.now state.now }
+{
+    // No schedule of these tests is longer.
+    if state.steps() > 1000 {
+        return Err(Broken::NoEntry);
+    }
+    Ok(Expansion::of(alloc, Atomic, program, state)?.len())
+}
+
+fn has_steps(alloc: Global, schedule: &[u8], count: usize) -> Result<bool, Broken> {
+    let program = program_of(alloc, TWO_INSERTS)?;
+    let end = replayed(alloc, Atomic, &program, schedule)?;
+    Ok(step_count(alloc, &program, &end.state)? == count)
+}
+
+#[test]
+fn an_expansion_has_the_enabled_steps(rt: HostRuntime) -> Result<(), Fail> {
+    let alloc = rt.alloc();
+    for (schedule, count) in ENABLED {
+        let is_so = settled!(has_steps(alloc, schedule, count))?;
+        assert!(rt; is_so, "{schedule:?}");
+    }
     Ok(())
 }

@@ -78,7 +78,7 @@ static AMISS: [Case; 10] = [
     ),
 ];
 
-/// Texts that are not in the form, told at their first line that is not.
+/// Texts that are not in the form, each with its first line that is not.
 static MISFORMED: [Case; 27] = [
     ("", Err(CheckFault::Form(1))),
     (
@@ -238,7 +238,7 @@ pub fn is_answer(
 ) -> Result<bool, Broken> {
     match subject.answer(alloc, text)? {
         Err(CheckFault::OutOfMemory) => Err(Broken::OutOfMemory),
-        told => Ok(told == answer),
+        found => Ok(found == answer),
     }
 }
 
@@ -262,12 +262,12 @@ fn files_pass(rt: HostRuntime) -> Result<(), Fail> {
 }
 
 #[test]
-fn the_first_that_is_amiss_is_told(rt: HostRuntime) -> Result<(), Fail> {
+fn the_first_that_is_amiss_is_reported(rt: HostRuntime) -> Result<(), Fail> {
     judges_all(&rt, Subject::Inserts, AMISS.as_slice())
 }
 
 #[test]
-fn the_first_misformed_line_is_told(rt: HostRuntime) -> Result<(), Fail> {
+fn the_first_misformed_line_is_reported(rt: HostRuntime) -> Result<(), Fail> {
     judges_all(&rt, Subject::Inserts, MISFORMED.as_slice())
 }
 
@@ -277,7 +277,7 @@ fn files_of_a_tree_are_judged(rt: HostRuntime) -> Result<(), Fail> {
 }
 
 #[test]
-fn a_state_astray_is_told(rt: HostRuntime) -> Result<(), Fail> {
+fn a_state_astray_is_reported(rt: HostRuntime) -> Result<(), Fail> {
     judges_all(&rt, Subject::Straying, ASTRAY.as_slice())
 }
 

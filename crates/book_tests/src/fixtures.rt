@@ -1,16 +1,18 @@
 //! Programs, their books, and steps that are entered into these.
 //!
-//! A book is held in a box: whoever lets it go makes one call, and not one for each of its lists, which keeps the
-//! proofs short.
+//! A book is held in a box: whoever lets it go makes one call, and not one for each of its lists,
+//! which keeps the proofs short.
 ghost use Rattle.std.specs.Prelude.{◌≡◌, ◌+◌, ◌^◌, ◌<◌, ◌≤◌, IfOk};
 ghost use Rattle.book.specs.Findings.{IsFindingOf};
 ghost use Rattle.tree_machine.specs.Step.{Fits};
 
 use book::{Book, EnterFault, Entered, Expansion, Merge, Replay, ReplayFault, replay};
+use ellen::Ellen;
+use natmit::NatMit;
 use sched_program::{OutOfMemory, Program, ProgramFault};
 use std::alloc::Global;
 use std::sync::Arc;
-use tree_machine::{Atomic, Machine, State};
+use tree_machine::{Atomic, Encode, State};
 
 /// Two threads that each insert 1.
 pub const TWO_INSERTS: &str =
@@ -20,6 +22,31 @@ pub const TWO_INSERTS: &str =
 pub const TWO_FINDS: &str =
     r#"{"version":1,"tree":"ellen","initial":[],"threads":[[{"op":"find","key":5}],[{"op":"find","key":5}]]}"#;
 
+/// A delete, and an insert with a find, in the tree of Natarajan and Mittal without tags.
+pub const NO_TAG_PROGRAM: &str =
+    r#"{"version":1,"tree":"nm-no-tag","initial":[10,20],"threads":[[{"op":"delete","key":10}],[{"op":"insert","key":25},{"op":"find","key":25}]]}"#;
+
+/// Ellen's tree.
+pub const ELLEN: Ellen = Ellen {
+    mark: true,
+    iflag: true,
+};
+
+/// Ellen's tree without marks.
+pub const NO_MARK: Ellen = Ellen {
+    mark: false,
+    iflag: true,
+};
+
+/// The tree of Natarajan and Mittal without tags.
+pub const NO_TAG: NatMit = NatMit { tag: false };
+
+pub const MERGES: [Merge; 2] = [Merge::Exact, Merge::Names];
+
+pub const BOTH_NEW: Entered = Entered { entered: 2, met: 0 };
+
+pub const ONE_NEW: Entered = Entered { entered: 1, met: 1 };
+
 /// Why a case was not run to its end.
 #[derive(Clone, Copy, Debug, PartialEq, Eq)]
 pub enum Broken {
@@ -27,6 +54,8 @@ pub enum Broken {
     NoProgram,
     /// The book has no such entry, or none to take.
     NoEntry,
+    /// The steps of an entry can't be made from its label.
+    NoSteps,
     /// The book refused an expansion: its entry was not taken.
     NotTaken,
     /// The book refused an expansion: it was not that of its entry.
@@ -76,7 +105,7 @@ macro_rules! settled {
     ($case:expr) => {
         match $case {
             Err(Broken::OutOfMemory) => $case,
-            told => told,
+            answer => answer,
         }
     };
 }
@@ -99,7 +128,7 @@ pub fn boxed<T: Drop>(alloc: Global, value: T) -> Result<Box<T>, OutOfMemory>
 }
 
 /// The book of the program of a text with the start alone.
-pub fn open<M: Machine>(
+pub fn open<M: Encode>(
     alloc: Global,
     machine: M,
     text: &str,
@@ -114,21 +143,21 @@ pub fn open<M: Machine>(
 }
 
 /// Takes the next entry.
-pub fn take_next<M: Machine>(book: &mut Book<M>) -> Result<(usize, Arc<State<M>>), Broken>
+pub fn take_next<M: Encode>(book: &mut Book<M>) -> Result<(usize, Arc<State<M>>), Broken>
     ensures fits { IfOk result (λ p. Fits (M.rules book.new.machine) book.new.program p.1.value) }
     ensures room { IfOk result (λ p. p.1.value.steps + 1 < 2 ^ 64) }
     ensures machine { book.new.machine ≡ book.old.machine }
     ensures program { book.new.program ≡ book.old.program }
 {
     // No book of these tests has more entries, so no state has more steps.
-    if book.limit() > 100 {
+    if book.limit() > 1000 {
         return Err(Broken::NoEntry);
     }
     book.take()?.ok_or(Broken::NoEntry)
 }
 
-/// Takes the next entry, and tells its number alone.
-pub fn take_number(book: &mut Book<Atomic>) -> Result<usize, Broken>
+/// Takes the next entry, and returns its number alone.
+pub fn take_number<M: Encode>(book: &mut Book<M>) -> Result<usize, Broken>
     ensures machine { book.new.machine ≡ book.old.machine }
     ensures program { book.new.program ≡ book.old.program }
 {
@@ -142,7 +171,7 @@ pub fn has_none_left(book: &mut Book<Atomic>) -> Result<bool, Broken> {
 }
 
 /// Enters the steps of a state of this program under the number of an entry.
-fn enter_of<M: Machine>(
+fn enter_of<M: Encode>(
     alloc: Global,
     book: &mut Book<M>,
     id: usize,
@@ -159,7 +188,7 @@ fn enter_of<M: Machine>(
 }
 
 /// Enters the steps of a state of the book's program.
-pub fn enter_under<M: Machine>(
+pub fn enter_under<M: Encode>(
     alloc: Global,
     book: &mut Book<M>,
     id: usize,
@@ -178,19 +207,19 @@ pub fn enter_under<M: Machine>(
 pub fn is_broken(answer: Result<Entered, Broken>, reason: Broken) -> Result<bool, Broken> {
     match answer {
         Err(Broken::OutOfMemory) => Err(Broken::OutOfMemory),
-        Err(told) => Ok(told == reason),
+        Err(broken) => Ok(broken == reason),
         Ok(_) => Ok(false),
     }
 }
 
 /// Takes the next entry and enters its steps.
-pub fn expand_next<M: Machine>(alloc: Global, book: &mut Book<M>) -> Result<Entered, Broken> {
+pub fn expand_next<M: Encode>(alloc: Global, book: &mut Book<M>) -> Result<Entered, Broken> {
     let (id, state) = take_next(book)?;
     enter_under(alloc, book, id, &state)
 }
 
 /// Takes so many entries, one after the other, and enters the steps of each.
-fn expand(alloc: Global, book: &mut Book<Atomic>, entries: usize) -> Result<(), Broken> {
+pub fn expand<M: Encode>(alloc: Global, book: &mut Book<M>, entries: usize) -> Result<(), Broken> {
     for _entry in 0..entries {
         expand_next(alloc, book)?;
     }
@@ -205,7 +234,7 @@ pub fn expanded(alloc: Global, merge: Merge, entries: usize) -> Result<Box<Book<
 }
 
 /// An entry's recorded schedule.
-pub fn way_of<M: Machine>(alloc: Global, book: &Book<M>, entry: usize) -> Result<Vec<u8>, Broken> {
+pub fn way_of<M: Encode>(alloc: Global, book: &Book<M>, entry: usize) -> Result<Vec<u8>, Broken> {
     if entry >= book.len() {
         return Err(Broken::NoEntry);
     }
@@ -213,7 +242,7 @@ pub fn way_of<M: Machine>(alloc: Global, book: &Book<M>, entry: usize) -> Result
 }
 
 /// Whether an entry's recorded schedule is this.
-pub fn is_way<M: Machine>(
+pub fn is_way<M: Encode>(
     alloc: Global,
     book: &Book<M>,
     entry: usize,
@@ -223,7 +252,7 @@ pub fn is_way<M: Machine>(
 }
 
 /// What a schedule of a program leads to.
-pub fn replayed<M: Machine>(
+pub fn replayed<M: Encode>(
     alloc: Global,
     machine: M,
     program: &Program,

@@ -79,6 +79,6 @@ fn lines_of_entries_are_read(rt: HostRuntime) -> Result<(), Fail> {
 }
 
 #[test]
-fn other_lines_are_told(rt: HostRuntime) -> Result<(), Fail> {
+fn other_lines_are_refused(rt: HostRuntime) -> Result<(), Fail> {
     refuses_all(&rt, MISFORMED.as_slice(), CheckFault::Form(3))
 }

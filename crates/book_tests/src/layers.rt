@@ -1,10 +1,10 @@
 //! Books of two steps.
 
-use crate::fixtures::{Broken, expanded, is_way, settled};
+use crate::fixtures::{Broken, MERGES, expanded, is_way, settled};
 use book::{Book, Finding, Merge, Totals};
 use std::alloc::Global;
 use std::test::Fail;
-use tree_machine::Machine;
+use tree_machine::Encode;
 
 /// The totals of two steps of both threads: five entries, the later ones open.
 const WHOLE: Totals = Totals {
@@ -18,21 +18,24 @@ const WHOLE: Totals = Totals {
 
 /// Whether a finding is a linearization of so many operations.
 fn is_order_of(finding: Option<&Finding>, length: usize) -> bool {
+    let Some(finding) = finding else {
+        return false;
+    };
     match finding {
-        Some(Finding::Sound(order)) => order.len() == length,
+        Finding::Sound(order) => finding.is_sound() && order.len() == length,
         _ => false,
     }
 }
 
 /// Whether the findings are those of five entries.
-fn finds_no_fault<M: Machine>(book: &Book<M>) -> bool {
+fn finds_no_fault<M: Encode>(book: &Book<M>) -> bool {
     is_order_of(book.finding_of(4), 2)
         && book.finding_of(5).is_none()
         && book.first_fault().is_none()
 }
 
 /// Whether the numbers are those of two steps, the later ones open.
-fn counts_two_layers<M: Machine>(book: &Book<M>) -> bool {
+fn counts_two_layers<M: Encode>(book: &Book<M>) -> bool {
     book.totals() == WHOLE
         && book.count_to(1) == 3
         && book.is_left_to(2)
@@ -40,10 +43,10 @@ fn counts_two_layers<M: Machine>(book: &Book<M>) -> bool {
         && book.limit() == 100
 }
 
-/// Whether the book of two steps tells what it should.
-fn is_two_layers<M: Machine>(alloc: Global, book: &Book<M>, merge: Merge) -> Result<bool, Broken> {
-    let is_told = finds_no_fault(book) && counts_two_layers(book) && book.merge() == merge;
-    Ok(is_way(alloc, book, 4, &[1, 0])? && is_told)
+/// Whether the book of two steps shows what it should.
+fn is_two_layers<M: Encode>(alloc: Global, book: &Book<M>, merge: Merge) -> Result<bool, Broken> {
+    let is_so = finds_no_fault(book) && counts_two_layers(book) && book.merge() == merge;
+    Ok(is_way(alloc, book, 4, &[1, 0])? && is_so)
 }
 
 fn has_two_layers(alloc: Global, merge: Merge) -> Result<bool, Broken> {
@@ -51,11 +54,11 @@ fn has_two_layers(alloc: Global, merge: Merge) -> Result<bool, Broken> {
     is_two_layers(alloc, &book, merge)
 }
 
-// An expansion is labelled for exact merging, and anew where it is entered into a book that merges by names.
+// A book of either merge labels the steps of an expansion when it enters them.
 #[test]
 fn a_book_of_two_layers(rt: HostRuntime) -> Result<(), Fail> {
     let alloc = rt.alloc();
-    for merge in [Merge::Exact, Merge::Names] {
+    for merge in MERGES {
         let is_whole = settled!(has_two_layers(alloc, merge))?;
         assert!(rt; is_whole, "{merge:?}");
     }
@@ -78,8 +81,8 @@ fn is_closed(alloc: Global, merge: Merge, entries: usize) -> Result<bool, Broken
 fn a_book_by_names_closes_with_its_last_entry(rt: HostRuntime) -> Result<(), Fail> {
     let alloc = rt.alloc();
     for (merge, entries, closed) in CLOSED {
-        let told = settled!(is_closed(alloc, merge, entries))?;
-        assert!(rt; told == closed, "{merge:?} with {entries} expanded");
+        let answer = settled!(is_closed(alloc, merge, entries))?;
+        assert!(rt; answer == closed, "{merge:?} with {entries} expanded");
     }
     Ok(())
 }

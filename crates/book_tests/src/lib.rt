@@ -2,6 +2,8 @@
 #![tactic(auto)]
 
 #[cfg(test)]
+mod by_label;
+#[cfg(test)]
 mod entering;
 #[cfg(test)]
 mod files;
@@ -15,9 +17,15 @@ mod in_place;
 #[cfg(test)]
 mod layers;
 #[cfg(test)]
+mod picture;
+#[cfg(test)]
+mod refusals;
+#[cfg(test)]
 mod refused;
 #[cfg(test)]
 mod replays;
+#[cfg(test)]
+mod same_book;
 #[cfg(test)]
 mod straying;
 #[cfg(test)]

@@ -1,9 +1,11 @@
-//! A call that is refused memory leaves the book as it was, and the next such call answers as if nothing had happened.
-//! With ample memory each case makes its call once; `scripts/refuse_allocations.sh` refuses each request in turn.
+//! A call that is refused memory leaves the book as it was, and the next such call answers as if
+//! nothing had happened. With ample memory each case makes its call once;
+//! `scripts/refuse_allocations.sh` refuses each request in turn.
 
-use crate::fixtures::{Broken, enter_under, expanded, settled, take_next, take_number, way_of};
-use book::{Book, Merge, Totals};
-use sched_program::OutOfMemory;
+use crate::by_label::enter_by_label;
+use crate::fixtures::{Broken, enter_under, expanded, settled, take_next, take_number};
+use crate::picture::Picture;
+use book::{Book, Merge, Scratch, Totals};
 use std::alloc::Global;
 use std::test::Fail;
 use tree_machine::{Atomic, State};
@@ -17,13 +19,16 @@ enum Call {
     TakeLayer,
     /// Enters the steps of the start, which was taken.
     Enter,
+    /// Enters them where they are made from its label.
+    EnterByLabel,
 }
 
 /// The totals after each call.
-const CALLS: [(Call, Totals); 3] = [
+const CALLS: [(Call, Totals); 4] = [
     (Call::Take, START_TAKEN),
     (Call::TakeLayer, START_TAKEN),
     (Call::Enter, START_EXPANDED),
+    (Call::EnterByLabel, START_EXPANDED),
 ];
 
 const START_TAKEN: Totals = Totals {
@@ -46,11 +51,17 @@ const START_EXPANDED: Totals = Totals {
 
 impl Call {
     /// Makes the call. Whether its answer is the right one.
-    fn is_answered(self, alloc: Global, book: &mut Book<Atomic>) -> Result<bool, Broken> {
+    fn is_answered(
+        self,
+        alloc: Global,
+        book: &mut Book<Atomic>,
+        scratch: &mut Scratch<Atomic>,
+    ) -> Result<bool, Broken> {
         match self {
             Call::Take => takes_the_start(book),
             Call::TakeLayer => takes_the_first_layer(book),
             Call::Enter => enters_both_steps(alloc, book),
+            Call::EnterByLabel => enters_both_by_label(alloc, book, scratch),
         }
     }
 }
@@ -67,47 +78,32 @@ fn takes_the_first_layer(book: &mut Book<Atomic>) -> Result<bool, Broken> {
 
 fn enters_both_steps(alloc: Global, book: &mut Book<Atomic>) -> Result<bool, Broken> {
     let start = State::start(alloc, Atomic, book.program())?;
-    let told = enter_under(alloc, book, 0, &start)?;
-    Ok(told.entered == 2 && told.met == 0)
+    let entered = enter_under(alloc, book, 0, &start)?;
+    Ok(entered.entered == 2 && entered.met == 0)
 }
 
-fn add_way(ways: &mut Vec<u8>, way: &[u8]) -> Result<(), OutOfMemory> {
-    ways.extend_from_slice(way)?;
-    ways.push(u8::MAX)?;
-    Ok(())
-}
-
-/// The recorded schedule of each entry, each ended by `u8::MAX`.
-fn ways_of(alloc: Global, book: &Book<Atomic>) -> Result<Vec<u8>, Broken> {
-    let mut ways = Vec::new(alloc);
-    for entry in 0..book.len() {
-        add_way(&mut ways, way_of(alloc, book, entry)?.as_slice())?;
-    }
-    Ok(ways)
-}
-
-/// Whether a book has these totals and these recorded schedules.
-fn is_unchanged(
+fn enters_both_by_label(
     alloc: Global,
-    book: &Book<Atomic>,
-    totals: Totals,
-    ways: &[u8],
+    book: &mut Book<Atomic>,
+    scratch: &mut Scratch<Atomic>,
 ) -> Result<bool, Broken> {
-    Ok(book.totals() == totals && ways_of(alloc, book)?.as_slice() == ways)
+    let entered = enter_by_label(alloc, book, 0, scratch)?;
+    Ok(entered.entered == 2 && entered.met == 0)
 }
 
-/// Makes the call; where memory is refused, looks whether the book is as it was, and makes the call once more.
+/// Makes the call; where memory is refused, looks whether the book is as it was, and makes the call
+/// once more.
 fn is_answered_in_the_end(
     alloc: Global,
     book: &mut Book<Atomic>,
     call: Call,
 ) -> Result<bool, Broken> {
-    let totals = book.totals();
-    let ways = ways_of(alloc, book)?;
-    match call.is_answered(alloc, book) {
+    let mut scratch = Scratch::new(alloc);
+    let before = Picture::of(alloc, book)?;
+    match call.is_answered(alloc, book, &mut scratch) {
         Err(Broken::OutOfMemory) => {
-            let is_unchanged = is_unchanged(alloc, book, totals, ways.as_slice())?;
-            Ok(is_unchanged && call.is_answered(alloc, book)?)
+            let is_unchanged = before.is_of(alloc, book)?;
+            Ok(is_unchanged && call.is_answered(alloc, book, &mut scratch)?)
         }
         answer => answer,
     }
@@ -120,7 +116,7 @@ fn is_made(
     call: Call,
     totals: Totals,
 ) -> Result<bool, Broken> {
-    if matches!(call, Call::Enter) {
+    if matches!(call, Call::Enter | Call::EnterByLabel) {
         take_number(book)?;
     }
     Ok(is_answered_in_the_end(alloc, book, call)? && book.totals() == totals)

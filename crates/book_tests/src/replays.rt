@@ -64,7 +64,7 @@ fn end_of(alloc: Global, schedule: &[u8]) -> Result<Box<Replay<Atomic>>, Broken>
 fn ends(alloc: Global, schedule: &[u8], end: End) -> Result<bool, Broken> {
     match end_of(alloc, schedule) {
         Ok(replay) => Ok(has_end(&replay, schedule.len() as u64, end)),
-        Err(Broken::NotEnabled(told)) => Ok(matches!(end, Err(step) if step == told)),
+        Err(Broken::NotEnabled(at)) => Ok(matches!(end, Err(step) if step == at)),
         Err(broken) => Err(broken),
     }
 }

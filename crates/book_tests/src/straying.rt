@@ -8,7 +8,7 @@ ghost use Rattle.book_tests.specs.Straying.{straying_decodes, straying_tells, he
 use crate::held_byte::held_byte;
 use sched_program::{Op, OutOfMemory};
 use std::alloc::Global;
-use tree_machine::{Bytes, Machine, Outcome, Room, Thread};
+use tree_machine::{Bytes, Encode, EncodeBuffer, Front, Machine, Naming, Outcome, Thread};
 
 /// Each operation goes astray at its second step. A place says whether the first is done.
 #[derive(Clone, Copy, PartialEq, Eq)]
@@ -35,26 +35,8 @@ impl Machine for Straying {
 
     ghost form_of = { λ _. straying_form };
 
-    ghost form_code = { λ bytes. bytes };
-
-    ghost whole_code = { straying_form };
-
-    ghost memory_code = { λ _. [] };
-
-    ghost held_code = { straying_form };
-
     fn copy_mem(&self, _alloc: Global, mem: &bool) -> Result<bool, OutOfMemory> {
         Ok(*mem)
-    }
-
-    fn copy_mem_into(
-        &self,
-        _alloc: Global,
-        mem: &bool,
-        copy: &mut bool,
-    ) -> Result<(), OutOfMemory> {
-        *copy = *mem;
-        Ok(())
     }
 
     fn copy_loc(&self, _alloc: Global, loc: &bool) -> Result<bool, OutOfMemory> {
@@ -83,14 +65,6 @@ impl Machine for Straying {
         }
     }
 
-    fn only_reads(&self, _loc: &bool) -> bool {
-        true
-    }
-
-    fn keeps_order(&self, _loc: &bool) -> bool {
-        false
-    }
-
     fn ordered(&self, mem: &bool) -> bool {
         !*mem
     }
@@ -107,68 +81,9 @@ impl Machine for Straying {
         Ok(Bytes::from_vec(form))
     }
 
-    fn write_form(
-        &self,
-        alloc: Global,
-        mem: &bool,
-        threads: &[Thread<bool>],
-        room: &mut Room,
-    ) -> Result<(), OutOfMemory> {
-        room.put(self.form(alloc, mem, threads)?.as_slice())
-    }
-
-    fn write_whole(
-        &self,
-        alloc: Global,
-        mem: &bool,
-        threads: &[Thread<bool>],
-        room: &mut Room,
-    ) -> Result<(), OutOfMemory> {
-        room.put(self.form(alloc, mem, threads)?.as_slice())
-    }
-
-    fn write_held(
-        &self,
-        alloc: Global,
-        mem: &bool,
-        threads: &[Thread<bool>],
-        room: &mut Room,
-    ) -> Result<(), OutOfMemory> {
-        self.write_whole(alloc, mem, threads, room)
-    }
-
-    /// It answers none, as a machine may to any bytes.
-    fn read_whole(
-        &self,
-        _alloc: Global,
-        _bytes: &[u8],
-        _mem: &mut bool,
-        _threads: &mut [Thread<bool>],
-    ) -> Result<Option<usize>, OutOfMemory> {
-        Ok(None)
-    }
-
-    fn read_held(
-        &self,
-        _alloc: Global,
-        _bytes: &[u8],
-        _mem: &bool,
-        _threads: &mut [Thread<bool>],
-    ) -> Result<bool, OutOfMemory> {
-        Ok(false)
-    }
-
     ghost lawful = { λ _. straying_lawful };
 
     ghost forms = { λ _ memory other held twins _ _ _ _ _. straying_forms memory other held twins };
-
-    ghost decodes = { λ _. straying_decodes };
-
-    ghost form_tells = { λ a b same. same };
-
-    ghost parted = { λ _ _. refl };
-
-    ghost tells = { straying_tells };
 
     ghost exact = { λ a b h. refl };
 
@@ -177,4 +92,81 @@ impl Machine for Straying {
     ghost place_exact = { bool_exact };
 
     ghost form_exact = { list_exact nat_exact };
+}
+
+impl Encode for Straying {
+    ghost form_code = { λ bytes. bytes };
+
+    ghost whole_code = { straying_form };
+
+    ghost front_code = { λ _ _. [] };
+
+    ghost behind_code = { λ _. straying_form };
+
+    fn copy_mem_into(
+        &self,
+        _alloc: Global,
+        mem: &bool,
+        copy: &mut bool,
+    ) -> Result<(), OutOfMemory> {
+        *copy = *mem;
+        Ok(())
+    }
+
+    fn only_reads(&self, _loc: &bool) -> bool {
+        true
+    }
+
+    fn write_code(
+        &self,
+        alloc: Global,
+        _naming: Naming,
+        mem: &bool,
+        threads: &[Thread<bool>],
+        buffer: &mut EncodeBuffer,
+    ) -> Result<(), OutOfMemory> {
+        buffer.put(self.form(alloc, mem, threads)?.as_slice())
+    }
+
+    fn write_behind(
+        &self,
+        alloc: Global,
+        _naming: Naming,
+        _front: Front,
+        mem: &bool,
+        threads: &[Thread<bool>],
+        buffer: &mut EncodeBuffer,
+    ) -> Result<(), OutOfMemory> {
+        buffer.put(self.form(alloc, mem, threads)?.as_slice())
+    }
+
+    /// It decodes nothing, as a machine may for any bytes.
+    fn read_whole(
+        &self,
+        _alloc: Global,
+        _bytes: &[u8],
+        _mem: &mut bool,
+        _threads: &mut [Thread<bool>],
+    ) -> Result<Option<(usize, Front)>, OutOfMemory> {
+        Ok(None)
+    }
+
+    fn read_behind(
+        &self,
+        _alloc: Global,
+        _bytes: &[u8],
+        _front: Front,
+        _mem: &mut bool,
+        _threads: &mut [Thread<bool>],
+    ) -> Result<bool, OutOfMemory> {
+        Ok(false)
+    }
+
+    ghost decodes = { λ _ _. straying_decodes };
+
+    ghost form_tells = { λ a b same. same };
+
+    ghost tells = { λ _ _. straying_tells };
+
+    ghost whole = { λ _ _. (record { nodes = 0; records = 0 }, refl) };
 }

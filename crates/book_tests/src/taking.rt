@@ -1,12 +1,16 @@
 //! Entries that are taken at once.
 
-use crate::fixtures::{Broken, expanded, has_none_left, settled};
-use book::{Book, Merge, Stock, read_state};
-use sched_program::OutOfMemory;
+use crate::by_label::steps_by_label;
+use crate::fixtures::{
+    Broken, ELLEN, MERGES, NO_MARK, TWO_FINDS, expanded, has_none_left, open, program_of, settled,
+};
+use book::{Book, Merge, Scratch};
+use ellen::Ellen;
+use sched_program::Program;
 use std::alloc::Global;
 use std::sync::Arc;
 use std::test::Fail;
-use tree_machine::{Atomic, Bytes, State};
+use tree_machine::{Atomic, State};
 
 /// Whether an entry has this number and a state of one step.
 fn is_first_step(entry: &(usize, Arc<State<Atomic>>), id: usize) -> bool {
@@ -31,92 +35,9 @@ fn takes_a_layer(book: &mut Book<Atomic>) -> Result<bool, Broken> {
     Ok(both && totals.fresh == 0 && totals.taken == 2 && totals.expanded == 1 && none_left)
 }
 
-/// Whether the entry of this number is handed out, with a state of one step in which nothing is wrong.
-fn is_handed_out(book: &Book<Atomic>, id: usize) -> Result<bool, Broken> {
-    Ok(match book.handed_out(id)? {
-        Some((state, finding)) => state.steps() == 1 && finding.is_sound(),
-        None => false,
-    })
-}
-
-/// Takes the steps of the start without their states, which are handed out then.
-fn hands_out_both(book: &mut Book<Atomic>) -> Result<bool, Broken> {
-    let (start, end) = book.take_range();
-    Ok(start == 1 && end == 3 && is_handed_out(book, 1)? && is_handed_out(book, 2)?)
-}
-
-/// Hands out neither the start, which is expanded, nor what there is not, and takes no more.
-fn hands_out_no_other(book: &mut Book<Atomic>) -> Result<bool, Broken> {
-    let (start, end) = book.take_range();
-    Ok(book.handed_out(0)?.is_none() && book.handed_out(3)?.is_none() && start == end)
-}
-
-/// Hands out the steps of the start, which are open and then taken, and nothing else.
-fn hands_out_a_layer(alloc: Global) -> Result<bool, Broken> {
-    let mut book = expanded(alloc, Merge::Exact, 1)?;
-    let too_early = book.handed_out(1)?.is_some();
-    Ok(!too_early && hands_out_both(&mut *book)? && hands_out_no_other(&mut *book)?)
-}
-
-/// The steps of the state that is read from this label, if one can be read.
-fn steps_read(
-    alloc: Global,
-    book: &Book<Atomic>,
-    label: &Bytes,
-) -> Result<Option<u64>, OutOfMemory> {
-    let mut state = State::start(alloc, Atomic, book.program())?;
-    let read = read_state(alloc, Atomic, label.as_slice(), None, &mut state)?;
-    Ok(read.map(|_cuts| state.steps()))
-}
-
-/// Whether the entry of this number is taken and sound, and a state of so many steps is read from its label.
-fn has_label(
-    alloc: Global,
-    book: &Book<Atomic>,
-    id: usize,
-    steps: u64,
-    stock: &mut Stock<Atomic>,
-) -> Result<bool, Broken> {
-    let Some(entry) = book.taken_entry(id, stock)? else {
-        return Ok(false);
-    };
-    let read = steps_read(alloc, book, &entry.label)?;
-    Ok(entry.finding.is_sound() && read == Some(steps))
-}
-
-/// The labels of the steps of the start, once they are taken. A label says the number of steps only where the book merges
-/// exactly.
-fn has_labels(alloc: Global, merge: Merge, steps: u64) -> Result<bool, Broken> {
-    let mut book = expanded(alloc, merge, 1)?;
-    let mut stock = Stock::new(alloc);
-    let too_early = book.taken_entry(1, &mut stock)?.is_some();
-    let _range = book.take_range();
-    let both = has_label(alloc, &*book, 1, steps, &mut stock)?
-        && has_label(alloc, &*book, 2, steps, &mut stock)?;
-    Ok(!too_early && both)
-}
-
 fn takes_the_first_steps(alloc: Global) -> Result<bool, Broken> {
     let mut book = expanded(alloc, Merge::Exact, 1)?;
     takes_a_layer(&mut *book)
-}
-
-#[test]
-fn a_layer_is_handed_out_one_by_one(rt: HostRuntime) -> Result<(), Fail> {
-    let alloc = rt.alloc();
-    let is_handed_out = settled!(hands_out_a_layer(alloc))?;
-    assert!(rt; is_handed_out);
-    Ok(())
-}
-
-#[test]
-fn a_state_is_read_from_the_label_of_a_taken_entry(rt: HostRuntime) -> Result<(), Fail> {
-    let alloc = rt.alloc();
-    for (merge, steps) in [(Merge::Exact, 1), (Merge::Names, 0)] {
-        let is_read = settled!(has_labels(alloc, merge, steps))?;
-        assert!(rt; is_read, "{merge:?}");
-    }
-    Ok(())
 }
 
 #[test]
@@ -124,5 +45,106 @@ fn a_layer_is_taken_at_once(rt: HostRuntime) -> Result<(), Fail> {
     let alloc = rt.alloc();
     let is_taken = settled!(takes_the_first_steps(alloc))?;
     assert!(rt; is_taken);
+    Ok(())
+}
+
+/// Whether the entry of this number is taken, and one step is made from its label.
+fn has_one_step(
+    alloc: Global,
+    book: &Book<Atomic>,
+    id: usize,
+    scratch: &mut Scratch<Atomic>,
+) -> Result<bool, Broken> {
+    let program = book.program().copy(alloc)?;
+    let steps = steps_by_label(alloc, book, id, &program, scratch)?;
+    Ok(steps.id() == id && steps.len() == 1)
+}
+
+/// Whether no entry of this number is taken.
+fn is_not_taken(
+    alloc: Global,
+    book: &Book<Atomic>,
+    id: usize,
+    scratch: &mut Scratch<Atomic>,
+) -> Result<bool, Broken> {
+    let program = book.program().copy(alloc)?;
+    Ok(book.taken_entry(id, &program, scratch)?.is_none())
+}
+
+/// Takes the steps of the start, which are open before, without their states.
+fn takes_both_entries(
+    alloc: Global,
+    book: &mut Book<Atomic>,
+    scratch: &mut Scratch<Atomic>,
+) -> Result<bool, Broken> {
+    let too_early = !is_not_taken(alloc, book, 1, scratch)?;
+    let range = book.take_range();
+    let both = has_one_step(alloc, book, 1, scratch)? && has_one_step(alloc, book, 2, scratch)?;
+    Ok(!too_early && range == (1, 3) && both)
+}
+
+/// Takes neither the start, which is expanded, nor what there is not.
+fn takes_no_other(
+    alloc: Global,
+    book: &mut Book<Atomic>,
+    scratch: &mut Scratch<Atomic>,
+) -> Result<bool, Broken> {
+    let before = book.totals();
+    let (start, end) = book.take_range();
+    let is_no_other = is_not_taken(alloc, book, 0, scratch)?
+        && is_not_taken(alloc, book, 3, scratch)?;
+    Ok(start == end && is_no_other && before.taken == 2 && book.totals() == before)
+}
+
+fn takes_a_range(alloc: Global, merge: Merge) -> Result<bool, Broken> {
+    let mut book = expanded(alloc, merge, 1)?;
+    let mut scratch = Scratch::new(alloc);
+    Ok(
+        takes_both_entries(alloc, &mut *book, &mut scratch)?
+            && takes_no_other(alloc, &mut *book, &mut scratch)?,
+    )
+}
+
+#[test]
+fn a_range_is_taken_at_once(rt: HostRuntime) -> Result<(), Fail> {
+    let alloc = rt.alloc();
+    for merge in MERGES {
+        let is_taken = settled!(takes_a_range(alloc, merge))?;
+        assert!(rt; is_taken, "{merge:?}");
+    }
+    Ok(())
+}
+
+/// One find in place of two.
+const ONE_FIND: &str =
+    r#"{"version":1,"tree":"ellen","initial":[],"threads":[[{"op":"find","key":5}]]}"#;
+
+/// Machines and programs, each with whether the book of the two finds in Ellen's tree is of them.
+static SUBJECTS: [(Ellen, &str, bool); 3] = [
+    (ELLEN, TWO_FINDS, true),
+    (NO_MARK, TWO_FINDS, false),
+    (ELLEN, ONE_FIND, false),
+];
+
+/// Whether a book is of a machine and a program, as it says itself and as what it hands out says.
+fn is_book_of(book: &Book<Ellen>, machine: Ellen, program: &Program, is_of: bool) -> bool {
+    let is_handed_out = book.machine() == machine && book.program().is_same(program);
+    book.is_of(machine, program) == is_of && is_handed_out == is_of
+}
+
+/// Whether the book of the two finds says of a machine and a program whether it is of them.
+fn knows(alloc: Global, machine: Ellen, text: &str, is_of: bool) -> Result<bool, Broken> {
+    let book = open(alloc, ELLEN, TWO_FINDS, 100, Merge::Exact)?;
+    let program = program_of(alloc, text)?;
+    Ok(is_book_of(&book, machine, &program, is_of))
+}
+
+#[test]
+fn a_book_is_of_one_machine_and_program(rt: HostRuntime) -> Result<(), Fail> {
+    let alloc = rt.alloc();
+    for (machine, text, is_of) in SUBJECTS.as_slice() {
+        let is_so = settled!(knows(alloc, *machine, text, *is_of))?;
+        assert!(rt; is_so, "{machine:?} {text}");
+    }
     Ok(())
 }

@@ -1,41 +1,29 @@
 //! The schedules that a book records, where several lead to one state.
-ghost use Rattle.std.specs.Prelude.{◌+◌, ◌^◌, ◌<◌};
-ghost use Rattle.ellen.specs.EllenRules.{ellen_rules};
-ghost use Rattle.tree_machine.specs.Step.{Fits};
 
+use crate::by_label::{enter_steps, steps_by_label};
 use crate::fixtures::{
-    Broken, TWO_FINDS, boxed, expand_next, is_way, open, program_of, replayed, settled, take_next,
+    BOTH_NEW, Broken, ELLEN, MERGES, ONE_NEW, TWO_FINDS, enter_under, expand, is_way, open,
+    program_of, replayed, settled, take_next, take_number,
 };
-use book::{Book, Entered, Expansion, Leftovers, Merge, Replay, Stock, Totals};
+use book::{Book, Entered, Merge, Replay, Scratch, Totals};
 use ellen::Ellen;
-use sched_program::{OutOfMemory, Program};
 use std::alloc::Global;
 use std::test::Fail;
-use tree_machine::State;
-
-const WHOLE: Ellen = Ellen {
-    mark: true,
-    iflag: true,
-};
-
-const MERGES: [Merge; 2] = [Merge::Exact, Merge::Names];
 
 /// Entries and the ways to them, once the entries 0 and 1 are expanded.
 const FIRST_WAYS: &[(usize, &[u8])] = &[(0, &[]), (1, &[0]), (2, &[1]), (3, &[0, 0]), (4, &[0, 1])];
 
 /// The book of the two finds, with the steps of so many entries.
 fn expanded(alloc: Global, merge: Merge, entries: usize) -> Result<Box<Book<Ellen>>, Broken> {
-    let mut book = open(alloc, WHOLE, TWO_FINDS, 100, merge)?;
-    for _entry in 0..entries {
-        expand_next(alloc, &mut *book)?;
-    }
+    let mut book = open(alloc, ELLEN, TWO_FINDS, 100, merge)?;
+    expand(alloc, &mut *book, entries)?;
     Ok(book)
 }
 
 /// What a schedule of the two finds leads to.
 fn end_of(alloc: Global, schedule: &[u8]) -> Result<Box<Replay<Ellen>>, Broken> {
     let program = program_of(alloc, TWO_FINDS)?;
-    replayed(alloc, WHOLE, &program, schedule)
+    replayed(alloc, ELLEN, &program, schedule)
 }
 
 /// Whether two schedules lead to one state.
@@ -73,10 +61,6 @@ fn the_recorded_way_is_the_one_entered(rt: HostRuntime) -> Result<(), Fail> {
     Ok(())
 }
 
-const BOTH_NEW: Entered = Entered { entered: 2, met: 0 };
-
-const ONE_NEW: Entered = Entered { entered: 1, met: 1 };
-
 /// The totals once the entries 0, 1 and 2 are expanded.
 const THREE_EXPANDED: Totals = Totals {
     entries: 6,
@@ -87,75 +71,64 @@ const THREE_EXPANDED: Totals = Totals {
     met: 1,
 };
 
-/// Room for as many known states as four threads' steps lead to.
-fn room_for_four(alloc: Global) -> Result<Box<Leftovers<State<Ellen>>>, OutOfMemory> {
-    boxed(alloc, Stock::new(alloc).leftovers(alloc, 4)?)
+/// How the steps of an entry are made.
+#[derive(Clone, Copy, Debug)]
+enum Making {
+    /// From its state.
+    ByState,
+    /// From its label.
+    ByLabel,
 }
 
-/// Enters the steps of a state of this program under the number of an entry. Known states are left.
-fn enter_of(
-    alloc: Global,
-    book: &mut Book<Ellen>,
-    id: usize,
-    program: &Program,
-    state: &State<Ellen>,
-    leftovers: &mut Leftovers<State<Ellen>>,
-) -> Result<Entered, Broken>
-    requires fits { Fits (ellen_rules book.old.machine) program.now state.now }
-    requires room { state.now.steps + 1 < 2 ^ 64 }
-{
-    let expansion = Expansion::of(alloc, book.machine(), program, state)?;
-    Ok(book.enter_leaving(id, expansion, leftovers)?)
-}
-
-/// Enters the steps of a state of the book's program. Known states are left.
-fn enter_leaving(
-    alloc: Global,
-    book: &mut Book<Ellen>,
-    id: usize,
-    state: &State<Ellen>,
-    leftovers: &mut Leftovers<State<Ellen>>,
-) -> Result<Entered, Broken>
-    requires fits { Fits (ellen_rules book.old.machine) book.old.program state.now }
-    requires room { state.now.steps + 1 < 2 ^ 64 }
-{
-    let program = book.program().copy(alloc)?;
-    enter_of(alloc, book, id, &program, state, leftovers)
-}
-
-/// Enters the steps of a state. Whether they come to these counts, and all states that the book knew are left.
-fn leaves_known(
-    alloc: Global,
-    book: &mut Book<Ellen>,
-    id: usize,
-    state: &State<Ellen>,
-    counts: Entered,
-) -> Result<bool, Broken>
-    requires fits { Fits (ellen_rules book.old.machine) book.old.program state.now }
-    requires room { state.now.steps + 1 < 2 ^ 64 }
-{
-    let mut leftovers = room_for_four(alloc)?;
-    let told = enter_leaving(alloc, book, id, state, &mut *leftovers)?;
-    Ok(told == counts && leftovers.len() == counts.met)
-}
-
-/// Takes the next entry and enters its steps. Whether it is the entry of this number, they come to these counts, and
-/// all states that the book knew are left.
-fn enters(
+/// Takes the next entry and enters its steps, made from its state. Whether it is the entry of this
+/// number, and they come to these counts.
+fn enters_by_state(
     alloc: Global,
     book: &mut Book<Ellen>,
     number: usize,
     counts: Entered,
 ) -> Result<bool, Broken> {
     let (id, state) = take_next(book)?;
-    let is_so = leaves_known(alloc, book, id, &state, counts)?;
-    Ok(id == number && is_so)
+    let entered = enter_under(alloc, book, id, &state)?;
+    Ok(id == number && entered == counts)
+}
+
+/// Takes the next entry and enters its steps, made from its label. Whether it is the entry of this
+/// number, they come to these counts, and the book knew as many states before.
+fn enters_by_label(
+    alloc: Global,
+    book: &mut Book<Ellen>,
+    number: usize,
+    counts: Entered,
+) -> Result<bool, Broken> {
+    let mut scratch = Scratch::new(alloc);
+    let id = take_number(book)?;
+    let program = book.program().copy(alloc)?;
+    let steps = steps_by_label(alloc, book, id, &program, &mut scratch)?;
+    let known = book.prefetch(&steps);
+    let entered = enter_steps(alloc, book, steps, &mut scratch)?;
+    Ok(id == number && known == counts.met && entered == counts)
+}
+
+/// Takes the next entry and enters its steps. Whether it is the entry of this number, and they come
+/// to these counts.
+fn enters(
+    alloc: Global,
+    book: &mut Book<Ellen>,
+    making: Making,
+    number: usize,
+    counts: Entered,
+) -> Result<bool, Broken> {
+    match making {
+        Making::ByState => enters_by_state(alloc, book, number, counts),
+        Making::ByLabel => enters_by_label(alloc, book, number, counts),
+    }
 }
 
 /// A step of entry 2 leads to entry 4 again, and only the other one to a new entry.
-fn keeps_the_way(alloc: Global, book: &mut Book<Ellen>) -> Result<bool, Broken> {
+fn keeps_the_way(alloc: Global, book: &mut Book<Ellen>, making: Making) -> Result<bool, Broken> {
     for (number, counts) in [(0, BOTH_NEW), (1, BOTH_NEW), (2, ONE_NEW)] {
-        if !enters(alloc, book, number, counts)? {
+        if !enters(alloc, book, making, number, counts)? {
             return Ok(false);
         }
     }
@@ -163,17 +136,19 @@ fn keeps_the_way(alloc: Global, book: &mut Book<Ellen>) -> Result<bool, Broken> 
     Ok(is_kept && book.totals() == THREE_EXPANDED)
 }
 
-fn is_way_kept(alloc: Global, merge: Merge) -> Result<bool, Broken> {
+fn is_way_kept(alloc: Global, merge: Merge, making: Making) -> Result<bool, Broken> {
     let mut book = expanded(alloc, merge, 0)?;
-    keeps_the_way(alloc, &mut *book)
+    keeps_the_way(alloc, &mut *book, making)
 }
 
 #[test]
 fn an_entry_met_again_keeps_its_way(rt: HostRuntime) -> Result<(), Fail> {
     let alloc = rt.alloc();
     for merge in MERGES {
-        let is_kept = settled!(is_way_kept(alloc, merge))?;
-        assert!(rt; is_kept, "{merge:?}");
+        for making in [Making::ByState, Making::ByLabel] {
+            let is_kept = settled!(is_way_kept(alloc, merge, making))?;
+            assert!(rt; is_kept, "{merge:?}, {making:?}");
+        }
     }
     Ok(())
 }

@@ -1,16 +1,19 @@
 -- Which answer is due, by what the book shows.
 use Rattle.std.proofs.Common.{◌≡◌, ℕ, ◌+◌, ◌<◌, ◌≤◌, inl, inr, Bool, true, Some, None, List, length, refl, arith}
 use Rattle.std.proofs.lemmas.Bool.{cases_lt}
+use Rattle.book.specs.declared.successor.Successor.{Successor}
 use Rattle.book.specs.declared.finding.Finding.{Finding}
 use Rattle.book.specs.Schedule.{AreOneBy, StepMachine, IsMachine, Merges, after}
-use Rattle.book.specs.Entries.{Entry, Contents, At}
-use Rattle.book.specs.Law.{IsLawfulBook}
+use Rattle.book.specs.Entries.{Entry, Contents, At, states}
+use Rattle.book.specs.Unknown.{unknown}
+use Rattle.book.specs.declared.entry.Mark.TheVariants.{Taken}
+use Rattle.book.specs.Law.{IsExpansion, IsLawfulBook}
 use Rattle.book.specs.Layers.{IsExpandedBelow}
 use Rattle.book.specs.Counts.{IsCount}
 use Rattle.book.specs.Findings.{is_sound, IsSound}
 use Rattle.crew.specs.Due.{IsAbove, IsFirstAbove}
 use Rattle.crew.specs.Faults.{LeadsToFault, IsLeastFault}
-use Rattle.crew.specs.Reading.{first_fault, IsLastLayer, IsFullAt}
+use Rattle.crew.specs.Reading.{first_fault, IsLastLayer}
 use Rattle.crew.proofs.Soundness.{mark_cases, SoundTo, fault_longer, sound_by, sound_to, is_fault, shorter_sound}
 use Rattle.crew.proofs.Growing.{not_above, count_all, more_than}
 use Rattle.crew.proofs.Reaching.{above_more, more_above}
@@ -82,15 +85,16 @@ module _ {X S : Type 0} (m : StepMachine S) (same : S → S → Bool) (right : S
       count_all m same right machine merges b.entries book.law (length c) last.0 last.1,
     )
 
-  module _ (d i : ℕ) (full : IsFullAt m same right b i) (layer : m.steps full.entry.state ≡ d)
+  module _ (d i : ℕ) (e : Entry S) (at_i : At b.entries i e) (taken : e.mark ≡ Taken) (xs : List (Successor S))
+      (expansion : IsExpansion m right e.state xs)
+      (full : b.limit < length b.entries + length (unknown same (states b.entries) xs)) (layer : m.steps e.state ≡ d)
       (sound : (j : ℕ) (f : Entry S) → At b.entries j f → m.steps f.state ≤ d → is_sound f.finding ≡ true) where
     below_taken : IsExpandedBelow m.steps b.entries d
     below_taken j f at less =
         elim (mark_cases f.mark) [
           | inl x ↦ x
           | inr x ↦ absurd
-              (let q : m.steps full.entry.state ≤ m.steps f.state = book.law.least i j full.entry f full.at full.taken
-              at x in omega arith)
+              (let q : m.steps e.state ≤ m.steps f.state = book.law.least i j e f at_i taken at x in omega arith)
         ]
 
     pub stopped_sound : SoundTo m right d
@@ -102,8 +106,8 @@ module _ {X S : Type 0} (m : StepMachine S) (same : S → S → Bool) (right : S
       record {
         within = omega arith;
         above = more_above m same machine merges b.limit (d + 1)
-            (more_than m same right machine merges b.entries book.law i full.entry full.at full.taken full.successors
-            full.expansion d (omega arith) b.limit full.full);
+            (more_than m same right machine merges b.entries book.law i e at_i taken xs expansion d (omega arith)
+            b.limit full);
         first = (λ j above. elim (cases_lt d j) [
           | inl l ↦ omega arith
           | inr le ↦ absurd (none_above d below_taken j le above)

@@ -3,10 +3,12 @@ use Rattle.std.proofs.Common.{◌≡◌, ℕ, ◌+◌, ◌^◌, ◌<◌, ◌≤�
 use Rattle.std.proofs.Common.{slice_get, count_by, length-append}
 use Rattle.std.proofs.Math.ListN.{length-map}
 use Rattle.std.proofs.lemmas.Bool.{cases_lt}
+use Rattle.book.specs.declared.successor.Successor.{Successor}
 use Rattle.book.specs.declared.finding.Finding.{Finding}
 use Rattle.book.specs.declared.entry.Mark.TheVariants.{Open, Taken, Expanded}
 use Rattle.book.specs.Schedule.{AreOneBy, StepMachine, IsMachine, Merges}
-use Rattle.book.specs.Entries.{Entry, Successor, Contents, Takes, is_expanded, with_mark, with_successors, unknown}
+use Rattle.book.specs.Entries.{Entry, Contents, IsFullFor, Takes, is_expanded, with_mark}
+use Rattle.book.specs.Unknown.{with_successors, unknown}
 use Rattle.book.specs.Entries.{opened, states}
 use Rattle.book.specs.Law.{IsLawfulBook, IsExpansion}
 use Rattle.book.specs.Layers.{GrowsFrom, IsLeftTo, IsShallow}
@@ -86,9 +88,8 @@ module _ {X S : Type 0} (m : StepMachine S) (same : S → S → Bool) (right : S
         }
 
     -- where there is no room for the steps, the layer is cut there
-    pub layer_cut : mid.limit < length mid.entries + length (unknown same (states mid.entries) xs)
-        → IsCutAt m same right mid d i
-    layer_cut full =
+    pub layer_cut : (Same : S → S → Type 0) → IsFullFor Same mid xs → IsCutAt m Same right mid d i
+    layer_cut Same full =
         let t = taken_is m.steps b.entries mid.entries i s takes in
         let state : m.steps t.0.state ≡ m.steps takes.entry.state = ap m.steps (t.3 ∙ sym takes.state) in
         record {

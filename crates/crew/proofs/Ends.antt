@@ -1,5 +1,5 @@
 -- Where schedules end.
-use Rattle.std.proofs.Common.{◌≡◌, ℕ, ◌<◌, zero, suc, Bool, IfSome, IfNone, Option, Some, None, List, [], ◌∷◌, take}
+use Rattle.std.proofs.Common.{◌≡◌, ℕ, ◌<◌, zero, suc, IfSome, IfNone, Option, Some, None, List, [], ◌∷◌, take}
 use Rattle.std.proofs.Common.{refl, sym, ap, ◌∙◌, subst}
 use Rattle.std.specs.Option.{option_and_then}
 use Rattle.std.proofs.lemmas.Option.{option_and_then_some}
@@ -10,7 +10,7 @@ use Rattle.book.specs.Schedule.{StepMachine, after, run}
 use Rattle.book.specs.Findings.{machine_of, IsFindingOf}
 use Rattle.book.specs.declared.book.Merge.{Merge}
 use Rattle.book.specs.Entries.{Contents}
-use Rattle.book.specs.Books.{counted_as_one, machine_in, right_in}
+use Rattle.book.specs.Books.{CountsAsOne, machine_in, right_in}
 use Rattle.crew.specs.Driving.{IsKept}
 use Rattle.crew.specs.Reading.{IsCutAt}
 
@@ -60,20 +60,21 @@ is_answered W A n l K L is turn (Some i) worked cut finished stopped =
     stopped cut.0 (subst (λ k. cut.0 < k) is cut.1) (turn cut.0 i cut.2)
 
 -- a layer that is cut in a book of one machine, program and merge is cut in one of the same
-pub cut_kept : {X Memory Place Form : Type 0} (rules : X → Rules Memory Place) (place_eq : Place → Place → Bool)
-    (memory_eq : Memory → Memory → Bool)
-    (form_eq : Form → Form → Bool) (form_of : X → Memory → List (Option Place) → Form)
+pub cut_kept : {X Memory Place Form : Type 0} (rules : X → Rules Memory Place)
     (old new b : Contents X (State X Memory Place Form)) (d i : ℕ) → IsKept old new
-    → IsCutAt (machine_in rules old) (counted_as_one place_eq memory_eq form_eq (form_of old.machine) old.merge)
-    (right_in rules old) b d i
-    → IsCutAt (machine_in rules new) (counted_as_one place_eq memory_eq form_eq (form_of new.machine) new.merge)
-    (right_in rules new) b d i
-cut_kept {X} {Memory} {Place} {Form} rules place_eq memory_eq form_eq form_of old new b d i kept cut =
-    subst (λ k. IsCutAt (machine_of {Machine = X} {Form = Form} (rules new.machine) new.program)
-    (counted_as_one place_eq memory_eq form_eq (form_of new.machine) k)
-    (IsFindingOf (rules new.machine) new.program) b d i) (sym kept.merge)
-    (given_own
-    (λ x p. IsCutAt (machine_of {Machine = X} {Form = Form} (rules x) p)
-    (counted_as_one place_eq memory_eq form_eq (form_of x) old.merge) (IsFindingOf (rules x) p) b d i) old.machine
-    new.machine old.program new.program
-    (sym kept.machine) (sym kept.program) cut)
+    → IsCutAt (machine_in rules old) (CountsAsOne (rules old.machine) old.merge) (right_in rules old) b d i
+    → IsCutAt (machine_in rules new) (CountsAsOne (rules new.machine) new.merge) (right_in rules new) b d i
+cut_kept {X} {Memory} {Place} {Form} rules old new b d i kept cut =
+    given_merge
+    (λ x p k. IsCutAt (machine_of {Machine = X} {Form = Form} (rules x) p)
+    (CountsAsOne {Machine = X} {Form = Form} (rules x) k) (IsFindingOf (rules x) p) b d i) old.machine new.machine
+    old.program new.program old.merge new.merge (sym kept.machine) (sym kept.program) (sym kept.merge) cut
+
+-- and the other way round
+pub kept_back : {X S : Type 0} (old new : Contents X S) → IsKept old new → IsKept new old
+kept_back old new kept = record {
+  machine = sym kept.machine;
+  program = sym kept.program;
+  merge = sym kept.merge;
+  limit = sym kept.limit;
+}

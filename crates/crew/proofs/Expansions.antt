@@ -1,12 +1,15 @@
--- Two expansions of one state.
+-- Expansions of an entry's state.
 use Rattle.std.proofs.Common.{◌≡◌, ℕ, suc, Bool, true, false, cond, Some, List, [], ◌∷◌, ◌++◌, length, map, refl, sym}
 use Rattle.std.proofs.Common.{ap, ◌∙◌, slice_get, subst}
+use Rattle.book.specs.declared.successor.Successor.{Successor}
 use Rattle.book.specs.declared.finding.Finding.{Finding}
 use Rattle.tree_machine.specs.Rules.{Rules}
 use Rattle.tree_machine.specs.declared.state.State.{State}
 use Rattle.book.specs.Schedule.{StepMachine}
 use Rattle.book.specs.Findings.{machine_of, IsFindingOf}
-use Rattle.book.specs.Entries.{Successor, Contents, Steps, knows, unknown}
+use Rattle.sched_program.specs.Program.{Program}
+use Rattle.book.specs.Entries.{At, Contents, Entry, IsOwn, Steps}
+use Rattle.book.specs.Unknown.{knows, unknown}
 use Rattle.book.specs.Law.{IsExpansion}
 use Rattle.book.specs.Books.{machine_in, right_in, HoldsSteps}
 
@@ -72,3 +75,15 @@ expansion_in {X} {Memory} {Place} rules b x s machine program source holds =
     program
     (subst (λ y. IsExpansion (machine_of (rules y) x.program) (IsFindingOf (rules y) x.program) x.source x.successors)
     machine holds))
+
+-- whatever is of the machine, the program and the state of an entry is that entry's own
+pub own_of : {X S : Type 0} (b : Contents X S) (i : ℕ) (e : Entry S) → At b.entries i e → (x : X) (p : Program) (s : S)
+    → x ≡ b.machine → p ≡ b.program → s ≡ e.state → IsOwn b i x p s
+own_of {X} {S} b i e at x p s machine program state = record {
+  machine = machine;
+  program = program;
+  source =
+      (λ f there. let one : e ≡ f = (let u : slice_get b.entries i ≡ Some e = at in
+      let v : slice_get b.entries i ≡ Some f = there in cc) in
+      state ∙ ap (λ (v : Entry S). v.state) one);
+}

@@ -5,11 +5,13 @@ use Rattle.std.proofs.Math.ListN.{length-map}
 use Rattle.std.proofs.lemmas.List.{length_push}
 use Rattle.std.proofs.lemmas.List.Sums.{count_by-le-length}
 use Rattle.tree_machine.proofs.Lists.{get-append_cases}
+use Rattle.book.specs.declared.successor.Successor.{Successor}
 use Rattle.book.specs.declared.finding.Finding.{Finding}
 use Rattle.book.specs.declared.entry.Mark.{Mark}
 use Rattle.book.specs.declared.entry.Mark.TheVariants.{Open, Taken, Expanded}
 use Rattle.book.specs.Schedule.{AreOneBy, StepMachine, IsMachine, Merges, IsReachableWithin}
-use Rattle.book.specs.Entries.{Entry, Successor, At, with_mark, with_successors, unknown, opened, states}
+use Rattle.book.specs.Entries.{Entry, At, with_mark, opened, states}
+use Rattle.book.specs.Unknown.{with_successors, unknown}
 use Rattle.book.specs.Law.{IsLawful, IsExpansion}
 use Rattle.book.specs.Layers.{IsShallow, IsExpandedBelow}
 use Rattle.book.specs.Counts.{IsCount, IsMoreThan}

@@ -6,9 +6,10 @@ use Rattle.std.proofs.lemmas.Bool.{true≢false, cases_eq}
 use Rattle.std.proofs.lemmas.List.{length_push}
 use Rattle.std.proofs.lemmas.Option.{option_and_then_some}
 use Rattle.tree_machine.proofs.Lists.{get-append_cases, get-append_left, get-append_right}
+use Rattle.book.specs.declared.successor.Successor.{Successor}
 use Rattle.book.specs.declared.finding.Finding.TheVariants.{Astray}
 use Rattle.book.specs.Schedule.{AreOneBy, StepMachine, IsMachine, Merges, run, after}
-use Rattle.book.specs.Entries.{Successor, unknown}
+use Rattle.book.specs.Unknown.{unknown}
 use Rattle.book.specs.Counts.{IsCount, IsMoreThan}
 use Rattle.book.proofs.Unknown.{unknown_is, unknown_apart, known_or_kept, list_any-true, list_any-false}
 use Rattle.book.proofs.Counts.{run_push}

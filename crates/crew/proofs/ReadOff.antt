@@ -1,18 +1,22 @@
 -- What is read off a lawful book: the due answer, and that it is true.
 use Rattle.std.proofs.Common.{◌≡◌, ℕ, ◌+◌, ◌<◌, ◌≤◌, ◌∙◌, Bool, true, None, Some, List, length, refl, sym, ap, subst}
 use Rattle.std.proofs.Common.{arith, slice_get}
+use Rattle.std.proofs.lemmas.Bool.{true≢false}
 use Rattle.tree_machine.specs.Rules.{Rules}
 use Rattle.tree_machine.specs.declared.state.State.{State}
+use Rattle.book.specs.declared.successor.Successor.{Successor}
 use Rattle.book.specs.declared.finding.Finding.{Finding}
 use Rattle.book.specs.Books.{CountsAsOne, IsLawfulIn, machine_in, right_in}
 use Rattle.book.specs.Closed.{IsClosed}
 use Rattle.book.specs.Correct.{HoldsAlways}
 use Rattle.book.specs.Counts.{IsCount}
-use Rattle.book.specs.Entries.{At, Contents, Entry}
+use Rattle.book.specs.Entries.{At, Contents, Enters, Entry, IsFullFor, Steps, states}
+use Rattle.book.specs.Unknown.{unknown}
 use Rattle.book.specs.Findings.{IsSound, is_sound}
-use Rattle.book.specs.Law.{IsLawfulBook}
-use Rattle.book.specs.Schedule.{AreOneBy, IsMachine, Merges, after}
+use Rattle.book.specs.Law.{FindsAlike, IsExpansion, IsLawfulBook}
+use Rattle.book.specs.Schedule.{AreOneBy, IsDecided, IsMachine, Merges, after}
 use Rattle.book.proofs.Agreeing.{Agree, book_back, count_as, turned}
+use Rattle.book.proofs.Growth.{few_steps}
 use Rattle.crew.specs.Due.{IsDue, IsFirstAbove}
 use Rattle.crew.specs.Faults.{IsLeastFault, LeadsToFault}
 use Rattle.crew.specs.Headline.{HoldsTo, IsShortestFault}
@@ -21,23 +25,43 @@ use Rattle.crew.specs.declared.answer.Answer.TheVariants as answer
 use Rattle.crew.proofs.Agreeing.{due_as, first_above_as}
 use Rattle.crew.proofs.Answers.{fault_due, fault_sound, holds_due, holds_sound, leads_to_fault, least_fault}
 use Rattle.crew.proofs.Answers.{stopped_due, stopped_sound}
+use Rattle.crew.proofs.Decided.{count_by_test, full_by_test}
+use Rattle.crew.proofs.Expansions.{same_unknown}
 use Rattle.crew.proofs.Findings.{findings_agree, sound_correct}
 use Rattle.crew.proofs.Rest.{count_rest, rest_count, rest_holds, rest_worked_out}
-use Rattle.crew.proofs.Soundness.{is_fault}
+use Rattle.crew.proofs.Soundness.{is_fault, sound_below}
 use Rattle.crew.proofs.WorkedOff.{at_rest, last_of_fault}
 
 module _ {Machine Memory Place Form : Type 0} (rules : Machine → Rules Memory Place)
     (b : Contents Machine (State Machine Memory Place Form))
-    {same : State Machine Memory Place Form → State Machine Memory Place Form → Bool}
-    (machine : IsMachine (machine_in rules b)) (merges : Merges (machine_in rules b) same)
-    (alike : (r s : State Machine Memory Place Form) → (machine_in rules b).Fits r → (machine_in rules b).Fits s
-    → same r s ≡ true → IsSound (right_in rules b) r → IsSound (right_in rules b) s)
-    (counts : Agree (machine_in rules b) (AreOneBy same) (CountsAsOne (rules b.machine) b.merge))
+    (machine : IsMachine (machine_in rules b))
+    (test : IsDecided (machine_in rules b) (CountsAsOne (rules b.machine) b.merge))
+    (findings : FindsAlike (machine_in rules b) (CountsAsOne (rules b.machine) b.merge) (right_in rules b))
     (lawful : IsLawfulIn rules b) where
-  law : IsLawfulBook (machine_in rules b) (AreOneBy same) (right_in rules b) b
+  abbrev same : State Machine Memory Place Form → State Machine Memory Place Form → Bool
+  same = test.0
+
+  abbrev merges : Merges (machine_in rules b) test.0
+  merges = test.1
+
+  abbrev counts : Agree (machine_in rules b) (AreOneBy test.0) (CountsAsOne (rules b.machine) b.merge)
+  counts = test.2
+
+  alike : (r s : State Machine Memory Place Form) → (machine_in rules b).Fits r → (machine_in rules b).Fits s
+      → test.0 r s ≡ true → IsSound (right_in rules b) r → IsSound (right_in rules b) s
+  alike r s r_fits s_fits one sound =
+      (sound.0, findings r s r_fits s_fits ((test.2 r s r_fits s_fits).0 one) sound.0 sound.1, sound.2)
+
+  law : IsLawfulBook (machine_in rules b) (AreOneBy test.0) (right_in rules b) b
   law =
-      book_back (machine_in rules b) machine (AreOneBy same) (CountsAsOne (rules b.machine) b.merge) counts
+      book_back (machine_in rules b) machine (AreOneBy test.0) (CountsAsOne (rules b.machine) b.merge) test.2
       (right_in rules b) b lawful
+
+  -- an entry has fewer steps than the book may have entries
+  pub entry_steps : (id : ℕ) (e : Entry (State Machine Memory Place Form)) → At b.entries id e
+      → e.state.steps < b.limit
+  entry_steps id e at =
+      few_steps (machine_in rules b) same (right_in rules b) machine b.entries law.law id b.limit e at lawful.within
 
   agree : (state : State Machine Memory Place Form) (f g : Finding) → right_in rules b state f
       → right_in rules b state g → is_sound f ≡ true → is_sound g ≡ true
@@ -119,6 +143,23 @@ module _ {Machine Memory Place Form : Type 0} (rules : Machine → Rules Memory 
   module _ (id : ℕ) (first : first_fault b.entries ≡ Some id) (c : List ℕ)
       (way : (e : Entry (State Machine Memory Place Form)) × At b.entries id e
       × (after (machine_in rules b) c ≡ Some e.state) × (length c ≡ e.state.steps)) where
+    -- entries of fewer steps are sound, and of as many not all
+    pub sound_before : (n : ℕ) → n < length c → (i : ℕ) (e : Entry (State Machine Memory Place Form)) → At b.entries i e
+        → e.state.steps ≤ n → is_sound e.finding ≡ true
+    sound_before n less i e at few =
+        let long : length c ≡ way.0.state.steps = way.3 in
+        sound_below (machine_in rules b) same (right_in rules b) machine merges alike b.entries law.law id first way.0
+        way.1 i e at (omega arith)
+
+    pub unsound_from : (n : ℕ) → length c ≤ n
+        → ((i : ℕ) (e : Entry (State Machine Memory Place Form)) → At b.entries i e → e.state.steps ≤ n
+        → is_sound e.finding ≡ true) → ⊥
+    unsound_from n le sound =
+        let long : length c ≡ way.0.state.steps = way.3 in
+        true≢false (sym (sound id way.0 way.1 (omega arith))
+        ∙ is_fault (machine_in rules b) same (right_in rules b) machine merges alike b.entries law.law id first way.0
+        way.1)
+
     -- where the book is worked off, its layer is the last
     pub fault_is_last : (n : ℕ) → IsWorkedOff (machine_in rules b).steps b.entries n
         → (length c ≤ n) × IsLastLayer (machine_in rules b).steps b.entries (length c)
@@ -180,8 +221,40 @@ module _ {Machine Memory Place Form : Type 0} (rules : Machine → Rules Memory 
                 (length c) (length b.entries) due.1,
           )
 
+  -- the book has no room for an entry's steps, whoever made them
+  pub full_alike : (e : Entry (State Machine Memory Place Form)) (xs ys : List (Successor (State Machine Memory Place Form)))
+      → IsExpansion (machine_in rules b) (right_in rules b) e.state xs
+      → IsExpansion (machine_in rules b) (right_in rules b) e.state ys
+      → IsFullFor (CountsAsOne (rules b.machine) b.merge) b xs
+      → b.limit < length b.entries + length (unknown test.0 (states b.entries) ys)
+  full_alike e xs ys left right full =
+      let over : b.limit < length b.entries + length (unknown test.0 (states b.entries) xs) =
+      full_by_test (machine_in rules b) (CountsAsOne (rules b.machine) b.merge) test (right_in rules b) b law
+      e.state xs left full in
+      let as_many : length (unknown test.0 (states b.entries) xs) ≡ length (unknown test.0 (states b.entries) ys) =
+      same_unknown (machine_in rules b) e.state test.0 (right_in rules b) (states b.entries) xs ys left right in
+      omega arith
+
+  -- so it enters none of them
+  pub not_entered : (e : Entry (State Machine Memory Place Form)) (xs ys : List (Successor (State Machine Memory Place Form)))
+      → IsExpansion (machine_in rules b) (right_in rules b) e.state xs
+      → IsExpansion (machine_in rules b) (right_in rules b) e.state ys
+      → IsFullFor (CountsAsOne (rules b.machine) b.merge) b xs
+      → (new : Contents Machine (State Machine Memory Place Form)) (id : ℕ)
+      (x : Steps Machine (State Machine Memory Place Form)) (entered met : ℕ) → x.successors ≡ ys
+      → Enters (CountsAsOne (rules b.machine) b.merge) b new id x entered met → ⊥
+  not_entered e xs ys left right full new id x entered met is enters =
+      let over : b.limit < length b.entries + length (unknown test.0 (states b.entries) ys) =
+      full_alike e xs ys left right full in
+      let count : entered ≡ length (unknown test.0 (states b.entries) ys) =
+      count_by_test (machine_in rules b) (CountsAsOne (rules b.machine) b.merge) test (right_in rules b) b law
+      e.state ys right new id x entered met is enters in
+      let room : length b.entries + entered ≤ b.limit = enters.room in
+      omega arith
+
   -- an entry for whose steps there is no room, with the schedule that is recorded of it
-  module _ (id : ℕ) (full : IsFullAt (machine_in rules b) same (right_in rules b) b id) (d : ℕ)
+  module _ (id : ℕ) (full : IsFullAt (machine_in rules b) (CountsAsOne (rules b.machine) b.merge) (right_in rules b) b
+      id) (d : ℕ)
       (way : (e : Entry (State Machine Memory Place Form)) × At b.entries id e × (d ≡ e.state.steps))
       (sound : (i : ℕ) (e : Entry (State Machine Memory Place Form)) → At b.entries i e → e.state.steps ≤ d
       → is_sound e.finding ≡ true) where
@@ -191,19 +264,24 @@ module _ {Machine Memory Place Form : Type 0} (rules : Machine → Rules Memory 
         let q : slice_get b.entries id ≡ Some way.0 = way.1 in cc) in
         ap (λ (e : Entry (State Machine Memory Place Form)). e.state.steps) same_entry ∙ sym way.2
 
+    over : b.limit < length b.entries + length (unknown test.0 (states b.entries) full.successors)
+    over =
+        full_by_test (machine_in rules b) (CountsAsOne (rules b.machine) b.merge) test (right_in rules b) b law
+        full.entry.state full.successors full.expansion full.full
+
     pub stopped_true : HoldsTo Machine Form (rules b.machine) b.program d
     stopped_true schedule state short leads =
         sound_correct (rules b.machine) b.program state
-        (stopped_sound (machine_in rules b) same (right_in rules b) machine merges alike agree b law d id full layer
-        sound schedule state short leads)
+        (stopped_sound (machine_in rules b) same (right_in rules b) machine merges alike agree b law d id full.entry full.at
+        full.taken full.successors full.expansion over layer sound schedule state short leads)
 
     pub stopped_is_due : (n : ℕ) → d < n
         → IsFirstAbove (machine_in rules b) (CountsAsOne (rules b.machine) b.merge) n b.limit (d + 1)
         × ((F : ℕ) → IsLeastFault (machine_in rules b) (right_in rules b) F → d + 1 ≤ F)
     stopped_is_due n less =
         let due =
-        stopped_due (machine_in rules b) same (right_in rules b) machine merges alike agree b law d id full layer sound
-        n less in (
+        stopped_due (machine_in rules b) same (right_in rules b) machine merges alike agree b law d id full.entry
+        full.at full.taken full.successors full.expansion over layer sound n less in (
           first_above_as (machine_in rules b) machine (AreOneBy same) (CountsAsOne (rules b.machine) b.merge) counts
               n b.limit (d + 1) due.0,
           due.1,

@@ -1,14 +1,14 @@
 -- A report on a book that its answer was read off.
-use Rattle.std.proofs.Common.{◌≡◌, ℕ, ◌+◌, Bool, List, length, sym, ap, ◌∙◌, subst, arith, sum_by}
+use Rattle.std.proofs.Common.{◌≡◌, ℕ, ◌+◌, List, length, sym, ap, ◌∙◌, subst, arith, sum_by}
 use Rattle.sched_program.specs.Program.{Program}
 use Rattle.tree_machine.specs.Rules.{Rules}
 use Rattle.tree_machine.specs.declared.state.State.{State}
 use Rattle.book.specs.declared.book.Totals.{Totals}
-use Rattle.book.specs.Schedule.{AreOneBy, IsMachine, Merges}
+use Rattle.book.specs.Schedule.{AreOneBy, IsDecided, IsMachine}
 use Rattle.book.specs.Entries.{Contents}
 use Rattle.book.specs.Findings.{machine_of, IsFindingOf}
 use Rattle.book.specs.Books.{CountsAsOne, machine_in, right_in, totals_of}
-use Rattle.book.proofs.Agreeing.{Agree, turned}
+use Rattle.book.proofs.Agreeing.{turned}
 use Rattle.crew.specs.declared.answer.Answer.{Answer}
 use Rattle.crew.specs.declared.answer.Share.{Share}
 use Rattle.crew.specs.Settings.{Settings}
@@ -40,10 +40,8 @@ sums_to book each counts =
 module _ {X Memory Place Form : Type 0} (rules : X → Rules Memory Place) (machine : X) (program : Program)
     (settings : Settings) where
   -- the answer is due of the book, and so is no other verdict
-  module _ {same : State X Memory Place Form → State X Memory Place Form → Bool}
-      (book : Contents X (State X Memory Place Form)) (answer : Answer) (keeps : IsMachine (machine_in rules book))
-      (merges : Merges (machine_in rules book) same)
-      (counts : Agree (machine_in rules book) (AreOneBy same) (CountsAsOne (rules book.machine) book.merge))
+  module _ (book : Contents X (State X Memory Place Form)) (answer : Answer) (keeps : IsMachine (machine_in rules book))
+      (test : IsDecided (machine_in rules book) (CountsAsOne (rules book.machine) book.merge))
       (due : IsDue (machine_in rules book) (CountsAsOne (rules book.machine) book.merge) (right_in rules book)
       book.merge settings.steps book.limit (length book.entries) answer) where
     only_here : (count : ℕ) (other : Answer)
@@ -51,18 +49,18 @@ module _ {X Memory Place Form : Type 0} (rules : X → Rules Memory Place) (mach
         book.merge settings.steps book.limit count other
         → IsSameVerdict (length book.entries) answer count other
     only_here count other also =
-        let by_test = due_as (machine_in rules book) keeps (CountsAsOne (rules book.machine) book.merge) (AreOneBy same)
-        (turned (machine_in rules book) keeps (AreOneBy same) (CountsAsOne (rules book.machine) book.merge) counts)
+        let by_test = due_as (machine_in rules book) keeps (CountsAsOne (rules book.machine) book.merge)
+        (AreOneBy test.0)
+        (turned (machine_in rules book) keeps (AreOneBy test.0) (CountsAsOne (rules book.machine) book.merge) test.2)
         (right_in rules book) book.merge settings.steps book.limit in
-        one_verdict (machine_in rules book) same merges (right_in rules book) book.merge settings.steps book.limit
+        one_verdict (machine_in rules book) test.0 test.1 (right_in rules book) book.merge settings.steps book.limit
         (length book.entries) count answer other (by_test (length book.entries) answer due) (by_test count other also)
 
   -- what was read off the book that was asked for makes a report
-  pub reported : {same : State X Memory Place Form → State X Memory Place Form → Bool}
-      (book read : Contents X (State X Memory Place Form)) (answer : Answer) (told : Totals) (each : List Share)
+  pub reported : (book read : Contents X (State X Memory Place Form)) (answer : Answer) (told : Totals) (each : List Share)
       → IsBookOf machine program settings book
-      → IsMachine (machine_in rules book) → Merges (machine_in rules book) same
-      → Agree (machine_in rules book) (AreOneBy same) (CountsAsOne (rules book.machine) book.merge)
+      → IsMachine (machine_in rules book)
+      → IsDecided (machine_in rules book) (CountsAsOne (rules book.machine) book.merge)
       → IsDue (machine_in rules book) (CountsAsOne (rules book.machine) book.merge) (right_in rules book)
       book.merge settings.steps book.limit (length book.entries) answer
       → IsTrueOf X Form (rules book.machine) book.program answer
@@ -70,7 +68,7 @@ module _ {X Memory Place Form : Type 0} (rules : X → Rules Memory Place) (mach
       → TellsClosed book answer
       → read ≡ book → told ≡ totals_of read → length each ≡ settings.workers → IsLedgerOf book (ledger each)
       → IsReport rules machine program settings answer told each read
-  reported book read answer told each asked keeps merges counts due headline first closed same totals workers sums =
+  reported book read answer told each asked keeps test due headline first closed same totals workers sums =
       let m = machine_of {Machine = X} {Form = Form} (rules machine) program in
       let right = IsFindingOf {Machine = X} {Form = Form} (rules machine) program in
       let alike = CountsAsOne {Machine = X} {Form = Form} (rules machine) settings.merge in
@@ -92,7 +90,7 @@ module _ {X Memory Place Form : Type 0} (rules : X → Rules Memory Place) (mach
       (IsFindingOf {Machine = X} {Form = Form} (rules x) p) k settings.steps book.limit count other
       → IsSameVerdict (length book.entries) answer count other)
       book.machine machine book.program program book.merge settings.merge asked.machine asked.program asked.merge
-      (only_here book answer keeps merges counts due) in
+      (only_here book answer keeps test due) in
       record {
         due = subst (λ k. IsDue m alike right settings.merge settings.steps settings.limit k answer) (sym entries)
             (subst (λ l. IsDue m alike right settings.merge settings.steps l (length book.entries) answer) asked.limit

@@ -5,6 +5,5 @@ pub mod Due
 pub mod Headline
 pub mod Reading
 pub mod Driving
-pub mod Working
 pub mod Reporting
 pub mod Starting

@@ -1,10 +1,11 @@
 -- When an answer can be read off a book.
-use Rattle.std.specs.Prelude.{◌≡◌, ◌≢◌, ℕ, ◌+◌, ◌<◌, ◌≤◌, Bool, true, Option, None, Some, List, length, not, position}
+use Rattle.std.specs.Prelude.{◌≡◌, ◌≢◌, ℕ, ◌+◌, ◌<◌, ◌≤◌, true, Option, None, Some, List, not, position}
+use Rattle.book.specs.declared.successor.Successor.{Successor}
 use Rattle.book.specs.declared.finding.Finding.{Finding}
 use Rattle.book.specs.declared.entry.Mark.TheVariants.{Taken, Expanded}
 use Rattle.book.specs.Schedule.{StepMachine, after}
 use Rattle.book.specs.Findings.{is_sound}
-use Rattle.book.specs.Entries.{Entry, Successor, Contents, At, states, unknown}
+use Rattle.book.specs.Entries.{Entry, Contents, At, IsFullFor}
 use Rattle.book.specs.Law.{IsExpansion}
 use Rattle.book.specs.Closed.{IsClosed}
 use Rattle.book.specs.declared.book.Merge.{Merge}
@@ -45,7 +46,7 @@ pub record IsWorkedOff {S : Type 0} (steps : S → ℕ) (entries : List (Entry S
   pub stands : StandsAt steps entries layer
   pub all : first_fault entries ≡ None → IsExpandedBelow steps entries n
 
-module _ {X S : Type 0} (m : StepMachine S) (same : S → S → Bool) (right : S → Finding → Type 0)
+module _ {X S : Type 0} (m : StepMachine S) (Same : S → S → Type 0) (right : S → Finding → Type 0)
     (book : Contents X S) where
   -- entry i is taken, and the book has no room for its steps
   pub record IsFullAt (i : ℕ) : Type 0 where
@@ -54,7 +55,7 @@ module _ {X S : Type 0} (m : StepMachine S) (same : S → S → Bool) (right : S
     pub taken : entry.mark ≡ Taken
     pub successors : List (Successor S)
     pub expansion : IsExpansion m right entry.state successors
-    pub full : book.limit < length book.entries + length (unknown same (states book.entries) successors)
+    pub full : IsFullFor Same book successors
 
   -- layer d is cut at its entry i: the book has no room for the entry's steps, and every entry of at most d steps is
   -- sound

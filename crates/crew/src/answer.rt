@@ -2,18 +2,19 @@
 ghost use Rattle.std.specs.Prelude.{◌≡◌, ◌+◌, ◌^◌, ◌<◌};
 
 use book::{Book, Entered, Finding, Totals};
-use tree_machine::Machine;
+use tree_machine::Encode;
 
 /// What holds of every schedule of a program.
 #[derive(Drop)]
 pub enum Answer {
-    /// Every schedule of at most so many steps keeps search order and leaves a linearizable history.
+    /// Every schedule of at most so many steps keeps search order and leaves a linearizable
+    /// history.
     Holds {
         /// The number of steps that was asked for.
         steps: u16,
     },
-    /// Every schedule of any length does: states are merged by names, and the steps that were asked for reach no more
-    /// of them than one step fewer.
+    /// Every schedule of any length does: states are merged by names, and the steps that were asked
+    /// for reach no more of them than one step fewer.
     Every,
     /// A schedule leads to a fault, and no shorter one does.
     Fault {
@@ -26,7 +27,8 @@ pub enum Answer {
     Stopped {
         /// How many entries the book may have.
         limit: u32,
-        /// Every schedule of at most so many steps keeps search order and leaves a linearizable history.
+        /// Every schedule of at most so many steps keeps search order and leaves a linearizable
+        /// history.
         holds_to: u16,
     },
 }
@@ -54,26 +56,25 @@ impl Share {
         }
     }
 
-    /// Counts one more expanded entry.
+    /// Counts one more expanded entry. A count that has come to the greatest number stays there.
     pub(crate) fn add(&mut self, counts: Entered)
-        requires expanded { self.old.expanded + 1 < 2 ^ 64 }
-        requires entered { self.old.entered + counts.entered < 2 ^ 64 }
-        requires met { self.old.met + counts.met < 2 ^ 64 }
-        ensures { self.new ≡ record {
-          expanded = self.old.expanded + 1;
-          entered = self.old.entered + counts.entered;
-          met = self.old.met + counts.met;
-        } }
+        ensures { self.old.expanded + 1 < 2 ^ 64 → self.old.entered + counts.entered < 2 ^ 64
+            → self.old.met + counts.met < 2 ^ 64
+            → self.new ≡ record {
+              expanded = self.old.expanded + 1;
+              entered = self.old.entered + counts.entered;
+              met = self.old.met + counts.met;
+            } }
     {
-        self.expanded += 1;
-        self.entered += counts.entered;
-        self.met += counts.met;
+        self.expanded = self.expanded.saturating_add(1);
+        self.entered = self.entered.saturating_add(counts.entered);
+        self.met = self.met.saturating_add(counts.met);
     }
 }
 
 /// What an exploration answers, and what it rests on.
 #[derive(Drop)]
-pub struct Report<M: Machine> {
+pub struct Report<M: Encode> {
     /// The answer.
     pub answer: Answer,
     /// The totals of the book.

@@ -1,19 +1,20 @@
 //! The expansion of the layers on one thread, entry by entry.
 ghost use Rattle.std.specs.Prelude.{◌≡◌, ℕ, ◌+◌, ◌<◌, ◌≤◌, IfOk, IfSome, IfNone, OnOk, None, count_by};
-ghost use Rattle.book.specs.Books.{machine_in, right_in};
+ghost use Rattle.book.specs.Books.{machine_in, right_in, CountsAsOne};
 ghost use Rattle.book.specs.Entries.{is_expanded};
 ghost use Rattle.book.specs.Layers.{IsLeftTo};
 ghost use Rattle.crew.specs.Driving.{IsInLayer, IsKept, IsLedgerOf};
 ghost use Rattle.crew.specs.Reading.{first_fault, IsCutAt, IsWorkedOff, StandsAt};
 
 use crate::answer::Share;
-use book::{Book, Counting, EnterFault, Expansion};
+use book::{Book, EnterFault, Expansion};
 use sched_program::{OutOfMemory, Program};
 use std::alloc::Global;
-use tree_machine::Machine;
+use tree_machine::Encode;
 
-/// Takes the next entry of a layer, and enters its steps. Where the book has no room for them, the answer is the entry.
-fn expand_next<M: Machine>(
+/// Takes the next entry of a layer, and enters its steps. Where the book has no room for them, the
+/// answer is the entry.
+fn expand_next<M: Encode>(
     alloc: Global,
     program: &Program,
     book: &mut Book<M>,
@@ -30,7 +31,7 @@ fn expand_next<M: Machine>(
     ensures more { IfOk result (λ o. IfNone o (count_by (λ e. is_expanded e.mark) book.new.entries
         ≡ count_by (λ e. is_expanded e.mark) book.old.entries + 1)) }
     ensures cut { IfOk result (λ o. IfSome o (λ i. IsCutAt (machine_in M.rules book.old)
-        (⟦<M as Counting>⟧.counted book.old.machine book.old.merge) (right_in M.rules book.old) book.new depth i)) }
+        (CountsAsOne (M.rules book.old.machine) book.old.merge) (right_in M.rules book.old) book.new depth i)) }
 {
     book.law();
     let Some((id, state)) = book.take()? else {
@@ -52,7 +53,7 @@ fn expand_next<M: Machine>(
 }
 
 /// Expands a layer. Where the book has no room for an entry's steps, the answer is that entry.
-fn expand_layer<M: Machine>(
+fn expand_layer<M: Encode>(
     alloc: Global,
     program: &Program,
     book: &mut Book<M>,
@@ -68,7 +69,7 @@ fn expand_layer<M: Machine>(
     ensures next { IfOk result
         (λ o. IfNone o (StandsAt (machine_in M.rules book.old).steps book.new.entries (depth + 1))) }
     ensures cut { IfOk result (λ o. IfSome o (λ i. IsCutAt (machine_in M.rules book.old)
-        (⟦<M as Counting>⟧.counted book.old.machine book.old.merge) (right_in M.rules book.old) book.new depth i)) }
+        (CountsAsOne (M.rules book.old.machine) book.old.merge) (right_in M.rules book.old) book.new depth i)) }
 {
     'layer: while book.is_left_to(depth) {
         if let Some(id) = expand_next(alloc, program, book, depth, share)? {
@@ -79,9 +80,9 @@ fn expand_layer<M: Machine>(
     Ok(None)
 }
 
-/// Expands the layers below a number of steps, or those below the first layer with a fault. Where the book has no room
-/// for an entry's steps, the answer is that entry.
-pub(crate) fn drive<M: Machine>(
+/// Expands the layers below a number of steps, or those below the first layer with a fault. Where
+/// the book has no room for an entry's steps, the answer is that entry.
+pub(crate) fn drive<M: Encode>(
     alloc: Global,
     program: &Program,
     book: &mut Book<M>,
@@ -96,7 +97,7 @@ pub(crate) fn drive<M: Machine>(
     ensures done { IfOk result
         (λ o. IfNone o (IsWorkedOff (machine_in M.rules book.old).steps book.new.entries steps)) }
     ensures cut { IfOk result (λ o. IfSome o (λ i. (d : ℕ) × (d < steps) × IsCutAt (machine_in M.rules book.old)
-        (⟦<M as Counting>⟧.counted book.old.machine book.old.merge) (right_in M.rules book.old) book.new d i)) }
+        (CountsAsOne (M.rules book.old.machine) book.old.merge) (right_in M.rules book.old) book.new d i)) }
 {
     'layers: for depth in 0..steps {
         if book.first_fault().is_some() || !book.is_left_to(u64::from(depth)) {

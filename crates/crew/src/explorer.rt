@@ -1,4 +1,5 @@
-//! The exploration by several workers, and anew on one thread where the book that they leave does not tell the answer.
+//! The exploration by several workers, and anew on one thread where the book that they leave does
+//! not give the answer.
 ghost use Rattle.std.specs.Prelude.{◌≡◌, ℕ, ◌+◌, ◌<◌, IfOk, IfSome, length};
 ghost use Rattle.book.specs.Books.{machine_in, totals_of, CountsAsOne};
 ghost use Rattle.book.specs.Findings.{machine_of, IsFindingOf};
@@ -13,22 +14,19 @@ ghost use Rattle.crew.specs.Reporting.{IsBookOf, IsReport};
 use crate::answer::{Answer, Report, Share};
 use crate::driving::drive;
 use crate::gate::Gate;
-use crate::layers::{cut_of, workers_of};
+use crate::layer_run::Exploration;
 use crate::options::Options;
 use crate::reporting::{let_go, report_of, told_of};
-use crate::settling::{merged, shares_of};
-use crate::tally::{Blanks, Desk, Ledgers, Pieces};
-use crate::working::Exploration;
+use crate::worker::{cut_of, shares_of, workers_of};
 use book::{Book, Totals};
 use sched_program::{OutOfMemory, Program};
 use std::alloc::Global;
-use std::marker::Brand;
 use std::sync::{Mutex, Wait};
 use std::thread::Threads;
-use tree_machine::Machine;
+use tree_machine::Encode;
 
 /// A book of what is asked for, with the start alone.
-fn opened<M: Machine>(
+fn opened<M: Encode>(
     alloc: Global,
     machine: M,
     program: &Program,
@@ -44,65 +42,45 @@ fn opened<M: Machine>(
     Ok(book)
 }
 
-/// Lets so many workers as the options say expand the layers. The entry for whose steps one of them found no room, what
-/// each did, the pieces of all, and the desk.
-fn work_of_all<J: Ledgers + Send + Sync, M: Machine, G: Gate, R: Threads + Wait + Sync>(
+/// Lets as many workers as the options say expand the layers. The entry for whose steps one of them
+/// found no room, what each did, and the book, of which nothing is promised.
+fn work_of_all<M: Encode, G: Gate, R: Threads + Wait + Sync>(
     alloc: Global,
     exploration: &Exploration<'_, M, G, R>,
-    desk: Desk<J, M>,
+    book: Book<M>,
     options: Options,
-    pieces: Pieces<J>,
-) -> Result<(Option<usize>, Vec<Share>, Pieces<J>, Desk<J, M>), OutOfMemory>
-    requires pieces { (pieces.expanded.parts ≡ options.workers) × (pieces.entered.parts ≡ options.workers)
-        × (pieces.met.parts ≡ options.workers) }
-    requires amounts { (pieces.expanded.amount ≡ 0) × (pieces.entered.amount ≡ 0) × (pieces.met.amount ≡ 0) }
-    ensures shares { IfOk result (λ w. length w.1.items ≡ options.workers) }
-    ensures pieces { IfOk result (λ w. (w.2.expanded.parts ≡ options.workers)
-        × (w.2.entered.parts ≡ options.workers) × (w.2.met.parts ≡ options.workers)) }
-    ensures ledger { IfOk result (λ w. ledger w.1.items ≡ record {
-      expanded = w.2.expanded.amount;
-      entered = w.2.entered.amount;
-      met = w.2.met.amount;
-    }) }
+) -> Result<(Option<usize>, Vec<Share>, Book<M>), OutOfMemory>
+    ensures { IfOk result (λ w. length w.1.items ≡ options.workers) }
 {
-    let mut workers = workers_of(alloc, options.workers(), pieces)?;
-    let desk = exploration.expand_layers(options.steps(), desk, workers.as_mut_slice())?;
+    let mut workers = workers_of(alloc, options.workers())?;
+    let book = exploration.expand_layers(options.steps(), book, workers.as_mut_slice())?;
     let cut = cut_of(workers.as_slice());
-    let shares = shares_of(alloc, &workers)?;
-    Ok((cut, shares, merged(workers), desk))
+    Ok((cut, shares_of(alloc, workers.as_slice())?, book))
 }
 
-/// Explores by all workers at once. None where the book that they leave under the lock does not tell the answer.
-fn explore_together<J: Ledgers + Send + Sync, M: Machine, G: Gate, R: Threads + Wait + Sync>(
+/// Explores by all workers at once. None where the book that they leave does not give the answer.
+fn explore_together<M: Encode, G: Gate, R: Threads + Wait + Sync>(
     rt: &R,
     alloc: Global,
     machine: M,
     program: &Program,
     options: Options,
     gate: &G,
-    blanks: Blanks,
 ) -> Result<Option<Report<M>>, OutOfMemory>
-    requires expanded { (blanks.expanded.name ≡ J.expanded_name) × (blanks.expanded.parts ≡ J.pieces) }
-    requires entered { (blanks.entered.name ≡ J.entered_name) × (blanks.entered.parts ≡ J.pieces) }
-    requires met { (blanks.met.name ≡ J.met_name) × (blanks.met.parts ≡ J.pieces) }
-    requires pieces { J.pieces ≡ options.workers }
     ensures { IfOk result
         (λ o. IfSome o (λ r. IsReport M.rules machine program.now options r.answer r.totals r.shares.items r.book)) }
 {
     let book = opened(alloc, machine, program, options)?;
-    let (desk, pieces) = Desk::<J, M>::new(book, blanks);
-    let stocks = Mutex::new(Vec::new(alloc));
+    let scratches = Mutex::new(Vec::new(alloc));
     let exploration = Exploration {
         rt,
         alloc,
         machine,
         program,
-        workers: options.workers(),
         gate,
-        stocks: &stocks,
+        scratches: &scratches,
     };
-    let (cut, shares, whole, desk) = work_of_all(alloc, &exploration, desk, options, pieces)?;
-    let book = desk.settle(whole);
+    let (cut, shares, book) = work_of_all(alloc, &exploration, book, options)?;
     report_of(alloc, machine, program, options, book, cut, shares)
 }
 
@@ -120,8 +98,9 @@ fn shares_alone(alloc: Global, share: Share, workers: u8) -> Result<Vec<Share>, 
     Ok(shares)
 }
 
-/// What one thread tells of a book with the start alone, with all the work in the first worker's share.
-fn told_alone<M: Machine>(
+/// What one thread tells of a book with the start alone, with all the work in the first worker's
+/// share.
+fn told_alone<M: Encode>(
     alloc: Global,
     machine: M,
     program: &Program,
@@ -151,7 +130,7 @@ fn told_alone<M: Machine>(
 }
 
 /// Explores on one thread.
-fn explore_alone<M: Machine>(
+fn explore_alone<M: Encode>(
     alloc: Global,
     machine: M,
     program: &Program,
@@ -174,18 +153,20 @@ fn explore_alone<M: Machine>(
     }
 }
 
-/// Explores every schedule of a program of at most so many steps as the options say, by so many workers as they say,
-/// unless more states are reached than the book may have entries.
+/// Explores every schedule of a program of at most so many steps as the options say, by so many
+/// workers as they say, unless more states are reached than the book may have entries.
 ///
-/// The answer is the due one, and true of all schedules; no answer with another verdict or other numbers is due. It is
-/// read off the book of the report, whose recorded schedules lead to its entries' states. The workers' shares sum to
-/// the book's totals. Each worker has a thread of its own and calls the gate at each entry that it expands.
+/// The answer is the due one, and true of all schedules; no answer with another verdict or other
+/// numbers is due. It is read off the book of the report, whose recorded schedules lead to its
+/// entries' states. The workers' shares sum to the book's totals. Each worker has a thread of its
+/// own and calls the gate at each entry that it expands.
 ///
-/// A refused growth is answered by `OutOfMemory`, once all workers are joined. Where the book that the workers leave is
-/// not the one that was opened, a layer of it was left undone for no reason, or one too many was expanded, which no
-/// worker here brings about, one thread explores anew: all the work is in the first worker's share, and no gate is
-/// called.
-pub fn explore<M: Machine, G: Gate, R: Threads + Wait + Sync>(
+/// A refused growth is answered by `OutOfMemory`, once all workers are joined. Where the answer
+/// cannot be read off the book that the workers leave, or their shares do not sum to its totals,
+/// one thread explores anew: all the work is in the first worker's share, and no gate is called. No
+/// worker here brings that about, but on a machine whose states cannot be decoded from their
+/// labels.
+pub fn explore<M: Encode, G: Gate, R: Threads + Wait + Sync>(
     rt: &R,
     alloc: Global,
     machine: M,
@@ -215,8 +196,7 @@ pub fn explore<M: Machine, G: Gate, R: Threads + Wait + Sync>(
     ensures ledger { IfOk result (λ r. ledger r.shares.items
         ≡ record { expanded = r.totals.expanded; entered = r.totals.entered; met = r.totals.met }) }
 {
-    let blanks = Blanks::new(u64::from(options.workers()));
-    match explore_together::<Brand, M, G, R>(rt, alloc, machine, program, options, gate, blanks)? {
+    match explore_together(rt, alloc, machine, program, options, gate)? {
         Some(report) => Ok(report),
         None => explore_alone(alloc, machine, program, options),
     }

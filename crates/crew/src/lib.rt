@@ -1,23 +1,21 @@
-//! The exploration of every schedule of a program, up to a number of steps, by several workers, and the answer that is
-//! due.
+//! The exploration of every schedule of a program, up to a number of steps, by several workers, and
+//! the answer that is due. Workers promise nothing: the answer is read off the book that they
+//! leave, and where that does not give it, one thread explores anew.
 #![tactic(auto)]
 
 mod answer;
-mod drawing;
 mod driving;
 mod explorer;
 mod gate;
+mod layer_run;
 mod layers;
 mod options;
-mod pile;
+mod pending;
 mod reading;
-mod ready;
 mod reporting;
-mod settling;
 mod starting;
-mod tally;
-mod tied;
 mod waiting;
+mod worker;
 mod working;
 
 pub use crate::answer::{Answer, Report, Share};

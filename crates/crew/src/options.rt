@@ -5,8 +5,8 @@ ghost use Rattle.crew.specs.Settings.{AreInRange};
 use book::Merge;
 use std::marker::Model;
 
-/// How far an exploration goes: schedules of 0 to 400 steps, books of 1 to 2,000,000 entries, which states count as
-/// one, and 1 to 8 workers.
+/// How far an exploration goes: schedules of 0 to 400 steps, books of 1 to 2,000,000 entries, which
+/// states count as one, and 1 to 8 workers.
 #[derive(Clone, Copy, Debug, PartialEq, Eq)]
 pub struct Options {
     steps: u16,

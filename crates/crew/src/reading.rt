@@ -1,4 +1,4 @@
-//! The due answer, read off the book in hand.
+//! The due answer, read off a book.
 ghost use Rattle.std.specs.Prelude.{◌≡◌, ℕ, ◌<◌, ◌≤◌, ◌↔◌};
 ghost use Rattle.std.specs.Prelude.{IsTrue, IsSome, IfOk, IfSome, Some, None, length, false, true};
 ghost use Rattle.book.specs.Books.{machine_in, right_in, CountsAsOne};
@@ -15,13 +15,13 @@ ghost use Rattle.crew.specs.Reading.{TellsFirst};
 
 use crate::answer::Answer;
 use crate::options::Options;
-use book::{Book, Counting, EnterFault, Expansion, Finding, Merge, ReplayFault, replay};
+use book::{Book, EnterFault, Expansion, Finding, Merge, ReplayFault, replay};
 use sched_program::{OutOfMemory, Program};
 use std::alloc::Global;
-use tree_machine::{Machine, State};
+use tree_machine::{Encode, State};
 
 /// What was found of the first entry that is not sound.
-fn fault_at<M: Machine>(book: &Book<M>, id: usize) -> Finding
+fn fault_at<M: Encode>(book: &Book<M>, id: usize) -> Finding
     requires { first_fault book.now.entries ≡ Some id }
     ensures { (e : Entry (State M M.Mem M.Loc M.Form)) × At book.now.entries id e × (e.finding ≡ result) }
 {
@@ -32,7 +32,7 @@ fn fault_at<M: Machine>(book: &Book<M>, id: usize) -> Finding
 }
 
 /// Whether an entry of fewer steps is not expanded.
-fn is_left_below<M: Machine>(book: &Book<M>, steps: u64) -> bool
+fn is_left_below<M: Encode>(book: &Book<M>, steps: u64) -> bool
     ensures none { result ≡ false → IsExpandedBelow (machine_in M.rules book.now).steps book.now.entries steps }
     ensures left { result ≡ true → IsExpandedBelow (machine_in M.rules book.now).steps book.now.entries steps → ⊥ }
 {
@@ -43,14 +43,14 @@ fn is_left_below<M: Machine>(book: &Book<M>, steps: u64) -> bool
 }
 
 /// Whether every entry of fewer steps is expanded, and none has more.
-fn is_last_layer<M: Machine>(book: &Book<M>, steps: u64) -> bool
+fn is_last_layer<M: Encode>(book: &Book<M>, steps: u64) -> bool
     ensures { IsTrue result ↔ IsLastLayer (machine_in M.rules book.now).steps book.now.entries steps }
 {
     !is_left_below(book, steps) && book.count_to(steps) == book.len()
 }
 
 /// Whether states are merged by names, and no entry has so many steps or more.
-fn is_at_rest<M: Machine>(book: &Book<M>, steps: u64) -> bool
+fn is_at_rest<M: Encode>(book: &Book<M>, steps: u64) -> bool
     ensures { IsTrue result ↔ IsAtRest (machine_in M.rules book.now).steps book.now.entries book.now.merge steps }
 {
     match steps.checked_sub(1) {
@@ -63,7 +63,7 @@ fn is_at_rest<M: Machine>(book: &Book<M>, steps: u64) -> bool
 }
 
 /// Whether every entry of at most so many steps is sound.
-fn is_sound_to<M: Machine>(alloc: Global, book: &Book<M>, steps: usize) -> Result<bool, OutOfMemory>
+fn is_sound_to<M: Encode>(alloc: Global, book: &Book<M>, steps: usize) -> Result<bool, OutOfMemory>
     ensures { IfOk result (λ yes. IsTrue yes ↔ ((i : ℕ) (e : Entry (State M M.Mem M.Loc M.Form))
         → At book.now.entries i e → e.state.steps ≤ steps → is_sound e.finding ≡ true)) }
 {
@@ -74,9 +74,9 @@ fn is_sound_to<M: Machine>(alloc: Global, book: &Book<M>, steps: usize) -> Resul
     }
 }
 
-/// The answer where the layers below that of a fault are expanded: its schedule. None where they are not, or where the
-/// fault lies beyond the steps that are asked for.
-fn tell_fault<M: Machine>(
+/// The answer where the layers below that of a fault are expanded: its schedule. None where they
+/// are not, or where the fault lies beyond the steps that are asked for.
+fn tell_fault<M: Encode>(
     alloc: Global,
     book: &Book<M>,
     steps: u16,
@@ -103,9 +103,9 @@ fn tell_fault<M: Machine>(
     Ok(Some(Answer::Fault { finding, schedule }))
 }
 
-/// The answer where the layers are expanded, up to the first with a fault. None where they are not, or where the last
-/// one is expanded too.
-fn read_finished<M: Machine>(
+/// The answer where the layers are expanded, up to the first with a fault. None where they are not,
+/// or where the last one is expanded too.
+fn read_finished<M: Encode>(
     alloc: Global,
     book: &Book<M>,
     steps: u16,
@@ -140,9 +140,10 @@ fn read_finished<M: Machine>(
     }
 }
 
-/// Whether the book has no room for the steps of an entry, which is taken and has this state. The steps are made anew,
-/// and entered where there is room.
-fn is_full_for<M: Machine>(
+/// Whether the book has no room for the steps of an entry, which is taken and has this state. The
+/// steps are made anew, and entered where there is room, after which no answer is read off the
+/// book.
+fn is_full_for<M: Encode>(
     alloc: Global,
     program: &Program,
     book: &mut Book<M>,
@@ -153,9 +154,9 @@ fn is_full_for<M: Machine>(
     requires own { (e : Entry (State M M.Mem M.Loc M.Form)) × At book.old.entries id e × (e.state ≡ state.now) }
     requires fits { Fits (M.rules book.old.machine) book.old.program state.now }
     ensures full { IfOk result (λ yes. yes ≡ true → IsFullAt (machine_in M.rules book.old)
-        (⟦<M as Counting>⟧.counted book.old.machine book.old.merge) (right_in M.rules book.old) book.old id) }
+        (CountsAsOne (M.rules book.old.machine) book.old.merge) (right_in M.rules book.old) book.old id) }
     ensures yes { IsFullAt (machine_in M.rules book.old)
-        (⟦<M as Counting>⟧.counted book.old.machine book.old.merge) (right_in M.rules book.old) book.old id
+        (CountsAsOne (M.rules book.old.machine) book.old.merge) (right_in M.rules book.old) book.old id
         → IfOk result (λ yes. yes ≡ true) }
     ensures same { IfOk result (λ yes. yes ≡ true → book.new ≡ book.old) }
 {
@@ -171,8 +172,9 @@ fn is_full_for<M: Machine>(
     }
 }
 
-/// Whether the book has no room for the steps of an entry, which is taken, by the schedule that leads to it.
-fn is_full_at<M: Machine>(
+/// Whether the book has no room for the steps of an entry, which is taken, by the schedule that
+/// leads to it.
+fn is_full_at<M: Encode>(
     alloc: Global,
     program: &Program,
     book: &mut Book<M>,
@@ -183,9 +185,9 @@ fn is_full_at<M: Machine>(
     requires way { (e : Entry (State M M.Mem M.Loc M.Form)) × At book.old.entries id e
         × (after (machine_in M.rules book.old) schedule.now ≡ Some e.state) }
     ensures full { IfOk result (λ yes. yes ≡ true → IsFullAt (machine_in M.rules book.old)
-        (⟦<M as Counting>⟧.counted book.old.machine book.old.merge) (right_in M.rules book.old) book.old id) }
+        (CountsAsOne (M.rules book.old.machine) book.old.merge) (right_in M.rules book.old) book.old id) }
     ensures yes { IsFullAt (machine_in M.rules book.old)
-        (⟦<M as Counting>⟧.counted book.old.machine book.old.merge) (right_in M.rules book.old) book.old id
+        (CountsAsOne (M.rules book.old.machine) book.old.merge) (right_in M.rules book.old) book.old id
         → IfOk result (λ yes. yes ≡ true) }
     ensures same { IfOk result (λ yes. yes ≡ true → book.new ≡ book.old) }
 {
@@ -196,9 +198,9 @@ fn is_full_at<M: Machine>(
     }
 }
 
-/// The answer where the book has no room for the steps of an entry. None where it has room, or where that entry's layer
-/// is not due to be expanded.
-fn read_stopped<M: Machine>(
+/// The answer where the book has no room for the steps of an entry. None where it has room, or
+/// where that entry's layer is not due to be expanded.
+fn read_stopped<M: Encode>(
     alloc: Global,
     program: &Program,
     book: &mut Book<M>,
@@ -215,7 +217,7 @@ fn read_stopped<M: Machine>(
     ensures closed { IfOk result (λ o. IfSome o (TellsClosed book.old)) }
     ensures same { IfOk result (λ o. IfSome o (λ _. book.new ≡ book.old)) }
     ensures some { (d : ℕ) → d < options.steps → IsCutAt (machine_in M.rules book.old)
-        (⟦<M as Counting>⟧.counted book.old.machine book.old.merge) (right_in M.rules book.old) book.old d id
+        (CountsAsOne (M.rules book.old.machine) book.old.merge) (right_in M.rules book.old) book.old d id
         → IfOk result (λ o. IsSome o) }
 {
     if id >= book.len() {
@@ -236,9 +238,9 @@ fn read_stopped<M: Machine>(
     }))
 }
 
-/// The due answer, if it can be read off the book: where an entry is named, by this that the book has no room for its
-/// steps, else by this that the layers are expanded.
-pub(crate) fn read_answer<M: Machine>(
+/// The due answer, if it can be read off the book: where an entry is named, by this that the book
+/// has no room for its steps, else by this that the layers are expanded.
+pub(crate) fn read_answer<M: Encode>(
     alloc: Global,
     program: &Program,
     book: &mut Book<M>,
@@ -257,7 +259,7 @@ pub(crate) fn read_answer<M: Machine>(
     ensures finished { cut ≡ None → IsWorkedOff (machine_in M.rules book.old).steps book.old.entries options.steps
         → IfOk result (λ o. IsSome o) }
     ensures stopped { IfSome cut (λ id. (d : ℕ) → d < options.steps → IsCutAt (machine_in M.rules book.old)
-        (⟦<M as Counting>⟧.counted book.old.machine book.old.merge) (right_in M.rules book.old) book.old d id
+        (CountsAsOne (M.rules book.old.machine) book.old.merge) (right_in M.rules book.old) book.old d id
         → IfOk result (λ o. IsSome o)) }
 {
     match cut {

@@ -1,6 +1,6 @@
 //! The report on a book.
 ghost use Rattle.std.specs.Prelude.{◌≡◌, ℕ, ◌<◌, ◌↔◌, IsTrue, IsSome, IfOk, IfSome, IfNone, length};
-ghost use Rattle.book.specs.Books.{machine_in, right_in};
+ghost use Rattle.book.specs.Books.{machine_in, right_in, CountsAsOne};
 ghost use Rattle.crew.specs.Driving.{IsLedgerOf};
 ghost use Rattle.crew.specs.Ledger.{ledger};
 ghost use Rattle.crew.specs.Reading.{IsCutAt, IsWorkedOff};
@@ -9,24 +9,24 @@ ghost use Rattle.crew.specs.Reporting.{IsBookOf, IsReport};
 use crate::answer::{Answer, Report, Share};
 use crate::options::Options;
 use crate::reading::read_answer;
-use crate::tally::is_of;
-use book::{Book, Counting, Totals};
+use book::{Book, Totals};
 use sched_program::{OutOfMemory, Program};
 use std::alloc::Global;
-use tree_machine::Machine;
+use tree_machine::Encode;
 
 /// Whether a book is the one that was asked for.
-fn is_asked<M: Machine>(book: &Book<M>, machine: M, program: &Program, options: Options) -> bool
+fn is_asked<M: Encode>(book: &Book<M>, machine: M, program: &Program, options: Options) -> bool
     ensures { IsTrue result ↔ IsBookOf machine program.now options book.now }
 {
-    is_of(book, machine, program)
+    book.is_of(machine, program)
         && book.limit() == options.limit() as usize
         && book.merge() == options.merge()
 }
 
-/// The answer and the totals of a book, where the answer can be read off it. None where it can't, or where the book is
-/// not the one that was asked for. Where an entry is named, the book is to have no room for its steps.
-pub fn told_of<M: Machine>(
+/// The answer and the totals of a book, where the answer can be read off it. None where it can't,
+/// or where the book is not the one that was asked for. Where an entry is named, the book is to
+/// have no room for its steps.
+pub fn told_of<M: Encode>(
     alloc: Global,
     machine: M,
     program: &Program,
@@ -43,7 +43,7 @@ pub fn told_of<M: Machine>(
         → IsWorkedOff (machine_in M.rules book.old).steps book.old.entries options.steps
         → IfOk result (λ o. IsSome o) }
     ensures stopped { IsBookOf machine program.now options book.old → IfSome cut (λ id. (d : ℕ) → d < options.steps
-        → IsCutAt (machine_in M.rules book.old) (⟦<M as Counting>⟧.counted book.old.machine book.old.merge)
+        → IsCutAt (machine_in M.rules book.old) (CountsAsOne (M.rules book.old.machine) book.old.merge)
         (right_in M.rules book.old) book.old d id → IfOk result (λ o. IsSome o)) }
 {
     if !is_asked(book, machine, program, options) {
@@ -56,12 +56,43 @@ pub fn told_of<M: Machine>(
     }
 }
 
-/// Lets a book go. A function that does so itself is proved, at each of its exits, over all that the book holds.
-pub fn let_go<M: Machine>(_book: Book<M>) {}
+/// Lets a book go. A function that does so itself is proved, at each of its exits, over all that
+/// the book holds.
+pub fn let_go<M: Encode>(_book: Book<M>) {}
 
-/// The report on a book, where the answer can be read off it. None where it can't, or where the book is not the one
-/// that was asked for.
-pub fn report_of<M: Machine>(
+/// The sum of shares. None where a count of it is too large.
+fn sum_of(shares: &[Share]) -> Option<Share>
+    ensures { IfSome result (λ sum. sum ≡ ledger shares.now) }
+{
+    let mut sum = Share::none();
+    for share in shares {
+        sum = Share {
+            expanded: sum.expanded.checked_add(share.expanded)?,
+            entered: sum.entered.checked_add(share.entered)?,
+            met: sum.met.checked_add(share.met)?,
+        };
+    }
+    Some(sum)
+}
+
+/// Whether shares sum to the totals of a book.
+fn is_ledger_of<M: Encode>(book: &Book<M>, shares: &[Share]) -> bool
+    ensures { IsTrue result → IsLedgerOf book.now (ledger shares.now) }
+{
+    let totals = book.totals();
+    match sum_of(shares) {
+        Some(sum) => {
+            sum.expanded == totals.expanded
+                && sum.entered == totals.entered
+                && sum.met == totals.met
+        }
+        None => false,
+    }
+}
+
+/// The report on a book, where the answer can be read off it. None where it can't, where the book
+/// is not the one that was asked for, or where the shares do not sum to its totals.
+pub fn report_of<M: Encode>(
     alloc: Global,
     machine: M,
     program: &Program,
@@ -71,15 +102,13 @@ pub fn report_of<M: Machine>(
     shares: Vec<Share>,
 ) -> Result<Option<Report<M>>, OutOfMemory>
     requires shares { length shares.items ≡ options.workers }
-    requires ledger { IsLedgerOf book (ledger shares.items) }
-    ensures report { IfOk result
+    ensures { IfOk result
         (λ o. IfSome o (λ r. IsReport M.rules machine program.now options r.answer r.totals r.shares.items r.book)) }
-    ensures finished { IsBookOf machine program.now options book → cut ≡ None
-        → IsWorkedOff (machine_in M.rules book).steps book.entries options.steps → IfOk result (λ o. IsSome o) }
-    ensures stopped { IsBookOf machine program.now options book → IfSome cut (λ id. (d : ℕ) → d < options.steps
-        → IsCutAt (machine_in M.rules book) (⟦<M as Counting>⟧.counted book.machine book.merge) (right_in M.rules book)
-        book d id → IfOk result (λ o. IsSome o)) }
 {
+    if !is_ledger_of(&book, shares.as_slice()) {
+        let_go(book);
+        return Ok(None);
+    }
     match told_of(
         alloc,
         machine,

@@ -3,11 +3,13 @@ use std::hint::spin_loop;
 use std::sync::{RwLock, RwLockReadGuard, RwLockWriteGuard, Wait};
 use std::thread::yield_now;
 
-/// How often a worker that can't go on without the lock tries for it before it sleeps. To sleep and to be woken takes longer
-/// than most of the time for which another worker holds it, and whoever is woken often finds it taken once more.
+/// How often a worker that can't go on without the lock tries for it before it sleeps. To sleep and
+/// to be woken takes longer than most of the time for which another worker holds it, and whoever is
+/// woken often finds it taken once more.
 const TRIES: u32 = 2200;
 
-/// After how many of these it lets another thread have its processor before it tries again, if one waits for it.
+/// After how many of these it lets another thread have its processor before it tries again, if one
+/// waits for it.
 const PATIENCE: u32 = 200;
 
 /// Waits a little before the next try.

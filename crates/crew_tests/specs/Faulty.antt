@@ -86,26 +86,30 @@ all_read (place ∷ held) (twin ∷ twins) e =
 abbrev pub faulty_form : Bool → List (Option Bool) → List ℕ
 faulty_form memory held = held_code (Some memory) ∷ map held_code held
 
--- it tells both
-pub faulty_tells : TellsWholly faulty_form
-faulty_tells memory other held twins same =
+-- equal forms are of equal memories with equal places held
+form_read : (memory other : Bool) (held twins : List (Option Bool))
+    → faulty_form memory held ≡ faulty_form other twins → (memory ≡ other) × (held ≡ twins)
+form_read memory other held twins same =
     let first : held_code (Some memory) ≡ held_code (Some other) = cc in
     let rest : map held_code held ≡ map held_code twins = cc in
     (same_Some memory other (held_read (Some memory) (Some other) first), all_read held twins rest)
+
+pub faulty_tells : TellsWholly faulty_form faulty_form
+faulty_tells memory other held twins many same = form_read memory other held twins same
 
 -- forms are equal exactly if the memories and the places are
 pub faulty_forms : (memory other : Bool) (held twins : List (Option Bool))
     → (faulty_form memory held ≡ faulty_form other twins) ↔ AreAlike faulty_rules.pairs memory held other twins
 faulty_forms memory other held twins =
     let alike = equal_alike memory other held twins in (
-      (λ same. alike.0 (faulty_tells memory other held twins same)),
+      (λ same. alike.0 (form_read memory other held twins same)),
       (λ h. let same = alike.1 h in λ i. faulty_form (same.0 i) (same.1 i)),
     )
 
 -- so bytes that are equal are of forms that are
 pub faulty_decodes : DecodesForms faulty_rules faulty_form (λ bytes. bytes) faulty_form
-faulty_decodes memory other held twins range places e =
-    let same = faulty_tells other memory twins held e in (
+faulty_decodes memory other held twins range places many e =
+    let same = form_read other memory twins held e in (
       tt,
       subst (λ m. ArePlacesInRange faulty_rules m twins) (sym same.0)
           (subst (ArePlacesInRange faulty_rules memory) (sym same.1) places),

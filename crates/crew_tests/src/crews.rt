@@ -10,7 +10,7 @@ use std::alloc::Global;
 use std::process::Abort;
 use std::sync::Wait;
 use std::thread::Threads;
-use tree_machine::{Atomic, Machine};
+use tree_machine::{Atomic, Encode};
 
 /// The gate holds the first arrival in layer 1 until another worker has arrived at the other place, so a body that does
 /// all the work on one thread, or lets its workers work one after the other, is held to the limit, which the gate
@@ -55,22 +55,42 @@ struct Row {
     merge: Merge,
     line: Line,
     entries: usize,
+    /// Whether the labels of the machine can be decoded.
+    is_decoded: bool,
+}
+
+/// Whether all the work is in the first worker's share.
+fn is_alone(shares: &[Share]) -> bool {
+    let none = Share {
+        expanded: 0,
+        entered: 0,
+        met: 0,
+    };
+    match shares.get(1..) {
+        Some(others) => others.iter().all(|share| *share == none),
+        None => false,
+    }
 }
 
 impl Row {
-    /// The answer and the number of states. Each worker arrived as often as its share tells, if the exploration was not
-    /// stopped.
+    /// The answer and the number of states. If the exploration was not stopped, either each worker arrived as often as
+    /// its share says, or one thread explored anew, which it does where labels can't be decoded.
     fn compare(&self, rt: &impl Abort, workers: u8, gate: &Slow, told: &Told) {
         assert_eq!(rt; told.line, self.line);
         assert_eq!(rt; told.shares.len(), usize::from(workers));
-        if !matches!(self.line, Line::Stopped(_, _)) {
-            assert_eq!(rt; told.totals.entries, self.entries);
+        if matches!(self.line, Line::Stopped(_, _)) {
+            return;
+        }
+        assert_eq!(rt; told.totals.entries, self.entries);
+        if self.is_decoded {
             gate.arrivals.compare(rt, told);
+        } else {
+            assert!(rt; is_alone(told.shares.as_slice()));
         }
     }
 }
 
-fn try_row<M: Machine, R: Abort + Threads + Wait + Sync>(
+fn try_row<M: Encode, R: Abort + Threads + Wait + Sync>(
     rt: &R,
     alloc: Global,
     machine: M,
@@ -90,7 +110,7 @@ fn try_row<M: Machine, R: Abort + Threads + Wait + Sync>(
 }
 
 /// For 1, 2 and 8 workers.
-fn compare_all<M: Machine, R: Abort + Threads + Wait + Sync>(
+fn compare_all<M: Encode, R: Abort + Threads + Wait + Sync>(
     rt: &R,
     alloc: Global,
     machine: M,
@@ -116,6 +136,7 @@ fn compare_inserts<R: Abort + Threads + Wait + Sync>(
             merge,
             line: *line,
             entries: *entries,
+            is_decoded: true,
         };
         compare_all(rt, alloc, Atomic, row);
     }
@@ -149,7 +170,7 @@ fn the_number_of_workers_changes_no_answer_by_names(rt: HostRuntime) {
     compare_inserts(&rt, rt.alloc(), Merge::Names, rows.as_slice());
 }
 
-/// The workers can read no label of this machine, by either merge.
+/// No label of this machine can be decoded, by either merge.
 #[test]
 fn the_number_of_workers_changes_no_fault(rt: HostRuntime) {
     for (text, steps, limit, line, entries) in [
@@ -168,6 +189,7 @@ fn the_number_of_workers_changes_no_fault(rt: HostRuntime) {
                 merge,
                 line,
                 entries,
+                is_decoded: false,
             };
             compare_all(&rt, rt.alloc(), Faulty, row);
         }

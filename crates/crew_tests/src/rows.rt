@@ -8,7 +8,7 @@ use std::alloc::Global;
 use std::process::Abort;
 use std::sync::Wait;
 use std::thread::Threads;
-use tree_machine::{Atomic, Machine};
+use tree_machine::{Atomic, Encode};
 
 pub const INSERTS: &[u8] =
     b"{\"version\":1,\"tree\":\"atomic\",\"initial\":[],\"threads\":[[{\"op\":\"insert\",\"key\":1}],[{\"op\":\"insert\",\"key\":1}]]}";
@@ -52,7 +52,7 @@ impl Row {
     }
 }
 
-fn try_row<M: Machine, R: Abort + Threads + Wait + Sync>(
+fn try_row<M: Encode, R: Abort + Threads + Wait + Sync>(
     rt: &R,
     alloc: Global,
     machine: M,
@@ -70,7 +70,7 @@ fn try_row<M: Machine, R: Abort + Threads + Wait + Sync>(
 }
 
 /// Each row, by one worker.
-fn compare_rows<M: Machine, R: Abort + Threads + Wait + Sync>(
+fn compare_rows<M: Encode, R: Abort + Threads + Wait + Sync>(
     rt: &R,
     alloc: Global,
     machine: M,

@@ -6,7 +6,7 @@ use std::alloc::Global;
 use std::process::Abort;
 use std::sync::Wait;
 use std::thread::Threads;
-use tree_machine::Machine;
+use tree_machine::Encode;
 
 /// An answer with its numbers: none where every schedule holds, the steps that hold, the length of a fault, the limit
 /// and the steps.
@@ -75,7 +75,7 @@ pub fn program_of(
 }
 
 /// An exploration within bounds that are in range. The book is let go here, so that no test holds one.
-pub fn explored<M: Machine, G: Gate, R: Abort + Threads + Wait + Sync>(
+pub fn explored<M: Encode, G: Gate, R: Abort + Threads + Wait + Sync>(
     rt: &R,
     alloc: Global,
     machine: M,
@@ -102,7 +102,7 @@ pub fn explored<M: Machine, G: Gate, R: Abort + Threads + Wait + Sync>(
 }
 
 /// An exploration of the program of a text.
-pub fn told_of<M: Machine, G: Gate, R: Abort + Threads + Wait + Sync>(
+pub fn told_of<M: Encode, G: Gate, R: Abort + Threads + Wait + Sync>(
     rt: &R,
     alloc: Global,
     machine: M,

@@ -2,9 +2,8 @@
 use Rattle.std.proofs.Common.{◌≡◌, ℕ, suc, ◌+◌, ◌-◌, ◌<◌, ◌≤◌, List, [], ◌∷◌, ◌++◌, length, take, drop, get_or}
 use Rattle.std.proofs.Common.{ap, sym, ◌∙◌, subst, arith, add-one, drop-cons, length-drop}
 use Rattle.std.specs.Prelude.{Option, Some, None}
-use Rattle.std.specs.Option.{option_map}
 use Rattle.std.proofs.lemmas.List.{take_all, take-append-le}
-use Rattle.tree_machine.specs.Flat.{number_code, reference_number}
+use Rattle.tree_machine.specs.Flat.{number_code}
 use Rattle.tree_machine.specs.Laws.SmallCodes.{small_code}
 use Rattle.ellen.specs.declared.memory.UpdateWord.{UpdateWord}
 use Rattle.ellen.specs.declared.memory.UpdateWord.TheVariants as word
@@ -90,7 +89,3 @@ word_is u byte e = byte_is (word_number u) byte e (omega (arith, word_small u))
 
 pub above_is : (a : Option Above) (byte : ℕ) → byte ≡ above_number a → number_code (above_number a) ≡ byte ∷ []
 above_is a byte e = byte_is (above_number a) byte e (omega (arith, above_small a))
-
--- the number of a record behind so many nodes, or 0 for none
-abbrev pub named_by : ℕ → Option ℕ → ℕ
-named_by n x = reference_number (option_map (λ r. n + r) x)

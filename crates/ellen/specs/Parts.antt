@@ -1,8 +1,9 @@
 -- Nodes, records and what the threads hold as parts: their facts, and the nodes and the records that they name.
 use Rattle.std.specs.Prelude.{ℕ, suc, List, [], ◌∷◌, map, Option, Some, None}
 use Rattle.tree_machine.specs.Canonical.{canonical_code}
-use Rattle.tree_machine.specs.Flat.{flat, parts_code, graph_code}
-use Rattle.tree_machine.specs.Parts.{Part, Parts, no_part, parts_held}
+use Rattle.tree_machine.specs.Flat.{all_front, behind_code, front_code, parts_code}
+use Rattle.tree_machine.specs.Parts.{Part, Parts, no_part}
+use Rattle.tree_machine.specs.declared.front.Front.{Front}
 use Rattle.tree_machine.specs.declared.search_order.Side.{Side}
 use Rattle.tree_machine.specs.declared.search_order.Side.TheVariants as side
 use Rattle.ellen.specs.declared.memory.UpdateWord.{UpdateWord}
@@ -167,12 +168,12 @@ ellen_form memory held = canonical_code 1 (ellen_parts memory held)
 
 -- all of a memory and what the threads hold, by the numbers of nodes and records
 abbrev pub ellen_code : EllenMem → List (Option EllenLoc) → List ℕ
-ellen_code memory held = parts_code (ellen_parts memory held)
+ellen_code memory held = parts_code (all_front (ellen_parts memory held)) (ellen_parts memory held)
 
--- the memory alone, which stands first in that
-abbrev pub ellen_memory_code : EllenMem → List ℕ
-ellen_memory_code memory = graph_code (ellen_parts memory [])
+-- what stands in front, of the memory alone
+abbrev pub ellen_front_code : Front → EllenMem → List ℕ
+ellen_front_code front memory = front_code front (ellen_parts memory [])
 
--- what the threads hold, which stands behind it; records are counted behind the nodes
-abbrev pub ellen_held_code : EllenMem → List (Option EllenLoc) → List ℕ
-ellen_held_code memory held = flat (parts_held (ellen_parts memory held))
+-- what the threads hold, and what is left of the memory
+abbrev pub ellen_behind_code : Front → EllenMem → List (Option EllenLoc) → List ℕ
+ellen_behind_code front memory held = behind_code front (ellen_parts memory held)

@@ -1,7 +1,6 @@
 //! The step machine of Ellen, Fatourou, Ruppert and van Breugel's tree, and its variants.
 #![tactic(auto)]
 
-mod form;
 mod helping;
 mod initial;
 mod machine;

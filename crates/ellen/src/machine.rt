@@ -1,15 +1,18 @@
 //! The machine and its variants.
 
-use crate::form::{form, write_all, write_form, write_held};
 use crate::helping::{first_place, help_act};
 use crate::initial::build;
 use crate::memory::{EllenMem, key_in};
+use crate::memory_view::MemoryView;
 use crate::place::{EllenLoc, HelpLoc, SearchLoc};
-use crate::reading::{read_behind, read_few};
+use crate::reading::{read_all, read_behind};
 use crate::searching::search_act;
 use sched_program::{Op, OutOfMemory};
 use std::alloc::Global;
-use tree_machine::{Bytes, Machine, Outcome, Room, Thread, keeps_search_order};
+use tree_machine::{
+    Bytes, Encode, EncodeBuffer, Front, Machine, Naming, Outcome, Thread, form_parts,
+    keeps_search_order, write_parts, write_parts_behind,
+};
 
 /// The machine of Ellen, Fatourou, Ruppert and van Breugel (Non-blocking binary search trees, PODC 2010), whole where
 /// both are true. Where one is false, that step is left out.
@@ -22,14 +25,12 @@ pub struct Ellen {
 }
 
 impl Machine for Ellen {
-    ghost use Rattle.ellen.specs.EllenRules.{ellen_rules};
-    ghost use Rattle.ellen.specs.Laws.Rules.{ellen_lawful};
-    ghost use Rattle.ellen.specs.Laws.Forms.{ellen_forms};
-    ghost use Rattle.ellen.specs.Laws.Decoded.{ellen_decodes};
     ghost use Rattle.sched_program.specs.Laws.Exact.{nat_exact, list_exact};
-    ghost use Rattle.ellen.specs.Laws.Codes.{ellen_tells, ellen_parted};
+    ghost use Rattle.ellen.specs.EllenRules.{ellen_rules};
     ghost use Rattle.ellen.specs.Laws.Exact.{machine_exact, memory_exact, place_exact};
-    ghost use Rattle.ellen.specs.Parts.{ellen_code, ellen_form, ellen_memory_code, ellen_held_code};
+    ghost use Rattle.ellen.specs.Laws.Forms.{ellen_forms};
+    ghost use Rattle.ellen.specs.Laws.Rules.{ellen_lawful};
+    ghost use Rattle.ellen.specs.Parts.{ellen_form};
 
     type Mem = EllenMem;
 
@@ -41,26 +42,8 @@ impl Machine for Ellen {
 
     ghost form_of = { λ _. ellen_form };
 
-    ghost form_code = { λ bytes. bytes };
-
-    ghost whole_code = { ellen_code };
-
-    ghost memory_code = { ellen_memory_code };
-
-    ghost held_code = { ellen_held_code };
-
     fn copy_mem(&self, alloc: Global, mem: &EllenMem) -> Result<EllenMem, OutOfMemory> {
         mem.copy(alloc)
-    }
-
-    #[inline(always)]
-    fn copy_mem_into(
-        &self,
-        alloc: Global,
-        mem: &EllenMem,
-        copy: &mut EllenMem,
-    ) -> Result<(), OutOfMemory> {
-        mem.copy_into(alloc, copy)
     }
 
     fn copy_loc(&self, alloc: Global, loc: &EllenLoc) -> Result<EllenLoc, OutOfMemory> {
@@ -88,24 +71,6 @@ impl Machine for Ellen {
         }
     }
 
-    #[inline(always)]
-    fn only_reads(&self, loc: &EllenLoc) -> bool {
-        match loc {
-            EllenLoc::Search(at) => {
-                matches!(at, SearchLoc::Update { .. } | SearchLoc::Child { .. })
-            }
-            EllenLoc::Help(at, _) => matches!(at, HelpLoc::Right(_) | HelpLoc::Other { .. }),
-        }
-    }
-
-    #[inline(always)]
-    fn keeps_order(&self, loc: &EllenLoc) -> bool {
-        match loc {
-            EllenLoc::Search(at) => !matches!(at, SearchLoc::InsOnly { .. }),
-            EllenLoc::Help(at, _) => !matches!(at, HelpLoc::InsChild(_) | HelpLoc::Splice { .. }),
-        }
-    }
-
     fn ordered(&self, mem: &EllenMem) -> bool {
         keeps_search_order(mem)
     }
@@ -116,72 +81,16 @@ impl Machine for Ellen {
         mem: &EllenMem,
         threads: &[Thread<EllenLoc>],
     ) -> Result<Bytes, OutOfMemory> {
-        form(alloc, mem, threads)
-    }
-
-    fn write_form(
-        &self,
-        alloc: Global,
-        mem: &EllenMem,
-        threads: &[Thread<EllenLoc>],
-        room: &mut Room,
-    ) -> Result<(), OutOfMemory> {
-        write_form(alloc, mem, threads, room)
-    }
-
-    fn write_whole(
-        &self,
-        alloc: Global,
-        mem: &EllenMem,
-        threads: &[Thread<EllenLoc>],
-        room: &mut Room,
-    ) -> Result<(), OutOfMemory> {
-        write_all(alloc, mem, threads, room)
-    }
-
-    fn write_held(
-        &self,
-        alloc: Global,
-        mem: &EllenMem,
-        threads: &[Thread<EllenLoc>],
-        room: &mut Room,
-    ) -> Result<(), OutOfMemory> {
-        write_held(alloc, mem, threads, room)
-    }
-
-    #[inline(always)]
-    fn read_whole(
-        &self,
-        alloc: Global,
-        bytes: &[u8],
-        mem: &mut EllenMem,
-        threads: &mut [Thread<EllenLoc>],
-    ) -> Result<Option<usize>, OutOfMemory> {
-        read_few(alloc, bytes, mem, threads)
-    }
-
-    #[inline(always)]
-    fn read_held(
-        &self,
-        alloc: Global,
-        bytes: &[u8],
-        mem: &EllenMem,
-        threads: &mut [Thread<EllenLoc>],
-    ) -> Result<bool, OutOfMemory> {
-        read_behind(alloc, bytes, mem, threads)
+        let view = MemoryView {
+            memory: mem,
+            threads,
+        };
+        form_parts(alloc, 1, &view)
     }
 
     ghost lawful = { ellen_lawful };
 
     ghost forms = { ellen_forms };
-
-    ghost decodes = { ellen_decodes };
-
-    ghost form_tells = { λ a b same. same };
-
-    ghost parted = { ellen_parted };
-
-    ghost tells = { ellen_tells };
 
     ghost exact = { machine_exact };
 
@@ -190,4 +99,98 @@ impl Machine for Ellen {
     ghost place_exact = { place_exact };
 
     ghost form_exact = { list_exact nat_exact };
+}
+
+impl Encode for Ellen {
+    ghost use Rattle.ellen.specs.Laws.Codes.{ellen_tells, ellen_whole};
+    ghost use Rattle.ellen.specs.Laws.Decoded.{ellen_decodes};
+    ghost use Rattle.ellen.specs.Parts.{ellen_behind_code, ellen_code, ellen_front_code};
+
+    ghost form_code = { λ bytes. bytes };
+
+    ghost whole_code = { ellen_code };
+
+    ghost front_code = { ellen_front_code };
+
+    ghost behind_code = { ellen_behind_code };
+
+    #[inline(always)]
+    fn copy_mem_into(
+        &self,
+        alloc: Global,
+        mem: &EllenMem,
+        copy: &mut EllenMem,
+    ) -> Result<(), OutOfMemory> {
+        mem.copy_into(alloc, copy)
+    }
+
+    #[inline(always)]
+    fn only_reads(&self, loc: &EllenLoc) -> bool {
+        match loc {
+            EllenLoc::Search(at) => {
+                matches!(at, SearchLoc::Update { .. } | SearchLoc::Child { .. })
+            }
+            EllenLoc::Help(at, _) => matches!(at, HelpLoc::Right(_) | HelpLoc::Other { .. }),
+        }
+    }
+
+    fn write_code(
+        &self,
+        alloc: Global,
+        naming: Naming,
+        mem: &EllenMem,
+        threads: &[Thread<EllenLoc>],
+        buffer: &mut EncodeBuffer,
+    ) -> Result<(), OutOfMemory> {
+        let view = MemoryView {
+            memory: mem,
+            threads,
+        };
+        write_parts(alloc, naming, 1, &view, buffer)
+    }
+
+    fn write_behind(
+        &self,
+        alloc: Global,
+        naming: Naming,
+        front: Front,
+        mem: &EllenMem,
+        threads: &[Thread<EllenLoc>],
+        buffer: &mut EncodeBuffer,
+    ) -> Result<(), OutOfMemory> {
+        let view = MemoryView {
+            memory: mem,
+            threads,
+        };
+        write_parts_behind(alloc, naming, 1, front, &view, buffer)
+    }
+
+    fn read_whole(
+        &self,
+        alloc: Global,
+        bytes: &[u8],
+        mem: &mut EllenMem,
+        threads: &mut [Thread<EllenLoc>],
+    ) -> Result<Option<(usize, Front)>, OutOfMemory> {
+        read_all(alloc, bytes, mem, threads)
+    }
+
+    fn read_behind(
+        &self,
+        alloc: Global,
+        bytes: &[u8],
+        front: Front,
+        mem: &mut EllenMem,
+        threads: &mut [Thread<EllenLoc>],
+    ) -> Result<bool, OutOfMemory> {
+        read_behind(alloc, bytes, front, mem, threads)
+    }
+
+    ghost decodes = { ellen_decodes };
+
+    ghost form_tells = { λ a b same. same };
+
+    ghost tells = { ellen_tells };
+
+    ghost whole = { ellen_whole };
 }

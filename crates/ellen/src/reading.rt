@@ -1,7 +1,8 @@
-//! A memory and the places that threads hold, read back from their bytes where each number is one byte.
+//! A memory and the places that threads hold, read back from their code where each number is one byte.
 ghost use Rattle.std.specs.Prelude.{◌≡◌, ◌≤◌, length, take, IfOk, IfSome, IsTrue};
 ghost use Rattle.tree_machine.specs.Alike.{places_of, replies_of, notes_of};
-ghost use Rattle.ellen.specs.Parts.{ellen_code, ellen_held_code, ellen_memory_code};
+ghost use Rattle.tree_machine.specs.FormCode.{cut_code};
+ghost use Rattle.ellen.specs.Parts.{ellen_behind_code, ellen_front_code};
 
 mod graph;
 mod held;
@@ -11,55 +12,78 @@ mod words;
 
 use crate::memory::EllenMem;
 use crate::place::EllenLoc;
-use crate::reading::graph::read_memory;
+use crate::reading::graph::{read_graph, read_left};
 use crate::reading::held::read_each;
-use sched_program::OutOfMemory;
+use sched_program::{OutOfMemory, Sequence};
 use std::alloc::Global;
-use tree_machine::Thread;
+use std::mem::replace;
+use tree_machine::{Front, Thread};
 
-/// Reads a memory, and the place that each thread holds, in the room that these have as far as that is enough. It returns
-/// how many of the bytes are those of the memory. It answers none where bytes are left over or missing, or a number takes
-/// more than one byte.
-#[inline(always)]
-pub(crate) fn read_few(
+/// Reads the place that each thread holds, and what is left of the memory behind a front, which stays.
+pub(crate) fn read_behind(
+    alloc: Global,
+    bytes: &[u8],
+    front: Front,
+    memory: &mut EllenMem,
+    threads: &mut [Thread<EllenLoc>],
+) -> Result<bool, OutOfMemory>
+    ensures read { IfOk result (λ read. IsTrue read
+        → bytes.now ≡ ellen_behind_code front memory.new (places_of threads.new)) }
+    ensures front { IfOk result (λ read. IsTrue read
+        → ellen_front_code front memory.new ≡ ellen_front_code front memory.old) }
+    ensures replies { replies_of threads.new ≡ replies_of threads.old }
+    ensures notes { notes_of threads.new ≡ notes_of threads.old }
+{
+    let Some(rest) = read_each(alloc, bytes, threads)? else {
+        return Ok(false);
+    };
+    let mut nodes = replace(&mut memory.nodes, Sequence::new(alloc)).into_vec();
+    let mut records = replace(&mut memory.records, Sequence::new(alloc)).into_vec();
+    if nodes.len() < usize::from(front.nodes) || records.len() < usize::from(front.records) {
+        return Ok(false);
+    }
+    nodes.truncate(usize::from(front.nodes));
+    records.truncate(usize::from(front.records));
+    let read = read_left(rest, &mut nodes, &mut records);
+    memory.nodes = Sequence::from_vec(nodes);
+    memory.records = Sequence::from_vec(records);
+    read
+}
+
+/// Reads a memory, and the place that each thread holds, into these, and uses their buffers as far as they are large
+/// enough. It returns the length of what stands in front, and the front, if the bytes are the code of what it read.
+/// Otherwise the memory and the places are of no use.
+pub(crate) fn read_all(
     alloc: Global,
     bytes: &[u8],
     memory: &mut EllenMem,
     threads: &mut [Thread<EllenLoc>],
-) -> Result<Option<usize>, OutOfMemory>
-    ensures read { IfOk result (λ read. IfSome read
-        (λ front. bytes.now ≡ ellen_code memory.new (places_of threads.new))) }
-    ensures within { IfOk result (λ read. IfSome read (λ front. front ≤ length bytes.now)) }
-    ensures memory { IfOk result (λ read. IfSome read (λ front. take front bytes.now ≡ ellen_memory_code memory.new)) }
+) -> Result<Option<(usize, Front)>, OutOfMemory>
+    ensures read { IfOk result (λ read. IfSome read (λ (end, front).
+        bytes.now ≡ cut_code ellen_front_code ellen_behind_code front memory.new (places_of threads.new))) }
+    ensures within { IfOk result (λ read. IfSome read (λ (end, front). end ≤ length bytes.now)) }
+    ensures front { IfOk result (λ read. IfSome read
+        (λ (end, front). take end bytes.now ≡ ellen_front_code front memory.new)) }
     ensures replies { replies_of threads.new ≡ replies_of threads.old }
     ensures notes { notes_of threads.new ≡ notes_of threads.old }
 {
-    let Some((nodes, rest)) = read_memory(alloc, bytes, memory)? else {
+    let mut nodes = replace(&mut memory.nodes, Sequence::new(alloc)).into_vec();
+    let mut records = replace(&mut memory.records, Sequence::new(alloc)).into_vec();
+    nodes.clear();
+    records.clear();
+    let read = read_graph(bytes, &mut nodes, &mut records);
+    memory.nodes = Sequence::from_vec(nodes);
+    memory.records = Sequence::from_vec(records);
+    let Some((rest, node_count, record_count)) = read? else {
         return Ok(None);
     };
-    if read_each(alloc, rest, nodes, threads)? {
-        Ok(Some(bytes.len() - rest.len()))
+    let front = Front {
+        nodes: u16::from(node_count),
+        records: u16::from(record_count),
+    };
+    if read_behind(alloc, rest, front, memory, threads)? {
+        Ok(Some((bytes.len() - rest.len(), front)))
     } else {
         Ok(None)
-    }
-}
-
-/// Reads the place that each thread holds from the bytes behind those of a memory, in the room that these have as far as
-/// that is enough. It answers no where bytes are left over or missing, or a number takes more than one byte.
-#[inline(always)]
-pub(crate) fn read_behind(
-    alloc: Global,
-    bytes: &[u8],
-    memory: &EllenMem,
-    threads: &mut [Thread<EllenLoc>],
-) -> Result<bool, OutOfMemory>
-    ensures read { IfOk result (λ read. IsTrue read
-        → bytes.now ≡ ellen_held_code memory.now (places_of threads.new)) }
-    ensures replies { replies_of threads.new ≡ replies_of threads.old }
-    ensures notes { notes_of threads.new ≡ notes_of threads.old }
-{
-    match u8::try_from(memory.nodes.len()) {
-        Ok(nodes) => read_each(alloc, bytes, nodes, threads),
-        Err(_) => Ok(false),
     }
 }

@@ -7,7 +7,7 @@ use ellen::Ellen;
 use natmit::NatMit;
 use sched_program::{OutOfMemory, Program, ProgramFault, Tree};
 use std::sync::atomic::{AtomicU64, Ordering};
-use tree_machine::{Atomic, Machine};
+use tree_machine::{Atomic, Encode};
 use treesched_lib::put_report;
 
 /// Whether each number of held workers tells what is known of the exploration, and each worker expanded as many entries
@@ -58,7 +58,7 @@ fn explore_on_its_tree<R: Runtime>(
     }
 }
 
-fn explore_on<R: Runtime, M: Machine>(
+fn explore_on<R: Runtime, M: Encode>(
     rt: &R,
     machine: M,
     program: &Program,
@@ -79,9 +79,9 @@ fn explore_on<R: Runtime, M: Machine>(
     tells(rt, &report, &gate, exploration, workers)
 }
 
-/// Whether the lines of the report tell what is known of the exploration, and the shares agree with the gate, unless the
-/// limit stopped it.
-fn tells<R: Runtime, M: Machine>(
+/// Whether the lines of the report tell what is known of the exploration, and the shares agree with the gate, unless
+/// the limit stopped it.
+fn tells<R: Runtime, M: Encode>(
     rt: &R,
     report: &Report<M>,
     gate: &Slow,

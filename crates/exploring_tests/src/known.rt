@@ -103,7 +103,7 @@ enum Schedules {
     Fault(&'static str),
 }
 
-/// A program, how many steps are explored, what is known of its schedules, and how many states they reach, and by names.
+/// A program, the bound on steps, what is known of its schedules, and the counts of states: exact and by names.
 pub struct Known(&'static [u8], u16, Schedules, u32, u32);
 
 impl Known {
@@ -380,7 +380,8 @@ impl Stops {
     }
 }
 
-/// All limits below the number of states for two programs, and for one the last, at which the layer of its fault is full.
+/// All limits below the number of states for two programs, and for one the last, at which the layer of its fault is
+/// full.
 pub static STOPS: [Stops; 14] = [
     Stops(TWO_INSERTS, 2, Merge::Exact, 1, 2, 0),
     Stops(TWO_INSERTS, 2, Merge::Exact, 3, 4, 1),

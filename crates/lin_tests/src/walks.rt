@@ -9,7 +9,7 @@ use ellen::Ellen;
 use natmit::NatMit;
 use sched_program::{History, OutOfMemory, Program, ShortList, Tree};
 use std::alloc::Global;
-use tree_machine::{Bytes, Machine, Room, State, StepFault};
+use tree_machine::{Bytes, Encode, EncodeBuffer, Machine, Naming, State, StepFault};
 
 const ELLEN: Ellen = Ellen {
     mark: true,
@@ -103,7 +103,7 @@ fn state_after<M: Machine>(
 }
 
 /// All of a state in bytes.
-fn code_of<M: Machine>(
+fn code_of<M: Encode>(
     alloc: Global,
     machine: M,
     program: &Program,
@@ -113,7 +113,8 @@ fn code_of<M: Machine>(
 {
     // Whoever reads a program knows that it meets the limits.
     let _ = program.initial();
-    state.code_in(alloc, machine, &mut Room::new(alloc), Vec::new(alloc))
+    let mut buffer = EncodeBuffer::new(alloc);
+    state.label(alloc, machine, Naming::Own, &mut buffer, Vec::new(alloc))
 }
 
 /// An end in a box: whoever lets it go makes one call, and not one for each of its lists.
@@ -134,7 +135,7 @@ fn boxed(
 }
 
 /// Where a schedule ends, which led to this state.
-fn end_at<M: Machine>(
+fn end_at<M: Encode>(
     alloc: Global,
     machine: M,
     program: &Program,
@@ -149,7 +150,7 @@ fn end_at<M: Machine>(
 }
 
 /// Where a schedule ends on a machine.
-fn end_on<M: Machine>(
+fn end_on<M: Encode>(
     alloc: Global,
     machine: M,
     program: &Program,

@@ -1,4 +1,5 @@
-//! Tests of programs, states and machines: of `sched_program`, `tree_machine`, `ellen` and `natmit`, by their public calls.
+//! Tests of programs, states and machines: of `sched_program`, `tree_machine`, `ellen` and `natmit`, by their public
+//! calls.
 #![tactic(auto)]
 
 #[cfg(test)]

@@ -4,12 +4,13 @@
 
 mod atomic;
 mod broken;
-pub mod by_names;
 mod bytes;
 mod cells;
 mod copied;
 mod crowded;
 mod forms;
+mod held_alone;
+pub mod labels;
 mod lists;
 mod parts;
 mod ranges;

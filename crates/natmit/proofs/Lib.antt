@@ -1,5 +1,4 @@
-pub mod HeldBytes
-pub mod NodeBytes
 pub mod PlaceBytes
 pub mod Present
 pub mod ReadBytes
+pub mod ReadParts

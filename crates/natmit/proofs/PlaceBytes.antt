@@ -4,7 +4,7 @@ use Rattle.std.proofs.Common.{arith}
 use Rattle.std.specs.Prelude.{zero, suc, nat_eq, Option, Some, slice_index_or}
 use Rattle.std.proofs.lemmas.List.{take_all}
 use Rattle.tree_machine.specs.Flat.{number_code, reference_number, cell_code}
-use Rattle.tree_machine.specs.Parts.{part_cell}
+use Rattle.tree_machine.specs.Flat.{part_content}
 use Rattle.natmit.specs.declared.place.Mode.{Mode}
 use Rattle.natmit.specs.declared.place.NatMitLoc.{NatMitLoc}
 use Rattle.natmit.specs.declared.place.NatMitLoc.TheVariants.{Down}
@@ -49,15 +49,15 @@ pub four_read : (place : NatMitLoc) (kind a s p : ℕ) (last : Option ℕ) (byte
     → number_code (reference_number (Some s)) ≡ slice_index_or bytes 2 0 ∷ []
     → number_code (reference_number (Some p)) ≡ slice_index_or bytes 3 0 ∷ []
     → number_code (reference_number last) ≡ slice_index_or bytes 4 0 ∷ []
-    → 141 ∷ bytes ≡ cell_code (part_cell 0 (place_part place)) ++ behind 5 bytes
+    → 141 ∷ bytes ≡ cell_code (part_content (place_part place)) ++ behind 5 bytes
 four_read place kind a s p last bytes part enough e0 e1 e2 e3 e4 =
-    let coded : cell_code (part_cell 0 (part_of (kind ∷ []) (Some a ∷ Some s ∷ Some p ∷ last ∷ [])))
+    let coded : cell_code (part_content (part_of (kind ∷ []) (Some a ∷ Some s ∷ Some p ∷ last ∷ [])))
     ≡ 141 ∷ slice_index_or bytes 0 0 ∷ slice_index_or bytes 1 0 ∷ slice_index_or bytes 2 0 ∷ slice_index_or bytes 3 0
     ∷ slice_index_or bytes 4 0 ∷ [] =
     λ i. 141 ∷ ((e0 i ++ []) ++ (e1 i ++ (e2 i ++ (e3 i ++ (e4 i ++ []))))) in
     ap (λ l. 141 ∷ l) (five_first bytes enough)
     ∙ ap (λ l. l ++ behind 5 bytes) (sym coded)
-    ∙ ap (λ q. cell_code (part_cell 0 q) ++ behind 5 bytes) (sym part)
+    ∙ ap (λ q. cell_code (part_content q) ++ behind 5 bytes) (sym part)
 
 -- a place that holds one fact and four references, which with its kind are one byte each
 pub told_read : (place : NatMitLoc) (kind fact a s x : ℕ) (last : Option ℕ) (bytes : List ℕ)
@@ -68,15 +68,15 @@ pub told_read : (place : NatMitLoc) (kind fact a s x : ℕ) (last : Option ℕ) 
     → number_code (reference_number (Some s)) ≡ slice_index_or bytes 3 0 ∷ []
     → number_code (reference_number (Some x)) ≡ slice_index_or bytes 4 0 ∷ []
     → number_code (reference_number last) ≡ slice_index_or bytes 5 0 ∷ []
-    → 142 ∷ bytes ≡ cell_code (part_cell 0 (place_part place)) ++ behind 6 bytes
+    → 142 ∷ bytes ≡ cell_code (part_content (place_part place)) ++ behind 6 bytes
 told_read place kind fact a s x last bytes part enough e0 e1 e2 e3 e4 e5 =
-    let coded : cell_code (part_cell 0 (part_of (kind ∷ fact ∷ []) (Some a ∷ Some s ∷ Some x ∷ last ∷ [])))
+    let coded : cell_code (part_content (part_of (kind ∷ fact ∷ []) (Some a ∷ Some s ∷ Some x ∷ last ∷ [])))
     ≡ 142 ∷ slice_index_or bytes 0 0 ∷ slice_index_or bytes 1 0 ∷ slice_index_or bytes 2 0 ∷ slice_index_or bytes 3 0
     ∷ slice_index_or bytes 4 0 ∷ slice_index_or bytes 5 0 ∷ [] =
     λ i. 142 ∷ ((e0 i ++ (e1 i ++ [])) ++ (e2 i ++ (e3 i ++ (e4 i ++ (e5 i ++ []))))) in
     ap (λ l. 142 ∷ l) (six_first bytes enough)
     ∙ ap (λ l. l ++ behind 6 bytes) (sym coded)
-    ∙ ap (λ q. cell_code (part_cell 0 q) ++ behind 6 bytes) (sym part)
+    ∙ ap (λ q. cell_code (part_content q) ++ behind 6 bytes) (sym part)
 
 -- a place from which a search goes down
 pub down_read : (a s p l : ℕ) (mode : Mode) (bytes : List ℕ) → 7 ≤ length bytes
@@ -87,11 +87,11 @@ pub down_read : (a s p l : ℕ) (mode : Mode) (bytes : List ℕ) → 7 ≤ lengt
     → number_code (reference_number (Some p)) ≡ slice_index_or bytes 4 0 ∷ []
     → number_code (reference_number (Some l)) ≡ slice_index_or bytes 5 0 ∷ []
     → number_code (reference_number (owned mode)) ≡ slice_index_or bytes 6 0 ∷ []
-    → 177 ∷ bytes ≡ cell_code (part_cell 0 (place_part (Down a s p l (nat_eq (slice_index_or bytes 1 0) 1) mode)))
+    → 177 ∷ bytes ≡ cell_code (part_content (place_part (Down a s p l (nat_eq (slice_index_or bytes 1 0) 1) mode)))
     ++ behind 7 bytes
 down_read a s p l mode bytes enough kind told e2 e3 e4 e5 e6 =
     let e1 = bit_coded (slice_index_or bytes 1 0) told in
-    let coded : cell_code (part_cell 0 (place_part (Down a s p l (nat_eq (slice_index_or bytes 1 0) 1) mode)))
+    let coded : cell_code (part_content (place_part (Down a s p l (nat_eq (slice_index_or bytes 1 0) 1) mode)))
     ≡ 177 ∷ slice_index_or bytes 0 0 ∷ slice_index_or bytes 1 0 ∷ slice_index_or bytes 2 0 ∷ slice_index_or bytes 3 0
     ∷ slice_index_or bytes 4 0 ∷ slice_index_or bytes 5 0 ∷ slice_index_or bytes 6 0 ∷ [] =
     λ i. 177 ∷ kind i ∷ ((e1 i ++ []) ++ (e2 i ++ (e3 i ++ (e4 i ++ (e5 i ++ (e6 i ++ [])))))) in

@@ -5,7 +5,6 @@ pub mod Decoded
 pub mod Exact
 pub mod Forms
 pub mod Initial
-pub mod Order
 pub mod Pairs
 pub mod PairedAccesses
 pub mod PairedAppends

@@ -3,8 +3,9 @@ use Rattle.std.specs.Prelude.{ℕ, ◌+◌, ◌*◌, Bool, if◌then◌else◌, 
 use Rattle.tree_machine.specs.declared.search_order.Side.{Side}
 use Rattle.tree_machine.specs.declared.search_order.Side.TheVariants.{Left, Right}
 use Rattle.tree_machine.specs.Canonical.{canonical_code}
-use Rattle.tree_machine.specs.Flat.{flat, graph_code, parts_code}
-use Rattle.tree_machine.specs.Parts.{Part, Parts, parts_held}
+use Rattle.tree_machine.specs.Flat.{all_front, behind_code, front_code, parts_code}
+use Rattle.tree_machine.specs.Parts.{Part, Parts}
+use Rattle.tree_machine.specs.declared.front.Front.{Front}
 use Rattle.natmit.specs.declared.memory.Word.{Word}
 use Rattle.natmit.specs.declared.memory.Node.{Node}
 use Rattle.natmit.specs.declared.memory.Node.TheVariants.{Leaf, Internal}
@@ -68,12 +69,12 @@ natmit_form memory held = canonical_code 2 (natmit_parts memory held)
 
 -- all of a memory and what the threads hold, by the numbers of the nodes
 abbrev pub natmit_code : NatMitMem → List (Option NatMitLoc) → List ℕ
-natmit_code memory held = parts_code (natmit_parts memory held)
+natmit_code memory held = parts_code (all_front (natmit_parts memory held)) (natmit_parts memory held)
 
--- the memory alone, which stands first in that
-abbrev pub natmit_memory_code : NatMitMem → List ℕ
-natmit_memory_code memory = graph_code (natmit_parts memory [])
+-- what stands in front, of the memory alone
+abbrev pub natmit_front_code : Front → NatMitMem → List ℕ
+natmit_front_code front memory = front_code front (natmit_parts memory [])
 
--- what the threads hold, which stands behind it
-abbrev pub natmit_held_code : NatMitMem → List (Option NatMitLoc) → List ℕ
-natmit_held_code memory held = flat (parts_held (natmit_parts memory held))
+-- what the threads hold, and what is left of the memory
+abbrev pub natmit_behind_code : Front → NatMitMem → List (Option NatMitLoc) → List ℕ
+natmit_behind_code front memory held = behind_code front (natmit_parts memory held)

@@ -1,23 +1,23 @@
 //! The machine and its variant.
 ghost use Rattle.sched_program.specs.Laws.Exact.{nat_exact, list_exact};
-ghost use Rattle.natmit.specs.Laws.Codes.{natmit_tells, natmit_parted};
+ghost use Rattle.natmit.specs.Laws.Codes.{natmit_tells, natmit_whole};
 ghost use Rattle.natmit.specs.Laws.Decoded.{natmit_decodes};
 ghost use Rattle.natmit.specs.Laws.Exact.{machine_exact, memory_exact, place_exact};
 ghost use Rattle.natmit.specs.Laws.Forms.{natmit_forms};
 ghost use Rattle.natmit.specs.Laws.Rules.{natmit_lawful};
 ghost use Rattle.natmit.specs.NatMitRules.{natmit_rules};
-ghost use Rattle.natmit.specs.Parts.{natmit_code, natmit_form, natmit_memory_code, natmit_held_code};
+ghost use Rattle.natmit.specs.Parts.{natmit_behind_code, natmit_code, natmit_form, natmit_front_code};
 
 use crate::initial::build;
 use crate::memory::{NatMitMem, key_in};
 use crate::memory_view::MemoryView;
 use crate::place::{Mode, NatMitLoc};
-use crate::reading::{read_few, read_places};
+use crate::reading::{read_all, read_behind};
 use sched_program::{Op, OutOfMemory};
 use std::alloc::Global;
 use tree_machine::{
-    Bytes, Machine, Outcome, Room, Thread, form_parts, keeps_search_order, write_canonical,
-    write_held_whole, write_whole,
+    Bytes, Encode, EncodeBuffer, Front, Machine, Naming, Outcome, Thread, form_parts,
+    keeps_search_order, write_parts, write_parts_behind,
 };
 
 /// The machine of Natarajan and Mittal (PPoPP 2014), whole where `tag` is true.
@@ -38,26 +38,8 @@ impl Machine for NatMit {
 
     ghost form_of = { λ _. natmit_form };
 
-    ghost form_code = { λ bytes. bytes };
-
-    ghost whole_code = { natmit_code };
-
-    ghost memory_code = { natmit_memory_code };
-
-    ghost held_code = { natmit_held_code };
-
     fn copy_mem(&self, alloc: Global, mem: &NatMitMem) -> Result<NatMitMem, OutOfMemory> {
         mem.copy(alloc)
-    }
-
-    #[inline(always)]
-    fn copy_mem_into(
-        &self,
-        alloc: Global,
-        mem: &NatMitMem,
-        copy: &mut NatMitMem,
-    ) -> Result<(), OutOfMemory> {
-        mem.copy_into(alloc, copy)
     }
 
     fn copy_loc(&self, _alloc: Global, loc: &NatMitLoc) -> Result<NatMitLoc, OutOfMemory> {
@@ -82,24 +64,6 @@ impl Machine for NatMit {
         self.access(alloc, op, *loc, mem)
     }
 
-    #[inline(always)]
-    fn only_reads(&self, loc: &NatMitLoc) -> bool {
-        matches!(
-            loc,
-            NatMitLoc::Begin { .. }
-                | NatMitLoc::Down { .. }
-                | NatMitLoc::Look { .. }
-                | NatMitLoc::CleanRead { .. }
-                | NatMitLoc::Sibling { .. }
-        )
-    }
-
-    #[inline(always)]
-    #[tactic(auto, using(crate::specs::Laws::Order::act_ordered))]
-    fn keeps_order(&self, loc: &NatMitLoc) -> bool {
-        !matches!(loc, NatMitLoc::Put { .. } | NatMitLoc::Swing { .. })
-    }
-
     fn ordered(&self, mem: &NatMitMem) -> bool {
         keeps_search_order(mem)
     }
@@ -114,67 +78,9 @@ impl Machine for NatMit {
         form_parts(alloc, 2, &MemoryView { mem, threads })
     }
 
-    fn write_form(
-        &self,
-        alloc: Global,
-        mem: &NatMitMem,
-        threads: &[Thread<NatMitLoc>],
-        room: &mut Room,
-    ) -> Result<(), OutOfMemory> {
-        write_canonical(alloc, 2, &MemoryView { mem, threads }, room)
-    }
-
-    fn write_whole(
-        &self,
-        alloc: Global,
-        mem: &NatMitMem,
-        threads: &[Thread<NatMitLoc>],
-        room: &mut Room,
-    ) -> Result<(), OutOfMemory> {
-        write_whole(alloc, &MemoryView { mem, threads }, room)
-    }
-
-    fn write_held(
-        &self,
-        alloc: Global,
-        mem: &NatMitMem,
-        threads: &[Thread<NatMitLoc>],
-        room: &mut Room,
-    ) -> Result<(), OutOfMemory> {
-        write_held_whole(alloc, &MemoryView { mem, threads }, room)
-    }
-
-    fn read_whole(
-        &self,
-        alloc: Global,
-        bytes: &[u8],
-        mem: &mut NatMitMem,
-        threads: &mut [Thread<NatMitLoc>],
-    ) -> Result<Option<usize>, OutOfMemory> {
-        read_few(alloc, bytes, mem, threads)
-    }
-
-    fn read_held(
-        &self,
-        _alloc: Global,
-        bytes: &[u8],
-        _mem: &NatMitMem,
-        threads: &mut [Thread<NatMitLoc>],
-    ) -> Result<bool, OutOfMemory> {
-        Ok(read_places(bytes, threads))
-    }
-
     ghost lawful = { natmit_lawful };
 
     ghost forms = { natmit_forms };
-
-    ghost decodes = { natmit_decodes };
-
-    ghost form_tells = { λ a b same. same };
-
-    ghost parted = { natmit_parted };
-
-    ghost tells = { natmit_tells };
 
     ghost exact = { machine_exact };
 
@@ -183,4 +89,95 @@ impl Machine for NatMit {
     ghost place_exact = { place_exact };
 
     ghost form_exact = { list_exact nat_exact };
+}
+
+impl Encode for NatMit {
+    ghost form_code = { λ bytes. bytes };
+
+    ghost whole_code = { natmit_code };
+
+    ghost front_code = { natmit_front_code };
+
+    ghost behind_code = { natmit_behind_code };
+
+    #[inline(always)]
+    fn copy_mem_into(
+        &self,
+        alloc: Global,
+        mem: &NatMitMem,
+        copy: &mut NatMitMem,
+    ) -> Result<(), OutOfMemory> {
+        mem.copy_into(alloc, copy)
+    }
+
+    #[inline(always)]
+    fn only_reads(&self, loc: &NatMitLoc) -> bool {
+        matches!(
+            loc,
+            NatMitLoc::Begin { .. }
+                | NatMitLoc::Down { .. }
+                | NatMitLoc::Look { .. }
+                | NatMitLoc::CleanRead { .. }
+                | NatMitLoc::Sibling { .. }
+        )
+    }
+
+    fn write_code(
+        &self,
+        alloc: Global,
+        naming: Naming,
+        mem: &NatMitMem,
+        threads: &[Thread<NatMitLoc>],
+        buffer: &mut EncodeBuffer,
+    ) -> Result<(), OutOfMemory> {
+        write_parts(alloc, naming, 2, &MemoryView { mem, threads }, buffer)
+    }
+
+    fn write_behind(
+        &self,
+        alloc: Global,
+        naming: Naming,
+        front: Front,
+        mem: &NatMitMem,
+        threads: &[Thread<NatMitLoc>],
+        buffer: &mut EncodeBuffer,
+    ) -> Result<(), OutOfMemory> {
+        write_parts_behind(
+            alloc,
+            naming,
+            2,
+            front,
+            &MemoryView { mem, threads },
+            buffer,
+        )
+    }
+
+    fn read_whole(
+        &self,
+        alloc: Global,
+        bytes: &[u8],
+        mem: &mut NatMitMem,
+        threads: &mut [Thread<NatMitLoc>],
+    ) -> Result<Option<(usize, Front)>, OutOfMemory> {
+        read_all(alloc, bytes, mem, threads)
+    }
+
+    fn read_behind(
+        &self,
+        alloc: Global,
+        bytes: &[u8],
+        front: Front,
+        mem: &mut NatMitMem,
+        threads: &mut [Thread<NatMitLoc>],
+    ) -> Result<bool, OutOfMemory> {
+        read_behind(alloc, bytes, front, mem, threads)
+    }
+
+    ghost decodes = { natmit_decodes };
+
+    ghost form_tells = { λ a b same. same };
+
+    ghost tells = { natmit_tells };
+
+    ghost whole = { natmit_whole };
 }

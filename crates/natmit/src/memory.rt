@@ -127,8 +127,8 @@ fn internal_over(key: u8, other: u8, new: u16, leaf: u16) -> Node
     }
 }
 
-/// Puts nodes behind those of a list, in the room that it has as far as that is enough. Where memory is refused the list is
-/// as it was.
+/// Puts nodes behind those of a list, in the room that it has as far as that is enough. Where memory is refused the
+/// list is as it was.
 fn lengthen(alloc: Global, nodes: &mut Sequence<Node>, more: &[Node]) -> Result<(), OutOfMemory>
     ensures ok { OnOk result (nodes.new ≡ nodes.old ++ more.now) }
     ensures err { OnErr result (nodes.new ≡ nodes.old) }

@@ -5,7 +5,7 @@ use Rattle.std.proofs.lemmas.List.{append-nil}
 use Rattle.std.proofs.lemmas.Option.{same_Some}
 use Rattle.sched_program.specs.Program.{Program}
 use Rattle.tree_machine.specs.Alike.{replies_of, notes_of}
-use Rattle.tree_machine.specs.Cuts.{deeds_of}
+use Rattle.tree_machine.specs.Offsets.{deeds_of}
 use Rattle.tree_machine.specs.FormCode.{deeds_code}
 use Rattle.tree_machine.specs.Rules.{Rules}
 use Rattle.tree_machine.specs.Step.{at_step, after_access, finished_counts, notes_at_step, ready, step, stepped}

@@ -1,9 +1,9 @@
 -- Cells met one after the other, and a part in the pieces in which it is written.
 use Rattle.std.proofs.Common.{◌≡◌, ℕ, ◌+◌, ◌<◌, ◌⊎◌, true, false, cond, ◌||◌, List, [], ◌∷◌}
 use Rattle.std.proofs.Common.{◌++◌, map, length, refl, sym, ◌∙◌, ap, inl, inr, arith, append_assoc}
-use Rattle.std.proofs.Common.{length-append}
-use Rattle.std.specs.Prelude.{Option, Some, None, nat_eq}
-use Rattle.std.specs.List.{All, AllByRecursion, list_any, flat_map}
+use Rattle.std.proofs.Common.{length-append, take, get_or, add-one}
+use Rattle.std.specs.Prelude.{Option, Some, None, nat_eq, slice_get}
+use Rattle.std.specs.List.{All, AllByRecursion, IsDistinct, list_any, flat_map}
 use Rattle.std.specs.Option.{option_map, option_and_then}
 use Rattle.std.proofs.lemmas.Bool.Decides.{eqb_tells}
 use Rattle.std.proofs.lemmas.Grind.{flat_map-append}
@@ -11,14 +11,19 @@ use Rattle.std.proofs.lemmas.List.{map-append, length-map}
 use Rattle.std.proofs.lemmas.List.Concat.{flat_map-cons}
 use Rattle.std.proofs.lemmas.List.Elements.{All-append, All-weaker, recursion_from_All}
 use Rattle.std.proofs.lemmas.Option.{slice_get_within}
-use Rattle.tree_machine.specs.Cells.{met, met_all, place_in, renamed}
+use Rattle.tree_machine.specs.Canonical.{renamed_part}
+use Rattle.tree_machine.specs.Cells.{met, met_all, place_in}
 use Rattle.tree_machine.specs.Laws.CellPlaces.{get_place}
 use Rattle.tree_machine.specs.Graphs.{numbers_from}
 use Rattle.tree_machine.specs.Laws.Graphs.{numbers_more}
 use Rattle.tree_machine.specs.Laws.CellLists.{numbers_all}
-use Rattle.tree_machine.specs.Flat.{number_code, reference_number, facts_code, cell_code}
-use Rattle.tree_machine.specs.Parts.{part_cell}
+use Rattle.tree_machine.specs.Flat.{number_code, reference_number, facts_code, cell_code, part_content}
 use Rattle.tree_machine.specs.Written.{name_code}
+use Rattle.tree_machine.specs.Laws.CellSteps.{same_tests}
+use Rattle.tree_machine.proofs.AllCells.{is_other}
+use Rattle.tree_machine.proofs.Ranked.{is_false, not_before, take_at}
+use Rattle.std.proofs.lemmas.List.Folds.{list_any-append}
+use Rattle.std.proofs.lemmas.Option.{slice_get-get_or}
 
 -- ---- a range of cells
 
@@ -41,6 +46,39 @@ run_next old first i h =
     ap (λ t. cond t (old ++ numbers_from first i) ((old ++ numbers_from first i) ++ (first + i) ∷ []))
     (fresh (first + i) (old ++ numbers_from first i) (recursion_from_All _ _ before))
     ∙ (append_assoc old (numbers_from first i) ((first + i) ∷ []) ∙ ap (λ l. old ++ l) (sym (numbers_more first i)))
+
+pub raised_by_none : (xs : List ℕ) → map (λ x. 0 + x) xs ≡ xs
+raised_by_none [] = refl
+raised_by_none (x ∷ xs) = let same : 0 + x ≡ x = omega arith in λ i. same i ∷ raised_by_none xs i
+
+-- a list of distinct cells, all raised and behind all that are met, is met cell by cell
+pub raised_next : (old xs : List ℕ) (first n d : ℕ) → IsDistinct nat_eq xs → All (λ x. x < first) old → n < length xs
+    → met (old ++ map (λ x. first + x) (take n xs)) (first + get_or xs n d)
+    ≡ old ++ map (λ x. first + x) (take (n + 1) xs)
+raised_next old xs first n d distinct h l =
+    let before = map (λ x. first + x) (take n xs) in
+    let x = get_or xs n d in
+    let at : slice_get xs n ≡ Some x = slice_get-get_or xs n d l in
+    let apart : list_any (nat_eq (first + x)) (old ++ before) ≡ false =
+    list_any-append (nat_eq (first + x)) old before
+    ∙ (λ i. above old (recursion_from_All _ old h) i || list_any (nat_eq (first + x)) before)
+    ∙ raised (take n xs) ∙ is_false _ (not_before xs distinct n x at) in
+    ap (λ t. cond t (old ++ before) ((old ++ before) ++ (first + x) ∷ [])) apart
+    ∙ append_assoc old before ((first + x) ∷ [])
+    ∙ ap (λ l. old ++ l) (sym (map-append (λ x. first + x) (take n xs) (x ∷ [])))
+    ∙ ap (λ l. old ++ map (λ x. first + x) l) (sym (take_at xs n x at) ∙ ap (λ k. take k xs) (sym (add-one n)))
+  where
+    above : (zs : List ℕ) → AllByRecursion (λ x. x < first) zs → list_any (nat_eq (first + get_or xs n d)) zs ≡ false
+    above [] g = refl
+    above (z ∷ zs) g =
+        let less : z < first = g.0 in
+        (λ i. is_other (first + get_or xs n d) z (λ e. omega arith) i || above zs g.1 i)
+
+    raised : (zs : List ℕ) → list_any (nat_eq (first + get_or xs n d)) (map (λ x. first + x) zs)
+        ≡ list_any (nat_eq (get_or xs n d)) zs
+    raised [] = refl
+    raised (z ∷ zs) = λ i. same_tests (first + get_or xs n d) (get_or xs n d) (first + z) z
+        ((λ e. omega (arith, e)), (λ e. ap (λ k. first + k) e)) i || raised zs i
 
 -- ---- cells that are met one after the other
 
@@ -84,62 +122,68 @@ places_code_append order refs sefs =
 joined : (x y z a b : List ℕ) → y ≡ x ++ a → z ≡ y ++ b → z ≡ x ++ (a ++ b)
 joined x y z a b e f = f ∙ (ap (λ l. l ++ b) e ∙ append_assoc x a b)
 
--- names of cells that stand behind n others
-names_coded : (order : List ℕ) (n : ℕ) (refs : List (Option ℕ))
-    → flat_map (λ r. name_code order n r) refs ≡ places_code order (shifted n refs)
-names_coded order n [] = refl
-names_coded order n (r ∷ refs) =
-    flat_map-cons (λ r. name_code order n r) r refs
-    ∙ (ap (λ l. name_code order n r ++ l) (names_coded order n refs)
-    ∙ sym (flat_map-cons number_code (reference_number (option_and_then (place_in order) (option_map (λ x. n + x) r)))
-    (map reference_number (map (option_and_then (place_in order)) (shifted n refs)))))
+-- names in bytes
+names_coded : (order : List ℕ) (refs : List (Option ℕ))
+    → flat_map (λ r. name_code order r) refs ≡ places_code order refs
+names_coded order [] = refl
+names_coded order (r ∷ refs) =
+    flat_map-cons (λ r. name_code order r) r refs
+    ∙ (ap (λ l. name_code order r ++ l) (names_coded order refs)
+    ∙ sym (flat_map-cons number_code (reference_number (option_and_then (place_in order) r))
+    (map reference_number (map (option_and_then (place_in order)) refs))))
 
-stack_coded : (order : List ℕ) (n : ℕ) (stack : List ℕ)
-    → flat_map (λ x. name_code order n (Some x)) stack ≡ flat_map (λ r. name_code order n r) (map Some stack)
-stack_coded order n [] = refl
-stack_coded order n (x ∷ stack) =
-    flat_map-cons (λ x. name_code order n (Some x)) x stack
-    ∙ (ap (λ l. name_code order n (Some x) ++ l) (stack_coded order n stack)
-    ∙ sym (flat_map-cons (λ r. name_code order n r) (Some x) (map Some stack)))
+stack_coded : (order : List ℕ) (stack : List ℕ)
+    → flat_map (λ x. name_code order (Some x)) stack ≡ flat_map (λ r. name_code order r) (map Some stack)
+stack_coded order [] = refl
+stack_coded order (x ∷ stack) =
+    flat_map-cons (λ x. name_code order (Some x)) x stack
+    ∙ (ap (λ l. name_code order (Some x) ++ l) (stack_coded order stack)
+    ∙ sym (flat_map-cons (λ r. name_code order r) (Some x) (map Some stack)))
 
 -- a part, in the pieces in which it is written
-pub part_written : (n named : ℕ) (facts : List ℕ) (nodes records : List (Option ℕ)) (stack order b c e f g : List ℕ)
+pub part_written : (named : ℕ) (facts : List ℕ) (nodes records : List (Option ℕ))
+    (stack node_order record_order b c e f g : List ℕ)
     → named ≡ length nodes + length records + length stack
     → c ≡ b ++ facts_code (length nodes ∷ facts) named
-    → e ≡ c ++ flat_map (λ r. name_code order 0 r) nodes
-    → f ≡ e ++ flat_map (λ r. name_code order n r) records
-    → g ≡ f ++ flat_map (λ x. name_code order n (Some x)) stack →
-    g ≡ b ++ cell_code (renamed order
-    (part_cell n (record { facts = facts; nodes = nodes; records = records ++ map Some stack })))
-part_written n named facts nodes records stack order b c e f g is_named h1 h2 h3 h4 =
+    → e ≡ c ++ flat_map (λ r. name_code node_order r) nodes
+    → f ≡ e ++ flat_map (λ r. name_code record_order r) records
+    → g ≡ f ++ flat_map (λ x. name_code record_order (Some x)) stack
+    → g ≡ b ++ cell_code (part_content (renamed_part node_order record_order
+    (record { facts = facts; nodes = nodes; records = records ++ map Some stack })))
+part_written named facts nodes records stack node_order record_order b c e f g is_named h1 h2 h3 h4 =
     let more = map Some stack in
-    let refs = nodes ++ shifted n (records ++ more) in
-    let code = places_code order in
-    let nodes_put : e ≡ c ++ code nodes =
-    h2 ∙ ap (λ l. c ++ l) (names_coded order 0 nodes ∙ ap code (shifted_by_none nodes)) in
-    let records_put : f ≡ e ++ code (shifted n records) = h3 ∙ ap (λ l. e ++ l) (names_coded order n records) in
-    let stack_put : g ≡ f ++ code (shifted n more) =
-    h4 ∙ ap (λ l. f ++ l) (stack_coded order n stack ∙ names_coded order n more) in
-    let both : g ≡ e ++ code (shifted n (records ++ more)) =
-    joined e f g (code (shifted n records)) (code (shifted n more)) records_put stack_put
-    ∙ ap (λ l. e ++ l)
-    (sym (places_code_append order (shifted n records) (shifted n more))
-    ∙ ap code (sym (map-append (option_map (λ x. n + x)) records more))) in
-    let all : g ≡ c ++ code refs =
-    joined c e g (code nodes) (code (shifted n (records ++ more))) nodes_put both
-    ∙ ap (λ l. c ++ l) (sym (places_code_append order nodes (shifted n (records ++ more)))) in
-    let count : named ≡ length (map (option_and_then (place_in order)) refs) =
+    let node_names = map (option_and_then (place_in node_order)) nodes in
+    let record_names = map (option_and_then (place_in record_order)) (records ++ more) in
+    let nodes_put : e ≡ c ++ places_code node_order nodes = h2 ∙ ap (λ l. c ++ l) (names_coded node_order nodes) in
+    let records_put : f ≡ e ++ places_code record_order records =
+    h3 ∙ ap (λ l. e ++ l) (names_coded record_order records) in
+    let stack_put : g ≡ f ++ places_code record_order more =
+    h4 ∙ ap (λ l. f ++ l) (stack_coded record_order stack ∙ names_coded record_order more) in
+    let both : g ≡ e ++ places_code record_order (records ++ more) =
+    joined e f g (places_code record_order records) (places_code record_order more) records_put stack_put
+    ∙ ap (λ l. e ++ l) (sym (places_code_append record_order records more)) in
+    let codes : flat_map number_code (map reference_number (node_names ++ record_names))
+    ≡ places_code node_order nodes ++ places_code record_order (records ++ more) =
+    ap (flat_map number_code) (map-append reference_number node_names record_names)
+    ∙ flat_map-append number_code (map reference_number node_names) (map reference_number record_names) in
+    let all : g ≡ c ++ flat_map number_code (map reference_number (node_names ++ record_names)) =
+    joined c e g (places_code node_order nodes) (places_code record_order (records ++ more)) nodes_put both
+    ∙ ap (λ l. c ++ l) (sym codes) in
+    let node_count : length node_names ≡ length nodes = length-map nodes (option_and_then (place_in node_order)) in
+    let count : named ≡ length (node_names ++ record_names) =
     omega (
       arith,
       is_named,
-      length-map refs (option_and_then (place_in order)),
-      length-append nodes (shifted n (records ++ more)),
-      length-map (records ++ more) (option_map (λ x. n + x)),
+      node_count,
+      length-append node_names record_names,
+      length-map (records ++ more) (option_and_then (place_in record_order)),
       length-append records more,
       length-map stack (λ x. Some x),
     ) in
-    joined b c g (facts_code (length nodes ∷ facts) (length (map (option_and_then (place_in order)) refs))) (code refs)
-    (h1 ∙ ap (λ k. b ++ facts_code (length nodes ∷ facts) k) count) all
+    joined b c g (facts_code (length node_names ∷ facts) (length (node_names ++ record_names)))
+    (flat_map number_code (map reference_number (node_names ++ record_names)))
+    (h1 ∙ ap (λ k. b ++ facts_code (length nodes ∷ facts) k) count
+    ∙ ap (λ k. b ++ facts_code (k ∷ facts) (length (node_names ++ record_names))) (sym node_count)) all
 
 -- three lists are met one after the other
 pub lists_met : (order first second third : List ℕ) (n : ℕ) (nodes records : List (Option ℕ)) (stack : List ℕ)

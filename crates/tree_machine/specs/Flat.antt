@@ -1,9 +1,10 @@
 -- Cells, and nodes, records and what threads hold, as one list of bytes.
 use Rattle.std.specs.Prelude.{ℕ, zero, suc, ◌+◌, ◌*◌, ◌/◌, ◌%◌, ◌&&◌, if◌then◌else◌, nat_lt, List, [], ◌∷◌, ◌++◌}
-use Rattle.std.specs.Prelude.{map, length, replicate, Option, Some, None}
+use Rattle.std.specs.Prelude.{map, length, take, drop, replicate, Option, Some, None}
 use Rattle.std.specs.List.{flat_map}
 use Rattle.tree_machine.specs.Cells.{Content}
-use Rattle.tree_machine.specs.Parts.{Parts, parts_graph, parts_held}
+use Rattle.tree_machine.specs.Parts.{Part, Parts}
+use Rattle.tree_machine.specs.declared.front.Front.{Front}
 
 -- a number in bytes: 255 for each 255 in it, and then the rest
 abbrev pub number_code : ℕ → List ℕ
@@ -41,12 +42,36 @@ cell_code c = facts_code c.facts (length c.refs) ++ flat_map number_code (map re
 abbrev pub flat : List Content → List ℕ
 flat cells = flat_map cell_code cells
 
--- nodes, records and what the threads hold in bytes, by their numbers: how many nodes and records there are, and all of
--- them as cells
-abbrev pub parts_code : Parts → List ℕ
-parts_code s =
-    number_code (length s.nodes) ++ (number_code (length s.records) ++ flat (parts_graph s ++ parts_held s))
+-- a part as a cell that names nodes and records by their numbers: how many nodes it names stands before its facts
+abbrev pub part_content : Part → Content
+part_content p = record { facts = length p.nodes ∷ p.facts; refs = p.nodes ++ p.records }
 
--- how many nodes and records there are, and these as cells, which stand first in that
-abbrev pub graph_code : Parts → List ℕ
-graph_code s = number_code (length s.nodes) ++ (number_code (length s.records) ++ flat (parts_graph s))
+-- parts in bytes, one after the other
+abbrev pub part_codes : List Part → List ℕ
+part_codes parts = flat (map part_content parts)
+
+-- nodes and records in bytes: how many there are of each, and all of them
+abbrev pub graph_code : List Part → List Part → List ℕ
+graph_code nodes records =
+    number_code (length nodes) ++ (number_code (length records) ++ part_codes (nodes ++ records))
+
+-- the nodes and the records in front
+abbrev pub front_code : Front → Parts → List ℕ
+front_code front s = graph_code (take front.nodes s.nodes) (take front.records s.records)
+
+-- the nodes and the records that are left, if some are
+abbrev pub left_code : List Part → List Part → List ℕ
+left_code [] [] = []
+left_code nodes records = graph_code nodes records
+
+-- what the threads hold, and what is left behind a front
+abbrev pub behind_code : Front → Parts → List ℕ
+behind_code front s = part_codes s.held ++ left_code (drop front.nodes s.nodes) (drop front.records s.records)
+
+-- nodes, records and what the threads hold in bytes, cut at a front
+abbrev pub parts_code : Front → Parts → List ℕ
+parts_code front s = front_code front s ++ behind_code front s
+
+-- all nodes and records
+abbrev pub all_front : Parts → Front
+all_front s = record { nodes = length s.nodes; records = length s.records }

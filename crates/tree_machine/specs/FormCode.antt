@@ -3,7 +3,10 @@ use Rattle.std.specs.Prelude.{◌≡◌, ℕ, ◌/◌, ◌%◌, Bool, if◌then�
 use Rattle.std.specs.List.{flat_map}
 use Rattle.tree_machine.specs.Alike.{FormContent, places_of, replies_of, notes_of, state_form}
 use Rattle.tree_machine.specs.Flat.{number_code}
+use Rattle.tree_machine.specs.Naming.{code_by}
 use Rattle.tree_machine.specs.Packed.{is_short, note_number, replies_number}
+use Rattle.tree_machine.specs.declared.front.Front.{Front}
+use Rattle.tree_machine.specs.declared.naming.Naming.{Naming}
 use Rattle.tree_machine.specs.declared.state.State.{State}
 
 -- a list: how many there are, and each of them
@@ -42,11 +45,17 @@ named_code form_code form_of state = number_code 0 ++ content_code form_code (st
 abbrev pub IsInjective : {A : Type 0} → (A → List ℕ) → Type 0
 IsInjective {A} code = (a b : A) → code a ≡ code b → a ≡ b
 
--- equal bytes are bytes of equal memories with equal places held
-abbrev pub TellsWholly : {Memory Place : Type 0} → (Memory → List (Option Place) → List ℕ) → Type 0
-TellsWholly {Memory} {Place} code =
-    (memory other : Memory) (held others : List (Option Place)) → code memory held ≡ code other others
-    → (memory ≡ other) × (held ≡ others)
+-- equal bytes are bytes of equal memories with equal places held, where equally many threads hold them
+abbrev pub TellsWholly : {Memory Place : Type 0} → (Memory → List (Option Place) → List ℕ)
+    → (Memory → List (Option Place) → List ℕ) → Type 0
+TellsWholly {Memory} {Place} code twin_code =
+    (memory other : Memory) (held others : List (Option Place)) → length held ≡ length others
+    → code memory held ≡ twin_code other others → (memory ≡ other) × (held ≡ others)
+
+-- a memory with places held, cut at a front: what stands in front, which is of the memory alone, and what stands behind
+abbrev pub cut_code : {Memory Place : Type 0} → (Front → Memory → List ℕ)
+    → (Front → Memory → List (Option Place) → List ℕ) → Front → Memory → List (Option Place) → List ℕ
+cut_code front_code behind_code front memory held = front_code front memory ++ behind_code front memory held
 
 -- a whole state: the number of steps, what the threads did, who went astray, and the memory with the places held
 abbrev pub state_code : {Machine Memory Place Form : Type 0} → (Memory → List (Option Place) → List ℕ)
@@ -55,3 +64,9 @@ state_code code state =
     number_code state.steps
     ++ (deeds_code (replies_of state.threads) (notes_of state.threads) state.astray
     ++ code state.memory (places_of state.threads))
+
+-- the label of a state, by which a book knows it
+abbrev pub label_code : {Machine Memory Place Form : Type 0} → Naming → (Memory → List (Option Place) → List ℕ)
+    → (Form → List ℕ) → (Memory → List (Option Place) → Form) → State Machine Memory Place Form → List ℕ
+label_code naming whole_code form_code form_of state =
+    code_by naming (state_code whole_code state) (named_code form_code form_of state)

@@ -5,7 +5,6 @@ use Rattle.std.specs.List.{AllZip, All}
 use Rattle.std.specs.Option.{option_map}
 use Rattle.tree_machine.specs.Cells.{Content, IsPairedOrNone}
 use Rattle.tree_machine.specs.Pairing.{IsOneToOne, IsAmong}
-use Rattle.tree_machine.specs.Graphs.{graph_form}
 
 -- a node, a record or what a thread holds: facts, and the nodes and the records that it names
 pub record Part : Type 0 where
@@ -68,10 +67,6 @@ parts_graph s = map (part_cell (length s.nodes)) s.nodes ++ map (part_cell (leng
 -- what the threads hold as cells
 abbrev pub parts_held : Parts → List Content
 parts_held s = map (part_cell (length s.nodes)) s.held
-
--- the canonical cells of nodes, records and what the threads hold
-abbrev pub parts_form : ℕ → Parts → List Content
-parts_form fixed s = graph_form fixed (parts_graph s) (parts_held s)
 
 -- some pairs of nodes and some pairs of records are a pairing
 abbrev pub CanPartsBePaired : ℕ → Parts → Parts → Type 0

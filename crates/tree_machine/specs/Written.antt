@@ -1,25 +1,31 @@
 -- What is written of parts so far.
-use Rattle.std.specs.Prelude.{ℕ, ◌+◌, List, ◌++◌, Option}
-use Rattle.std.specs.Option.{option_map, option_and_then}
-use Rattle.tree_machine.specs.Cells.{Content, place_in, renamed}
-use Rattle.tree_machine.specs.Parts.{Part, part_cell}
-use Rattle.tree_machine.specs.Flat.{number_code, reference_number, cell_code}
+use Rattle.std.specs.Prelude.{ℕ, List, ◌++◌, Option}
+use Rattle.std.specs.Option.{option_and_then}
+use Rattle.tree_machine.specs.Canonical.{renamed_part}
+use Rattle.tree_machine.specs.Cells.{place_in}
+use Rattle.tree_machine.specs.Parts.{Part}
+use Rattle.tree_machine.specs.Flat.{number_code, reference_number, cell_code, part_content}
 
--- how many nodes and records there are, the order that gives the numbers, and the bytes
+-- how many nodes and records there are, the orders that give their numbers, and the bytes
 pub record Written : Type 0 where
   pub nodes : ℕ
   pub records : ℕ
-  pub order : List ℕ
+  pub node_order : List ℕ
+  pub record_order : List ℕ
   pub bytes : List ℕ
 
--- a name in bytes, of a cell that stands behind n others: its place in an order
-abbrev pub name_code : List ℕ → ℕ → Option ℕ → List ℕ
-name_code order n r = number_code (reference_number (option_and_then (place_in order) (option_map (λ x. n + x) r)))
+-- a name in bytes: its place in an order
+abbrev pub name_code : List ℕ → Option ℕ → List ℕ
+name_code order r = number_code (reference_number (option_and_then (place_in order) r))
 
--- the same once a cell is written: it stands behind the bytes, with places for what it names
-abbrev pub with_cell : Written → Content → Written
-with_cell w c = record w { bytes = w.bytes ++ cell_code (renamed w.order c) }
+-- a part that is written: its names are places
+abbrev pub renamed_by : Written → Part → Part
+renamed_by w p = renamed_part w.node_order w.record_order p
 
 -- the same once a part is written
 abbrev pub with_part : Written → Part → Written
-with_part w p = with_cell w (part_cell w.nodes p)
+with_part w p = record w { bytes = w.bytes ++ cell_code (part_content (renamed_by w p)) }
+
+-- the same once more bytes are
+abbrev pub with_bytes : Written → List ℕ → Written
+with_bytes w more = record w { bytes = w.bytes ++ more }

@@ -10,9 +10,9 @@ use sched_program::OutOfMemory;
 use std::hash::{Hash, Hasher};
 use std::marker::Model;
 
-/// A list of bytes, over a `Vec`, which contracts see as the list itself. It is hashed eight bytes at a time: a write of
-/// so many is a few instructions where it is known to be of so many, and one of all bytes puts numbers together byte by
-/// byte.
+/// A list of bytes, over a `Vec`, which contracts see as the list itself. It is hashed eight bytes at a time: a write
+/// of so many is a few instructions where it is known to be of so many, and one of all bytes puts numbers together byte
+/// by byte.
 #[derive(Drop)]
 pub struct Bytes {
     items: Vec<u8>,
@@ -34,9 +34,9 @@ impl Bytes {
         Bytes { items }
     }
 
-    /// Equal bytes, in the memory of a list that is of no further use, as far as that is enough: only where it is not, and
-    /// then no more than they have, is memory asked for. It is asked for anew: to let a list grow would copy what stands in
-    /// it, and would wait for the thread that made it where that one asks for memory too.
+    /// Equal bytes, in the memory of a list that is of no further use, as far as that is enough: only where it is not,
+    /// and then no more than they have, is memory asked for. It is asked for anew: to let a list grow would copy what
+    /// stands in it, and would wait for the thread that made it where that one asks for memory too.
     pub fn copied_in(bytes: &[u8], mut spare: Vec<u8>) -> Result<Self, OutOfMemory>
         ensures { IfOk result (λ copy. copy ≡ bytes.now) }
     {

@@ -2,8 +2,8 @@
 ghost use Rattle.std.specs.Prelude.{◌≡◌, ◌<◌, ◌≤◌, ◌+◌, ◌++◌, ◌∷◌, [], length, take, drop, IfSome};
 ghost use Rattle.tree_machine.specs.Flat.{number_code};
 
-/// Puts a byte at a place of a slice, and tells the place behind it. Whoever writes many of them keeps the place at hand,
-/// where a list would count each by itself.
+/// Puts a byte at a place of a slice, and tells the place behind it. Whoever writes many of them keeps the place at
+/// hand, where a list would count each by itself.
 #[inline(always)]
 pub(crate) fn put_byte(bytes: &mut [u8], at: usize, byte: u8) -> usize
     requires { at < length bytes.old }

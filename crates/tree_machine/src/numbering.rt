@@ -1,8 +1,9 @@
 //! The numbers by which bytes name cells: each cell's own, or its place in the order in which a walk meets cells.
-ghost use Rattle.std.specs.Prelude.{◌≡◌, ◌<◌, ◌≤◌, ◌+◌, ◌-◌, ◌++◌, ◌&&◌, [], Some, length, slice_get, vec_capacity};
-ghost use Rattle.std.specs.Prelude.{IfOk, nat_eq, nat_le, nat_lt};
-ghost use Rattle.std.specs.List.{All, IsDistinct, filter};
+ghost use Rattle.std.specs.Prelude.{◌≡◌, ◌<◌, ◌≤◌, ◌+◌, ◌++◌, [], Some, length, map, slice_get, vec_capacity};
+ghost use Rattle.std.specs.Prelude.{IfOk, nat_eq};
+ghost use Rattle.std.specs.List.{All, IsDistinct};
 ghost use Rattle.std.proofs.Props.{props};
+ghost use Rattle.tree_machine.specs.Canonical.{records_met};
 ghost use Rattle.tree_machine.specs.Cells.{met, place_in};
 ghost use Rattle.tree_machine.specs.Flat.{reference_number};
 ghost use Rattle.tree_machine.specs.Graphs.{numbers_from};
@@ -97,21 +98,38 @@ impl Numbering {
         }
     }
 
-    /// Meets the cells of an order that are at least `low` and below `high`, behind those met before, all of which are
-    /// below `low`.
-    pub(crate) fn meet_between(&mut self, order: &Numbering, low: usize, high: usize)
-        requires within { high ≤ length self.old.numbers.items }
-        requires behind { All (λ x. x < low) self.old.order.items }
-        ensures order { self.new.order.items ≡ self.old.order.items
-            ++ filter (λ x. nat_le low x && nat_lt x high) order.now.order.items }
+    /// Meets the cells of another order, each raised by `first`, behind those met before, all of which are below
+    /// `first`.
+    pub(crate) fn meet_raised(&mut self, first: usize, order: &Numbering)
+        requires within { first + length order.now.numbers.items ≤ length self.old.numbers.items }
+        requires behind { All (λ x. x < first) self.old.order.items }
+        ensures order { self.new.order.items ≡ self.old.order.items ++ map (λ x. first + x) order.now.order.items }
         ensures cells { length self.new.numbers.items ≡ length self.old.numbers.items }
     {
         for place in 0..order.order.len() {
-            let cell = usize::from(order.order[place]);
-            if low <= cell && cell < high {
-                self.meet(cell);
+            self.meet(first + usize::from(order.order[place]));
+        }
+    }
+
+    /// Numbers `count` cells from `low` on, each by how far it stands behind `low`, in the order in which they were
+    /// met.
+    pub(crate) fn ranked(
+        self,
+        met: &Numbering,
+        low: usize,
+        count: usize,
+    ) -> Result<Numbering, OutOfMemory>
+        ensures order { IfOk result (λ n. n.order.items ≡ records_met low count met.now.order.items) }
+        ensures cells { IfOk result (λ n. length n.numbers.items ≡ count) }
+    {
+        let mut ranked = self.restarted(count)?;
+        for place in 0..met.order.len() {
+            let cell = usize::from(met.order[place]);
+            if low <= cell && cell - low < count {
+                ranked.meet(cell - low);
             }
         }
+        Ok(ranked)
     }
 
     /// How many cells there are.

@@ -5,8 +5,8 @@ ghost use Rattle.std.specs.Cmp.Lexicographic.{pointwise, lists_equiv, lists_per}
 use std::alloc::AllocError;
 use std::marker::Model;
 
-/// The replies of a thread, in order, six at most: the binary digits of a byte below a leading one, the first reply lowest.
-/// A thread is copied with each of its steps, and each label tells its replies. Contracts see the list.
+/// The replies of a thread, in order, six at most: the binary digits of a byte below a leading one, the first reply
+/// lowest. A thread is copied with each of its steps, and each label tells its replies. Contracts see the list.
 #[derive(Copy)]
 pub struct Replies {
     number: u8,

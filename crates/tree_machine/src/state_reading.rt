@@ -1,14 +1,15 @@
-//! Whole states read back from bytes.
-ghost use Rattle.std.specs.Prelude.{◌≡◌, ◌≤◌, ◌++◌, ◌∷◌, length, take, IsTrue, IfOk, IfSome, OnOk};
+//! Whole states decoded from bytes.
+ghost use Rattle.std.specs.Prelude.{◌≡◌, ◌≤◌, ◌++◌, ◌∷◌, length, take, IfOk, IfSome, OnOk};
 ghost use Rattle.std.specs.List.{flat_map};
 ghost use Rattle.tree_machine.specs.Alike.{notes_of, places_of, replies_of};
-ghost use Rattle.tree_machine.specs.Cuts.{AreCutsOf};
 ghost use Rattle.tree_machine.specs.Flat.{number_code};
-ghost use Rattle.tree_machine.specs.FormCode.{astray_code, list_code, note_code, replies_code, state_code};
+ghost use Rattle.tree_machine.specs.FormCode.{astray_code, cut_code, list_code, note_code, replies_code};
+ghost use Rattle.tree_machine.specs.Offsets.{AreOffsetsOf};
 
-use crate::cuts::Cuts;
+use crate::code_offsets::CodeOffsets;
 use crate::deeds_reading::{read_all_notes, read_all_replies, read_astray};
-use crate::machine::Machine;
+use crate::encode::Encode;
+use crate::front::Front;
 use crate::reading::{read_any_number, read_byte};
 use crate::replies::Replies;
 use crate::state::{State, Thread};
@@ -16,7 +17,8 @@ use sched_program::{OutOfMemory, Sequence, ShortList};
 use std::alloc::Global;
 use std::mem::replace;
 
-/// Makes threads so many: what is too many goes, and what lacks are threads that began nothing.
+/// Makes a list of threads as long as `count`: it drops threads, or appends threads that began
+/// nothing.
 #[inline(always)]
 fn make_count<L: Drop>(threads: &mut Vec<Thread<L>>, count: usize) -> Result<(), OutOfMemory>
     ensures { OnOk result (length threads.new.items ≡ count) }
@@ -32,8 +34,8 @@ fn make_count<L: Drop>(threads: &mut Vec<Thread<L>>, count: usize) -> Result<(),
     Ok(())
 }
 
-/// Reads what so many threads did and who went astray, behind the byte that tells how many there are, and the bytes behind
-/// that.
+/// Reads what the threads did and who went astray, behind the byte with their number. It returns
+/// who went astray, and the bytes behind that.
 #[inline(always)]
 fn read_deeds<'a, L>(bytes: &'a [u8], threads: &mut [Thread<L>]) -> Option<(Option<u8>, &'a [u8])>
     ensures read { IfSome result (λ (astray, rest). bytes.now
@@ -50,7 +52,8 @@ fn read_deeds<'a, L>(bytes: &'a [u8], threads: &mut [Thread<L>]) -> Option<(Opti
     read_astray(rest)
 }
 
-/// Reads the number of steps, and how many threads there are, which are four at most.
+/// Reads the number of steps and the number of threads, at most four, and returns them with the
+/// bytes behind.
 #[inline(always)]
 fn read_head(bytes: &[u8]) -> Option<(u64, u8, &[u8])>
     ensures read { IfSome result (λ (steps, count, rest). bytes.now ≡ number_code steps ++ count ∷ rest.now) }
@@ -65,55 +68,66 @@ fn read_head(bytes: &[u8]) -> Option<(u64, u8, &[u8])>
     }
 }
 
-/// Reads a memory, and the place that each thread holds, as `Machine::read_whole` does. Where the bytes begin with those of
-/// the memory as it is, which are known, it stays.
+/// Reads a memory, and the place that each thread holds, as `Encode::read_whole` does. `known` is what stands in front
+/// of the code of the memory as it is, with the front: if the bytes begin with it, it is not decoded again.
 #[inline(always)]
-fn read_parts<M: Machine>(
+fn read_parts<M: Encode>(
     alloc: Global,
     machine: M,
     bytes: &[u8],
-    known: Option<&[u8]>,
+    known: Option<(&[u8], Front)>,
     memory: &mut M::Mem,
     threads: &mut [Thread<M::Loc>],
-) -> Result<Option<usize>, OutOfMemory>
-    requires { IfSome known (λ known. known.now ≡ M.memory_code memory.old) }
-    ensures read { IfOk result (λ read. IfSome read
-        (λ front. bytes.now ≡ M.whole_code memory.new (places_of threads.new))) }
-    ensures within { IfOk result (λ read. IfSome read (λ front. front ≤ length bytes.now)) }
-    ensures memory { IfOk result (λ read. IfSome read (λ front. take front bytes.now ≡ M.memory_code memory.new)) }
+) -> Result<Option<(usize, Front)>, OutOfMemory>
+    requires { IfSome known (λ known. known.0.now ≡ M.front_code known.1 memory.old) }
+    ensures read { IfOk result (λ read. IfSome read (λ (end, front).
+        bytes.now ≡ cut_code M.front_code M.behind_code front memory.new (places_of threads.new))) }
+    ensures within { IfOk result (λ read. IfSome read (λ (end, front). end ≤ length bytes.now)) }
+    ensures front { IfOk result (λ read. IfSome read (λ (end, front).
+        take end bytes.now ≡ M.front_code front memory.new)) }
     ensures replies { replies_of threads.new ≡ replies_of threads.old }
     ensures notes { notes_of threads.new ≡ notes_of threads.old }
 {
-    if let Some(known) = known
+    if let Some((known, front)) = known
         && let Some(rest) = bytes.strip_prefix(known)
-        && machine.read_held(alloc, rest, memory, threads)?
+        && machine.read_behind(alloc, rest, front, memory, threads)?
     {
-        return Ok(Some(known.len()));
+        return Ok(Some((known.len(), front)));
     }
     machine.read_whole(alloc, bytes, memory, threads)
 }
 
-/// Reads all that stands behind the number of threads. Where it answers two numbers, as many bytes as the first stand
-/// behind what the threads did, and as many as the second of these are those of the memory. If the bytes of the memory as it
-/// is are known, it is not read where these stand there.
+/// What `read_body` found: how many bytes stand behind what the threads did, how many of these stand in front of what
+/// the threads hold, and the front.
+#[derive(Clone, Copy)]
+struct BodyRead {
+    behind: usize,
+    end: usize,
+    front: Front,
+}
+
+/// Reads all that stands behind the number of threads. `known` is what stands in front of the code of the memory as it
+/// is, with the front, if that is known.
 #[inline(always)]
-fn read_body<M: Machine>(
+fn read_body<M: Encode>(
     alloc: Global,
     machine: M,
     bytes: &[u8],
-    known: Option<&[u8]>,
+    known: Option<(&[u8], Front)>,
     memory: &mut M::Mem,
     threads: &mut [Thread<M::Loc>],
     astray: &mut Option<u8>,
-) -> Result<Option<(usize, usize)>, OutOfMemory>
-    requires { IfSome known (λ known. known.now ≡ M.memory_code memory.old) }
-    ensures read { IfOk result (λ read. IfSome read (λ _. bytes.now
+) -> Result<Option<BodyRead>, OutOfMemory>
+    requires { IfSome known (λ known. known.0.now ≡ M.front_code known.1 memory.old) }
+    ensures read { IfOk result (λ read. IfSome read (λ read. bytes.now
         ≡ flat_map replies_code (replies_of threads.new)
         ++ (list_code (list_code note_code) (notes_of threads.new)
-        ++ (astray_code astray.new ++ M.whole_code memory.new (places_of threads.new))))) }
-    ensures behind { IfOk result (λ read. IfSome read
-        (λ (behind, front). behind ≡ length (M.whole_code memory.new (places_of threads.new)))) }
-    ensures front { IfOk result (λ read. IfSome read (λ (behind, front). front ≡ length (M.memory_code memory.new))) }
+        ++ (astray_code astray.new
+        ++ cut_code M.front_code M.behind_code read.front memory.new (places_of threads.new))))) }
+    ensures behind { IfOk result (λ read. IfSome read (λ read. read.behind
+        ≡ length (cut_code M.front_code M.behind_code read.front memory.new (places_of threads.new)))) }
+    ensures front { IfOk result (λ read. IfSome read
+        (λ read. read.end ≡ length (M.front_code read.front memory.new))) }
     ensures length { length threads.new ≡ length threads.old }
 {
     let Some((thread, rest)) = read_deeds(bytes, threads) else {
@@ -121,63 +135,63 @@ fn read_body<M: Machine>(
     };
     *astray = thread;
     match read_parts(alloc, machine, rest, known, memory, threads)? {
-        Some(front) => Ok(Some((rest.len(), front))),
+        Some((end, front)) => {
+            let behind = rest.len();
+            Ok(Some(BodyRead { behind, end, front }))
+        }
         None => Ok(None),
     }
 }
 
-impl<M: Machine> State<M> {
-    /// Reads a state from its bytes into this one, in the room that this one has: of memory it asks for no more than what
-    /// that lacks. Where it answers yes, the bytes are those of the state that it then is. It may answer no to any bytes,
-    /// and does to those of no state; then, and after a refusal of memory, the state is of no use but to be read into.
-    pub fn read_in(&mut self, alloc: Global, machine: M, bytes: &[u8]) -> Result<bool, OutOfMemory>
-        ensures { IfOk result (λ read. IsTrue read → bytes.now ≡ state_code M.whole_code self.new) }
-    {
-        Ok(self.read_cut(alloc, machine, bytes)?.is_some())
-    }
-
-    /// The same, where yes is the places in the bytes at which the parts of the state begin.
-    pub fn read_cut(
+impl<M: Encode> State<M> {
+    /// Decodes a state into this one, and uses its buffers as far as they are large enough. If the bytes are the code
+    /// of the state that this one then is, cut at a front, it returns where the parts of the code begin. It may return
+    /// `None` for any bytes, and does for those of no state; then, and after a refusal of memory,
+    /// the state is of no use but to be read into.
+    pub fn read_in(
         &mut self,
         alloc: Global,
         machine: M,
         bytes: &[u8],
-    ) -> Result<Option<Cuts>, OutOfMemory>
+    ) -> Result<Option<CodeOffsets>, OutOfMemory>
         ensures { IfOk result (λ read. IfSome read
-            (λ cuts. AreCutsOf M.whole_code M.memory_code bytes.now cuts self.new)) }
+            (λ offsets. AreOffsetsOf M.front_code M.behind_code bytes.now offsets self.new)) }
     {
         self.read_over(alloc, machine, bytes, None)
     }
 
-    /// The same, where the bytes of this state as it is are at hand, and the places where their parts begin: the memory is
-    /// read only where its bytes are others. States that are read one after the other mostly have one memory.
+    /// Decodes a state as `read_in` does. `last` is the code of this state as it is, and `offsets` is
+    /// where its parts begin: what stands in front of it is decoded only if it is not the same. Most states
+    /// that are decoded in a row have one memory.
     pub fn read_after(
         &mut self,
         alloc: Global,
         machine: M,
         bytes: &[u8],
-        told: &[u8],
-        cuts: Cuts,
-    ) -> Result<Option<Cuts>, OutOfMemory>
-        requires { AreCutsOf M.whole_code M.memory_code told.now cuts self.old }
+        last: &[u8],
+        offsets: CodeOffsets,
+    ) -> Result<Option<CodeOffsets>, OutOfMemory>
+        requires { AreOffsetsOf M.front_code M.behind_code last.now offsets self.old }
         ensures { IfOk result (λ read. IfSome read
-            (λ cuts. AreCutsOf M.whole_code M.memory_code bytes.now cuts self.new)) }
+            (λ offsets. AreOffsetsOf M.front_code M.behind_code bytes.now offsets self.new)) }
     {
-        self.read_over(alloc, machine, bytes, Some(&told[cuts.memory..cuts.held]))
+        let front = &last[offsets.memory..offsets.held];
+        self.read_over(alloc, machine, bytes, Some((front, offsets.front)))
     }
 
-    /// The same, where the bytes of the memory as it is may be known.
+    /// Decodes a state as `read_in` does. `known` is what stands in front of the code of the memory as it is, with the
+    /// front, if that is known.
     #[inline(always)]
     fn read_over(
         &mut self,
         alloc: Global,
         machine: M,
         bytes: &[u8],
-        known: Option<&[u8]>,
-    ) -> Result<Option<Cuts>, OutOfMemory>
-        requires { IfSome known (λ known. known.now ≡ M.memory_code self.old.memory) }
+        known: Option<(&[u8], Front)>,
+    ) -> Result<Option<CodeOffsets>, OutOfMemory>
+        requires { IfSome known (λ known. known.0.now ≡ M.front_code known.1 self.old.memory) }
         ensures { IfOk result (λ read. IfSome read
-            (λ cuts. AreCutsOf M.whole_code M.memory_code bytes.now cuts self.new)) }
+            (λ offsets. AreOffsetsOf M.front_code M.behind_code bytes.now offsets self.new)) }
     {
         let Some((steps, count, rest)) = read_head(bytes) else {
             return Ok(None);
@@ -197,14 +211,15 @@ impl<M: Machine> State<M> {
         self.threads = Sequence::from_vec(threads);
         self.steps = steps;
         match read? {
-            Some((behind, front)) => {
-                let deeds = bytes.len() - rest.len() - 1;
-                let memory = bytes.len() - behind;
-                let held = memory + front;
-                Ok(Some(Cuts {
-                    deeds,
+            Some(read) => {
+                let op_log = bytes.len() - rest.len() - 1;
+                let memory = bytes.len() - read.behind;
+                let held = memory + read.end;
+                Ok(Some(CodeOffsets {
+                    op_log,
                     memory,
                     held,
+                    front: read.front,
                 }))
             }
             None => Ok(None),

@@ -14,8 +14,7 @@ use sched_program::{Op, OutOfMemory, Program, Sequence};
 use std::alloc::Global;
 use std::mem::replace;
 
-/// Makes a thread equal to another one where it stands: field by field from where the other lies, so that nothing is put
-/// together apart and moved.
+/// Makes `copy` equal to `thread`, field by field and in place, so that no thread is moved.
 #[inline(always)]
 pub(crate) fn copy_thread_into<M: Machine>(
     alloc: Global,
@@ -34,7 +33,7 @@ pub(crate) fn copy_thread_into<M: Machine>(
     Ok(())
 }
 
-/// The same for as many threads as others.
+/// Makes each copy equal to the thread of its number.
 #[inline(always)]
 fn copy_each<M: Machine>(
     alloc: Global,
@@ -51,8 +50,9 @@ fn copy_each<M: Machine>(
     Ok(())
 }
 
-/// Copies of threads, in the memory of a list of others: where these stand, if they are as many, as those of another state
-/// of the program are. Else the room for all is asked for at once, so that none has to be moved later.
+/// Copies threads into the buffer of `others`. If these are as many, as those of another state of
+/// the program are, the copies are made in place. Otherwise capacity for all is reserved at once,
+/// so that none is moved later.
 #[inline(always)]
 fn copied_threads<M: Machine>(
     alloc: Global,
@@ -73,8 +73,8 @@ fn copied_threads<M: Machine>(
     Ok(copies)
 }
 
-/// The note of the operation that a thread begins by its access, if it is in none: how many operations each thread has
-/// finished.
+/// The note of the operation that a thread begins by its access, if it is in none: how many
+/// operations each thread has finished.
 #[inline(always)]
 pub(crate) fn note_at_step<L>(held: &Option<L>, threads: &[Thread<L>]) -> Option<ShortNote>
     requires { length threads.now ≤ 4 }
@@ -88,8 +88,9 @@ pub(crate) fn note_at_step<L>(held: &Option<L>, threads: &[Thread<L>]) -> Option
     }
 }
 
-/// Moves a thread on, where it stands, by what came of its access at a place: with a note more, if its operation began
-/// with that access. Tells who went astray, if that came of it; only then the place is copied.
+/// Advances a thread in place by what came of its access at a place, and adds the note if its
+/// operation began with that access. Returns the thread if it went astray; only then the place is
+/// copied.
 #[inline(always)]
 pub(crate) fn advance<M: Machine>(
     alloc: Global,
@@ -130,7 +131,8 @@ pub(crate) fn advance<M: Machine>(
 }
 
 impl<M: Machine> State<M> {
-    /// Makes the step of a thread that is ready for an operation, in a state that has this one's memory.
+    /// Makes the step of a thread that is ready for an operation, in a state that has this one's
+    /// memory.
     #[inline(always)]
     fn access(
         &self,
@@ -161,8 +163,8 @@ impl<M: Machine> State<M> {
         Ok(())
     }
 
-    /// The state after a step of a thread, which begins its next operation if it is in none. This state is unchanged.
-    /// `NotEnabled` exactly where the thread has no step.
+    /// The state after a step of a thread, which begins its next operation if it is in none. This
+    /// state is unchanged. `NotEnabled` exactly where the thread has no step.
     pub fn step(
         &self,
         alloc: Global,

@@ -1,4 +1,4 @@
-//! Steps that are made in a state itself and taken back.
+//! Steps that are made in place and taken back.
 ghost use Rattle.std.specs.Prelude.{◌≡◌, ◌+◌, ◌^◌, ◌<◌, ◌↔◌, true, false, Some, None, IsErrOf, IfOk, OnOk};
 ghost use Rattle.std.specs.Prelude.{length, slice_set};
 ghost use Rattle.sched_program.specs.Program.{Program, IsWithinLimits};
@@ -6,7 +6,7 @@ ghost use Rattle.tree_machine.specs.declared.state.State.{State};
 ghost use Rattle.tree_machine.specs.Step.{place_or, ready, step, stepped, Fits};
 ghost use Rattle.tree_machine.specs.Undoing.{TakesBack};
 
-use crate::machine::Machine;
+use crate::encode::Encode;
 use crate::replies::Replies;
 use crate::state::{State, StepFault, Thread, place_or};
 use crate::stepping::{advance, copy_thread_into, note_at_step};
@@ -15,17 +15,18 @@ use std::alloc::Global;
 use std::mem::{replace, swap};
 use std::snapshot::Snapshot;
 
-/// What takes a step back that was made in a state itself: the thread as it was, and the memory too where the step may have
-/// written. Kept from one step to the next, it asks for memory until it has a memory of its own.
+/// What takes back a step that was made in place: the thread as it was, and the memory as it was if
+/// the step may have written. It is used again for each step, and allocates only until it has a
+/// memory of its own.
 #[derive(Drop)]
-pub struct Undo<M: Machine> {
+pub struct Undo<M: Encode> {
     pub(crate) thread: Thread<M::Loc>,
     pub(crate) reads: bool,
     pub(crate) memory: Option<M::Mem>,
 }
 
-impl<M: Machine> Undo<M> {
-    /// Nothing is to be taken back. It takes no memory.
+impl<M: Encode> Undo<M> {
+    /// Takes nothing back yet. It allocates nothing.
     pub fn new() -> Undo<M> {
         Undo {
             thread: Thread {
@@ -53,9 +54,9 @@ impl<M: Machine> Undo<M> {
     }
 }
 
-/// Makes the memory that is kept equal to another one, in the room that it has as far as that is enough.
+/// Keeps a copy of the memory, in the buffers of the copy that was kept before, if there is one.
 #[inline(always)]
-fn keep_memory<M: Machine>(
+fn keep_memory<M: Encode>(
     alloc: Global,
     machine: M,
     memory: &M::Mem,
@@ -72,9 +73,9 @@ fn keep_memory<M: Machine>(
     }
 }
 
-/// Whether the access of a thread leaves the memory as it is. Where it may write, the memory is kept.
+/// Whether the access of a thread only reads. If it may write, a copy of the memory is kept.
 #[inline(always)]
-fn keep_written<M: Machine>(
+fn keep_written<M: Encode>(
     alloc: Global,
     machine: M,
     op: Op,
@@ -95,7 +96,19 @@ fn keep_written<M: Machine>(
     Ok(false)
 }
 
-/// Puts a thread in the place of another one, and this one in its place.
+/// Whether a step left the memory as it was: it only read, or its exchange failed.
+#[inline(always)]
+fn left_memory<M: Encode>(reads: bool, kept: &Option<M::Mem>, memory: &M::Mem) -> bool
+    ensures same { result ≡ true → reads ≡ false → kept.now ≡ Some memory.now }
+    ensures other { result ≡ false → reads ≡ false }
+{
+    match kept {
+        Some(kept) => reads || *kept == *memory,
+        None => reads,
+    }
+}
+
+/// Swaps the thread of this number with another one.
 #[inline(always)]
 fn exchange<L: Drop>(
     alloc: Global,
@@ -111,8 +124,9 @@ fn exchange<L: Drop>(
     *threads = Sequence::from_vec(items);
 }
 
-impl<M: Machine> State<M> {
-    /// Makes the access of a thread, which is ready for an operation, in this state itself. A copy of the thread is at hand.
+impl<M: Encode> State<M> {
+    /// Makes the access of a thread that is ready for an operation, in place. `thread` is a copy of
+    /// the thread.
     #[inline(always)]
     fn access_here(
         &mut self,
@@ -139,8 +153,9 @@ impl<M: Machine> State<M> {
         Ok(())
     }
 
-    /// Makes the step of a thread in this state itself, and keeps what takes it back. `NotEnabled` exactly where the thread
-    /// has no step; then this state is unchanged. After a refusal of memory it is of no use.
+    /// Makes the step of a thread in place, and keeps what takes it back. Fails with `NotEnabled`
+    /// exactly if the thread has no step; then this state is unchanged. After a refusal of memory
+    /// this state is of no use.
     #[inline(always)]
     pub fn step_here(
         &mut self,
@@ -172,11 +187,12 @@ impl<M: Machine> State<M> {
             &mut undo.memory,
         )?;
         self.access_here(alloc, machine, t, &undo.thread, op)?;
+        undo.reads = left_memory::<M>(undo.reads, &undo.memory, &self.memory);
         Ok(())
     }
 
-    /// Takes the step of a thread back by what `step_here` kept of it: this state is what it was. What is kept is of no use
-    /// any more.
+    /// Takes back the step of a thread by what `step_here` kept: this state becomes what it was
+    /// before. What was kept is of no further use.
     #[inline(always)]
     pub fn take_back(
         &mut self,

@@ -2,9 +2,11 @@
 ghost use Rattle.std.specs.Prelude.{◌≡◌, ◌<◌, ◌≤◌, ◌+◌, ◌++◌, length, map, slice_get, Some, IfOk, IfSome};
 ghost use Rattle.std.specs.List.{All};
 ghost use Rattle.std.specs.Option.{option_map};
+ghost use Rattle.tree_machine.specs.Canonical.{as_cells};
 ghost use Rattle.tree_machine.specs.Cells.{met_all};
 ghost use Rattle.tree_machine.specs.Graphs.{numbers_from};
 
+use crate::names::Names;
 use crate::number::sum_of;
 use crate::numbering::Numbering;
 use crate::parts::PartVisitor;
@@ -62,9 +64,9 @@ impl Model for Walk {
 }
 
 impl Walk {
-    /// A walk that met its roots alone: the first nodes, as many as are fixed, and what the threads hold. It takes the
-    /// memory of a numbering. More cells than bytes can name are refused as memory is.
-    pub(crate) fn rooted(
+    /// Begins a walk that met the first nodes alone, as many as are fixed. It uses the buffers of a numbering. More
+    /// cells than bytes can name are refused as memory is.
+    pub(crate) fn fixed(
         met: Numbering,
         fixed: usize,
         nodes: usize,
@@ -75,13 +77,42 @@ impl Walk {
         ensures nodes { IfOk result (λ walk. walk.nodes ≡ nodes) }
         ensures records { IfOk result (λ walk. walk.records ≡ records) }
         ensures cells { IfOk result (λ walk. walk.cells ≡ nodes + records + held) }
-        ensures order { IfOk result (λ walk. walk.order
-            ≡ numbers_from 0 fixed ++ numbers_from (nodes + records) held) }
+        ensures order { IfOk result (λ walk. walk.order ≡ numbers_from 0 fixed) }
     {
         let graph = sum_of(nodes, records)?;
         let cells = sum_of(graph, held)?;
         let mut met = met.restarted(cells)?;
         met.meet_range(0, fixed);
+        Ok(Walk {
+            met,
+            nodes,
+            records,
+        })
+    }
+
+    /// Begins a walk that met the nodes and the records that have names, and then what the threads hold. It uses the
+    /// buffers of a numbering. More cells than bytes can name are refused as memory is.
+    pub(crate) fn behind(
+        met: Numbering,
+        names: &Names,
+        nodes: usize,
+        records: usize,
+        held: usize,
+    ) -> Result<Walk, OutOfMemory>
+        requires nodes { length names.now.nodes.numbers.items ≡ nodes }
+        requires records { length names.now.records.numbers.items ≡ records }
+        ensures nodes { IfOk result (λ walk. walk.nodes ≡ nodes) }
+        ensures records { IfOk result (λ walk. walk.records ≡ records) }
+        ensures cells { IfOk result (λ walk. walk.cells ≡ nodes + records + held) }
+        ensures order { IfOk result (λ walk. walk.order
+            ≡ as_cells nodes names.now.nodes.order.items names.now.records.order.items
+            ++ numbers_from (nodes + records) held) }
+    {
+        let graph = sum_of(nodes, records)?;
+        let cells = sum_of(graph, held)?;
+        let mut met = met.restarted(cells)?;
+        met.meet_raised(0, &names.nodes);
+        met.meet_raised(nodes, &names.records);
         met.meet_range(graph, held);
         Ok(Walk {
             met,

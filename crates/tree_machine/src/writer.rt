@@ -1,11 +1,11 @@
 //! Parts in bytes, one behind the other.
 ghost use Rattle.std.specs.Prelude.{◌≡◌, ◌<◌, ◌≤◌, ◌+◌, ◌*◌, ◌++◌, ◌∷◌, [], Some};
-ghost use Rattle.std.specs.Prelude.{length, take, IfOk, IfSome, OnOk};
+ghost use Rattle.std.specs.Prelude.{length, slice_get, take, IfOk, IfSome, OnOk};
 ghost use Rattle.std.specs.List.{All, flat_map};
 ghost use Rattle.std.specs.Option.{option_and_then};
 ghost use Rattle.tree_machine.specs.Cells.{place_in};
 ghost use Rattle.tree_machine.specs.Flat.{number_code, short_head, long_code, facts_code, reference_number};
-ghost use Rattle.tree_machine.specs.Written.{name_code};
+ghost use Rattle.tree_machine.specs.Written.{name_code, with_bytes};
 
 use crate::fixed::{put_byte, put_number_byte};
 use crate::number::put_number;
@@ -48,8 +48,8 @@ fn make_room(bytes: &mut Vec<u8>, at: usize) -> Result<(), OutOfMemory>
     }
 }
 
-/// What one byte says of a part: how many nodes it names, how many facts it has, and how many nodes and records it names.
-/// None where they are more than that.
+/// What one byte says of a part: how many nodes it names, how many facts it has, and how many nodes and records it
+/// names. None where they are more than that.
 #[inline(always)]
 fn short_head(nodes: usize, facts: usize, named: usize) -> Option<u8>
     ensures head { result ≡ short_head nodes facts named }
@@ -77,8 +77,8 @@ fn put_facts(bytes: &mut [u8], start: usize, facts: &[u8]) -> usize
     at
 }
 
-/// Puts what stands in front of a part's names where one byte can't say it, makes room for the names, and returns the place
-/// behind the facts.
+/// Puts what stands in front of a part's names where one byte can't say it, makes room for the names, and returns the
+/// place behind the facts.
 #[cold]
 #[inline(never)]
 fn put_long_front(
@@ -108,8 +108,8 @@ fn put_long_front(
     Ok(end)
 }
 
-/// Puts what stands in front of a part's names: how many nodes and how many nodes and records it names, and its facts. Makes
-/// room for the names, and returns the place behind the facts.
+/// Puts what stands in front of a part's names: how many nodes and how many nodes and records it names, and its facts.
+/// Makes room for the names, and returns the place behind the facts.
 #[inline(always)]
 fn put_front(
     bytes: &mut Vec<u8>,
@@ -151,26 +151,20 @@ fn put_name(numbering: &Numbering, bytes: &mut [u8], at: usize, name: Option<usi
     }
 }
 
-/// Puts names one behind the other, of cells that stand behind so many others, and returns the place behind them.
+/// Puts names one behind the other, and returns the place behind them.
 #[inline(always)]
-fn put_names(
-    numbering: &Numbering,
-    bytes: &mut [u8],
-    start: usize,
-    first: usize,
-    names: &[Option<u16>],
-) -> usize
-    requires known { All (λ r. IfSome r (λ x. first + x < length numbering.now.numbers.items)) names.now }
+fn put_names(numbering: &Numbering, bytes: &mut [u8], start: usize, names: &[Option<u16>]) -> usize
+    requires known { All (λ r. IfSome r (λ x. x < length numbering.now.numbers.items)) names.now }
     requires room { start + length names.now ≤ length bytes.old }
     ensures place { result ≡ start + length names.now }
     ensures written { take result bytes.new ≡ take start bytes.old
-        ++ flat_map (λ r. name_code numbering.now.order.items first r) names.now }
+        ++ flat_map (λ r. name_code numbering.now.order.items r) names.now }
     ensures length { length bytes.new ≡ length bytes.old }
 {
     let mut at = start;
     for name in names {
         let cell = match name {
-            Some(number) => Some(first + *number as usize),
+            Some(number) => Some(usize::from(*number)),
             None => None,
         };
         at = put_name(numbering, bytes, at, cell);
@@ -180,40 +174,36 @@ fn put_names(
 
 /// Puts the names of a stack, as `put_names` puts names that may be none.
 #[inline(always)]
-fn put_stack(
-    numbering: &Numbering,
-    bytes: &mut [u8],
-    start: usize,
-    first: usize,
-    stack: &[u16],
-) -> usize
-    requires known { All (λ x. first + x < length numbering.now.numbers.items) stack.now }
+fn put_stack(numbering: &Numbering, bytes: &mut [u8], start: usize, stack: &[u16]) -> usize
+    requires known { All (λ x. x < length numbering.now.numbers.items) stack.now }
     requires room { start + length stack.now ≤ length bytes.old }
     ensures place { result ≡ start + length stack.now }
     ensures written { take result bytes.new ≡ take start bytes.old
-        ++ flat_map (λ x. name_code numbering.now.order.items first (Some x)) stack.now }
+        ++ flat_map (λ x. name_code numbering.now.order.items (Some x)) stack.now }
     ensures length { length bytes.new ≡ length bytes.old }
 {
     let mut at = start;
     for number in stack {
-        at = put_name(numbering, bytes, at, Some(first + *number as usize));
+        at = put_name(numbering, bytes, at, Some(usize::from(*number)));
     }
     at
 }
 
-/// What parts are written to, by the numbers that a numbering gives to what they name.
+/// What parts are written to, by the numbers that two numberings give to the nodes and the records that they name.
 ///
-/// Contracts see the bytes written so far, with the order that gives the numbers, and how many nodes and records there
-/// are. What is written ends at a place in the bytes: behind it some of these are of no use yet, so that most parts find
-/// room.
+/// Contracts see the bytes written so far, with the orders that give the numbers, and how many nodes and records there
+/// are. What is written ends at a place in the bytes: behind it some of these are of no use yet, so that most parts
+/// find room.
 #[derive(Drop)]
 pub struct Writer<'a> {
-    numbering: &'a Numbering,
+    node_names: &'a Numbering,
+    record_names: &'a Numbering,
     bytes: Vec<u8>,
     at: usize,
     nodes: usize,
     records: usize,
-    ghost room: { nodes + records ≤ length numbering.now.numbers.items },
+    ghost all_nodes: { nodes ≤ length node_names.now.numbers.items },
+    ghost all_records: { records ≤ length record_names.now.numbers.items },
     ghost within: { at ≤ length bytes.items },
 }
 
@@ -226,36 +216,83 @@ impl<'a> Model for Writer<'a> {
     ghost view = { λ w. record {
       nodes = w.nodes;
       records = w.records;
-      order = w.numbering.now.order.items;
+      node_order = w.node_names.now.order.items;
+      record_order = w.record_names.now.order.items;
       bytes = take w.at w.bytes.items;
     } };
 }
 
 impl<'a> Writer<'a> {
-    /// Writes behind these bytes what names so many nodes and records, which are the first cells of the numbering.
+    /// Begins behind these bytes to write what names so many nodes and records, which are the first of the numberings.
     #[inline(always)]
     pub(crate) fn behind(
-        numbering: &'a Numbering,
+        node_names: &'a Numbering,
+        record_names: &'a Numbering,
         bytes: Vec<u8>,
         nodes: usize,
         records: usize,
     ) -> Self
-        requires { nodes + records ≤ length numbering.now.numbers.items }
+        requires nodes { nodes ≤ length node_names.now.numbers.items }
+        requires records { records ≤ length record_names.now.numbers.items }
         ensures { result ≡ record {
           nodes = nodes;
           records = records;
-          order = numbering.now.order.items;
+          node_order = node_names.now.order.items;
+          record_order = record_names.now.order.items;
           bytes = bytes.items;
         } }
     {
         let at = bytes.len();
         Writer {
-            numbering,
+            node_names,
+            record_names,
             bytes,
             at,
             nodes,
             records,
         }
+    }
+
+    /// The node of this number, if one has it.
+    #[inline(always)]
+    pub(crate) fn node_at(&self, place: usize) -> Option<usize>
+        ensures { result ≡ slice_get self.now.node_order place }
+    {
+        self.node_names.cell_at(place)
+    }
+
+    /// The record of this number, if one has it.
+    #[inline(always)]
+    pub(crate) fn record_at(&self, place: usize) -> Option<usize>
+        ensures { result ≡ slice_get self.now.record_order place }
+    {
+        self.record_names.cell_at(place)
+    }
+
+    /// How many nodes have numbers.
+    #[inline(always)]
+    pub(crate) fn node_count(&self) -> usize
+        ensures { result ≡ length self.now.node_order }
+    {
+        self.node_names.len()
+    }
+
+    /// How many records have numbers.
+    #[inline(always)]
+    pub(crate) fn record_count(&self) -> usize
+        ensures { result ≡ length self.now.record_order }
+    {
+        self.record_names.len()
+    }
+
+    /// Writes a count of nodes or records.
+    #[inline(always)]
+    pub(crate) fn put_count(&mut self, count: u8) -> Result<(), OutOfMemory>
+        ensures { OnOk result (self.new ≡ with_bytes self.old (number_code count)) }
+    {
+        make_room(&mut self.bytes, self.at)?;
+        self.at = put_number_byte(self.bytes.as_mut_slice(), self.at, count);
+        Ok(())
     }
 
     /// The bytes.
@@ -288,13 +325,12 @@ impl<'a> PartVisitor for Writer<'a> {
         records: &[Option<u16>],
         stack: &[u16],
     ) -> Result<(), OutOfMemory> {
-        let behind = self.nodes;
         let named = nodes.len() + records.len() + stack.len();
         let start = put_front(&mut self.bytes, self.at, nodes.len(), named, facts)?;
         let bytes = self.bytes.as_mut_slice();
-        let nodes_end = put_names(self.numbering, bytes, start, 0, nodes);
-        let records_end = put_names(self.numbering, bytes, nodes_end, behind, records);
-        self.at = put_stack(self.numbering, bytes, records_end, behind, stack);
+        let nodes_end = put_names(self.node_names, bytes, start, nodes);
+        let records_end = put_names(self.record_names, bytes, nodes_end, records);
+        self.at = put_stack(self.record_names, bytes, records_end, stack);
         Ok(())
     }
 }

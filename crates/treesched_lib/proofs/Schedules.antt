@@ -37,13 +37,6 @@ front (x ∷ y ∷ rest) f =
     let first : x ≡ 44 = f.1 in
     rw (first, second) refl
 
-pub read_first : (text : List ℕ) → 1 ≤ length text → 48 ≤ at text 0 → at text 0 < 58
-    → HasRead text ((at text 0 - 48) ∷ []) (take (length text - 1) (drop 1 text))
-read_first [] h low high = absurd (omega arith)
-read_first (x ∷ text) h low high =
-    let first : digit (x - 48) ≡ x = omega (arith, low, high) in
-    (rw (take_rest (x ∷ text) 1, first) refl, all_one (x - 48) (omega (arith, low, high)), omega arith, omega arith)
-
 pub read_more : (text threads rest : List ℕ) → HasRead text threads rest → Follows rest → length threads < 400
     → HasRead text (threads ++ (at rest 1 - 48) ∷ []) (take (length rest - 2) (drop 2 rest))
 read_more text [] rest h f few = absurd (omega (arith, h.3))

@@ -8,7 +8,7 @@ use book::{Finding, ShortName, Totals};
 use crew::{Answer, Report, Share};
 use sched_program::{History, Op, OpId, OutOfMemory, Program};
 use std::fmt::Write;
-use tree_machine::Machine;
+use tree_machine::Encode;
 
 /// The word for a finding.
 fn finding_name(finding: &Finding) -> &'static str
@@ -234,7 +234,7 @@ fn put_ledger(page: &mut String, shares: &[Share], totals: &Totals) -> Result<()
 }
 
 /// All lines of an exploration, the ledger's if it is asked for.
-pub fn put_report<M: Machine>(
+pub fn put_report<M: Encode>(
     page: &mut String,
     ledger: bool,
     report: &Report<M>,

@@ -25,7 +25,7 @@ use std::io::Read;
 use std::mem::forget;
 use std::sync::Wait;
 use std::thread::Threads;
-use tree_machine::{Atomic, Machine};
+use tree_machine::{Atomic, Encode};
 
 /// What the program writes, and the status that it ends with.
 #[derive(Debug, Drop)]
@@ -75,7 +75,7 @@ fn status_of(answer: &Answer) -> u8
 }
 
 /// The text of the book, where it is asked for and the answer is for every schedule.
-fn due_book<M: Machine>(
+fn due_book<M: Encode>(
     alloc: Global,
     report: &Report<M>,
     is_asked: bool,
@@ -95,7 +95,7 @@ fn due_book<M: Machine>(
 }
 
 /// The output that tells what an exploration came to.
-fn report_output<M: Machine>(
+fn report_output<M: Encode>(
     alloc: Global,
     report: &Report<M>,
     ledger: bool,
@@ -121,7 +121,7 @@ fn report_output<M: Machine>(
 }
 
 /// Explores the schedules of a program.
-fn explored<M: Machine, R: Threads + Wait + Sync>(
+fn explored<M: Encode, R: Threads + Wait + Sync>(
     rt: &R,
     alloc: Global,
     machine: M,
@@ -148,7 +148,7 @@ fn status_of_finding(finding: &Finding) -> u8
 }
 
 /// The output that tells the history and the finding of the state that a replay leads to.
-fn replay_output<M: Machine>(
+fn replay_output<M: Encode>(
     alloc: Global,
     program: &Program,
     last: &Replay<M>,
@@ -165,7 +165,7 @@ fn replay_output<M: Machine>(
 }
 
 /// Replays one schedule of a program.
-fn replayed<M: Machine>(
+fn replayed<M: Encode>(
     alloc: Global,
     machine: M,
     program: &Program,
@@ -182,7 +182,7 @@ fn replayed<M: Machine>(
 }
 
 /// Checks the bytes of a book file against a program.
-fn checked<M: Machine>(
+fn checked<M: Encode>(
     alloc: Global,
     machine: M,
     program: &Program,
@@ -201,7 +201,7 @@ fn checked<M: Machine>(
 }
 
 /// Answers the request on a machine.
-fn answered<M: Machine, R: Threads + Wait + Sync>(
+fn answered<M: Encode, R: Threads + Wait + Sync>(
     rt: &R,
     alloc: Global,
     machine: M,

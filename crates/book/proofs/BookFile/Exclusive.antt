@@ -94,7 +94,7 @@ module _ {Machine Memory Place Form : Type 0} (rules : Rules Memory Place) (prog
         (one_reached b.0 a.0 b.1 a.1) b.2)
 
   -- lines tell one list of states, and nothing is amiss with them then
-  one_continued : (before : List (State Machine Memory Place Form)) (lines : List Line)
+  pub one_continued : (before : List (State Machine Memory Place Form)) (lines : List Line)
       (states others : List (State Machine Memory Place Form))
       → Continues rules program before lines states → Continues rules program before lines others → states ≡ others
   one_continued before [] states others a b = a ∙ sym b
@@ -188,12 +188,6 @@ module _ (Machine Form : Type 0) {Memory Place : Type 0} (rules : Rules Memory P
       → (f ≡ OutOfMemory) ⊎ AreRefused Machine Form rules program lines f
   amiss_refused f (inl h) = inl h
   amiss_refused f (inr h) = inr (inl h)
-
-  pub open_refused : (states : List (State Machine Memory Place Form)) → AreReplayed rules program lines states
-      → (f : CheckFault) → (f ≡ OutOfMemory) ⊎ IsFirstOpen rules program states f
-      → (f ≡ OutOfMemory) ⊎ AreRefused Machine Form rules program lines f
-  open_refused states so f (inl h) = inl h
-  open_refused states so f (inr h) = inr (inr (states, so, h))
 
   -- .. they are refused for nothing else, and they don't pass
   pub only_refusal : (f : CheckFault) → (f ≡ OutOfMemory) ⊎ AreRefused Machine Form rules program lines f

@@ -1,190 +1,208 @@
--- Forms put into a set one after the other, and what the set tells of alike states.
-use Rattle.std.proofs.Common.{◌≡◌, ℕ, suc, ◌+◌, ◌<◌, ◌≤◌, inl, inr, get_or, take, Bool, true, false, cond, Option, Some}
-use Rattle.std.proofs.Common.{List, [], ◌∷◌, ◌++◌, length, refl, sym, ap, ◌∙◌, arith, slice_get, subst}
-use Rattle.std.specs.Cmp.{IsEquivalence}
-use Rattle.std.proofs.lemmas.Bool.{true≢false, cases_lt}
-use Rattle.std.proofs.lemmas.Option.{slice_get_read, same_Some}
-use Rattle.std.proofs.Math.Seq.{take-suc}
-use Rattle.sched_program.specs.Exact.{IsExact}
+-- What labels tell of alike states.
+use Rattle.std.proofs.Common.{◌≡◌, ℕ, suc, ◌+◌, ◌<◌, ◌≤◌, inl, inr, Some, Option, List, length, Contains, refl, sym, ap, ◌∙◌}
+use Rattle.std.proofs.Common.{arith, slice_get, subst}
+use Rattle.std.proofs.lemmas.Bool.{cases_lt}
+use Rattle.std.proofs.lemmas.Option.{same_Some}
+use Rattle.lin.proofs.Lists.{Contains-slice_get, slice_get-Contains}
 use Rattle.sched_program.specs.Program.{Program, IsWithinLimits}
 use Rattle.tree_machine.specs.Rules.{Rules, AreLawful, AreFormsExact}
 use Rattle.tree_machine.specs.Alike.{AreStatesAlike, state_form}
 use Rattle.tree_machine.specs.FormCode.{IsInjective, content_code}
-use Rattle.tree_machine.specs.Flat.{number_code}
 use Rattle.tree_machine.specs.Laws.Flat.{number_split}
 use Rattle.tree_machine.specs.Laws.FormCode.{content_readable}
-use Rattle.tree_machine.specs.Step.{start, step, Fits}
+use Rattle.tree_machine.specs.Step.{step, Fits}
 use Rattle.tree_machine.specs.declared.state.State.{State}
+use Rattle.tree_machine.proofs.Alike.{alike_step}
 use Rattle.tree_machine.proofs.Forms.{forms_alike, alike_turned}
-use Rattle.tree_machine.proofs.Lists.{get-append_left, get-append_right}
-use Rattle.book.specs.Closed.{AreClosed, IsAlikeToOneOf}
-use Rattle.book.specs.Schedule.{IsMachine}
+use Rattle.tree_machine.proofs.Lists.{get_at, get-map, map-get}
+use Rattle.book.specs.Closed.{IsAlikeToOneOf}
 use Rattle.book.specs.Findings.{machine_of}
 use Rattle.book.specs.Labels.{named_by}
-use Rattle.book.proofs.Machines.{is_machine}
-use Rattle.book.proofs.EntryLemmas.{get_within}
-use Rattle.book.specs.BookFile.Closing.{IsFirstOpen}
-use Rattle.book.specs.BookFile.Forms.{AreFormsOf, AreStepsKnown, IsStepUnknown}
+use Rattle.book.specs.Schedule.{IsMachine}
+use Rattle.book.specs.BookFile.Checks.{AreRefused, Pass}
+use Rattle.book.specs.BookFile.Kept.{AreLabelsOf, AreStepsKnown, IsStepUnknown, StandsFor, StandsForEntry}
+use Rattle.book.specs.BookFile.Replays.{AreReplayed}
 use Rattle.book.specs.declared.file.fault.CheckFault.TheVariants.{Open}
-use Rattle.book.proofs.BookFile.Replayed.{last_item_or}
+use Rattle.book.specs.declared.file.line.Line.{Line}
+use Rattle.book.proofs.BookFile.Recalled.{IsStepBy, line_of}
+use Rattle.book.proofs.BookFile.Replayed.{begins, count_labels, count_states, each_fits}
+use Rattle.book.proofs.BookFile.Twins.{one_label, step_there}
+use Rattle.book.proofs.EntryLemmas.{get_within}
+use Rattle.book.proofs.Machines.{is_machine}
 
-module _ {F : Type 0} (eq : F → F → Bool) where
-  -- the form of one more state is put in
-  pub more_forms : IsEquivalence eq → {S : Type 0} (form_of : S → F) (states : List S) (known more : F → Bool) (i : ℕ)
-      (s : S) → i < length states → s ≡ get_or states i s
-      → ((f : F) → more f ≡ cond (eq (form_of s) f) true (known f)) → AreFormsOf eq form_of (take i states) known
-      → AreFormsOf eq form_of (take (i + 1) states) more
-  more_forms laws {S} form_of states known more i s less is put so =
-      record {
-        each = (λ j r at. last_item_or (λ _ (x : S). more (form_of x) ≡ true) (take i states) s
-            (λ k x here. put (form_of x) ∙ kept (eq (form_of s) (form_of x)) (known (form_of x)) (so.each k x here))
-            (put (form_of s) ∙ ap (λ b. cond b true (known (form_of s))) (laws.refl (form_of s))) j r
-            (subst (λ (xs : List S). slice_get xs j ≡ Some r) longer at));
-        only = (λ g h. from g (eq (form_of s) g) refl (sym (put g) ∙ h));
-      }
-    where
-      kept : (b c : Bool) → c ≡ true → cond b true c ≡ true
-      kept true c h = refl
-      kept false c h = h
-
-      longer : take (i + 1) states ≡ take i states ++ s ∷ []
-      longer = let one : i + 1 ≡ suc i = omega arith in
-          ap (λ n. take n states) one ∙ take-suc states i s less ∙ ap (λ x. take i states ++ x ∷ []) (sym is)
-
-      from : (g : F) (b : Bool) → eq (form_of s) g ≡ b → cond b true (known g) ≡ true
-          → (j : ℕ) × (r : S) × (slice_get (take (i + 1) states) j ≡ Some r) × (eq g (form_of r) ≡ true)
-      from g true same h = (
-        length (take i states) + 0,
-        s,
-        subst (λ (xs : List S). slice_get xs (length (take i states) + 0) ≡ Some s)
-            (sym longer) (get-append_right (take i states) (s ∷ []) 0 s refl),
-        laws.symm g (form_of s) ∙ same,
-      )
-      from g false other h =
-          let w = so.only g h in (
-            w.0,
-            w.1,
-            subst (λ (xs : List S). slice_get xs w.0 ≡ Some w.1) (sym longer)
-                (get-append_left (take i states) (s ∷ []) w.0 w.1 w.2),
-            w.3,
-          )
-
--- the steps of the first states lead to states with known forms
+-- the steps of the first entries' states have labels that are known
 abbrev pub AreKnownBelow : {Machine Memory Place Form : Type 0} (rules : Rules Memory Place) (program : Program)
-    (code : Form → List ℕ) (form_of : Memory → List (Option Place) → Form)
-    (states : List (State Machine Memory Place Form)) (known : List ℕ → Bool) → ℕ → Type 0
-AreKnownBelow {Machine} {Memory} {Place} {Form} rules program code form_of states known n =
-    (i : ℕ) (s : State Machine Memory Place Form) → i < n → slice_get states i ≡ Some s
-    → AreStepsKnown rules program (named_by code form_of) known s
-
--- .. and those of the next one too
-pub known_next : {Machine Memory Place Form : Type 0} (rules : Rules Memory Place) (program : Program)
-    (code : Form → List ℕ) (form_of : Memory → List (Option Place) → Form)
-    (states : List (State Machine Memory Place Form)) (known : List ℕ → Bool) (i : ℕ)
-    (s : State Machine Memory Place Form) → i < length states → s ≡ get_or states i s
-    → AreStepsKnown rules program (named_by code form_of) known s
-    → AreKnownBelow rules program code form_of states known i
-    → AreKnownBelow rules program code form_of states known (i + 1)
-known_next {Machine} {Memory} {Place} {Form} rules program code form_of states known i s less is steps so j r below at =
-    elim (cases_lt j i) [
-      | inl l ↦ so j r l at
-      | inr ge ↦ (
-          let same_place : i ≡ j = omega arith in
-          let here : slice_get states i ≡ Some s = slice_get_read states (length states) i s refl less is in
-          let there : slice_get states i ≡ Some r = ap (slice_get states) same_place ∙ at in
-          let same : s ≡ r = same_Some s r (sym here ∙ there) in
-          subst (λ (v : State Machine Memory Place Form). AreStepsKnown rules program (named_by code form_of) known v)
-          same steps)
-    ]
+    (label_of : State Machine Memory Place Form → List ℕ) (lines : List Line) (labels : List (List ℕ)) → ℕ → Type 0
+AreKnownBelow {Machine} {Memory} {Place} {Form} rules program label_of lines labels n =
+    (states : List (State Machine Memory Place Form)) → AreReplayed rules program lines states → (i : ℕ)
+    (s : State Machine Memory Place Form) → i < n → slice_get states i ≡ Some s
+    → AreStepsKnown rules program label_of labels s
 
 module _ {Machine Memory Place Form : Type 0} (rules : Rules Memory Place) (program : Program)
     (lawful : AreLawful rules) (limits : IsWithinLimits program)
     (form_of : Memory → List (Option Place) → Form) (forms : AreFormsExact rules form_of)
-    (code : Form → List ℕ) (readable : IsInjective code) (eq : List ℕ → List ℕ → Bool) (exact : IsExact eq)
-    (states : List (State Machine Memory Place Form))
-    (fit : (i : ℕ) (s : State Machine Memory Place Form) → slice_get states i ≡ Some s → Fits rules program s)
-    (known : List ℕ → Bool) (has : AreFormsOf eq (named_by code form_of) states known) where
+    (code : Form → List ℕ) (lines : List Line) (labels : List (List ℕ)) where
+  abbrev label : State Machine Memory Place Form → List ℕ
+  label = named_by code form_of
+
   machine : IsMachine (machine_of {Machine = Machine} {Form = Form} rules program)
   machine = is_machine rules program lawful limits
 
-  -- one of the states is alike to a state that fits exactly if the form of this is known
-  known_alike : (s : State Machine Memory Place Form) → Fits rules program s → known (named_by code form_of s) ≡ true
-      → IsAlikeToOneOf (AreStatesAlike rules) states s
-  known_alike s fits is =
-      let w = has.only (named_by code form_of s) is in
-      let w_fits = fit w.0 w.1 w.2 in (
-        w.0,
-        w.1,
-        w.2,
-        alike_turned rules form_of forms program s w.1 fits w_fits
-            ((forms_alike rules form_of forms program program s w.1 fits w_fits).0
-            (content_readable code readable (state_form form_of s) (state_form form_of w.1)
-            (number_split 0 0 (content_code code (state_form form_of s)) (content_code code (state_form form_of w.1))
-            (exact (named_by code form_of s) (named_by code form_of w.1) w.3)).1)),
-      )
+  -- what is known of the steps of a state that stands in for another one is known of that one's
+  twin_known : (most : ℕ) (s c : State Machine Memory Place Form) → Fits rules program s
+      → StandsFor rules program most s c → AreStepsKnown rules program label labels c
+      → AreStepsKnown rules program label labels s
+  twin_known most s c fits stands known t u leads =
+      let w = alike_step rules s c lawful stands.alike program t u leads in
+      let u_fits = machine.step_fits s u t fits leads in
+      let v_fits = machine.step_fits c w.0 t stands.fits w.1 in
+      subst (λ l. Contains labels l)
+      (sym (one_label rules program lawful limits form_of forms u w.0 u_fits v_fits w.2 code)) (known t w.0 w.1)
 
-  alike_known : (s : State Machine Memory Place Form) → Fits rules program s
-      → IsAlikeToOneOf (AreStatesAlike rules) states s → known (named_by code form_of s) ≡ true
-  alike_known s fits among =
-      let same : state_form form_of among.1
-      ≡ state_form form_of s =
-      (forms_alike rules form_of forms program program among.1 s (fit among.0 among.1 among.2) fits).1 among.3 in
-      subst (λ (f : List ℕ). known f ≡ true) (ap (λ f. number_code 0 ++ content_code code f) same) (has.each among.0 among.1 among.2)
+  -- .. and those of the next one too
+  pub known_next : (i : ℕ) (c : State Machine Memory Place Form) → StandsForEntry rules program lines i c
+      → AreStepsKnown rules program label labels c → AreKnownBelow rules program label lines labels i
+      → AreKnownBelow rules program label lines labels (i + 1)
+  known_next i c stands known so states replayed j r below at =
+      elim (cases_lt j i) [
+        | inl l ↦ so states replayed j r l at
+        | inr ge ↦ (
+            let same_place : j ≡ i = omega arith in
+            let w = stands states replayed in
+            let here : slice_get states i ≡ Some r = ap (slice_get states) (sym same_place) ∙ at in
+            let same : w.0 ≡ r = same_Some w.0 r (sym w.1 ∙ here) in
+            let fits : Fits rules program r = each_fits rules program lawful limits lines states replayed j r at in
+            twin_known i r c fits
+            (subst (λ (v : State Machine Memory Place Form). StandsFor rules program i v c) same w.2) known)
+      ]
 
-  pub open_next : (i : ℕ) (s : State Machine Memory Place Form) → i < length states → s ≡ get_or states i s
-      → IsStepUnknown rules program (named_by code form_of) known s
-      → AreKnownBelow rules program code form_of states known i
-      → IsFirstOpen rules program states (Open (i + 2))
-  open_next i s less is out so =
-      let here : slice_get states i ≡ Some s = slice_get_read states (length states) i s refl less is in
+  module _ (readable : IsInjective code) (kept : AreLabelsOf rules program label lines labels) where
+    abbrev states : List (State Machine Memory Place Form)
+    states = kept.states
+
+    fit : (i : ℕ) (s : State Machine Memory Place Form) → slice_get states i ≡ Some s → Fits rules program s
+    fit = each_fits rules program lawful limits lines states kept.replayed
+
+    -- one of the states is alike to a state that fits exactly if the label of this is known
+    known_alike : (s : State Machine Memory Place Form) → Fits rules program s → Contains labels (label s)
+        → IsAlikeToOneOf (AreStatesAlike rules) states s
+    known_alike s fits has =
+        let w = slice_get-Contains labels (label s) has in
+        let r = get-map label states w.0 (label s) (ap (λ ls. slice_get ls w.0) (sym kept.labelled) ∙ w.1) in
+        let r_fits = fit w.0 r.0 r.1 in (
+          w.0,
+          r.0,
+          r.1,
+          alike_turned rules form_of forms program s r.0 fits r_fits
+              ((forms_alike rules form_of forms program program s r.0 fits r_fits).0
+              (content_readable code readable (state_form form_of s) (state_form form_of r.0)
+              (number_split 0 0 (content_code code (state_form form_of s)) (content_code code (state_form form_of r.0))
+              r.2).1)),
+        )
+
+    alike_known : (s : State Machine Memory Place Form) → Fits rules program s
+        → IsAlikeToOneOf (AreStatesAlike rules) states s → Contains labels (label s)
+    alike_known s fits among =
+        let same : label among.1 ≡ label s =
+        one_label rules program lawful limits form_of forms among.1 s (fit among.0 among.1 among.2) fits among.3 code in
+        Contains-slice_get labels among.0 (label s)
+        (ap (λ ls. slice_get ls among.0) kept.labelled ∙ map-get label states among.0 among.1 among.2 ∙ ap Some same)
+
+    -- a step that a line has leads to the state of the line's own entry, whose label is known
+    pub line_known : (k : ℕ) (line : Line) → slice_get lines k ≡ Some line
+        → (c : State Machine Memory Place Form) → StandsForEntry rules program lines line.parent c
+        → (n : State Machine Memory Place Form) → step rules program c line.thread ≡ Some n
+        → Contains labels (label n)
+    line_known k line at c stands n leads =
+        let w = stands states kept.replayed in
+        let many : length states ≡ length lines + 1 = count_states rules program lines states kept.replayed in
+        let less : k < length lines = get_within lines k line at in
+        let own = get_at states (suc k) (omega arith) in
+        let v = line_of rules program lines states kept.replayed k (omega arith) own.0 own.1 in
+        let own_line : v.0 ≡ line = same_Some v.0 line (sym v.1 ∙ at) in
+        let by : IsStepBy rules program states (suc k) line own.0 =
+        subst (λ (l : Line). IsStepBy rules program states (suc k) l own.0) own_line v.2 in
+        let parent : w.0 ≡ by.parent = same_Some w.0 by.parent (sym w.1 ∙ by.at) in
+        let u = step_there rules program lawful limits form_of forms w.0 c (fit line.parent w.0 w.1) w.2.fits w.2.alike
+        line.thread n leads in
+        let goes : step rules program w.0 line.thread ≡ Some own.0 =
+        ap (λ (s : State Machine Memory Place Form). step rules program s line.thread) parent ∙ by.step in
+        let there : own.0 ≡ u.0 = same_Some own.0 u.0 (sym goes ∙ u.1) in
+        Contains-slice_get labels (suc k) (label n)
+        (ap (λ ls. slice_get ls (suc k)) kept.labelled ∙ map-get label states (suc k) own.0 own.1
+        ∙ ap (λ (s : State Machine Memory Place Form). Some (label s)) there
+        ∙ ap Some (sym (one_label rules program lawful limits form_of forms n u.0 u.3 u.2 u.4 code)))
+
+    -- a step of the next entry's state is not known
+    pub open_next : (i : ℕ) (c : State Machine Memory Place Form) → StandsForEntry rules program lines i c
+        → IsStepUnknown rules program label labels c → AreKnownBelow rules program label lines labels i
+        → AreRefused Machine Form rules program lines (Open (i + 2))
+    open_next i c stands out so =
+        let w = stands states kept.replayed in
+        let s_fits = fit i w.0 w.1 in
+        let u = step_there rules program lawful limits form_of forms w.0 c s_fits w.2.fits w.2.alike out.0 out.1 out.2 in
+        inr (
+          states,
+          kept.replayed,
+          record {
+            index = i;
+            state = w.0;
+            at = w.1;
+            told = refl;
+            leads_out = (
+              out.0,
+              u.0,
+              u.1,
+              λ among. out.3 (subst (λ l. Contains labels l)
+                  (sym (one_label rules program lawful limits form_of forms out.1 u.0 u.3 u.2 u.4 code))
+                  (alike_known u.0 u.2 among)),
+            );
+            first = (λ j r below at out_of_r. out_of_r.3
+                (known_alike out_of_r.1 (machine.step_fits r out_of_r.1 out_of_r.0 (fit j r at) out_of_r.2)
+                (so states kept.replayed j r below at out_of_r.0 out_of_r.1 out_of_r.2)));
+          },
+        )
+
+    pub known_closed : AreKnownBelow rules program label lines labels (length labels)
+        → Pass Machine Form rules program lines
+    known_closed so = (
+      states,
+      kept.replayed,
       record {
-        index = i;
-        state = s;
-        at = here;
-        told = refl;
-        leads_out = (
-          out.0,
-          out.1,
-          out.2,
-          (λ among. true≢false (sym (alike_known out.1 (machine.step_fits s out.1 out.0 (fit i s here) out.2) among)
-              ∙ out.3)),
-        );
-        first = (λ j r below at out_of_r. out_of_r.3
-            (known_alike out_of_r.1 (machine.step_fits r out_of_r.1 out_of_r.0 (fit j r at) out_of_r.2)
-            (so j r below at out_of_r.0 out_of_r.1 out_of_r.2)));
-      }
-
-  pub known_closed : AreKnownBelow rules program code form_of states known (length states)
-      → IsAlikeToOneOf (AreStatesAlike rules) states (start rules program)
-      → AreClosed (machine_of rules program) (AreStatesAlike rules) states
-  known_closed so begins = record {
-    fit = fit;
-    start = begins;
-    steps = (λ i t s r at leads. known_alike r (machine.step_fits s r t (fit i s at) leads)
-        (so i s (get_within states i s at) at t r leads));
-  }
+        fit = fit;
+        start = begins rules program lawful limits form_of forms lines states kept.replayed;
+        steps = (λ i t s r at leads.
+            let less : i < length states = get_within states i s at in
+            let many : length states ≡ length lines + 1 = count_states rules program lines states kept.replayed in
+            let all : length labels ≡ length lines + 1 = count_labels rules program label lines labels kept in
+            known_alike r (machine.step_fits s r t (fit i s at) leads)
+            (so states kept.replayed i s (omega arith) at t r leads));
+      },
+    )
 
 -- no thread but those of the program takes a step
-pub no_more_threads : {Machine Memory Place Form F : Type 0} (rules : Rules Memory Place) (program : Program)
+pub no_more_threads : {Machine Memory Place Form : Type 0} (rules : Rules Memory Place) (program : Program)
     → AreLawful rules → IsWithinLimits program
-    → (form_of : State Machine Memory Place Form → F) (known : F → Bool) (s : State Machine Memory Place Form) (n : ℕ)
+    → (label_of : State Machine Memory Place Form → List ℕ) (labels : List (List ℕ))
+    (s : State Machine Memory Place Form) (n : ℕ)
     → length program.threads ≤ n
     → ((t : ℕ) (next : State Machine Memory Place Form) → t < n → step rules program s t ≡ Some next
-    → known (form_of next) ≡ true) → AreStepsKnown rules program form_of known s
-no_more_threads {Machine} {Memory} {Place} {Form} rules program lawful limits form_of known s n many so t next leads =
+    → Contains labels (label_of next)) → AreStepsKnown rules program label_of labels s
+no_more_threads {Machine} {Memory} {Place} {Form} rules program lawful limits label_of labels s n many so t next leads =
     let less : t < length program.threads =
     (is_machine {Machine = Machine} {Form = Form} rules program lawful limits).is_thread s next t leads in
     so t next (omega arith) leads
 
 -- one more thread was tried
-pub one_more_thread : {Machine Memory Place Form F : Type 0} (rules : Rules Memory Place) (program : Program)
-    (form_of : State Machine Memory Place Form → F) (known : F → Bool) (s : State Machine Memory Place Form) (n : ℕ)
-    → ((next : State Machine Memory Place Form) → step rules program s n ≡ Some next → known (form_of next) ≡ true)
+pub one_more_thread : {Machine Memory Place Form : Type 0} (rules : Rules Memory Place) (program : Program)
+    (label_of : State Machine Memory Place Form → List ℕ) (labels : List (List ℕ))
+    (s : State Machine Memory Place Form) (n : ℕ)
+    → ((next : State Machine Memory Place Form) → step rules program s n ≡ Some next → Contains labels (label_of next))
     → ((t : ℕ) (next : State Machine Memory Place Form) → t < n → step rules program s t ≡ Some next
-    → known (form_of next) ≡ true)
+    → Contains labels (label_of next))
     → (t : ℕ) (next : State Machine Memory Place Form) → t < n + 1 → step rules program s t ≡ Some next
-    → known (form_of next) ≡ true
-one_more_thread rules program form_of known s n last so t next less leads =
+    → Contains labels (label_of next)
+one_more_thread rules program label_of labels s n last so t next less leads =
     elim (cases_lt t n) [
       | inl l ↦ so t next l leads
       | inr ge ↦ (let e : t ≡ n = omega arith in last next (ap (step rules program s) (sym e) ∙ leads))

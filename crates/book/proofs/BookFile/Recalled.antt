@@ -1,5 +1,5 @@
 -- The way to a state that lines tell, as it is gone back.
-use Rattle.std.proofs.Common.{◌≡◌, ℕ, zero, suc, ◌+◌, ◌-◌, ◌<◌, ◌≤◌, get_or, Some, List, [], ◌∷◌, ◌++◌, length, reverse}
+use Rattle.std.proofs.Common.{◌≡◌, ℕ, zero, suc, ◌+◌, ◌-◌, ◌<◌, ◌≤◌, Some, List, [], ◌∷◌, ◌++◌, length, reverse}
 use Rattle.std.proofs.Common.{refl, sym, ap, ◌∙◌, arith, slice_get, subst}
 use Rattle.std.specs.Option.{option_and_then}
 use Rattle.std.proofs.lemmas.List.{reverse-append, length_push}
@@ -140,9 +140,3 @@ module _ {Machine Memory Place Form : Type 0} (rules : Rules Memory Place) (prog
           subst (λ (v : State Machine Memory Place Form).
               run (machine_of {Machine = Machine} {Form = Form} rules program) v way ≡ Some so_far.there) same so_far.leads,
         )
-
--- what stands at a place is what is read there
-pub read_there : {X : Type 0} (xs : List X) (i : ℕ) (x : X) → slice_get xs i ≡ Some x → x ≡ get_or xs i x
-read_there [] i x at = refl
-read_there (y ∷ xs) zero x at = sym (same_Some y x at)
-read_there (y ∷ xs) (suc i) x at = read_there xs i x at

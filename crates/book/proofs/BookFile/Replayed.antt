@@ -1,7 +1,8 @@
 -- States that lines tell, one line after the other.
-use Rattle.std.proofs.Common.{◌≡◌, ℕ, zero, suc, ◌+◌, ◌<◌, ◌≤◌, ◌⊎◌, inl, inr, get_or, take, drop, Option, None, Some}
+use Rattle.std.proofs.Common.{◌≡◌, ℕ, zero, suc, ◌+◌, ◌<◌, ◌≤◌, ◌⊎◌, inl, inr, get_or, take, drop, None, Some, Option}
 use Rattle.std.proofs.Common.{List, [], ◌∷◌, ◌++◌, length, refl, sym, ap, ◌∙◌, arith, slice_get, subst}
-use Rattle.std.proofs.lemmas.List.{length_push}
+use Rattle.std.proofs.Math.ListN.{length-map}
+use Rattle.std.proofs.lemmas.List.{length_push, length-take-le, map-append}
 use Rattle.std.proofs.Math.Seq.{take-suc}
 use Rattle.sched_program.specs.Program.{Program, IsWithinLimits}
 use Rattle.tree_machine.specs.Rules.{Rules, AreLawful, AreFormsExact}
@@ -20,6 +21,7 @@ use Rattle.book.specs.declared.file.fault.CheckFault.{CheckFault}
 use Rattle.book.specs.declared.file.fault.CheckFault.TheVariants.{OutOfMemory}
 use Rattle.book.specs.BookFile.Replays.{IsShown, IsUnshown, Reaches, Tells, IsAmiss, Continues, FirstAmiss}
 use Rattle.book.specs.BookFile.Replays.{IsFirstAmiss, AreReplayed}
+use Rattle.book.specs.BookFile.Kept.{AreLabelsOf}
 
 -- the one item after a list, or an item of it
 pub last_item_or : {X : Type 0} (P : ℕ → X → Type 0) (xs : List X) (y : X)
@@ -97,9 +99,51 @@ module _ {Machine Memory Place Form : Type 0} (rules : Rules Memory Place) (prog
   front before (line ∷ lines) states so i s at =
       front (before ++ so.0 ∷ []) lines states so.2 i s (get-append_left before (so.0 ∷ []) i s at)
 
+  count_from : (before : List (State Machine Memory Place Form)) (lines : List Line)
+      (states : List (State Machine Memory Place Form)) → Continues rules program before lines states
+      → length states ≡ length before + length lines
+  count_from before [] states so = let e : length states ≡ length before = ap length so in omega arith
+  count_from before (line ∷ lines) states so =
+      let rest = count_from (before ++ so.0 ∷ []) lines states so.2 in
+      let one : length (before ++ so.0 ∷ []) ≡ length before + 1 = length_push before so.0 in omega arith
+
+  -- each line tells one state, and the start stands before them
+  pub count_states : (lines : List Line) (states : List (State Machine Memory Place Form))
+      → AreReplayed rules program lines states → length states ≡ length lines + 1
+  count_states lines states so =
+      let all = count_from (start rules program ∷ []) lines states so.1 in omega arith
+
+  pub count_labels : (label_of : State Machine Memory Place Form → List ℕ) (lines : List Line)
+      (labels : List (List ℕ)) → AreLabelsOf rules program label_of lines labels → length labels ≡ length lines + 1
+  count_labels label_of lines labels so =
+      ap length so.labelled ∙ length-map so.states label_of ∙ count_states lines so.states so.replayed
+
   module _ (lawful : AreLawful rules) (limits : IsWithinLimits program) where
     machine : IsMachine (machine_of {Machine = Machine} {Form = Form} rules program)
     machine = is_machine rules program lawful limits
+
+    module _ (lines : List Line) (states : List (State Machine Memory Place Form))
+        (so : AreReplayed rules program lines states) where
+      -- each state fits, and has no more steps than its index
+      pub each_fits : (i : ℕ) (s : State Machine Memory Place Form) → slice_get states i ≡ Some s → Fits rules program s
+      each_fits =
+          along (λ _ s. Fits rules program s) (λ before line state all tells.
+          let reached : Reaches rules program before line state = tells.0 in
+          machine.step_fits reached.parent state line.thread (all line.parent reached.parent reached.at) reached.step)
+          (start rules program ∷ []) lines states so.1
+          (only_start (λ _ s. Fits rules program s) (start rules program) machine.start_fits)
+
+      pub few_steps : (i : ℕ) (s : State Machine Memory Place Form) → slice_get states i ≡ Some s → s.steps ≤ i
+      few_steps =
+          along (λ i s. s.steps ≤ i) (λ before line state all tells.
+          let reached : Reaches rules program before line state = tells.0 in
+          let up : state.steps ≡ reached.parent.steps + 1 =
+          step_counts rules program reached.parent state line.thread reached.step in
+          let few : reached.parent.steps ≤ line.parent = all line.parent reached.parent reached.at in
+          let less : line.parent < length before = get_within before line.parent reached.parent reached.at in
+          omega arith)
+          (start rules program ∷ []) lines states so.1
+          (only_start (λ i s. s.steps ≤ i) (start rules program) (omega arith))
 
     -- the start is one of the states that lines tell
     pub begins : (form_of : Memory → List (Option Place) → Form) → AreFormsExact rules form_of
@@ -112,97 +156,71 @@ module _ {Machine Memory Place Form : Type 0} (rules : Rules Memory Place) (prog
       alike_itself rules form_of forms program (start rules program) machine.start_fits,
     )
 
--- the first lines are replayed
-pub record HasReplayed {Machine Memory Place Form : Type 0} (rules : Rules Memory Place) (program : Program)
-    (lines : List Line) (states : List (State Machine Memory Place Form)) : Type 0 where
-  pub replayed : AreReplayed rules program lines states
-  pub fit : (i : ℕ) (s : State Machine Memory Place Form) → slice_get states i ≡ Some s → Fits rules program s
-  pub few : (i : ℕ) (s : State Machine Memory Place Form) → slice_get states i ≡ Some s → s.steps ≤ i
-  pub many : length states ≡ length lines + 1
+module _ {Machine Memory Place Form : Type 0} (rules : Rules Memory Place) (program : Program)
+    (label_of : State Machine Memory Place Form → List ℕ) where
+  -- the label of the start
+  pub labels_start : (first : State Machine Memory Place Form) (label : List ℕ) (labels : List (List ℕ))
+      → first ≡ start rules program → IsShown rules program first [] → label ≡ label_of first
+      → labels ≡ label ∷ [] → AreLabelsOf rules program label_of [] labels
+  labels_start first label labels is shown same made = record {
+    states = first ∷ [];
+    replayed = (
+      subst (λ (v : State Machine Memory Place Form). IsShown rules program v []) is shown,
+      ap (λ (v : State Machine Memory Place Form). v ∷ []) is,
+    );
+    labelled = made ∙ ap (λ l. l ∷ []) same;
+  }
 
-module _ {Machine Memory Place Form : Type 0} (rules : Rules Memory Place) (program : Program) where
-  pub replayed_start : (first : State Machine Memory Place Form) (states : List (State Machine Memory Place Form))
-      → first ≡ start rules program → Fits rules program first → IsShown rules program first []
-      → states ≡ [] ++ first ∷ [] → HasReplayed rules program [] states
-  replayed_start first states is fits shown made =
-      let only =
-      λ (P : ℕ → State Machine Memory Place Form → Type 0) (h : P 0 first) (i : ℕ)
-      (s : State Machine Memory Place Form) (at : slice_get states i ≡ Some s).
-      only_start rules program P first h i s
-      (subst (λ (b : List (State Machine Memory Place Form)). slice_get b i ≡ Some s) made at) in
-      record {
-        replayed = (
-          subst (λ (v : State Machine Memory Place Form). IsShown rules program v []) is shown,
-          made
-              ∙ ap (λ (v : State Machine Memory Place Form). v ∷ []) is,
-        );
-        fit = only (λ i s. Fits rules program s) fits;
-        few = only (λ i s. s.steps ≤ i)
-            (let z : first.steps ≡ 0 = ap (λ (v : State Machine Memory Place Form). v.steps) is in omega arith);
-        many = ap length made;
-      }
+  module _ (lines : List Line) (labels : List (List ℕ)) (i : ℕ) (line : Line) (less : i < length lines)
+      (is : line ≡ get_or lines i line) (so : AreLabelsOf rules program label_of (take i lines) labels) where
+    -- one more line
+    pub labels_next : (label : List ℕ) (longer : List (List ℕ))
+        → ((states : List (State Machine Memory Place Form)) → AreReplayed rules program (take i lines) states
+        → (state : State Machine Memory Place Form) × Tells rules program states line state × (label ≡ label_of state))
+        → longer ≡ labels ++ label ∷ [] → AreLabelsOf rules program label_of (take (i + 1) lines) longer
+    labels_next label longer tells made =
+        let w = tells so.states so.replayed in
+        let one : suc i ≡ i + 1 = omega arith in
+        let more : take i lines ++ line ∷ [] ≡ take (i + 1) lines =
+        sym (take-suc lines i line less ∙ ap (λ x. take i lines ++ x ∷ []) (sym is)) ∙ ap (λ n. take n lines) one in
+        record {
+          states = so.states ++ w.0 ∷ [];
+          replayed = (
+            so.replayed.0,
+            subst (λ ls. Continues rules program (start rules program ∷ []) ls (so.states ++ w.0 ∷ [])) more
+                (continues_push rules program (start rules program ∷ []) (take i lines) line so.states w.0
+                so.replayed.1 w.1),
+          );
+          labelled = made ∙ (λ j. so.labelled j ++ w.2 j ∷ []) ∙ sym (map-append label_of so.states (w.0 ∷ []));
+        }
 
-  replayed_next : (lines : List Line) (states longer : List (State Machine Memory Place Form)) (line : Line)
-      (state : State Machine Memory Place Form)
-      → HasReplayed rules program lines states → Tells rules program states line state → Fits rules program state
-      → longer ≡ states ++ state ∷ []
-      → HasReplayed rules program (lines ++ line ∷ []) longer
-  replayed_next lines states longer line state so tells fits made =
-      let at_first =
-      λ (P : ℕ → State Machine Memory Place Form → Type 0)
-      (all : (i : ℕ) (s : State Machine Memory Place Form) → slice_get states i ≡ Some s → P i s)
-      (last : P (length states) state)
-      (i : ℕ) (s : State Machine Memory Place Form) (at : slice_get longer i ≡ Some s).
-      last_item_or P states state all last i s
-      (subst (λ (b : List (State Machine Memory Place Form)). slice_get b i ≡ Some s) made at) in
-      let reached : Reaches rules program states line state = tells.0 in
-      let up : state.steps ≡ reached.parent.steps + 1 =
-      step_counts rules program reached.parent state line.thread reached.step in
-      let before : reached.parent.steps ≤ line.parent = so.few line.parent reached.parent reached.at in
-      let less : line.parent < length states = get_within states line.parent reached.parent reached.at in
-      record {
-        replayed = (
-          so.replayed.0,
-          subst (λ (b : List (State Machine Memory Place Form)). Continues rules program (start rules program ∷ [])
-              (lines ++ line ∷ []) b) (sym made)
-              (continues_push rules program (start rules program ∷ []) lines line states state so.replayed.1 tells),
-        );
-        fit = at_first (λ i s. Fits rules program s) so.fit fits;
-        few = at_first (λ i s. s.steps ≤ i) so.few (omega arith);
-        many = (let a : length (states ++ state ∷ []) ≡ length states + 1 = length_push states state in
-            let b : length (lines ++ line ∷ []) ≡ length lines + 1 = length_push lines line in
-            let c : length longer ≡ length (states ++ state ∷ []) = ap length made in
-            let d : length states ≡ length lines + 1 = so.many in omega arith);
-      }
+    -- what is amiss with it
+    pub amiss_of_next : (fault : CheckFault) → (fault ≡ OutOfMemory)
+        ⊎ ((states : List (State Machine Memory Place Form)) → AreReplayed rules program (take i lines) states
+        → IsAmiss rules program states line fault)
+        → (fault ≡ OutOfMemory) ⊎ IsFirstAmiss Machine Form rules program lines fault
+    amiss_of_next fault h =
+        elim h [
+          | inl l ↦ inl l
+          | inr r ↦ inr (inr (
+            so.replayed.0,
+            subst (λ (ls : List Line). FirstAmiss {Machine = Machine} {Form = Form} rules program
+                (start rules program ∷ []) ls fault) (sym (split_at lines i line less is))
+                (amiss_next rules program (start rules program ∷ []) (take i lines) line (drop (suc i) lines) so.states
+                fault so.replayed.1 (r so.states so.replayed)),
+          ))
+        ]
 
-module _ {Machine Memory Place Form : Type 0} (rules : Rules Memory Place) (program : Program) (lines : List Line)
-    (states : List (State Machine Memory Place Form))
-    (i : ℕ) (line : Line) (less : i < length lines) (is : line ≡ get_or lines i line)
-    (so : HasReplayed rules program (take i lines) states) where
-  pub amiss_of_next : (fault : CheckFault) → (fault ≡ OutOfMemory) ⊎ IsAmiss rules program states line fault
-      → (fault ≡ OutOfMemory) ⊎ IsFirstAmiss Machine Form rules program lines fault
-  amiss_of_next fault h =
-      elim h [
-        | inl l ↦ inl l
-        | inr r ↦ inr (inr (
-          so.replayed.0,
-          subst (λ (ls : List Line). FirstAmiss {Machine = Machine} {Form = Form} rules program
-              (start rules program ∷ []) ls fault) (sym (split_at lines i line less is))
-              (amiss_next rules program (start rules program ∷ []) (take i lines) line (drop (suc i) lines) states fault
-              so.replayed.1 r),
-        ))
-      ]
-
-  pub replayed_item : (longer : List (State Machine Memory Place Form)) (state : State Machine Memory Place Form)
-      → Tells rules program states line state → Fits rules program state → longer ≡ states ++ state ∷ []
-      → HasReplayed rules program (take (i + 1) lines) longer
-  replayed_item longer state tells fits made =
-      let one : i + 1 ≡ suc i = omega arith in
-      let more : take (suc i) lines ≡ take i lines ++ line ∷ [] =
-      take-suc lines i line less ∙ ap (λ x. take i lines ++ x ∷ []) (sym is) in
-      subst (λ n. HasReplayed rules program (take n lines) longer) (sym one)
-      (subst (λ (ls : List Line). HasReplayed rules program ls longer) (sym more)
-      (replayed_next rules program (take i lines) states longer line state so tells fits made))
+-- the labels of the first lines are fewer than a file may have
+pub labels_few : {Machine Memory Place Form : Type 0} (rules : Rules Memory Place) (program : Program)
+    (label_of : State Machine Memory Place Form → List ℕ) (lines : List Line) (labels : List (List ℕ)) (i : ℕ)
+    → AreLabelsOf rules program label_of (take i lines) labels → i < length lines → length lines < 2000000
+    → length labels < 2000000
+labels_few rules program label_of lines labels i so less most =
+    let all : length labels ≡ length (take i lines) + 1 =
+    count_labels rules program label_of (take i lines) labels so in
+    let taken : length (take i lines) ≡ i = length-take-le i lines (omega arith) in
+    omega arith
 
 -- what is amiss with the start
 pub amiss_at_start : {Machine Memory Place Form : Type 0} (rules : Rules Memory Place) (program : Program)

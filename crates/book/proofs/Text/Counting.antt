@@ -45,12 +45,6 @@ counted_other bytes count is_ended b has other = record {
   ends = omega (arith, length-append has.rest (b ∷ []));
 }
 
-pub counted_lines : (bytes : List ℕ) (count : ℕ) → HasCounted bytes count true → (texts : List (List ℕ))
-    × AreLines bytes texts × (length texts ≡ count)
-counted_lines bytes count has =
-    let whole = has.whole ∙ ap (λ (l : List ℕ). ended has.texts ++ l) has.ends ∙ append-nil (ended has.texts) in
-    (has.texts, record { whole = whole; bare = has.bare }, has.counted)
-
 -- where lines are other lines and some bytes, there are no such bytes
 no_rest : (texts others : List (List ℕ)) (rest : List ℕ) → ended others ≡ ended texts ++ rest
     → AllByRecursion (AllByRecursion (λ b. b ≢ 10)) texts → AllByRecursion (AllByRecursion (λ b. b ≢ 10)) others

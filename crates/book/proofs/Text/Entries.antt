@@ -1,6 +1,6 @@
 -- Lines of entries that have been read, and those that are left.
 use Rattle.std.proofs.Common.{◌≡◌, ◌≢◌, ℕ, ◌+◌, ◌<◌, List, [], ◌∷◌, ◌++◌, ◌∙◌, length, sym, ap, subst, arith}
-use Rattle.std.proofs.lemmas.List.{append_assoc, append-nil, length-append}
+use Rattle.std.proofs.lemmas.List.{append_assoc, append-nil}
 use Rattle.std.specs.List.{AllByRecursion, AllZip}
 use Rattle.book.specs.declared.file.line.FormFault.TheVariants as fault
 use Rattle.book.specs.declared.file.line.Line.{Line}
@@ -91,11 +91,6 @@ lines_all bytes lines rest has bare =
     let same : has.done ++ has.ahead ≡ has.done =
     ap (λ (ts : List (List ℕ)). has.done ++ ts) none ∙ append-nil has.done in
     (has.done, subst (AreLines bytes) same has.whole, has.each)
-
-pub lines_few : (bytes : List ℕ) (lines : List Line) (rest : List ℕ) → HasReadLines bytes lines rest
-    → length lines < 2000000
-lines_few bytes lines rest has =
-    omega (arith, has.few, length-append has.done has.ahead, same_lengths has.done lines has.each)
 
 pub lines_fault : (bytes : List ℕ) (lines : List Line) (rest text tail : List ℕ) → HasReadLines bytes lines rest
     → rest ≡ text ++ 10 ∷ tail

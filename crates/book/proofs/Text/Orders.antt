@@ -1,7 +1,7 @@
 -- What has been read of an order's text, and what is left of it.
-use Rattle.std.proofs.Common.{◌≡◌, ◌≢◌, ℕ, ◌+◌, ◌≤◌, List, [], ◌∷◌, ◌++◌, ◌∙◌, length, get_or, codes, refl, sym, ap}
+use Rattle.std.proofs.Common.{◌≡◌, ◌≢◌, ℕ, ◌+◌, ◌≤◌, List, [], ◌∷◌, ◌++◌, ◌∙◌, length, get_or, refl, sym, ap}
 use Rattle.std.proofs.Common.{subst, arith}
-use Rattle.std.proofs.lemmas.List.{append_assoc, append-nil, length-append}
+use Rattle.std.proofs.lemmas.List.{append_assoc, length-append}
 use Rattle.std.specs.List.{AllByRecursion}
 use Rattle.sched_program.specs.declared.operation.OpId.{OpId}
 use Rattle.book.specs.Text.Files.{IsName, name_text, commaed, order_text, IsOrder}
@@ -13,10 +13,6 @@ pub record HasOrder (text : List ℕ) (order : List OpId) (rest : List ℕ) : Ty
   pub names : AllByRecursion IsName order
   pub some : 1 ≤ length order
   pub whole : text ≡ order_text order ++ rest
-
-pub order_first : (text : List ℕ) (id : OpId) (rest : List ℕ) → text ≡ name_text id ++ rest → IsName id
-    → HasOrder text (id ∷ []) rest
-order_first text id rest e is = record { names = (is, tt); some = omega arith; whole = e }
 
 commaed_push : (order : List OpId) (id : OpId) → commaed (order ++ id ∷ []) ≡ commaed order ++ 44 ∷ name_text id
 commaed_push [] id = refl
@@ -37,11 +33,6 @@ order_push text order rest tail id later has comma e is = record {
       ∙ sym (append_assoc (order_text order) (44 ∷ name_text id) later)
       ∙ ap (λ (l : List ℕ). l ++ later) (sym (order_text_push order id has.some));
 }
-
-pub order_whole : (text : List ℕ) (order : List OpId) (rest : List ℕ) → HasOrder text order rest → length rest ≡ 0
-    → IsOrder text order
-order_whole text order [] has none = record { names = has.names; whole = has.whole ∙ append-nil (order_text order) }
-order_whole text order (b ∷ rest) has none = absurd (omega arith)
 
 -- an order goes on after another with some names, which are the rest of the text
 abbrev pub GoesOn : List OpId → List OpId → List ℕ → Type 0
@@ -72,13 +63,6 @@ order_left text (id ∷ order) (first ∷ other) rest has is =
     let same : id ≡ first = same_id id first thread index in
     let (more, split, left) = commaed_left order other rest tails in
     (more, cc, left)
-
--- a text that is no dash and begins with no name is no order
-pub no_first : (text : List ℕ) → text ≢ codes "-"
-    → ((id : OpId) (rest : List ℕ) → IsName id → text ≢ name_text id ++ rest)
-    → (other : List OpId) → ¬ IsOrder text other
-no_first text dash none [] is = dash is.whole
-no_first text dash none (id ∷ other) is = none id (commaed other) is.names.0 is.whole
 
 among : (order : List OpId) (id : OpId) (more : List OpId) → AllByRecursion IsName (order ++ id ∷ more) → IsName id
 among [] id more all = all.0

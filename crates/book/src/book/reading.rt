@@ -19,9 +19,9 @@ use crate::file::write_entries;
 use crate::finding::Finding;
 use sched_program::{OutOfMemory, Program};
 use std::alloc::Global;
-use tree_machine::Machine;
+use tree_machine::Encode;
 
-impl<M: Machine> Book<M> {
+impl<M: Encode> Book<M> {
     /// The lowest-numbered entry that is not sound.
     pub fn first_fault(&self) -> Option<usize>
         ensures { result ≡ position (λ e. not (is_sound e.finding)) self.now.entries }

@@ -1,18 +1,18 @@
-//! The states of entries, read back from their labels or made by their schedules.
-ghost use Rattle.std.specs.Prelude.{◌≡◌, ◌-◌, ◌<◌, ◌≤◌, length, map, IfOk, IfSome};
+//! The states of entries, made by their schedules.
+ghost use Rattle.std.specs.Prelude.{◌≡◌, ◌-◌, ◌<◌, ◌≤◌, length, map, IfOk};
 ghost use Rattle.std.specs.List.{range_with_len};
 ghost use Rattle.tree_machine.specs.declared.state.State.{State};
 ghost use Rattle.book.specs.Entries.{Entry, At};
 ghost use Rattle.book.specs.Slots.{AreStatesOf};
 
-use crate::book::{Book, Merge};
+use crate::book::Book;
 use crate::replayed::ReplayFault;
 use crate::replaying::replay;
 use sched_program::OutOfMemory;
 use std::sync::Arc;
-use tree_machine::{Machine, State};
+use tree_machine::{Encode, State};
 
-impl<M: Machine> Book<M> {
+impl<M: Encode> Book<M> {
     /// The state of an entry, by the schedule that leads to it.
     pub(crate) fn replayed(&self, id: usize) -> Result<State<M>, OutOfMemory>
         requires { id < length self.now.entries }
@@ -28,43 +28,13 @@ impl<M: Machine> Book<M> {
         }
     }
 
-    /// The state of an entry, read from its label. None where that can't be done.
-    fn read_label(&self, id: usize) -> Result<Option<State<M>>, OutOfMemory>
-        requires { id < length self.now.entries }
-        ensures { IfOk result (λ o. IfSome o (λ state. (e : Entry (State M M.Mem M.Loc M.Form))
-            × At self.now.entries id e × (e.state ≡ state))) }
-    {
-        match self.merge {
-            Merge::Exact => {
-                let alloc = self.table.allocator();
-                let label = self.table.label(id);
-                let mut state = State::start(alloc, self.machine, &self.program)?;
-                let is_read = state.read_in(alloc, self.machine, label)?;
-                if is_read { Ok(Some(state)) } else { Ok(None) }
-            }
-            Merge::Names => Ok(None),
-        }
-    }
-
-    /// The state of an entry, read from its label, or where that can't be done by the schedule that leads to it.
-    fn read_back(&self, id: usize) -> Result<State<M>, OutOfMemory>
-        requires { id < length self.now.entries }
-        ensures { IfOk result (λ state. (e : Entry (State M M.Mem M.Loc M.Form)) × At self.now.entries id e
-            × (e.state ≡ state)) }
-    {
-        match self.read_label(id)? {
-            Some(state) => Ok(state),
-            None => self.replayed(id),
-        }
-    }
-
     /// The state of an entry, to be shared.
     pub(crate) fn state_of(&self, id: usize) -> Result<Arc<State<M>>, OutOfMemory>
         requires { id < length self.now.entries }
         ensures { IfOk result (λ state. (e : Entry (State M M.Mem M.Loc M.Form)) × At self.now.entries id e
             × (e.state ≡ state.value)) }
     {
-        let state = self.read_back(id)?;
+        let state = self.replayed(id)?;
         Ok(Arc::new(self.table.allocator(), state)?)
     }
 

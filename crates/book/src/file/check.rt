@@ -8,15 +8,16 @@ use crate::file::closing::test_closed;
 use crate::file::fault::CheckFault;
 use crate::file::line::{FormFault, Line};
 use crate::file::reading::read_lines;
+use crate::file::recalling::{Input, Workspace};
 use crate::file::replaying::replay_lines;
 use sched_program::Program;
 use std::alloc::Global;
-use tree_machine::Machine;
+use tree_machine::Encode;
 
 /// Whether the lines of the entries after the first pass: each tells the step of an earlier entry, and its order shows
 /// that state correct; and no step of an entry leads to a state that is alike to no entry's. Then every schedule of any
 /// length leads to a correct state, whoever wrote the lines.
-pub fn check_lines<M: Machine>(
+pub fn check_lines<M: Encode>(
     alloc: Global,
     machine: M,
     program: &Program,
@@ -36,11 +37,17 @@ pub fn check_lines<M: Machine>(
 {
     // Whoever reads a program knows that it meets the limits.
     let _ = program.initial();
-    let states = match replay_lines(alloc, machine, program, lines) {
-        Ok(states) => states,
+    let input = Input {
+        machine,
+        program,
+        lines,
+    };
+    let mut work = Workspace::new(alloc, &input)?;
+    let labels = match replay_lines(alloc, &input, &mut work) {
+        Ok(labels) => labels,
         Err(fault) => return Err(fault),
     };
-    test_closed(alloc, machine, program, lines, &states)
+    test_closed(alloc, &input, &labels, &mut work)
 }
 
 /// Whether the bytes of a book file pass, and how many entries it has: they are in the form, and their lines pass. Then
@@ -49,7 +56,7 @@ pub fn check_lines<M: Machine>(
 /// # Errors
 ///
 /// The first of [`CheckFault`] that stands in the bytes, with its line, or `OutOfMemory` where a growth was refused.
-pub fn check_book<M: Machine>(
+pub fn check_book<M: Encode>(
     alloc: Global,
     machine: M,
     program: &Program,

@@ -1,146 +1,126 @@
-//! Whether a step leads out of a list of states.
-ghost use Rattle.std.specs.Prelude.{◌≡◌, ℕ, ◌+◌, ◌^◌, ◌<◌, ◌≤◌, ◌⊎◌};
-ghost use Rattle.std.specs.Prelude.{length, nat_eq, true, false, IfOk, IfErr, OnOk, Some, slice_get};
-ghost use Rattle.std.specs.Cmp.Lexicographic.{pointwise};
-ghost use Rattle.std.specs.HashSet.{contains};
-ghost use Rattle.tree_machine.specs.Alike.{AreStatesAlike};
-ghost use Rattle.tree_machine.specs.Step.{Fits, start, step};
+//! Whether a step leads out of the states of entries.
+ghost use Rattle.std.specs.Prelude.{◌≡◌, ◌+◌, ◌^◌, ◌<◌, ◌⊎◌, Contains, length, true, false, IfOk, IfErr, OnOk};
+ghost use Rattle.std.specs.Prelude.{IsTrue, Some, slice_get};
+ghost use Rattle.tree_machine.specs.Step.{Fits, step};
 ghost use Rattle.tree_machine.specs.declared.state.State.{State};
-ghost use Rattle.book.specs.Closed.{AreClosed, IsAlikeToOneOf};
-ghost use Rattle.book.specs.Findings.{machine_of};
-ghost use Rattle.book.specs.BookFile.Closing.{IsFirstOpen};
-ghost use Rattle.book.specs.BookFile.Forms.{AreFormsOf, AreStepsKnown, IsStepUnknown};
-ghost use Rattle.book.specs.BookFile.Replays.{AreReplayed};
+ghost use Rattle.book.specs.BookFile.Checks.{AreRefused, Pass};
+ghost use Rattle.book.specs.BookFile.Kept.{AreLabelsOf, AreStepsKnown, IsStepUnknown, StandsForEntry};
 ghost use Rattle.book.specs.Labels.{named_by};
+ghost use Rattle.book.specs.declared.file.line.Line.{Line};
 
-use crate::file::coded::Coded;
 use crate::file::fault::CheckFault;
+use crate::file::labels::Labels;
 use crate::file::line::Line;
-use crate::file::recalling::recall;
-use crate::stock::Stock;
-use sched_program::{OutOfMemory, Program, Sequence};
+use crate::file::recalling::{Input, Workspace, recall};
+use sched_program::OutOfMemory;
 use std::alloc::Global;
-use std::collections::HashSet;
+use std::mem::replace;
 use std::snapshot::Snapshot;
-use tree_machine::{Bytes, Machine, Room, State, StepFault};
+use tree_machine::{Encode, Naming, StepFault};
 
-/// The bytes of the forms of the states, each of which is recalled in the place of another state.
-fn forms_of<M: Machine>(
-    alloc: Global,
-    machine: M,
-    program: &Program,
-    lines: &[Line],
-    states: &Sequence<Coded<M>>,
-    state: &mut State<M>,
-) -> Result<HashSet<Bytes>, OutOfMemory>
-    requires replayed { AreReplayed (M.rules machine) program.now lines.now states.now }
-    requires fit { (i : ℕ) (s : State M M.Mem M.Loc M.Form) → slice_get states.now i ≡ Some s
-        → Fits (M.rules machine) program.now s }
-    ensures { IfOk result (λ forms. AreFormsOf (pointwise nat_eq) (named_by M.form_code (M.form_of machine))
-        states.now (contains (pointwise nat_eq) forms)) }
-{
-    // Whoever reads a program knows that it meets the limits.
-    let _ = program.initial();
-    let mut forms = HashSet::new(alloc);
-    let mut room = Room::new(alloc);
-    for index in 0..states.len() {
-        recall(alloc, machine, program, lines, states, index, state)?;
-        let form = state.named_code_in(alloc, machine, &mut room, Vec::new(alloc))?;
-        forms.insert(form)?;
-    }
-    Ok(forms)
-}
-
-/// Whether the step of a thread, if it is enabled, has one of the forms. The step is made in the state itself, and
+/// Whether the step of a thread, if it is enabled, has one of the labels. The step is made in the state itself, and
 /// taken back.
-fn knows_step<M: Machine>(
+fn knows_step<M: Encode>(
     alloc: Global,
-    machine: M,
-    program: &Program,
-    forms: &HashSet<Bytes>,
-    state: &mut State<M>,
+    input: &Input<'_, M>,
+    labels: &Labels,
     thread: u8,
-    stock: &mut Stock<M>,
+    work: &mut Workspace<M>,
 ) -> Result<bool, OutOfMemory>
-    requires fits { Fits (M.rules machine) program.now state.old }
-    requires room { state.old.steps + 1 < 2 ^ 64 }
+    requires fits { Fits (M.rules input.now.machine) input.now.program.now work.old.state }
+    requires room { work.old.state.steps + 1 < 2 ^ 64 }
     ensures known { IfOk result (λ yes. yes ≡ true → (next : State M M.Mem M.Loc M.Form)
-        → step (M.rules machine) program.now state.old thread ≡ Some next
-        → contains (pointwise nat_eq) forms.now (named_by M.form_code (M.form_of machine) next) ≡ true) }
+        → step (M.rules input.now.machine) input.now.program.now work.old.state thread ≡ Some next
+        → Contains labels.now (named_by M.form_code (M.form_of input.now.machine) next)) }
     ensures new { IfOk result (λ yes. yes ≡ false → (next : State M M.Mem M.Loc M.Form)
-        × (step (M.rules machine) program.now state.old thread ≡ Some next)
-        × (contains (pointwise nat_eq) forms.now (named_by M.form_code (M.form_of machine) next) ≡ false)) }
-    ensures state { OnOk result (state.new ≡ state.old) }
+        × (step (M.rules input.now.machine) input.now.program.now work.old.state thread ≡ Some next)
+        × (Contains labels.now (named_by M.form_code (M.form_of input.now.machine) next) → ⊥)) }
+    ensures state { OnOk result (work.new.state ≡ work.old.state) }
 {
     // Whoever reads a program knows that it meets the limits.
-    let _ = program.initial();
+    let _ = input.program.initial();
+    let machine = input.machine;
+    let state = &mut work.state;
     let source = Snapshot::of(&*state);
-    match state.step_here(alloc, machine, program, thread, &mut stock.undo) {
+    match state.step_here(alloc, machine, input.program, thread, &mut work.undo) {
         Ok(()) => {}
         Err(StepFault::NotEnabled) => return Ok(true),
         Err(StepFault::OutOfMemory) => return Err(OutOfMemory),
     }
-    let spare = stock.spare_label(alloc);
-    let form = state.named_code_in(alloc, machine, &mut stock.room, spare)?;
-    state.take_back(alloc, &source, thread, &mut stock.undo);
-    let is_known = forms.contains(&form);
-    stock.keep_label(form);
+    let spare = replace(&mut work.spare, Vec::new(alloc));
+    let label = state.label(alloc, machine, Naming::Canonical, &mut work.buffer, spare)?;
+    state.take_back(alloc, &source, thread, &mut work.undo);
+    let is_known = labels.contains(&label);
+    work.spare = label.into_vec();
     Ok(is_known)
 }
 
-/// Whether some step of the state has none of the forms. After a refusal of memory the state is of no use.
-fn leads_out<M: Machine>(
-    alloc: Global,
-    machine: M,
-    program: &Program,
-    forms: &HashSet<Bytes>,
-    state: &mut State<M>,
-    stock: &mut Stock<M>,
-) -> Result<bool, OutOfMemory>
-    requires fits { Fits (M.rules machine) program.now state.old }
-    requires room { state.old.steps + 1 < 2 ^ 64 }
-    ensures out { IfOk result (λ yes. yes ≡ true → IsStepUnknown (M.rules machine) program.now
-        (named_by M.form_code (M.form_of machine)) (contains (pointwise nat_eq) forms.now) state.old) }
-    ensures none { IfOk result (λ yes. yes ≡ false → AreStepsKnown (M.rules machine) program.now
-        (named_by M.form_code (M.form_of machine)) (contains (pointwise nat_eq) forms.now) state.old) }
+/// Whether the next line has the step of a thread from an entry.
+fn has_step(lines: &[Line], next: usize, parent: usize, thread: u8) -> bool
+    ensures { IsTrue result → (line : Line) × (slice_get lines.now next ≡ Some line) × (line.parent ≡ parent)
+        × (line.thread ≡ thread) }
 {
-    for thread in 0..program.threads().len() as u8 {
-        if !knows_step(alloc, machine, program, forms, state, thread, stock)? {
+    match lines.get(next) {
+        Some(line) => line.parent as usize == parent && line.thread == thread,
+        None => false,
+    }
+}
+
+/// Whether some step of an entry has none of the labels. The state stands in for the entry's. After a refusal of memory
+/// it is of no use. A step that the next line has need not be made, since that line's own entry has its label.
+fn leads_out<M: Encode>(
+    alloc: Global,
+    input: &Input<'_, M>,
+    labels: &Labels,
+    index: usize,
+    next: &mut usize,
+    work: &mut Workspace<M>,
+) -> Result<bool, OutOfMemory>
+    requires kept { AreLabelsOf {Machine = M} (M.rules input.now.machine) input.now.program.now
+        (named_by M.form_code (M.form_of input.now.machine)) input.now.lines.now labels.now }
+    requires few { length input.now.lines.now < 2000000 }
+    requires within { index < length labels.now }
+    requires stands { StandsForEntry (M.rules input.now.machine) input.now.program.now input.now.lines.now index
+        work.old.state }
+    ensures out { IfOk result (λ yes. yes ≡ true → IsStepUnknown (M.rules input.now.machine) input.now.program.now
+        (named_by M.form_code (M.form_of input.now.machine)) labels.now work.old.state) }
+    ensures none { IfOk result (λ yes. yes ≡ false → AreStepsKnown (M.rules input.now.machine) input.now.program.now
+        (named_by M.form_code (M.form_of input.now.machine)) labels.now work.old.state) }
+{
+    for thread in 0..input.program.threads().len() as u8 {
+        if has_step(input.lines, *next, index, thread) {
+            *next += 1;
+            continue;
+        }
+        if !knows_step(alloc, input, labels, thread, work)? {
             return Ok(true);
         }
     }
     Ok(false)
 }
 
-/// Whether each step of each state leads to a state that one of them is alike to. A refusal tells the line of the first
-/// state with another step; the start stands on line 2.
-pub fn test_closed<M: Machine>(
+/// Whether each step of each entry's state leads to a state with the label of an entry. A refusal reports the line of
+/// the first entry with another step; the start stands on line 2.
+pub fn test_closed<M: Encode>(
     alloc: Global,
-    machine: M,
-    program: &Program,
-    lines: &[Line],
-    states: &Sequence<Coded<M>>,
+    input: &Input<'_, M>,
+    labels: &Labels,
+    work: &mut Workspace<M>,
 ) -> Result<(), CheckFault>
-    requires replayed { AreReplayed (M.rules machine) program.now lines.now states.now }
-    requires fit { (i : ℕ) (s : State M M.Mem M.Loc M.Form) → slice_get states.now i ≡ Some s
-        → Fits (M.rules machine) program.now s }
-    requires few { (i : ℕ) (s : State M M.Mem M.Loc M.Form) → slice_get states.now i ≡ Some s → s.steps ≤ i }
-    requires many { length states.now ≤ 2000000 }
-    requires begins { IsAlikeToOneOf (AreStatesAlike (M.rules machine)) states.now
-        (start (M.rules machine) program.now) }
-    ensures closed { IfOk result
-        (λ _. AreClosed (machine_of (M.rules machine) program.now) (AreStatesAlike (M.rules machine)) states.now) }
-    ensures leads_out { IfErr result (λ fault. (fault ≡ CheckFault.OutOfMemory)
-        ⊎ IsFirstOpen (M.rules machine) program.now states.now fault) }
+    requires kept { AreLabelsOf {Machine = M} (M.rules input.now.machine) input.now.program.now
+        (named_by M.form_code (M.form_of input.now.machine)) input.now.lines.now labels.now }
+    requires few { length input.now.lines.now < 2000000 }
+    ensures pass { IfOk result
+        (λ _. Pass M M.Form (M.rules input.now.machine) input.now.program.now input.now.lines.now) }
+    ensures refused { IfErr result (λ fault. (fault ≡ CheckFault.OutOfMemory)
+        ⊎ AreRefused M M.Form (M.rules input.now.machine) input.now.program.now input.now.lines.now fault) }
 {
     // Whoever reads a program knows that it meets the limits.
-    let _ = program.initial();
-    let mut state = State::start(alloc, machine, program)?;
-    let forms = forms_of(alloc, machine, program, lines, states, &mut state)?;
-    let mut stock = Stock::new(alloc);
-    for i in 0..states.len() {
-        recall(alloc, machine, program, lines, states, i, &mut state)?;
-        if leads_out(alloc, machine, program, &forms, &mut state, &mut stock)? {
+    let _ = input.program.initial();
+    let mut next = 0;
+    for i in 0..labels.len() {
+        recall(alloc, input, labels, i, &mut work.state)?;
+        if leads_out(alloc, input, labels, i, &mut next, work)? {
             return Err(CheckFault::Open(i + 2));
         }
     }

@@ -1,8 +1,8 @@
 //! The text of a book file, written line by line.
-ghost use Rattle.std.specs.Prelude.{◌≡◌, ℕ, ◌+◌, ◌<◌, [], ◌∷◌, ◌++◌, length, All, IfOk, OnOk};
+ghost use Rattle.std.specs.Prelude.{◌≡◌, ◌+◌, ◌<◌, [], ◌∷◌, ◌++◌, All, OnOk};
 ghost use Rattle.std.specs.Fmt.{decimal};
-ghost use Rattle.book.specs.Text.Files.{ended, IsName, name_text, order_text, start_text, IsBookText};
-ghost use Rattle.book.specs.Text.Written.{head_text, line_text, book_text, AreProper};
+ghost use Rattle.book.specs.Text.Files.{ended, IsName, name_text, order_text, start_text};
+ghost use Rattle.book.specs.Text.Written.{head_text, line_text};
 
 use itoa::Buffer;
 use lin::ShortName;

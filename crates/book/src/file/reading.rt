@@ -1,5 +1,5 @@
 //! The lines of a book file, read from its bytes.
-ghost use Rattle.std.specs.Prelude.{◌≡◌, ◌≢◌, ℕ, ◌+◌, ◌^◌, ◌<◌, List, [], ◌∷◌, ◌++◌, min, length, IfSome, IfNone, IfOk};
+ghost use Rattle.std.specs.Prelude.{◌≡◌, ◌≢◌, ℕ, ◌+◌, ◌^◌, ◌<◌, List, ◌∷◌, ◌++◌, min, length, IfSome, IfNone, IfOk};
 ghost use Rattle.std.specs.Prelude.{IfErr};
 ghost use Rattle.std.specs.List.{AllByRecursion, AllZip};
 ghost use Rattle.sched_program.specs.declared.operation.OpId.{OpId};
@@ -10,7 +10,7 @@ ghost use Rattle.book.specs.Text.Files.{space, comma, digit, AreLines, IsNumber,
 ghost use Rattle.book.specs.Text.Files.{IsEntryLine, IsEntryText, IsHead, HasHead, IsBookText, IsFirstMisformed};
 ghost use Rattle.book.specs.Text.Files.{IsEntriesFault, IsFormFault};
 
-use crate::file::line::{FormFault, Line, MOST_ENTRIES};
+use crate::file::line::{FormFault, Line, MOST_ENTRIES, Names};
 use sched_program::{OpId, OutOfMemory, Sequence};
 use std::alloc::Global;
 
@@ -132,9 +132,9 @@ fn line_of(alloc: Global, text: &[u8]) -> Result<Option<Line>, OutOfMemory>
     };
     match order_of(alloc, order)? {
         Some(order) => Ok(Some(Line {
-            parent,
+            parent: parent as u32,
             thread,
-            order,
+            order: Names::of(alloc, order)?,
         })),
         None => Ok(None),
     }

@@ -1,68 +1,109 @@
-//! The states of entries that were replayed, where they are wanted once more.
-ghost use Rattle.std.specs.Prelude.{◌≡◌, ◌<◌, length, IfOk, OnOk, Some, slice_get};
+//! What lines are checked in, and states that stand in for those of entries.
+ghost use Rattle.std.specs.Prelude.{◌≡◌, ◌<◌, List, Some, length, slice_get, IfOk, OnOk};
 ghost use Rattle.tree_machine.specs.declared.state.State.{State};
+ghost use Rattle.tree_machine.specs.Step.{start, Fits};
+ghost use Rattle.book.specs.BookFile.Kept.{AreLabelsOf, StandsForEntry};
 ghost use Rattle.book.specs.BookFile.Replays.{AreReplayed};
 ghost use Rattle.book.specs.Findings.{machine_of};
+ghost use Rattle.book.specs.Labels.{named_by};
 ghost use Rattle.book.specs.Schedule.{after};
 
-use crate::file::coded::Coded;
+use crate::decoding::read_state;
+use crate::file::labels::Labels;
 use crate::file::line::Line;
 use crate::replayed::ReplayFault;
 use crate::replaying::replay;
-use sched_program::{OutOfMemory, Program, Sequence};
+use sched_program::{OutOfMemory, Program};
 use std::alloc::Global;
-use tree_machine::{Machine, State};
+use tree_machine::{Encode, EncodeBuffer, State, Undo};
 
-/// The threads on the way from the start to an entry, as its line and those of its ancestors tell it.
-fn way_to<M: Machine>(
+/// What is checked: the lines of a book file, for a program on a machine.
+#[derive(Clone, Copy)]
+pub struct Input<'a, M: Encode> {
+    pub machine: M,
+    pub program: &'a Program,
+    pub lines: &'a [Line],
+}
+
+/// A state into which one label after the other is read, and what its steps are made and labelled in.
+#[derive(Drop)]
+pub struct Workspace<M: Encode> {
+    pub state: State<M>,
+    pub undo: Undo<M>,
+    pub buffer: EncodeBuffer,
+    /// A list for a label that nobody keeps.
+    pub spare: Vec<u8>,
+}
+
+impl<M: Encode> Workspace<M> {
+    /// A workspace with the start in it.
+    pub fn new(alloc: Global, input: &Input<'_, M>) -> Result<Workspace<M>, OutOfMemory>
+        ensures start { IfOk result (λ work.
+            work.state ≡ start (M.rules input.now.machine) input.now.program.now) }
+        ensures fits { IfOk result (λ work.
+            Fits (M.rules input.now.machine) input.now.program.now work.state) }
+    {
+        Ok(Workspace {
+            state: State::start(alloc, input.machine, input.program)?,
+            undo: Undo::new(),
+            buffer: EncodeBuffer::new(alloc),
+            spare: Vec::new(alloc),
+        })
+    }
+}
+
+/// The threads on the way from the start to an entry, as its line and those of its ancestors have it.
+fn way_to<M: Encode>(
     alloc: Global,
-    machine: M,
-    program: &Program,
-    lines: &[Line],
-    states: &Sequence<Coded<M>>,
+    input: &Input<'_, M>,
+    labels: &Labels,
     index: usize,
 ) -> Result<Vec<u8>, OutOfMemory>
-    requires replayed { AreReplayed (M.rules machine) program.now lines.now states.now }
-    requires within { index < length states.now }
-    ensures { IfOk result (λ way. (s : State M M.Mem M.Loc M.Form) × (slice_get states.now index ≡ Some s)
-        × (after (machine_of (M.rules machine) program.now) way.items ≡ Some s)) }
+    requires kept { AreLabelsOf {Machine = M} (M.rules input.now.machine) input.now.program.now
+        (named_by M.form_code (M.form_of input.now.machine)) input.now.lines.now labels.now }
+    requires within { index < length labels.now }
+    ensures { IfOk result (λ way. (states : List (State M M.Mem M.Loc M.Form))
+        → AreReplayed (M.rules input.now.machine) input.now.program.now input.now.lines.now states
+        → (s : State M M.Mem M.Loc M.Form) × (slice_get states index ≡ Some s)
+        × (after (machine_of (M.rules input.now.machine) input.now.program.now) way.items ≡ Some s)) }
 {
     // Proofs alone read these.
-    let _ = machine;
-    let _ = program;
-    let _ = states;
+    let _ = labels;
     let mut way = Vec::new(alloc);
     let mut at = index;
     'back: while at > 0 {
-        let line = &lines[at - 1];
+        let line = &input.lines[at - 1];
         way.push(line.thread)?;
-        at = line.parent;
+        at = line.parent as usize;
     }
     way.reverse();
     Ok(way)
 }
 
-/// Makes a state that of an entry: it is read from its bytes, or where that can't be done replayed from the start.
-pub fn recall<M: Machine>(
+/// Lets a state stand in for that of an entry: it is read from the entry's label, or where that can't be done replayed
+/// from the start.
+pub fn recall<M: Encode>(
     alloc: Global,
-    machine: M,
-    program: &Program,
-    lines: &[Line],
-    states: &Sequence<Coded<M>>,
+    input: &Input<'_, M>,
+    labels: &Labels,
     index: usize,
     state: &mut State<M>,
 ) -> Result<(), OutOfMemory>
-    requires replayed { AreReplayed (M.rules machine) program.now lines.now states.now }
-    requires within { index < length states.now }
-    ensures { OnOk result (slice_get states.now index ≡ Some state.new) }
+    requires kept { AreLabelsOf {Machine = M} (M.rules input.now.machine) input.now.program.now
+        (named_by M.form_code (M.form_of input.now.machine)) input.now.lines.now labels.now }
+    requires within { index < length labels.now }
+    ensures { OnOk result (StandsForEntry (M.rules input.now.machine) input.now.program.now input.now.lines.now index
+        state.new) }
 {
-    if let Some(coded) = states.get(index)
-        && coded.read_into(alloc, machine, state)?
+    // Whoever reads a program knows that it meets the limits.
+    let _ = input.program.initial();
+    if let Some(label) = labels.get(index)
+        && let Some(_) = read_state(alloc, input.machine, label, None, state)?
     {
         return Ok(());
     }
-    let way = way_to(alloc, machine, program, lines, states, index)?;
-    match replay(alloc, machine, program, way.as_slice()) {
+    let way = way_to(alloc, input, labels, index)?;
+    match replay(alloc, input.machine, input.program, way.as_slice()) {
         Ok(end) => {
             *state = end.state;
             Ok(())

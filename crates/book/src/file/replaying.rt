@@ -1,21 +1,22 @@
 //! The replay of the entries of a book file, line by line.
-ghost use Rattle.std.specs.Prelude.{◌≡◌, ℕ, ◌+◌, ◌<◌, ◌≤◌, ◌⊎◌, length, IfOk, IfErr, Some, slice_get};
-ghost use Rattle.tree_machine.specs.Step.{Fits};
+ghost use Rattle.std.specs.Prelude.{◌≡◌, ◌<◌, ◌⊎◌, List, length, IfOk, IfErr};
+ghost use Rattle.tree_machine.specs.Step.{start, Fits};
 ghost use Rattle.tree_machine.specs.declared.state.State.{State};
+ghost use Rattle.book.specs.BookFile.Kept.{AreLabelsOf};
 ghost use Rattle.book.specs.BookFile.Replays.{AreReplayed, IsAmiss, IsFirstAmiss, IsShown, IsUnshown, Tells};
+ghost use Rattle.book.specs.Labels.{named_by};
 
-use crate::file::coded::Coded;
 use crate::file::fault::CheckFault;
+use crate::file::labels::Labels;
 use crate::file::line::Line;
-use crate::file::recalling::recall;
-use crate::stock::Stock;
+use crate::file::recalling::{Input, Workspace, recall};
 use lin::check_order;
-use sched_program::{OpId, Program, Sequence};
+use sched_program::{OpId, Program};
 use std::alloc::Global;
-use tree_machine::{Machine, State, StepFault};
+use tree_machine::{Bytes, Encode, Naming, State, StepFault};
 
 /// Whether an order shows a state correct. Its entry stands on the line of this number.
-fn test_state<M: Machine>(
+fn test_state<M: Encode>(
     alloc: Global,
     machine: M,
     program: &Program,
@@ -42,78 +43,101 @@ fn test_state<M: Machine>(
     }
 }
 
-/// The state of the entry after these, by its line. Its parent's is recalled in the place of another state, and the
-/// step is made there.
-fn state_of_line<M: Machine>(
+/// The label of the entry after these, by its line: its parent's state is recalled, and the step is made there.
+fn label_of_line<M: Encode>(
     alloc: Global,
-    machine: M,
-    program: &Program,
-    lines: &[Line],
-    before: &Sequence<Coded<M>>,
+    input: &Input<'_, M>,
+    before: &Labels,
     line: &Line,
-    parent: &mut State<M>,
-    stock: &mut Stock<M>,
-) -> Result<Coded<M>, CheckFault>
-    requires replayed { AreReplayed (M.rules machine) program.now lines.now before.now }
-    requires fit { (i : ℕ) (s : State M M.Mem M.Loc M.Form) → slice_get before.now i ≡ Some s
-        → Fits (M.rules machine) program.now s }
-    requires few { (i : ℕ) (s : State M M.Mem M.Loc M.Form) → slice_get before.now i ≡ Some s → s.steps ≤ i }
-    requires many { length before.now ≤ 2000000 }
-    ensures tells { IfOk result (Tells (M.rules machine) program.now before.now line.now) }
-    ensures fits { IfOk result (Fits (M.rules machine) program.now) }
+    work: &mut Workspace<M>,
+) -> Result<Bytes, CheckFault>
+    requires kept { AreLabelsOf {Machine = M} (M.rules input.now.machine) input.now.program.now
+        (named_by M.form_code (M.form_of input.now.machine)) input.now.lines.now before.now }
+    requires few { length before.now < 2000000 }
+    ensures tells { IfOk result (λ label. (states : List (State M M.Mem M.Loc M.Form))
+        → AreReplayed (M.rules input.now.machine) input.now.program.now input.now.lines.now states
+        → (state : State M M.Mem M.Loc M.Form)
+        × Tells (M.rules input.now.machine) input.now.program.now states line.now state
+        × (label ≡ named_by M.form_code (M.form_of input.now.machine) state)) }
     ensures amiss { IfErr result (λ fault. (fault ≡ CheckFault.OutOfMemory)
-        ⊎ IsAmiss {Machine = M} {Form = M.Form} (M.rules machine) program.now before.now line.now fault) }
+        ⊎ ((states : List (State M M.Mem M.Loc M.Form))
+        → AreReplayed (M.rules input.now.machine) input.now.program.now input.now.lines.now states
+        → IsAmiss (M.rules input.now.machine) input.now.program.now states line.now fault)) }
 {
+    // Whoever reads a program knows that it meets the limits.
+    let _ = input.program.initial();
     let number = before.len() + 2;
-    if line.parent >= before.len() {
+    let parent = line.parent as usize;
+    if parent >= before.len() {
         return Err(CheckFault::Parent(number));
     }
-    recall(alloc, machine, program, lines, before, line.parent, parent)?;
-    match parent.step_here(alloc, machine, program, line.thread, &mut stock.undo) {
+    let state = &mut work.state;
+    recall(alloc, input, before, parent, state)?;
+    match state.step_here(
+        alloc,
+        input.machine,
+        input.program,
+        line.thread,
+        &mut work.undo,
+    ) {
         Ok(()) => {}
         Err(StepFault::NotEnabled) => return Err(CheckFault::Step(number)),
         Err(StepFault::OutOfMemory) => return Err(CheckFault::OutOfMemory),
     }
     let order = line.order.as_slice();
-    if let Err(fault) = test_state(alloc, machine, program, &*parent, order, number) {
+    if let Err(fault) = test_state(alloc, input.machine, input.program, &*state, order, number) {
         return Err(fault);
     }
-    Ok(Coded::of(alloc, machine, program, &*parent, &mut stock.room)?)
+    let buffer = &mut work.buffer;
+    Ok(state.label(
+        alloc,
+        input.machine,
+        Naming::Canonical,
+        buffer,
+        Vec::new(alloc),
+    )?)
 }
 
-/// The states of the entries, the start's first, replayed one after the other.
-pub fn replay_lines<M: Machine>(
+/// The labels of the entries, the start's first, replayed one after the other.
+pub fn replay_lines<M: Encode>(
     alloc: Global,
-    machine: M,
-    program: &Program,
-    lines: &[Line],
-) -> Result<Sequence<Coded<M>>, CheckFault>
-    requires { length lines.now < 2000000 }
-    ensures replayed { IfOk result (AreReplayed (M.rules machine) program.now lines.now) }
-    ensures fit { IfOk result (λ states. (i : ℕ) (s : State M M.Mem M.Loc M.Form) → slice_get states i ≡ Some s
-        → Fits (M.rules machine) program.now s) }
-    ensures few { IfOk result (λ states. (i : ℕ) (s : State M M.Mem M.Loc M.Form) → slice_get states i ≡ Some s
-        → s.steps ≤ i) }
-    ensures many { IfOk result (λ states. length states ≡ length lines.now + 1) }
+    input: &Input<'_, M>,
+    work: &mut Workspace<M>,
+) -> Result<Labels, CheckFault>
+    requires few { length input.now.lines.now < 2000000 }
+    requires start { work.old.state ≡ start (M.rules input.now.machine) input.now.program.now }
+    requires fits { Fits (M.rules input.now.machine) input.now.program.now work.old.state }
+    ensures kept { IfOk result (AreLabelsOf {Machine = M} (M.rules input.now.machine) input.now.program.now
+        (named_by M.form_code (M.form_of input.now.machine)) input.now.lines.now) }
     ensures amiss { IfErr result (λ fault. (fault ≡ CheckFault.OutOfMemory)
-        ⊎ IsFirstAmiss M M.Form (M.rules machine) program.now lines.now fault) }
+        ⊎ IsFirstAmiss M M.Form (M.rules input.now.machine) input.now.program.now input.now.lines.now fault) }
 {
-    let mut state = State::start(alloc, machine, program)?;
-    if let Err(fault) = test_state(alloc, machine, program, &state, &[], 2) {
+    // Whoever reads a program knows that it meets the limits.
+    let _ = input.program.initial();
+    let Input {
+        machine,
+        program,
+        ..
+    } = *input;
+    if let Err(fault) = test_state(alloc, machine, program, &work.state, &[], 2) {
         return Err(fault);
     }
-    let mut stock = Stock::new(alloc);
-    let start = Coded::of(alloc, machine, program, &state, &mut stock.room)?;
-    let mut states = Sequence::new(alloc);
-    states.push(start)?;
-    for (i, line) in lines.iter().enumerate() {
-        let earlier = &lines[..i];
-        match state_of_line(
-            alloc, machine, program, earlier, &states, line, &mut state, &mut stock,
-        ) {
-            Ok(next) => states.push(next)?,
+    let mut labels = Labels::new(alloc);
+    let buffer = &mut work.buffer;
+    labels.push(
+        work.state
+            .label(alloc, machine, Naming::Canonical, buffer, Vec::new(alloc))?,
+    )?;
+    for (i, line) in input.lines.iter().enumerate() {
+        let earlier = Input {
+            machine,
+            program,
+            lines: &input.lines[..i],
+        };
+        match label_of_line(alloc, &earlier, &labels, line, work) {
+            Ok(label) => labels.push(label)?,
             Err(fault) => return Err(fault),
         }
     }
-    Ok(states)
+    Ok(labels)
 }

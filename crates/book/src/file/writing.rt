@@ -6,7 +6,7 @@ ghost use Rattle.book.specs.Text.Written.{line_text, IsProper};
 ghost use Rattle.book.specs.BookFile.Writing.{IsLineOf};
 ghost use Rattle.book.specs.BookFile.Written.{AreWritable, IsFileOf};
 
-use crate::entry::PackedRow;
+use crate::entry::Row;
 use crate::file::printing::{push_head, push_line, push_start};
 use crate::finding::Finding;
 use crate::table::Table;
@@ -14,7 +14,7 @@ use sched_program::OutOfMemory;
 use std::alloc::Global;
 
 /// Adds the line of an entry after the first, by its row.
-fn push_row(text: &mut Vec<u8>, row: &PackedRow) -> Result<(), OutOfMemory>
+fn push_row<S>(text: &mut Vec<u8>, row: &Row<S>) -> Result<(), OutOfMemory>
     requires { (line : Line) × IsLineOf row.now.origin row.now.finding line × IsProper line }
     ensures { OnOk result ((line : Line) × IsLineOf row.now.origin row.now.finding line × IsProper line
         × (text.new.items ≡ text.old.items ++ ended (line_text line.parent line.thread line.order ∷ []))) }

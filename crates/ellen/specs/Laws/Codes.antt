@@ -1,11 +1,13 @@
 -- Equal parts are of equal memories and places.
-use Rattle.std.specs.Prelude.{◌≡◌, ℕ, List, [], ◌∷◌, ◌++◌, Option, Some, None, refl}
+use Rattle.std.specs.Prelude.{◌≡◌, ℕ, List, [], ◌∷◌, Option, Some, None, refl}
 use Rattle.std.specs.List.{AllZip}
-use Rattle.std.proofs.Common.{ap, sym, subst}
+use Rattle.std.proofs.Common.{ap, sym, subst, ◌∙◌}
 use Rattle.std.proofs.lemmas.List.Elements.{same_from_all_zip}
-use Rattle.tree_machine.specs.FormCode.{TellsWholly}
+use Rattle.tree_machine.specs.FormCode.{TellsWholly, cut_code}
 use Rattle.tree_machine.specs.Laws.Codes.{map_tells, parts_code_tells}
-use Rattle.tree_machine.specs.Laws.Flat.{parts_parted}
+use Rattle.tree_machine.specs.Flat.{all_front}
+use Rattle.tree_machine.specs.declared.front.Front.{Front}
+use Rattle.std.proofs.lemmas.List.{length-map}
 use Rattle.tree_machine.specs.Pairing.{AreHeldPaired}
 use Rattle.tree_machine.specs.Cells.{IsPairedOrNone}
 use Rattle.tree_machine.specs.Parts.{Part, Parts, ArePartsPaired}
@@ -28,7 +30,7 @@ use Rattle.ellen.specs.declared.place.EllenLoc.TheVariants.{Search, Help}
 use Rattle.ellen.specs.Pairs.{AreBoth, AreWordsPaired, AreNodesPaired, AreRecordsPaired, AreAbovesPaired}
 use Rattle.ellen.specs.Pairs.{AreSearchesPaired, AreHelpsPaired, AreResumesPaired, ArePlacesPaired}
 use Rattle.ellen.specs.Parts.{node_part, record_part, held_part, ellen_parts, ellen_code}
-use Rattle.ellen.specs.Parts.{ellen_memory_code, ellen_held_code}
+use Rattle.ellen.specs.Parts.{ellen_front_code, ellen_behind_code}
 use Rattle.ellen.specs.Laws.Parts.{node_from, record_from, held_from}
 
 -- a number is paired with itself alone
@@ -138,11 +140,14 @@ parts_tell memory other held others e =
     )
 
 -- and so do their bytes
-pub ellen_tells : TellsWholly ellen_code
-ellen_tells memory other held others e =
-    parts_tell memory other held others (parts_code_tells (ellen_parts memory held) (ellen_parts other others) e)
+pub ellen_tells : (front other_front : Front) → TellsWholly (cut_code ellen_front_code ellen_behind_code front)
+    (cut_code ellen_front_code ellen_behind_code other_front)
+ellen_tells front other_front memory other held others many e =
+    parts_tell memory other held others
+    (parts_code_tells front other_front (ellen_parts memory held) (ellen_parts other others)
+    (length-map held held_part ∙ (many ∙ sym (length-map others held_part))) e).0
 
--- the memory alone stands first in them
-pub ellen_parted : (memory : EllenMem) (held : List (Option EllenLoc))
-    → ellen_code memory held ≡ ellen_memory_code memory ++ ellen_held_code memory held
-ellen_parted memory held = parts_parted (ellen_parts memory held)
+-- by own numbers all nodes and records stand in front
+pub ellen_whole : (memory : EllenMem) (held : List (Option EllenLoc)) → (front : Front)
+    × (ellen_code memory held ≡ cut_code ellen_front_code ellen_behind_code front memory held)
+ellen_whole memory held = (all_front (ellen_parts memory held), refl)

@@ -1,20 +1,18 @@
 //! The nodes and the records of a memory read back from their bytes, where each number is one byte.
-ghost use Rattle.std.specs.Prelude.{◌≡◌, ◌++◌, [], length, IfSome, IfOk};
-ghost use Rattle.std.specs.List.{flat_map};
-ghost use Rattle.tree_machine.specs.Flat.{number_code, cell_code, flat};
-ghost use Rattle.tree_machine.specs.Parts.{part_cell, parts_graph};
-ghost use Rattle.ellen.specs.Parts.{node_part, record_part, ellen_parts};
+ghost use Rattle.std.specs.Prelude.{◌≡◌, ◌++◌, List, length, map, IsTrue, IfSome, IfOk};
+ghost use Rattle.tree_machine.specs.Flat.{cell_code, graph_code, left_code, part_codes, part_content};
+ghost use Rattle.ellen.specs.Parts.{node_part, record_part};
+ghost use Rattle.ellen.specs.declared.memory.Node.{Node};
+ghost use Rattle.ellen.specs.declared.memory.Record.{Record};
 
-use crate::memory::{DeleteRecord, EllenMem, InsertRecord, Node, Record};
+use crate::memory::{DeleteRecord, InsertRecord, Node, Record};
 use crate::reading::words::word_of;
-use sched_program::{OutOfMemory, Sequence};
-use std::alloc::Global;
-use std::mem::replace;
+use sched_program::OutOfMemory;
 
 /// Reads a node, and returns the bytes behind it. The length is tested once for all bytes of a node.
 #[inline(always)]
-fn read_node(bytes: &[u8], nodes: u8) -> Option<(Node, &[u8])>
-    ensures { IfSome result (λ read. bytes.now ≡ cell_code (part_cell nodes (node_part read.0)) ++ read.1.now) }
+fn read_node(bytes: &[u8]) -> Option<(Node, &[u8])>
+    ensures { IfSome result (λ read. bytes.now ≡ cell_code (part_content (node_part read.0)) ++ read.1.now) }
 {
     match bytes {
         [
@@ -28,7 +26,7 @@ fn read_node(bytes: &[u8], nodes: u8) -> Option<(Node, &[u8])>
         ] => {
             let node = Node::Internal {
                 key: *key,
-                update: word_of(*kind, *named, nodes)?,
+                update: word_of(*kind, *named)?,
                 left: u16::from(*left) - 1,
                 right: u16::from(*right) - 1,
             };
@@ -39,43 +37,32 @@ fn read_node(bytes: &[u8], nodes: u8) -> Option<(Node, &[u8])>
     }
 }
 
-/// Reads a node into each place of a list, one behind the other, and returns the bytes behind them.
-fn read_each_node<'a>(bytes: &'a [u8], count: u8, nodes: &mut [Node]) -> Option<&'a [u8]>
-    ensures nodes { IfSome result (λ rest.
-        bytes.now ≡ flat_map (λ node. cell_code (part_cell count (node_part node))) nodes.new ++ rest.now) }
-    ensures count { length nodes.new ≡ length nodes.old }
-{
-    let mut rest = bytes;
-    for node in nodes.iter_mut() {
-        let (read, behind) = read_node(rest, count)?;
-        *node = read;
-        rest = behind;
-    }
-    Some(rest)
-}
-
-/// Reads so many nodes, in the room that the list has as far as that is enough, and returns the bytes behind them.
+/// Appends so many nodes to a list, and returns the bytes behind them.
 fn read_nodes<'a>(
-    alloc: Global,
     bytes: &'a [u8],
     count: u8,
-    nodes: &mut Sequence<Node>,
+    nodes: &mut Vec<Node>,
 ) -> Result<Option<&'a [u8]>, OutOfMemory>
-    ensures nodes { IfOk result (λ read. IfSome read (λ rest.
-        bytes.now ≡ flat_map (λ node. cell_code (part_cell count (node_part node))) nodes.new ++ rest.now)) }
-    ensures count { IfOk result (λ read. IfSome read (λ _. length nodes.new ≡ count)) }
+    ensures { IfOk result (λ read. IfSome read (λ rest. (more : List Node)
+        × (nodes.new.items ≡ nodes.old.items ++ more) × (length more ≡ count)
+        × (bytes.now ≡ part_codes (map node_part more) ++ rest.now))) }
 {
-    let mut places = replace(nodes, Sequence::new(alloc)).into_vec();
-    places.resize(count as usize, Node::Leaf { key: 0 })?;
-    let read = read_each_node(bytes, count, places.as_mut_slice());
-    *nodes = Sequence::from_vec(places);
-    Ok(read)
+    nodes.reserve(usize::from(count))?;
+    let mut rest = bytes;
+    for _each in 0..count {
+        let Some((node, behind)) = read_node(rest) else {
+            return Ok(None);
+        };
+        nodes.push_reserved(node);
+        rest = behind;
+    }
+    Ok(Some(rest))
 }
 
 /// Reads a record, and returns the bytes behind it. The length is tested once for all bytes of a record.
 #[inline(always)]
-fn read_record(bytes: &[u8], nodes: u8) -> Option<(Record, &[u8])>
-    ensures { IfSome result (λ read. bytes.now ≡ cell_code (part_cell nodes (record_part read.0)) ++ read.1.now) }
+fn read_record(bytes: &[u8]) -> Option<(Record, &[u8])>
+    ensures { IfSome result (λ read. bytes.now ≡ cell_code (part_content (record_part read.0)) ++ read.1.now) }
 {
     match bytes {
         [
@@ -105,7 +92,7 @@ fn read_record(bytes: &[u8], nodes: u8) -> Option<(Record, &[u8])>
                 grandparent: u16::from(*grandparent) - 1,
                 parent: u16::from(*parent) - 1,
                 leaf: u16::from(*leaf) - 1,
-                parent_update: word_of(*kind, *named, nodes)?,
+                parent_update: word_of(*kind, *named)?,
             };
             Some((Record::Del(delete), rest))
         }
@@ -113,65 +100,71 @@ fn read_record(bytes: &[u8], nodes: u8) -> Option<(Record, &[u8])>
     }
 }
 
-/// Reads a record into each place of a list, one behind the other, and returns the bytes behind them.
-fn read_each_record<'a>(bytes: &'a [u8], nodes: u8, records: &mut [Record]) -> Option<&'a [u8]>
-    ensures records { IfSome result (λ rest.
-        bytes.now ≡ flat_map (λ each. cell_code (part_cell nodes (record_part each))) records.new ++ rest.now) }
-    ensures count { length records.new ≡ length records.old }
-{
-    let mut rest = bytes;
-    for each in records.iter_mut() {
-        let (read, behind) = read_record(rest, nodes)?;
-        *each = read;
-        rest = behind;
-    }
-    Some(rest)
-}
-
-/// Reads so many records, in the room that the list has as far as that is enough, and returns the bytes behind them.
+/// Appends so many records to a list, and returns the bytes behind them.
 fn read_records<'a>(
-    alloc: Global,
     bytes: &'a [u8],
     count: u8,
-    nodes: u8,
-    records: &mut Sequence<Record>,
+    records: &mut Vec<Record>,
 ) -> Result<Option<&'a [u8]>, OutOfMemory>
-    ensures records { IfOk result (λ read. IfSome read (λ rest.
-        bytes.now ≡ flat_map (λ each. cell_code (part_cell nodes (record_part each))) records.new ++ rest.now)) }
-    ensures count { IfOk result (λ read. IfSome read (λ _. length records.new ≡ count)) }
+    ensures { IfOk result (λ read. IfSome read (λ rest. (more : List Record)
+        × (records.new.items ≡ records.old.items ++ more) × (length more ≡ count)
+        × (bytes.now ≡ part_codes (map record_part more) ++ rest.now))) }
 {
-    let blank = InsertRecord {
-        parent: 0,
-        leaf: 0,
-        new: 0,
-    };
-    let mut places = replace(records, Sequence::new(alloc)).into_vec();
-    places.resize(count as usize, Record::Ins(blank))?;
-    let read = read_each_record(bytes, nodes, places.as_mut_slice());
-    *records = Sequence::from_vec(places);
-    Ok(read)
+    records.reserve(usize::from(count))?;
+    let mut rest = bytes;
+    for _each in 0..count {
+        let Some((record, behind)) = read_record(rest) else {
+            return Ok(None);
+        };
+        records.push_reserved(record);
+        rest = behind;
+    }
+    Ok(Some(rest))
 }
 
-/// Reads a memory: how many nodes and records it has, and all of them. It returns the number of nodes, and the bytes
-/// behind the memory.
-pub(crate) fn read_memory<'a>(
-    alloc: Global,
+/// Reads how many nodes and records there are, and all of them, which it appends to lists. It returns the bytes behind
+/// them, and the two counts.
+pub(crate) fn read_graph<'a>(
     bytes: &'a [u8],
-    memory: &mut EllenMem,
-) -> Result<Option<(u8, &'a [u8])>, OutOfMemory>
-    ensures memory { IfOk result (λ read. IfSome read (λ read. bytes.now
-        ≡ number_code (length memory.new.nodes) ++ (number_code (length memory.new.records)
-        ++ (flat (parts_graph (ellen_parts memory.new [])) ++ read.1.now)))) }
-    ensures nodes { IfOk result (λ read. IfSome read (λ read. read.0 ≡ length memory.new.nodes)) }
+    nodes: &mut Vec<Node>,
+    records: &mut Vec<Record>,
+) -> Result<Option<(&'a [u8], u8, u8)>, OutOfMemory>
+    ensures { IfOk result (λ read. IfSome read (λ (rest, node_count, record_count).
+        (more : List Node) × (others : List Record)
+        × (nodes.new.items ≡ nodes.old.items ++ more) × (length more ≡ node_count)
+        × (records.new.items ≡ records.old.items ++ others) × (length others ≡ record_count)
+        × (bytes.now ≡ graph_code (map node_part more) (map record_part others) ++ rest.now))) }
 {
-    let [nodes @ 0..=254, records @ 0..=254, rest @ ..] = bytes else {
+    let [node_count @ 0..=254, record_count @ 0..=254, rest @ ..] = bytes else {
         return Ok(None);
     };
-    let Some(behind) = read_nodes(alloc, rest, *nodes, &mut memory.nodes)? else {
+    let Some(behind) = read_nodes(rest, *node_count, nodes)? else {
         return Ok(None);
     };
-    match read_records(alloc, behind, *records, *nodes, &mut memory.records)? {
-        Some(rest) => Ok(Some((*nodes, rest))),
+    match read_records(behind, *record_count, records)? {
+        Some(rest) => Ok(Some((rest, *node_count, *record_count))),
         None => Ok(None),
+    }
+}
+
+/// Reads what is left of the nodes and the records behind what the threads hold, if some are left. It returns whether
+/// all bytes were read.
+pub(crate) fn read_left(
+    bytes: &[u8],
+    nodes: &mut Vec<Node>,
+    records: &mut Vec<Record>,
+) -> Result<bool, OutOfMemory>
+    ensures { IfOk result (λ read. IsTrue read → (more : List Node) × (others : List Record)
+        × (nodes.new.items ≡ nodes.old.items ++ more) × (records.new.items ≡ records.old.items ++ others)
+        × (bytes.now ≡ left_code (map node_part more) (map record_part others))) }
+{
+    if bytes.is_empty() {
+        return Ok(true);
+    }
+    match read_graph(bytes, nodes, records)? {
+        Some((rest, node_count, record_count)) => {
+            Ok((node_count > 0 || record_count > 0) && rest.is_empty())
+        }
+        None => Ok(false),
     }
 }

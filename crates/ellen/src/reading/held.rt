@@ -1,9 +1,8 @@
 //! What the threads hold read back from its bytes, where each number is one byte.
-ghost use Rattle.std.specs.Prelude.{◌≡◌, ◌++◌, IfSome, IfOk, IsTrue};
+ghost use Rattle.std.specs.Prelude.{◌≡◌, ◌++◌, IfSome, IfOk};
 ghost use Rattle.std.specs.List.{flat_map};
 ghost use Rattle.tree_machine.specs.Alike.{replies_of, notes_of};
-ghost use Rattle.tree_machine.specs.Flat.{cell_code};
-ghost use Rattle.tree_machine.specs.Parts.{part_cell};
+ghost use Rattle.tree_machine.specs.Flat.{cell_code, part_content};
 ghost use Rattle.ellen.specs.Parts.{held_part};
 
 use crate::place::EllenLoc;
@@ -18,19 +17,18 @@ use tree_machine::Thread;
 fn read_held<'a>(
     alloc: Global,
     bytes: &'a [u8],
-    nodes: u8,
     held: &mut Option<EllenLoc>,
 ) -> Result<Option<&'a [u8]>, OutOfMemory>
     ensures { IfOk result (λ read. IfSome read (λ rest.
-        bytes.now ≡ cell_code (part_cell nodes (held_part held.new)) ++ rest.now)) }
+        bytes.now ≡ cell_code (part_content (held_part held.new)) ++ rest.now)) }
 {
     match bytes {
         [0, rest @ ..] => {
             *held = None;
             Ok(Some(rest))
         }
-        [head, 5, rest @ ..] => read_help(alloc, *head, rest, nodes, held),
-        _ => match read_search(bytes, nodes) {
+        [head, 5, rest @ ..] => read_help(alloc, *head, rest, held),
+        _ => match read_search(bytes) {
             Some((at, rest)) => {
                 *held = Some(EllenLoc::Search(at));
                 Ok(Some(rest))
@@ -40,24 +38,23 @@ fn read_held<'a>(
     }
 }
 
-/// Reads what each thread holds, one behind the other. It answers no where bytes are left over.
-pub(crate) fn read_each(
+/// Reads what each thread holds, one behind the other, and returns the bytes behind that.
+pub(crate) fn read_each<'a>(
     alloc: Global,
-    bytes: &[u8],
-    nodes: u8,
+    bytes: &'a [u8],
     threads: &mut [Thread<EllenLoc>],
-) -> Result<bool, OutOfMemory>
-    ensures read { IfOk result (λ read. IsTrue read
-        → bytes.now ≡ flat_map (λ thread. cell_code (part_cell nodes (held_part thread.place))) threads.new) }
+) -> Result<Option<&'a [u8]>, OutOfMemory>
+    ensures read { IfOk result (λ read. IfSome read (λ rest. bytes.now
+        ≡ flat_map (λ thread. cell_code (part_content (held_part thread.place))) threads.new ++ rest.now)) }
     ensures replies { replies_of threads.new ≡ replies_of threads.old }
     ensures notes { notes_of threads.new ≡ notes_of threads.old }
 {
     let mut rest = bytes;
     for thread in threads.iter_mut() {
-        match read_held(alloc, rest, nodes, &mut thread.place)? {
+        match read_held(alloc, rest, &mut thread.place)? {
             Some(behind) => rest = behind,
-            None => return Ok(false),
+            None => return Ok(None),
         }
     }
-    Ok(rest.is_empty())
+    Ok(Some(rest))
 }

@@ -1,7 +1,6 @@
 //! Help places read back from their bytes, where each number is one byte.
 ghost use Rattle.std.specs.Prelude.{◌≡◌, ◌<◌, ◌+◌, ◌*◌, ◌++◌, ◌∷◌, [], map, length, IfSome, IfOk, All};
-ghost use Rattle.tree_machine.specs.Flat.{reference_number, cell_code};
-ghost use Rattle.tree_machine.specs.Parts.{part_cell};
+ghost use Rattle.tree_machine.specs.Flat.{reference_number, cell_code, part_content};
 ghost use Rattle.ellen.specs.Parts.{held_part, help_number, help_side, help_node, help_record, base_number};
 
 use crate::place::{Base, EllenLoc, HelpLoc, Resume};
@@ -28,17 +27,17 @@ fn awaited(head: u8) -> Option<u8>
     }
 }
 
-/// The help place of a kind, by its side, its other node and its own record behind so many nodes.
+/// The help place of a kind, by its side, its other node and its own record.
 #[inline(always)]
-fn help_of(kind: u8, side: u8, other: u8, own: u8, nodes: u8) -> Option<HelpLoc>
+fn help_of(kind: u8, side: u8, other: u8, own: u8) -> Option<HelpLoc>
     ensures kind { IfSome result (λ at. kind ≡ help_number at) }
     ensures side { IfSome result (λ at. side ≡ help_side at) }
     ensures other { IfSome result (λ at. other ≡ reference_number (help_node at)) }
     ensures small_other { IfSome result (λ _. other < 255) }
-    ensures own { IfSome result (λ at. own ≡ nodes + help_record at + 1) }
-    ensures small_own { IfSome result (λ at. nodes + help_record at < 254) }
+    ensures own { IfSome result (λ at. own ≡ help_record at + 1) }
+    ensures small_own { IfSome result (λ at. help_record at < 254) }
 {
-    let number = record_of(own, nodes)?;
+    let number = record_of(own)?;
     match (kind, side, other) {
         (0, 0, 0) => Some(HelpLoc::InsChild(number)),
         (1, 0, 0) => Some(HelpLoc::InsClean(number)),
@@ -84,18 +83,17 @@ fn stack_of(alloc: Global, held: Option<EllenLoc>) -> Sequence<u16> {
     }
 }
 
-/// Reads so many records of a stack behind so many nodes, in the room that the list has as far as that is enough, and
+/// Reads so many records of a stack, in the room that the list has as far as that is enough, and
 /// returns the bytes behind them.
 fn read_stack<'a>(
     alloc: Global,
     bytes: &'a [u8],
     count: u8,
-    nodes: u8,
     stack: &mut Sequence<u16>,
 ) -> Result<Option<&'a [u8]>, OutOfMemory>
     ensures stack { IfOk result (λ read. IfSome read (λ rest.
-        bytes.now ≡ map (λ number. nodes + number + 1) stack.new ++ rest.now)) }
-    ensures small { IfOk result (λ read. IfSome read (λ _. All (λ number. nodes + number < 254) stack.new)) }
+        bytes.now ≡ map (λ number. number + 1) stack.new ++ rest.now)) }
+    ensures small { IfOk result (λ read. IfSome read (λ _. All (λ number. number < 254) stack.new)) }
     ensures count { IfOk result (λ read. IfSome read (λ _. length stack.new ≡ count)) }
 {
     copy_into(alloc, &[], stack)?;
@@ -104,7 +102,7 @@ fn read_stack<'a>(
         let [byte, behind @ ..] = rest else {
             return Ok(None);
         };
-        let Some(number) = record_of(*byte, nodes) else {
+        let Some(number) = record_of(*byte) else {
             return Ok(None);
         };
         stack.push(number)?;
@@ -119,11 +117,10 @@ pub(crate) fn read_help<'a>(
     alloc: Global,
     head: u8,
     bytes: &'a [u8],
-    nodes: u8,
     held: &mut Option<EllenLoc>,
 ) -> Result<Option<&'a [u8]>, OutOfMemory>
     ensures { IfOk result (λ read. IfSome read (λ rest.
-        head ∷ 5 ∷ bytes.now ≡ cell_code (part_cell nodes (held_part held.new)) ++ rest.now)) }
+        head ∷ 5 ∷ bytes.now ≡ cell_code (part_content (held_part held.new)) ++ rest.now)) }
 {
     let [kind, side, base, other, own, rest @ ..] = bytes else {
         return Ok(None);
@@ -131,14 +128,14 @@ pub(crate) fn read_help<'a>(
     let Some(count) = awaited(head) else {
         return Ok(None);
     };
-    let Some(at) = help_of(*kind, *side, *other, *own, nodes) else {
+    let Some(at) = help_of(*kind, *side, *other, *own) else {
         return Ok(None);
     };
     let Some(base) = base_of(*base) else {
         return Ok(None);
     };
     let mut stack = stack_of(alloc, replace(held, None));
-    let Some(behind) = read_stack(alloc, rest, count, nodes, &mut stack)? else {
+    let Some(behind) = read_stack(alloc, rest, count, &mut stack)? else {
         return Ok(None);
     };
     *held = Some(EllenLoc::Help(at, Resume { stack, base }));

@@ -4,7 +4,7 @@ use crate::machine::broken::{Broken, Case, ensure};
 use sched_program::{Op, OutOfMemory, Sequence, ShortList};
 use std::alloc::Global;
 use std::test::Fail;
-use tree_machine::{Atomic, AtomicForm, AtomicLoc, Machine, Outcome, Replies, Thread};
+use tree_machine::{Atomic, AtomicForm, AtomicLoc, Encode, Machine, Outcome, Replies, Thread};
 
 /// An operation, the keys before and after it, and its reply.
 struct Access {
@@ -143,7 +143,6 @@ fn builds_and_copies(rt: HostRuntime) -> Result<(), Broken> {
 #[test]
 fn a_place_may_write(rt: HostRuntime) -> Result<(), Fail> {
     assert!(rt; !Atomic.only_reads(&AtomicLoc::Do));
-    assert!(rt; !Atomic.keeps_order(&AtomicLoc::Do));
     Ok(())
 }
 

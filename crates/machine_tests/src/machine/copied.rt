@@ -1,13 +1,15 @@
-//! Steps of the machine `Atomic`: their bytes, copied from those of the states before them, and steps that are taken back.
+//! Steps of the machine `Atomic`: their labels, copied from those of the states before them, and steps that are taken
+//! back.
 ghost use Rattle.tree_machine.specs.Atomic.{atomic_rules};
 ghost use Rattle.tree_machine.specs.Step.{Fits};
 
 use crate::machine::broken::{Broken, Case, ensure};
+use crate::machine::labels::{Desk, Labelling, NAMINGS, is_read_after, is_step_labelled};
 use crate::machine::states::{after, two_inserts};
 use sched_program::Program;
 use std::alloc::Global;
 use std::snapshot::Snapshot;
-use tree_machine::{Atomic, Room, State, Undo};
+use tree_machine::{Atomic, State, Undo};
 
 /// A schedule, and the thread whose step comes then.
 struct Row {
@@ -40,8 +42,8 @@ const ROWS: &[Row] = &[
     },
 ];
 
-/// The bytes of the state after a step of a thread are the same where they are copied from those of the state before it,
-/// which a state is read from, as where they are written anew.
+/// The label of the state after a step of a thread is the same where it is copied from that of the state before it, as
+/// where it is written anew, by both namings; and that state is read where the one before it was.
 fn is_copied(
     alloc: Global,
     program: &Program,
@@ -54,38 +56,25 @@ fn is_copied(
     if state.steps() >= 100 {
         return Err(Broken::NotEnabled);
     }
-    // Whoever reads a program knows that it meets the limits.
-    let _ = program.initial();
-    let mut room = Room::new(alloc);
-    let told = state.code_in(alloc, Atomic, &mut room, Vec::new(alloc))?;
-    let bytes = told.as_slice();
-    let mut read = state.copy(alloc, Atomic)?;
-    let Some(cuts) = read.read_cut(alloc, Atomic, bytes)? else {
-        return Err(Broken::Wrong(case));
-    };
     let next = state.step(alloc, Atomic, program, thread)?;
-    let same_memory = next.memory() == state.memory();
-    let source = Snapshot::of(state);
-    let Some(was) = state.threads.get(usize::from(thread)) else {
-        return Err(Broken::Wrong(case));
-    };
-    let copied = next.code_after(
-        alloc,
-        Atomic,
-        &source,
-        was,
-        bytes,
-        cuts,
-        thread,
-        same_memory,
-        &mut room,
-        Vec::new(alloc),
-    )?;
-    let anew = next.code_in(alloc, Atomic, &mut room, Vec::new(alloc))?;
-    ensure(copied == anew, case)
+    let mut desk = Desk::with(alloc, State::start(alloc, Atomic, program)?);
+    for naming in NAMINGS {
+        let how = Labelling {
+            machine: Atomic,
+            program,
+            naming,
+        };
+        ensure(
+            is_step_labelled(alloc, &how, state, thread, &mut desk)?,
+            case,
+        )?;
+        ensure(is_read_after(alloc, &how, state, &next, &mut desk)?, case)?;
+    }
+    Ok(())
 }
 
-/// A step that is made in the state itself leads to the state that it leads to anyway, and taken back leaves what was there.
+/// A step that is made in the state itself leads to the state that it leads to anyway, and taken back leaves what was
+/// there.
 fn is_taken_back(
     alloc: Global,
     program: &Program,
@@ -103,7 +92,8 @@ fn is_taken_back(
     let source = Snapshot::of(&here);
     let mut undo = Undo::new();
     here.step_here(alloc, Atomic, program, thread, &mut undo)?;
-    ensure(here == next, case)?;
+    let is_memory_kept = undo.reads() == (next.memory() == state.memory());
+    ensure(here == next && is_memory_kept, case)?;
     here.take_back(alloc, &source, thread, &mut undo);
     ensure(here == *state, case)
 }

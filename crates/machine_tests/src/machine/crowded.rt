@@ -4,27 +4,27 @@ use crate::machine::broken::{Broken, Case, ensure};
 use crate::machine::parts::{Row, Tables, Written, bytes_of, row_of};
 use sched_program::OutOfMemory;
 use std::alloc::Global;
-use tree_machine::Bytes;
+use tree_machine::{Bytes, Naming};
 
 /// So many nodes, all of them fixed, so many records, to which nothing leads, and so many threads. If they are not
-/// refused, the numbers of nodes and of records that stand in front of all of them in bytes, and of their form.
+/// refused, the numbers of nodes and of records that stand in front of their code by own numbers, and of their form.
 struct Crowd {
     case: Case,
     nodes: usize,
     records: usize,
     threads: usize,
-    whole: Option<(u8, u8)>,
+    own: Option<(u8, u8)>,
     form: Option<(u8, u8)>,
 }
 
-/// A walk counts threads too, and all bytes by numbers do not.
+/// Own numbers are of nodes and of records apart. A walk numbers nodes, records and threads in one.
 const CROWDS: &[Crowd] = &[
     Crowd {
         case: Case::Nodes253,
         nodes: 253,
         records: 0,
         threads: 0,
-        whole: Some((253, 0)),
+        own: Some((253, 0)),
         form: Some((253, 0)),
     },
     Crowd {
@@ -32,7 +32,7 @@ const CROWDS: &[Crowd] = &[
         nodes: 254,
         records: 0,
         threads: 0,
-        whole: None,
+        own: None,
         form: None,
     },
     Crowd {
@@ -40,7 +40,7 @@ const CROWDS: &[Crowd] = &[
         nodes: 300,
         records: 0,
         threads: 0,
-        whole: None,
+        own: None,
         form: None,
     },
     Crowd {
@@ -48,7 +48,7 @@ const CROWDS: &[Crowd] = &[
         nodes: 200,
         records: 53,
         threads: 0,
-        whole: Some((200, 53)),
+        own: Some((200, 53)),
         form: Some((200, 0)),
     },
     Crowd {
@@ -56,7 +56,23 @@ const CROWDS: &[Crowd] = &[
         nodes: 200,
         records: 54,
         threads: 0,
-        whole: None,
+        own: Some((200, 54)),
+        form: None,
+    },
+    Crowd {
+        case: Case::Records253,
+        nodes: 2,
+        records: 253,
+        threads: 1,
+        own: Some((2, 253)),
+        form: None,
+    },
+    Crowd {
+        case: Case::Records254,
+        nodes: 2,
+        records: 254,
+        threads: 1,
+        own: None,
         form: None,
     },
     Crowd {
@@ -64,7 +80,7 @@ const CROWDS: &[Crowd] = &[
         nodes: 240,
         records: 9,
         threads: 4,
-        whole: Some((240, 9)),
+        own: Some((240, 9)),
         form: Some((240, 0)),
     },
     Crowd {
@@ -72,7 +88,7 @@ const CROWDS: &[Crowd] = &[
         nodes: 240,
         records: 10,
         threads: 4,
-        whole: Some((240, 10)),
+        own: Some((240, 10)),
         form: None,
     },
 ];
@@ -104,8 +120,8 @@ fn bytes_unless_refused(
     }
 }
 
-/// Whether bytes begin with these two numbers, and behind them two bytes stand for each node, each record and each of so
-/// many threads.
+/// Whether bytes begin with these two numbers, and behind them two bytes stand for each node, each record and each of
+/// so many threads.
 fn is_counted(bytes: &[u8], (nodes, records): (u8, u8), threads: usize) -> bool {
     let count = nodes as usize + records as usize;
     threads <= 4 && bytes.len() == 2 + 2 * (count + threads) && bytes.starts_with(&[nodes, records])
@@ -142,7 +158,10 @@ fn leaves_of(alloc: Global) -> Result<Vec<Row>, OutOfMemory> {
 fn crowds(alloc: Global) -> Result<(), Broken> {
     let leaves = leaves_of(alloc)?;
     for crowd in CROWDS {
-        is_written(alloc, &leaves, crowd, Written::Whole, crowd.whole)?;
+        let own = Written::Code(Naming::Own);
+        let canonical = Written::Code(Naming::Canonical);
+        is_written(alloc, &leaves, crowd, own, crowd.own)?;
+        is_written(alloc, &leaves, crowd, canonical, crowd.form)?;
         is_written(alloc, &leaves, crowd, Written::Form, crowd.form)?;
     }
     Ok(())

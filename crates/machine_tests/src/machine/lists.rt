@@ -4,44 +4,45 @@ use crate::machine::broken::{Broken, Case, ensure};
 use crate::machine::parts::{Row, Tables, Written, bytes_of, row_of};
 use sched_program::OutOfMemory;
 use std::alloc::Global;
-use tree_machine::Bytes;
+use tree_machine::{Bytes, Naming};
 
 /// A thread that holds four facts, no node where it has a place for one, record 1, and behind it these records of a
-/// stack; with its form, and all of it in bytes.
+/// stack; with its form, and its code by own numbers.
 struct Stack {
     case: Case,
     stack: &'static [u16],
     form: &'static [u8],
-    whole: &'static [u8],
+    own: &'static [u8],
 }
 
-/// The most records of a stack for which the part begins with one byte, and one more. The thread names record 1 first, so
-/// that it stands in front of record 0 in the form. Names in the form: 1 the root, 2 record 1, 3 record 0.
+/// The most records of a stack for which the part begins with one byte, and one more. To the records the thread alone
+/// leads: in the form they stand behind it, with how many nodes and records these are. The thread names record 1 first,
+/// so that it stands in front of record 0 there, and has number 1. By own numbers record 0 has number 1.
 const STACKS: &[Stack] = &[
     Stack {
         case: Case::NoStack,
         stack: &[],
-        form: &[1, 1, 36, 9, 0, 36, 8, 1, 69, 1, 2, 3, 4, 0, 2],
-        whole: &[1, 2, 36, 9, 0, 1, 7, 36, 8, 1, 69, 1, 2, 3, 4, 0, 3],
+        form: &[1, 0, 36, 9, 0, 69, 1, 2, 3, 4, 0, 1, 0, 1, 36, 8, 1],
+        own: &[1, 2, 36, 9, 0, 1, 7, 36, 8, 1, 69, 1, 2, 3, 4, 0, 2],
     },
     Stack {
         case: Case::AStackOfFive,
         stack: &[0, 1, 0, 1, 0],
         form: &[
-            1, 2, 36, 9, 0, 36, 8, 1, 1, 7, 219, 1, 2, 3, 4, 0, 2, 3, 2, 3, 2, 3,
+            1, 0, 36, 9, 0, 219, 1, 2, 3, 4, 0, 1, 2, 1, 2, 1, 2, 0, 2, 36, 8, 1, 1, 7,
         ],
-        whole: &[
-            1, 2, 36, 9, 0, 1, 7, 36, 8, 1, 219, 1, 2, 3, 4, 0, 3, 2, 3, 2, 3, 2,
+        own: &[
+            1, 2, 36, 9, 0, 1, 7, 36, 8, 1, 219, 1, 2, 3, 4, 0, 2, 1, 2, 1, 2, 1,
         ],
     },
     Stack {
         case: Case::AStackOfSix,
         stack: &[0, 1, 0, 1, 0, 1],
         form: &[
-            1, 2, 36, 9, 0, 36, 8, 1, 1, 7, 255, 5, 8, 1, 1, 2, 3, 4, 0, 2, 3, 2, 3, 2, 3, 2,
+            1, 0, 36, 9, 0, 255, 5, 8, 1, 1, 2, 3, 4, 0, 1, 2, 1, 2, 1, 2, 1, 0, 2, 36, 8, 1, 1, 7,
         ],
-        whole: &[
-            1, 2, 36, 9, 0, 1, 7, 36, 8, 1, 255, 5, 8, 1, 1, 2, 3, 4, 0, 3, 2, 3, 2, 3, 2, 3,
+        own: &[
+            1, 2, 36, 9, 0, 1, 7, 36, 8, 1, 255, 5, 8, 1, 1, 2, 3, 4, 0, 2, 1, 2, 1, 2, 1, 2,
         ],
     },
 ];
@@ -70,8 +71,8 @@ fn stack_of(alloc: Global, stack: &'static [u16], written: Written) -> Result<By
 fn has_bytes(alloc: Global, stack: &Stack) -> Result<(), Broken> {
     let form = stack_of(alloc, stack.stack, Written::Form)?;
     ensure(form.as_slice() == stack.form, stack.case)?;
-    let whole = stack_of(alloc, stack.stack, Written::Whole)?;
-    ensure(whole.as_slice() == stack.whole, stack.case)
+    let own = stack_of(alloc, stack.stack, Written::Code(Naming::Own))?;
+    ensure(own.as_slice() == stack.own, stack.case)
 }
 
 fn stacks(alloc: Global) -> Result<(), Broken> {
@@ -95,9 +96,12 @@ static FACTS: [u8; 254] = [7; 254];
 /// As many names.
 static STACK: [u16; 255] = [0; 255];
 
-/// What stands in front of the facts: a node and a record, both of them, and the front of a long part: a 255, twice the
+/// What stands in front of the facts: one node and no record, the root, and the front of a long part: a 255, twice the
 /// number 255, which takes two bytes, and no node.
-const FRONT: [u8; 11] = [1, 1, 0, 1, 6, 255, 255, 0, 255, 0, 0];
+const FRONT: [u8; 9] = [1, 0, 0, 255, 255, 0, 255, 0, 0];
+
+/// What stands behind the names: no node and one record, and this.
+const LEFT: [u8; 4] = [0, 1, 1, 6];
 
 /// The form of a root, and of a thread of that many facts and names.
 fn long_form(alloc: Global) -> Result<Bytes, OutOfMemory> {
@@ -124,10 +128,10 @@ fn are_all(bytes: &[u8], byte: u8, count: usize) -> bool {
     bytes.len() == count && bytes.iter().all(|other| *other == byte)
 }
 
-/// Whether these are the facts and the names: the record has number 1, behind the root.
+/// Whether these are the facts and the names, of the first record.
 fn is_long(bytes: &[u8]) -> bool {
     match (bytes.get(..254), bytes.get(254..)) {
-        (Some(facts), Some(names)) => are_all(facts, 7, 254) && are_all(names, 2, 255),
+        (Some(facts), Some(names)) => are_all(facts, 7, 254) && are_all(names, 1, 255),
         _ => false,
     }
 }
@@ -135,7 +139,10 @@ fn is_long(bytes: &[u8]) -> bool {
 fn is_long_form(alloc: Global) -> Result<(), Broken> {
     let form = long_form(alloc)?;
     let is_right = match form.as_slice().strip_prefix(&FRONT) {
-        Some(rest) => is_long(rest),
+        Some(rest) => match rest.strip_suffix(&LEFT) {
+            Some(part) => is_long(part),
+            None => false,
+        },
         None => false,
     };
     ensure(is_right, Case::LongLists)
@@ -151,8 +158,8 @@ fn lists_of_255_are_counted_in_two_bytes(rt: HostRuntime) -> Result<(), Broken> 
 
 /// The form of two threads over five nodes and three records.
 ///
-/// The walk begins with the root and both threads. It meets nodes 2 and 1 at the root, node 4 and record 1 at the first
-/// thread, and none at the second; then node 3 at node 2, record 0 at node 1, and record 2 at record 1.
+/// The walk begins with the root. It meets nodes 2 and 1 there, node 3 at node 2, and record 0 at node 1. Then it goes
+/// on with the threads. It meets node 4 and record 1 at the first, and none at the second; then record 2 at record 1.
 fn level_form(alloc: Global) -> Result<Bytes, OutOfMemory> {
     let nodes = [
         row_of(&[10], &[Some(2), Some(1)], &[]),
@@ -182,19 +189,20 @@ fn level_form(alloc: Global) -> Result<Bytes, OutOfMemory> {
     )
 }
 
-/// Names: 1 to 5 nodes 0, 2, 1, 4 and 3; 6 to 8 records 1, 0 and 2.
-const LEVELS: [u8; 32] = [
-    5, 3, // five nodes and three records
+/// Names: 1 to 5 nodes 0, 2, 1, 3 and 4; 1 to 3 records 0, 1 and 2.
+const LEVELS: [u8; 34] = [
+    4, 1, // four nodes and one record, to which the root leads
     71, 10, 2, 3, // node 0
-    36, 12, 5, // node 2
-    31, 11, 7, // node 1
-    36, 14, 1, // node 4
+    36, 12, 4, // node 2
+    31, 11, 1, // node 1
     1, 13, // node 3
-    31, 21, 8, // record 1
     1, 20, // record 0
-    1, 22, // record 2
-    66, 30, 4, 6, // the first thread
+    66, 30, 5, 2, // the first thread
     66, 31, 3, 0, // the second
+    1, 2, // one node and two records, to which the threads alone lead
+    36, 14, 1, // node 4
+    31, 21, 3, // record 1
+    1, 22, // record 2
 ];
 
 fn is_level_form(alloc: Global) -> Result<(), Broken> {

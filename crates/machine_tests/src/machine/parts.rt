@@ -1,5 +1,5 @@
 //! Nodes and records as bytes.
-ghost use Rattle.std.specs.Prelude.{◌≡◌, ◌<◌, ℕ, IsTrue, IfSome, OnOk};
+ghost use Rattle.std.specs.Prelude.{◌≡◌, ◌<◌, IsTrue, IfSome, OnOk};
 ghost use Rattle.std.specs.List.{All};
 ghost use Rattle.tree_machine.specs.Parts.{IsPartBelow, ArePartsInRange};
 
@@ -7,7 +7,7 @@ use crate::machine::ranges::{are_all_below, are_named_below};
 use sched_program::OutOfMemory;
 use std::alloc::Global;
 use std::marker::Model;
-use tree_machine::{Bytes, PartVisitor, Parts, Room, form_parts, write_whole};
+use tree_machine::{Bytes, EncodeBuffer, Naming, PartVisitor, Parts, form_parts, write_parts};
 
 /// A part that is there already. The records of the stack stand behind the other ones.
 #[derive(Drop)]
@@ -137,18 +137,18 @@ fn are_in_range(fixed: usize, tables: &Tables) -> bool
 pub enum Written {
     /// The form.
     Form,
-    /// All of them, by their numbers.
-    Whole,
+    /// The code.
+    Code(Naming),
 }
 
-/// All of the tables in bytes, by their numbers.
-fn whole_of(alloc: Global, tables: &Tables) -> Result<Bytes, OutOfMemory>
-    requires { (fixed : ℕ) × ArePartsInRange fixed
+/// The code of the tables.
+fn code_of(alloc: Global, tables: &Tables, naming: Naming) -> Result<Bytes, OutOfMemory>
+    requires { ArePartsInRange tables.now.fixed
         (record { nodes = tables.now.nodes.now; records = tables.now.records.now; held = tables.now.held.now }) }
 {
-    let mut room = Room::new(alloc);
-    write_whole(alloc, tables, &mut room)?;
-    Ok(Bytes::from_vec(Vec::from_slice(alloc, room.as_slice())?))
+    let mut buffer = EncodeBuffer::new(alloc);
+    write_parts(alloc, naming, tables.fixed, tables, &mut buffer)?;
+    Ok(Bytes::from_vec(Vec::from_slice(alloc, buffer.as_slice())?))
 }
 
 /// The bytes of tables; nothing where a number is out of range.
@@ -158,6 +158,6 @@ pub fn bytes_of(alloc: Global, tables: &Tables, written: Written) -> Result<Byte
     }
     match written {
         Written::Form => form_parts(alloc, tables.fixed, tables),
-        Written::Whole => whole_of(alloc, tables),
+        Written::Code(naming) => code_of(alloc, tables, naming),
     }
 }

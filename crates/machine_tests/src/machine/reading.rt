@@ -121,7 +121,7 @@ fn is_state(state: &State<Atomic>, row: &Row) -> bool {
 fn are_read(alloc: Global, state: &mut State<Atomic>) -> Result<(), Broken> {
     for row in ROWS {
         let read = state.read_in(alloc, Atomic, row.bytes)?;
-        ensure(read && is_state(state, row), row.case)?;
+        ensure(read.is_some() && is_state(state, row), row.case)?;
     }
     Ok(())
 }
@@ -130,7 +130,7 @@ fn are_read(alloc: Global, state: &mut State<Atomic>) -> Result<(), Broken> {
 fn are_refused(alloc: Global, state: &mut State<Atomic>) -> Result<(), Broken> {
     for refused in REFUSED {
         let read = state.read_in(alloc, Atomic, refused.bytes)?;
-        ensure(!read, refused.case)?;
+        ensure(read.is_none(), refused.case)?;
     }
     Ok(())
 }
@@ -139,10 +139,10 @@ fn are_refused(alloc: Global, state: &mut State<Atomic>) -> Result<(), Broken> {
 fn are_read_whole(alloc: Global, state: &mut State<Atomic>) -> Result<(), Broken> {
     for count in 0..WHOLE.len() {
         let read = state.read_in(alloc, Atomic, &WHOLE[..count])?;
-        ensure(!read, Case::BytesCutShort)?;
+        ensure(read.is_none(), Case::BytesCutShort)?;
     }
     let read = state.read_in(alloc, Atomic, WHOLE)?;
-    ensure(read, Case::BytesCutShort)
+    ensure(read.is_some(), Case::BytesCutShort)
 }
 
 /// All of this, each with one state that was another before.

@@ -4,7 +4,7 @@ use crate::machine::broken::{Broken, Case, ensure};
 use crate::machine::parts::{Tables, Written, bytes_of, row_of};
 use sched_program::OutOfMemory;
 use std::alloc::Global;
-use tree_machine::Bytes;
+use tree_machine::{Bytes, Naming};
 
 /// A root of these facts above a ring of a node and a record, which a thread holds. The record of the ring names this
 /// record, and the thread this node.
@@ -78,31 +78,31 @@ fn turned_ring(alloc: Global) -> Result<Bytes, OutOfMemory> {
 ///
 /// Each part: a byte of how many facts it has, how many nodes it names (times 5), and how many nodes and records (times
 /// 30); its facts, where 255 takes the bytes 255 and 0; each node or record as its number and one, or 0 for none.
-/// Numbers: 0 the root, 1 the node, 2 the record, behind both nodes.
+/// Nodes and records are numbered apart: 0 the root, 1 the node, and 0 the record.
 const FORM: [u8; 19] = [
     2, 1, // two nodes and a record
     71, 255, 0, 2, 0, // the root, of fact 255
-    66, 254, 1, 3, // the node, of fact 254
+    66, 254, 1, 1, // the node, of fact 254
     65, 2, 0, // the record
-    66, 2, 2, 3, // what the first thread holds
+    66, 2, 2, 1, // what the first thread holds
     0, // what the second holds
 ];
 
-/// All of the same ring, each part with the numbers of what it names and one; records are numbered behind the nodes.
+/// All of the same ring, each part with the numbers of what it names and one.
 const WHOLE: [u8; 28] = [
     3, 2, // three nodes and two records
     71, 255, 0, 2, 0, // the root
-    66, 254, 1, 4, // the node
-    66, 255, 0, 3, 5, // the node that nothing names
+    66, 254, 1, 1, // the node
+    66, 255, 0, 3, 2, // the node that nothing names
     65, 2, 0, // the record
-    32, 4, 5, 4, // the record that nothing names
-    66, 2, 2, 4, // what the first thread holds
+    32, 4, 5, 1, // the record that nothing names
+    66, 2, 2, 1, // what the first thread holds
     0, // what the second holds
 ];
 
 /// All of the ring is written as it is here.
 fn is_ring_whole(alloc: Global) -> Result<(), Broken> {
-    let whole = ring_of(alloc, RING, Written::Whole)?;
+    let whole = ring_of(alloc, RING, Written::Code(Naming::Own))?;
     ensure(whole.as_slice() == WHOLE.as_slice(), RING.case)
 }
 
@@ -127,8 +127,15 @@ fn turned_has_form(alloc: Global) -> Result<(), Broken> {
     ensure(form.as_slice() == FORM.as_slice(), Case::TheRingTurned)
 }
 
+/// The canonical code of the ring is its form.
+fn is_code_form(alloc: Global) -> Result<(), Broken> {
+    let code = ring_of(alloc, RING, Written::Code(Naming::Canonical))?;
+    ensure(code.as_slice() == FORM.as_slice(), RING.case)
+}
+
 fn is_ring_one(alloc: Global) -> Result<(), Broken> {
     has_form(alloc, RING, true)?;
+    is_code_form(alloc)?;
     turned_has_form(alloc)
 }
 

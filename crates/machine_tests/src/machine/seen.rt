@@ -3,11 +3,11 @@ ghost use Rattle.tree_machine.specs.Atomic.{atomic_rules};
 ghost use Rattle.tree_machine.specs.Step.{Fits};
 
 use crate::machine::broken::{Broken, Case, ensure};
-use crate::machine::by_names::is_read_by_names;
+use crate::machine::labels::{Desk, Labelling, is_read_back, label_of};
 use crate::machine::states::{after, copy_of, form_of, has_form, two_inserts};
 use sched_program::{OpId, Program};
 use std::alloc::Global;
-use tree_machine::{Atomic, AtomicLoc, Replies, Room, ShortNote, State, Thread};
+use tree_machine::{Atomic, AtomicLoc, EncodeBuffer, Naming, Replies, ShortNote, State, Thread};
 
 /// What is seen of a thread of one operation: its reply, and once it began how many each thread had finished then.
 struct Seen {
@@ -17,8 +17,8 @@ struct Seen {
 
 /// A schedule, and what is seen of the state after it: the keys, the threads, which of three threads have a step, the
 /// replies in its history, and all of it in bytes: the number of steps, the replies of each thread (a binary digit each
-/// below a leading one, the first lowest), its notes (each in two bytes, 32 for two counts and then their octal digits),
-/// who went astray, what each thread holds, and behind a 0 the keys.
+/// below a leading one, the first lowest), its notes (each in two bytes, 32 for two counts and then their octal
+/// digits), who went astray, what each thread holds, and behind a 0 the keys.
 struct Row {
     case: Case,
     schedule: &'static [u8],
@@ -183,39 +183,6 @@ fn has_replies(
     ensure(history.finished() == row.replies, row.case)
 }
 
-/// A state has the bytes of a row.
-fn has_code(
-    alloc: Global,
-    program: &Program,
-    state: &State<Atomic>,
-    row: &Row,
-) -> Result<(), Broken>
-    requires { Fits atomic_rules program.now state.now }
-{
-    // Whoever reads a program knows that it meets the limits.
-    let _ = program.initial();
-    let bytes = state.code_in(alloc, Atomic, &mut Room::new(alloc), Vec::new(alloc))?;
-    ensure(bytes.as_slice() == row.code, row.case)
-}
-
-/// A state is read from its bytes into the state of each row.
-fn is_read(alloc: Global, program: &Program, state: &State<Atomic>, row: &Row) -> Result<(), Broken>
-    requires { Fits atomic_rules program.now state.now }
-{
-    // Whoever reads a program knows that it meets the limits.
-    let _ = program.initial();
-    let bytes = state.code_in(alloc, Atomic, &mut Room::new(alloc), Vec::new(alloc))?;
-    for other in ROWS {
-        let mut shell = after(alloc, program, other.schedule)?;
-        let read = shell.read_in(alloc, Atomic, bytes.as_slice())?;
-        ensure(
-            read && *shell == *state && is_state(program, &shell, row),
-            row.case,
-        )?;
-    }
-    Ok(())
-}
-
 /// Whether bytes are others with a 0 in place of the first one.
 fn begins_with_0(bytes: &[u8], others: &[u8]) -> bool {
     match (bytes.split_first(), others.split_first()) {
@@ -224,34 +191,53 @@ fn begins_with_0(bytes: &[u8], others: &[u8]) -> bool {
     }
 }
 
-/// The code of a state by names is the bytes of a row, but with no steps.
-fn has_code_by_names(
+/// A state has the bytes of a row as its label: canonical labels leave out the number of steps.
+fn has_label(
     alloc: Global,
     program: &Program,
     state: &State<Atomic>,
+    naming: Naming,
     row: &Row,
 ) -> Result<(), Broken>
     requires { Fits atomic_rules program.now state.now }
 {
-    // Whoever reads a program knows that it meets the limits.
-    let _ = program.initial();
-    let code = state.named_code_in(alloc, Atomic, &mut Room::new(alloc), Vec::new(alloc))?;
-    ensure(begins_with_0(code.as_slice(), row.code), row.case)
+    let how = Labelling {
+        machine: Atomic,
+        program,
+        naming,
+    };
+    let label = label_of(alloc, &how, state, &mut EncodeBuffer::new(alloc))?;
+    let is_right = match naming {
+        Naming::Own => label.as_slice() == row.code,
+        Naming::Canonical => begins_with_0(label.as_slice(), row.code),
+    };
+    ensure(is_right, row.case)
 }
 
-/// A state is read from its code by names into the state of each row.
-fn is_read_from_names(
+/// A state is read from its label into the state of each row.
+fn is_read(
     alloc: Global,
     program: &Program,
     state: &State<Atomic>,
+    naming: Naming,
     row: &Row,
 ) -> Result<(), Broken>
     requires { Fits atomic_rules program.now state.now }
 {
+    let how = Labelling {
+        machine: Atomic,
+        program,
+        naming,
+    };
     for other in ROWS {
-        let mut shell = after(alloc, program, other.schedule)?;
-        let is_read = is_read_by_names(alloc, Atomic, program, state, &mut shell)?;
-        ensure(is_read && shell.memory().as_slice() == row.keys, row.case)?;
+        let shell = after(alloc, program, other.schedule)?.copy(alloc, Atomic)?;
+        let mut desk = Desk::with(alloc, shell);
+        let is_read = is_read_back(alloc, &how, state, &mut desk)?;
+        let read = &desk.shell;
+        let is_seen = read.memory().as_slice() == row.keys
+            && are_threads(read.threads.as_slice(), &row.threads)
+            && are_enabled(program, read, &row.enabled);
+        ensure(is_read && is_seen, row.case)?;
     }
     Ok(())
 }
@@ -276,10 +262,8 @@ pub enum Look {
     State,
     Copy,
     Replies,
-    Code,
-    Read,
-    CodeByNames,
-    ReadByNames,
+    Label(Naming),
+    Read(Naming),
     FormOfCopy,
 }
 
@@ -290,10 +274,8 @@ fn is_seen(alloc: Global, program: &Program, row: &Row, look: Look) -> Result<()
         Look::State => ensure(is_state(program, &state, row), row.case),
         Look::Copy => is_copied(alloc, program, &state, row),
         Look::Replies => has_replies(alloc, program, &state, row),
-        Look::Code => has_code(alloc, program, &state, row),
-        Look::Read => is_read(alloc, program, &state, row),
-        Look::CodeByNames => has_code_by_names(alloc, program, &state, row),
-        Look::ReadByNames => is_read_from_names(alloc, program, &state, row),
+        Look::Label(naming) => has_label(alloc, program, &state, naming, row),
+        Look::Read(naming) => is_read(alloc, program, &state, naming, row),
         Look::FormOfCopy => keeps_form(alloc, program, &state, row),
     }
 }
@@ -332,33 +314,33 @@ fn the_first_insert_wins(rt: HostRuntime) -> Result<(), Broken> {
 }
 
 #[test]
-fn bytes_are_of_the_whole_state(rt: HostRuntime) -> Result<(), Broken> {
-    match are_seen(rt.alloc(), Look::Code) {
+fn a_label_is_of_the_whole_state(rt: HostRuntime) -> Result<(), Broken> {
+    match are_seen(rt.alloc(), Look::Label(Naming::Own)) {
         Ok(()) => Ok(()),
-        Err(_) => are_seen(rt.alloc(), Look::Code),
+        Err(_) => are_seen(rt.alloc(), Look::Label(Naming::Own)),
     }
 }
 
 #[test]
-fn states_are_read_from_their_bytes(rt: HostRuntime) -> Result<(), Broken> {
-    match are_seen(rt.alloc(), Look::Read) {
+fn states_are_read_from_their_labels(rt: HostRuntime) -> Result<(), Broken> {
+    match are_seen(rt.alloc(), Look::Read(Naming::Own)) {
         Ok(()) => Ok(()),
-        Err(_) => are_seen(rt.alloc(), Look::Read),
+        Err(_) => are_seen(rt.alloc(), Look::Read(Naming::Own)),
     }
 }
 
 #[test]
-fn a_code_by_names_has_no_steps(rt: HostRuntime) -> Result<(), Broken> {
-    match are_seen(rt.alloc(), Look::CodeByNames) {
+fn a_canonical_label_has_no_steps(rt: HostRuntime) -> Result<(), Broken> {
+    match are_seen(rt.alloc(), Look::Label(Naming::Canonical)) {
         Ok(()) => Ok(()),
-        Err(_) => are_seen(rt.alloc(), Look::CodeByNames),
+        Err(_) => are_seen(rt.alloc(), Look::Label(Naming::Canonical)),
     }
 }
 
 #[test]
-fn states_are_read_from_their_code_by_names(rt: HostRuntime) -> Result<(), Broken> {
-    match are_seen(rt.alloc(), Look::ReadByNames) {
+fn states_are_read_from_their_canonical_labels(rt: HostRuntime) -> Result<(), Broken> {
+    match are_seen(rt.alloc(), Look::Read(Naming::Canonical)) {
         Ok(()) => Ok(()),
-        Err(_) => are_seen(rt.alloc(), Look::ReadByNames),
+        Err(_) => are_seen(rt.alloc(), Look::Read(Naming::Canonical)),
     }
 }

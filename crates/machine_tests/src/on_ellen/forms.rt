@@ -3,12 +3,13 @@ ghost use Rattle.std.specs.Prelude.{IfOk};
 ghost use Rattle.tree_machine.specs.Step.{Fits};
 ghost use Rattle.ellen.specs.EllenRules.{ellen_rules};
 
+use crate::machine::labels::{Labelling, label_of};
 use crate::on_ellen::states::{next, program_of, start};
 use ellen::{Ellen, EllenLoc, SearchLoc};
 use sched_program::{OutOfMemory, Program};
 use std::alloc::Global;
 use std::test::Fail;
-use tree_machine::{Bytes, Room, State, StateForm, StepFault, Thread};
+use tree_machine::{Bytes, EncodeBuffer, Naming, State, StateForm, StepFault, Thread};
 
 const WHOLE: Ellen = Ellen {
     mark: true,
@@ -135,24 +136,33 @@ fn have_equal_forms(
     Ok(*left == *right)
 }
 
-/// The code by names of the state to which the program of a text comes by a schedule.
-fn code_after(alloc: Global, text: &str, stretches: &[(u8, u64)]) -> Result<Bytes, StepFault> {
+/// The label of the state to which the program of a text comes by a schedule.
+fn label_at_end(
+    alloc: Global,
+    text: &str,
+    stretches: &[(u8, u64)],
+    naming: Naming,
+) -> Result<Bytes, StepFault> {
     let program = program_of(alloc, text)?;
     let state = after(alloc, WHOLE, &program, stretches)?;
-    // Whoever reads a program knows that it meets the limits.
-    let _ = program.initial();
-    Ok(state.named_code_in(alloc, WHOLE, &mut Room::new(alloc), Vec::new(alloc))?)
+    let how = Labelling {
+        machine: WHOLE,
+        program: &program,
+        naming,
+    };
+    Ok(label_of(alloc, &how, &state, &mut EncodeBuffer::new(alloc))?)
 }
 
-/// Whether two schedules lead to states of equal codes by names.
-fn have_equal_codes(
+/// Whether two schedules lead to states of equal labels.
+fn have_equal_labels(
     alloc: Global,
     text: &str,
     stretches: &[(u8, u64)],
     others: &[(u8, u64)],
+    naming: Naming,
 ) -> Result<bool, StepFault> {
-    let left = code_after(alloc, text, stretches)?;
-    let right = code_after(alloc, text, others)?;
+    let left = label_at_end(alloc, text, stretches, naming)?;
+    let right = label_at_end(alloc, text, others, naming)?;
     Ok(left == right)
 }
 
@@ -178,7 +188,7 @@ fn parent_of_find(
 }
 
 /// Two schedules of a program, each with the parent at which thread 1 looks for its key then, and whether the states
-/// that they lead to are equal, and their forms with their codes by names.
+/// that they lead to are equal, with their labels by own numbers, and their forms, with their canonical labels.
 struct Pair {
     name: &'static str,
     text: &'static str,
@@ -216,7 +226,7 @@ static PAIRS: [Pair; 3] = [
     },
 ];
 
-/// Whether the states, forms and codes of a pair are as it says.
+/// Whether the states, forms and labels of a pair are as it says.
 fn is_right(alloc: Global, pair: &Pair) -> Result<bool, StepFault> {
     let (first, first_parent) = pair.first;
     let (second, second_parent) = pair.second;
@@ -224,9 +234,11 @@ fn is_right(alloc: Global, pair: &Pair) -> Result<bool, StepFault> {
     let is_there_too = parent_of_find(alloc, pair.text, second)? == second_parent;
     let states = are_equal(alloc, pair.text, first, second)?;
     let forms = have_equal_forms(alloc, pair.text, first, second)?;
-    let codes = have_equal_codes(alloc, pair.text, first, second)?;
-    let are_so = states == pair.states && forms == pair.forms && codes == pair.forms;
-    Ok(is_there && is_there_too && are_so)
+    let own = have_equal_labels(alloc, pair.text, first, second, Naming::Own)?;
+    let canonical = have_equal_labels(alloc, pair.text, first, second, Naming::Canonical)?;
+    let are_states_so = states == pair.states && own == pair.states;
+    let are_forms_so = forms == pair.forms && canonical == pair.forms;
+    Ok(is_there && is_there_too && are_states_so && are_forms_so)
 }
 
 #[test]
@@ -250,8 +262,8 @@ const FIND: &str =
 
 /// After its first step T0 is about to read a child of the root, with no node above.
 ///
-/// The walk begins with the root and the thread. It meets nodes 5 and 2 at the root, and nodes 3 and 4 at node 5; nothing
-/// leads to node 1. So the names are, from 1 on, those of nodes 0, 5, 2, 3, 4.
+/// The walk begins with the root. It meets nodes 5 and 2 there, and nodes 3 and 4 at node 5; nothing leads to node 1.
+/// So the canonical numbers are, from 1 on, those of nodes 0, 5, 2, 3, 4, and all stand in front of the thread.
 const CODE: [u8; 36] = [
     0, // no steps
     1, 1, // one thread, without replies
@@ -266,18 +278,84 @@ const CODE: [u8; 36] = [
     133, 1, 0, 0, 0, 1, 0, 0, // the thread
 ];
 
-/// Whether that is its code by names.
-fn is_code(alloc: Global) -> Result<bool, StepFault> {
-    let code = code_after(alloc, FIND, &[(0, 1)])?;
-    Ok(code.as_slice() == CODE.as_slice())
+/// Whether this is the label of the state to which the program of a text comes by a schedule.
+fn is_label(
+    alloc: Global,
+    text: &str,
+    stretches: &[(u8, u64)],
+    naming: Naming,
+    expected: &[u8],
+) -> Result<bool, StepFault> {
+    let label = label_at_end(alloc, text, stretches, naming)?;
+    Ok(label.as_slice() == expected)
 }
 
 #[test]
-fn a_code_by_names_has_nodes_in_the_order_met(rt: HostRuntime) -> Result<(), Fail> {
+fn a_canonical_label_has_nodes_in_the_order_met(rt: HostRuntime) -> Result<(), Fail> {
+    let naming = Naming::Canonical;
     // One request for memory may be refused.
-    let mut answer = is_code(rt.alloc());
+    let mut answer = is_label(rt.alloc(), FIND, &[(0, 1)], naming, &CODE);
     if answer.is_err() {
-        answer = is_code(rt.alloc());
+        answer = is_label(rt.alloc(), FIND, &[(0, 1)], naming, &CODE);
+    }
+    assert!(rt; answer?);
+    Ok(())
+}
+
+/// Over no key, T0 inserts 5.
+const INSERT: &str =
+    r#"{"version":1,"tree":"ellen","initial":[],"threads":[[{"op":"insert","key":5}]]}"#;
+
+/// After its third step T0 is about to put node 5 below the root, which it has flagged with record 0. Node 5 is of key
+/// 101, over the new leaves 3, of key 5, and 4, of key 101. Nodes and records are numbered apart.
+const OWN: [u8; 41] = [
+    3, // three steps
+    1, 1, // one thread, without replies
+    1, 1, 16, 0, // one thread, with one note of one count, 0
+    0, // none astray
+    6, 1, // six nodes and one record
+    102, 102, 2, 2, 3, 1, // node 0: of key 102, over nodes 1 and 2, flagged with record 0
+    1, 101, // node 1
+    1, 102, // node 2
+    1, 5, // node 3
+    1, 101, // node 4
+    102, 101, 0, 4, 5, 0, // node 5: over nodes 3 and 4, untouched
+    105, 1, 2, 6, // record 0: of parent 0, leaf 1 and new node 5
+    69, 5, 0, 0, 1, 0, 1, // the thread, which carries out record 0 and then is done
+];
+
+/// The walk begins with the root. It meets nodes 1 and 2 and the record there, node 5 at the record, and nodes 3 and 4
+/// at node 5. So the canonical numbers are, from 1 on, those of nodes 0, 1, 2, 5, 3, 4, and 1 is that of the record
+/// too.
+const CANONICAL: [u8; 41] = [
+    0, // no steps
+    1, 1, // one thread, without replies
+    1, 1, 16, 0, // one thread, with one note of one count, 0
+    0, // none astray
+    6, 1, // six nodes and one record
+    102, 102, 2, 2, 3, 1, // node 0
+    1, 101, // node 1
+    1, 102, // node 2
+    102, 101, 0, 5, 6, 0, // node 5
+    1, 5, // node 3
+    1, 101, // node 4
+    105, 1, 2, 4, // the record
+    69, 5, 0, 0, 1, 0, 1, // the thread
+];
+
+/// Whether these are its labels.
+fn are_labels(alloc: Global) -> Result<bool, StepFault> {
+    let is_own = is_label(alloc, INSERT, &[(0, 3)], Naming::Own, &OWN)?;
+    let is_canonical = is_label(alloc, INSERT, &[(0, 3)], Naming::Canonical, &CANONICAL)?;
+    Ok(is_own && is_canonical)
+}
+
+#[test]
+fn nodes_and_records_are_numbered_apart(rt: HostRuntime) -> Result<(), Fail> {
+    // One request for memory may be refused.
+    let mut answer = are_labels(rt.alloc());
+    if answer.is_err() {
+        answer = are_labels(rt.alloc());
     }
     assert!(rt; answer?);
     Ok(())

@@ -1,101 +1,126 @@
-//! Each state along a schedule, read back from its bytes into a state that was another one before.
+//! Each state along a schedule, read back from its label into a state that was another one before, and the labels of
+//! its steps.
 ghost use Rattle.tree_machine.specs.Step.{Fits};
 ghost use Rattle.ellen.specs.EllenRules.{ellen_rules};
 
-use crate::machine::by_names::is_read_by_names;
+use crate::machine::labels::{
+    Desk, Labelling, StepKinds, beginnings_read, is_read_after, is_read_back, is_step_labelled,
+    label_of, most_beginnings,
+};
 use crate::on_ellen::states::{next, program_of, start};
 use crate::on_ellen::transcript::thread_of;
 use ellen::Ellen;
-use sched_program::{OutOfMemory, Program};
+use sched_program::OutOfMemory;
 use std::alloc::Global;
-use tree_machine::{Room, State, StepFault};
+use tree_machine::{Naming, State, StepFault};
 
-/// Whether a state is read from no beginning of bytes that is shorter than they are.
-fn are_cuts_refused(
+/// Whether a state is read back from its label, and from no more beginnings of it than may be read.
+fn is_read_whole(
     alloc: Global,
-    machine: Ellen,
-    bytes: &[u8],
-    used: &mut State<Ellen>,
-) -> Result<bool, OutOfMemory> {
-    for count in 0..bytes.len() {
-        if used.read_in(alloc, machine, &bytes[..count])? {
-            return Ok(false);
+    how: &Labelling<'_, Ellen>,
+    state: &State<Ellen>,
+    desk: &mut Desk<Ellen>,
+) -> Result<bool, OutOfMemory>
+    requires { Fits (ellen_rules how.now.machine) how.now.program.now state.now }
+{
+    let is_read = is_read_back(alloc, how, state, desk)?;
+    let label = label_of(alloc, how, state, &mut desk.buffer)?;
+    let beginnings = beginnings_read(alloc, how.machine, label.as_slice(), &mut desk.shell)?;
+    Ok(is_read && beginnings <= most_beginnings(how.naming))
+}
+
+/// What is looked at of each state along a schedule.
+#[derive(Clone, Copy)]
+pub enum Look {
+    /// It is read from its label, but from no beginning of that which may not be read, into the one that was read
+    /// before.
+    Read,
+    /// It is read where the one before it was read.
+    ReadAfter,
+    /// The labels of its steps are copied from its own.
+    Steps,
+}
+
+/// Whether the labels of the steps of four threads, as far as they have one, are copied from that of the state.
+fn are_steps_labelled(
+    alloc: Global,
+    how: &Labelling<'_, Ellen>,
+    state: &State<Ellen>,
+    desk: &mut Desk<Ellen>,
+) -> Result<bool, StepFault>
+    requires { Fits (ellen_rules how.now.machine) how.now.program.now state.now }
+{
+    for thread in 0..4 {
+        if state.enabled(how.program, thread) {
+            if !is_step_labelled(alloc, how, state, thread, desk)? {
+                return Ok(false);
+            }
         }
     }
     Ok(true)
 }
 
-/// Whether another state becomes this one when it is read from this one's bytes, and is read from no beginning of them.
-fn is_read_back(
+/// Whether a state is right, or the next one.
+fn is_right(
     alloc: Global,
-    machine: Ellen,
-    program: &Program,
+    how: &Labelling<'_, Ellen>,
+    look: Look,
     state: &State<Ellen>,
-    used: &mut State<Ellen>,
-) -> Result<bool, OutOfMemory>
-    requires { Fits (ellen_rules machine) program.now state.now }
+    next: &State<Ellen>,
+    desk: &mut Desk<Ellen>,
+) -> Result<bool, StepFault>
+    requires state { Fits (ellen_rules how.now.machine) how.now.program.now state.now }
+    requires next { Fits (ellen_rules how.now.machine) how.now.program.now next.now }
 {
-    // Whoever reads a program knows that it meets the limits.
-    let _ = program.initial();
-    let bytes = state.code_in(alloc, machine, &mut Room::new(alloc), Vec::new(alloc))?;
-    let is_read = used.read_in(alloc, machine, bytes.as_slice())?;
-    let is_same = is_read && *used == *state;
-    Ok(is_same && are_cuts_refused(alloc, machine, bytes.as_slice(), used)?)
+    match look {
+        Look::Read => Ok(is_read_whole(alloc, how, next, desk)?),
+        Look::ReadAfter => Ok(is_read_after(alloc, how, state, next, desk)?),
+        Look::Steps => are_steps_labelled(alloc, how, state, desk),
+    }
 }
 
-/// Which bytes of a state it is read from.
+/// What a look at the states along a schedule has found.
 #[derive(Clone, Copy)]
-pub enum ReadFrom {
-    /// All of its own.
-    Bytes,
-    /// Its code by names.
-    Names,
+pub enum Found {
+    /// After so many steps a state is not right.
+    Lost(u64),
+    /// All are right, and steps of these kinds were labelled.
+    Right(StepKinds),
 }
 
-/// Whether a state is read back from these bytes.
-fn is_read_from(
+/// Looks at each state along a schedule, in which each step is the first byte of a line.
+fn look_along(
     alloc: Global,
-    machine: Ellen,
-    program: &Program,
-    from: ReadFrom,
-    state: &State<Ellen>,
-    used: &mut State<Ellen>,
-) -> Result<bool, OutOfMemory>
-    requires { Fits (ellen_rules machine) program.now state.now }
-{
-    match from {
-        ReadFrom::Bytes => is_read_back(alloc, machine, program, state, used),
-        ReadFrom::Names => is_read_by_names(alloc, machine, program, state, used),
-    }
-}
-
-/// After how many steps of a schedule, each the first byte of a line, a state is not read back, if that is so of any.
-fn lost(
-    alloc: Global,
-    machine: Ellen,
-    program: &Program,
-    from: ReadFrom,
+    how: &Labelling<'_, Ellen>,
+    look: Look,
     lines: &str,
-) -> Result<Option<u64>, StepFault> {
-    let mut used = start(alloc, machine, program)?;
-    let mut state = start(alloc, machine, program)?;
+) -> Result<Found, StepFault> {
+    let mut desk = Desk::with(alloc, State::start(alloc, how.machine, how.program)?);
+    let mut state = start(alloc, how.machine, how.program)?;
     for line in lines.lines() {
-        state = next(alloc, machine, program, &state, thread_of(line)?)?;
-        if !is_read_from(alloc, machine, program, from, &state, &mut used)? {
-            return Ok(Some(state.steps()));
+        let after = next(alloc, how.machine, how.program, &state, thread_of(line)?)?;
+        if !is_right(alloc, how, look, &state, &after, &mut desk)? {
+            return Ok(Found::Lost(after.steps()));
         }
+        state = after;
     }
-    Ok(None)
+    Ok(Found::Right(desk.kinds))
 }
 
 /// The same for the text of a program.
-pub fn first_lost(
+pub fn looked(
     alloc: Global,
     machine: Ellen,
-    from: ReadFrom,
+    naming: Naming,
+    look: Look,
     text: &str,
     lines: &str,
-) -> Result<Option<u64>, StepFault> {
+) -> Result<Found, StepFault> {
     let program = program_of(alloc, text)?;
-    lost(alloc, machine, &program, from, lines)
+    let how = Labelling {
+        machine,
+        program: &program,
+        naming,
+    };
+    look_along(alloc, &how, look, lines)
 }

@@ -1,10 +1,10 @@
-//! Places at which an access only reads, and at which it keeps search order.
+//! Places at which an access only reads.
 
 use ellen::{Base, Ellen, EllenLoc, HelpLoc, Resume, SearchLoc, UpdateWord};
 use sched_program::{Op, Sequence};
 use std::alloc::Global;
 use std::test::Fail;
-use tree_machine::{Machine, Side};
+use tree_machine::{Encode, Machine, Side};
 
 const WHOLE: Ellen = Ellen {
     mark: true,
@@ -57,28 +57,5 @@ fn an_exchange_may_write(rt: HostRuntime) -> Result<(), Fail> {
     assert!(rt; !WHOLE.only_reads(&IFLAG));
     let mark = helping(rt.alloc(), HelpLoc::Mark(0));
     assert!(rt; !WHOLE.only_reads(&mark));
-    Ok(())
-}
-
-#[test]
-fn flags_and_marks_keep_order(rt: HostRuntime) -> Result<(), Fail> {
-    assert!(rt; WHOLE.keeps_order(&CHILD));
-    assert!(rt; WHOLE.keeps_order(&IFLAG));
-    for at in [
-        HelpLoc::InsClean(0),
-        HelpLoc::Mark(0),
-        HelpLoc::DelClean(0),
-        HelpLoc::Back(0),
-    ] {
-        let place = helping(rt.alloc(), at);
-        assert!(rt; WHOLE.keeps_order(&place));
-    }
-    Ok(())
-}
-
-#[test]
-fn a_child_that_is_put_may_disturb_order(rt: HostRuntime) -> Result<(), Fail> {
-    let child = helping(rt.alloc(), HelpLoc::InsChild(0));
-    assert!(rt; !WHOLE.keeps_order(&child));
     Ok(())
 }

@@ -3,7 +3,8 @@ mod deletes;
 mod inserts;
 mod without_step;
 
-use crate::on_ellen::read_back::{ReadFrom, first_lost};
+use crate::machine::labels::{NAMINGS, StepKinds};
+use crate::on_ellen::read_back::{Found, Look, looked};
 use crate::on_ellen::schedules::deletes::{
     BACKTRACK, DELETE_HELPS_DELETE, DELETE_HELPS_INSERT, HELPER_BACKTRACKS, LATE_DELETE,
     LATE_DELETE_HELPER, LATE_SPLICE, NESTED_DELETES,
@@ -20,6 +21,7 @@ use ellen::Ellen;
 use std::alloc::Global;
 use std::process::Abort;
 use std::test::Fail;
+use tree_machine::Naming;
 
 const WHOLE: Ellen = Ellen {
     mark: true,
@@ -101,54 +103,58 @@ fn variants(rt: HostRuntime) -> Result<(), Fail> {
     Ok(())
 }
 
-/// Fails unless each state along the lines is read back from these bytes of it, in each program.
-fn reads_all(
+/// Fails unless each state along the lines is right, in each program. Returns the kinds of the steps that were
+/// labelled.
+fn looks_at_all(
     rt: &impl Abort,
     alloc: Global,
     machine: Ellen,
-    from: ReadFrom,
+    naming: Naming,
+    look: Look,
     cases: &[(&str, &str)],
-) {
+) -> StepKinds {
+    let mut met = StepKinds::none();
     for (program, lines) in cases {
-        let mut answer = first_lost(alloc, machine, from, program, lines);
+        let mut answer = looked(alloc, machine, naming, look, program, lines);
         if answer.is_err() {
-            answer = first_lost(alloc, machine, from, program, lines);
+            answer = looked(alloc, machine, naming, look, program, lines);
         }
         match answer {
-            Ok(None) => {}
-            Ok(Some(steps)) => assert!(rt; false, "not read back after {steps} steps: {program}"),
+            Ok(Found::Right(kinds)) => met = met.or(kinds),
+            Ok(Found::Lost(steps)) => assert!(rt; false, "lost after {steps} steps: {program}"),
             Err(fault) => assert!(rt; false, "{fault:?}"),
         }
     }
+    met
 }
 
-/// The same of each machine, in the programs that it has.
-fn reads_each(rt: &impl Abort, alloc: Global, from: ReadFrom) {
-    reads_all(rt, alloc, WHOLE, from, OF_WHOLE.as_slice());
-    reads_all(
-        rt,
-        alloc,
-        WITHOUT_MARK_STEP,
-        from,
-        OF_WITHOUT_MARK.as_slice(),
-    );
-    reads_all(
-        rt,
-        alloc,
-        WITHOUT_FLAG_STEP,
-        from,
-        OF_WITHOUT_FLAG.as_slice(),
-    );
+/// The same of each machine, in the programs that it has, by both namings. The kinds are those of the whole machine.
+fn looks_at_each(rt: &impl Abort, alloc: Global, look: Look, expected: StepKinds) {
+    for naming in NAMINGS {
+        let whole = OF_WHOLE.as_slice();
+        let kinds = looks_at_all(rt, alloc, WHOLE, naming, look, whole);
+        assert!(rt; kinds == expected, "{kinds:?}");
+        let without_mark = OF_WITHOUT_MARK.as_slice();
+        looks_at_all(rt, alloc, WITHOUT_MARK_STEP, naming, look, without_mark);
+        let without_flag = OF_WITHOUT_FLAG.as_slice();
+        looks_at_all(rt, alloc, WITHOUT_FLAG_STEP, naming, look, without_flag);
+    }
 }
 
 #[test]
-fn states_are_read_back(rt: HostRuntime) -> Result<(), Fail> {
-    reads_each(&rt, rt.alloc(), ReadFrom::Bytes);
+fn states_are_read_from_their_labels(rt: HostRuntime) -> Result<(), Fail> {
+    looks_at_each(&rt, rt.alloc(), Look::Read, StepKinds::none());
     Ok(())
 }
 
 #[test]
-fn states_are_read_from_their_code_by_names(rt: HostRuntime) -> Result<(), Fail> {
-    reads_each(&rt, rt.alloc(), ReadFrom::Names);
+fn states_are_read_one_after_the_other(rt: HostRuntime) -> Result<(), Fail> {
+    looks_at_each(&rt, rt.alloc(), Look::ReadAfter, StepKinds::none());
+    Ok(())
+}
+
+#[test]
+fn labels_of_steps_are_copied(rt: HostRuntime) -> Result<(), Fail> {
+    looks_at_each(&rt, rt.alloc(), Look::Steps, StepKinds::all());
     Ok(())
 }

@@ -3,12 +3,13 @@ ghost use Rattle.std.specs.Prelude.{IfOk};
 ghost use Rattle.tree_machine.specs.Step.{Fits};
 ghost use Rattle.natmit.specs.NatMitRules.{natmit_rules};
 
+use crate::machine::labels::{Labelling, label_of};
 use crate::on_natmit::follow::{Broken, WHOLE, advance, program_of};
 use natmit::{NatMit, NatMitLoc};
 use sched_program::Program;
 use std::alloc::Global;
 use std::test::Fail;
-use tree_machine::{Bytes, Room, State, StateForm, StepFault};
+use tree_machine::{Bytes, EncodeBuffer, Naming, State, StateForm, StepFault};
 
 /// Over 10 and 20, T0 inserts 5 and T1 inserts 25.
 const TWO_INSERTS: &str =
@@ -52,20 +53,32 @@ fn end_of(alloc: Global, (text, schedule): (&str, &[u8])) -> Result<Box<End>, Br
     }
 }
 
-/// The code by names of the state where the program of a text ends by a schedule.
-fn code_of(alloc: Global, (text, schedule): (&str, &[u8])) -> Result<Bytes, Broken> {
+/// The label of the state where the program of a text ends by a schedule.
+fn label_at_end(
+    alloc: Global,
+    (text, schedule): (&str, &[u8]),
+    naming: Naming,
+) -> Result<Bytes, Broken> {
     let program = program_of(alloc, text)?;
     let state = after(alloc, WHOLE, &program, schedule)?;
-    // Whoever reads a program knows that it meets the limits.
-    let _ = program.initial();
-    Ok(state.named_code_in(alloc, WHOLE, &mut Room::new(alloc), Vec::new(alloc))?)
+    let how = Labelling {
+        machine: WHOLE,
+        program: &program,
+        naming,
+    };
+    Ok(label_of(alloc, &how, &state, &mut EncodeBuffer::new(alloc))?)
 }
 
-/// Whether the codes by names of the states after two schedules of two programs differ.
-fn codes_differ(alloc: Global, run: (&str, &[u8]), other: (&str, &[u8])) -> Result<bool, Broken> {
-    let code = code_of(alloc, run)?;
-    let other = code_of(alloc, other)?;
-    Ok(code != other)
+/// Whether the labels of the states after two schedules of two programs differ.
+fn labels_differ(
+    alloc: Global,
+    run: (&str, &[u8]),
+    other: (&str, &[u8]),
+    naming: Naming,
+) -> Result<bool, Broken> {
+    let label = label_at_end(alloc, run, naming)?;
+    let other = label_at_end(alloc, other, naming)?;
+    Ok(label != other)
 }
 
 /// Whether the states themselves differ, and whether their forms do.
@@ -79,22 +92,32 @@ fn ends_differ(
     Ok((end.state != other.state, end.form != other.form))
 }
 
-/// All three: whether the states differ, their forms, and their codes by names.
+/// What differs of two states.
+#[derive(Clone, Copy, Debug, PartialEq, Eq)]
+struct Differing {
+    states: bool,
+    forms: bool,
+    own_labels: bool,
+    canonical_labels: bool,
+}
+
+/// What differs of the states after two schedules of two programs.
 fn differ_once(
     alloc: Global,
     run: (&str, &[u8]),
     other: (&str, &[u8]),
-) -> Result<(bool, bool, bool), Broken> {
+) -> Result<Differing, Broken> {
     let (states, forms) = ends_differ(alloc, run, other)?;
-    Ok((states, forms, codes_differ(alloc, run, other)?))
+    Ok(Differing {
+        states,
+        forms,
+        own_labels: labels_differ(alloc, run, other, Naming::Own)?,
+        canonical_labels: labels_differ(alloc, run, other, Naming::Canonical)?,
+    })
 }
 
 /// The same, at the second try where memory was refused at the first: that happens once at most.
-fn differ(
-    alloc: Global,
-    run: (&str, &[u8]),
-    other: (&str, &[u8]),
-) -> Result<(bool, bool, bool), Broken> {
+fn differ(alloc: Global, run: (&str, &[u8]), other: (&str, &[u8])) -> Result<Differing, Broken> {
     match differ_once(alloc, run, other) {
         Err(Broken::OutOfMemory) => differ_once(alloc, run, other),
         found => found,
@@ -109,7 +132,13 @@ fn the_order_of_two_inserts_changes_numbers_alone(rt: HostRuntime) -> Result<(),
         (TWO_INSERTS, &[0, 0, 0, 1, 1, 1, 0, 1]),
         (TWO_INSERTS, &[0, 0, 0, 1, 1, 1, 1, 0]),
     );
-    assert!(rt; last_by_one == Ok((true, false, false)));
+    let numbers_alone = Differing {
+        states: true,
+        forms: false,
+        own_labels: true,
+        canonical_labels: false,
+    };
+    assert!(rt; last_by_one == Ok(numbers_alone));
     Ok(())
 }
 
@@ -121,7 +150,13 @@ fn other_nodes_held_by_threads_make_other_forms(rt: HostRuntime) -> Result<(), F
         (TWO_INSERTS, &[0, 0, 0]),
         (TWO_INSERTS_TURNED, &[0, 0, 0]),
     );
-    assert!(rt; other_leaf == Ok((true, true, true)));
+    let all = Differing {
+        states: true,
+        forms: true,
+        own_labels: true,
+        canonical_labels: true,
+    };
+    assert!(rt; other_leaf == Ok(all));
     Ok(())
 }
 
@@ -131,8 +166,8 @@ const DELETE: &str =
 
 /// After its first step T0 stands at Down, with ancestor 0, successor and parent 1, and leaf 6.
 ///
-/// The walk begins with nodes 0 and 1 and the thread. It meets node 2 at node 0, nodes 6 and 4 at node 1, and nodes 5 and 3
-/// at node 6. So the names are, from 1 on, those of nodes 0, 1, 2, 6, 4, 5, 3.
+/// The walk begins with nodes 0 and 1. It meets node 2 at node 0, nodes 6 and 4 at node 1, and nodes 5 and 3 at node 6.
+/// So the canonical numbers are, from 1 on, those of nodes 0, 1, 2, 6, 4, 5, 3, and all stand in front of the thread.
 const CODE: [u8; 41] = [
     0, // no steps
     1, 1, // one thread, without replies
@@ -149,19 +184,70 @@ const CODE: [u8; 41] = [
     177, 2, 0, 1, 2, 2, 4, 0, // the thread, without a tag or a leaf of its own
 ];
 
-/// Whether that is its code by names.
-fn is_code(alloc: Global) -> Result<bool, Broken> {
-    let code = code_of(alloc, (DELETE, &[0]))?;
-    Ok(code.as_slice() == CODE.as_slice())
+/// Whether this is the label of the state where the program of a text ends by a schedule.
+fn is_label(
+    alloc: Global,
+    run: (&str, &[u8]),
+    naming: Naming,
+    expected: &[u8],
+) -> Result<bool, Broken> {
+    let label = label_at_end(alloc, run, naming)?;
+    Ok(label.as_slice() == expected)
+}
+
+/// The same, at the second try where memory was refused at the first: that happens once at most.
+fn has_label(
+    alloc: Global,
+    run: (&str, &[u8]),
+    naming: Naming,
+    expected: &[u8],
+) -> Result<bool, Broken> {
+    match is_label(alloc, run, naming, expected) {
+        Err(Broken::OutOfMemory) => is_label(alloc, run, naming, expected),
+        answer => answer,
+    }
 }
 
 #[test]
-fn a_code_by_names_has_nodes_in_the_order_met(rt: HostRuntime) -> Result<(), Fail> {
-    // Once more where a growth was refused.
-    let answer = match is_code(rt.alloc()) {
-        Err(Broken::OutOfMemory) => is_code(rt.alloc()),
-        answer => answer,
-    };
+fn a_canonical_label_has_nodes_in_the_order_met(rt: HostRuntime) -> Result<(), Fail> {
+    let answer = has_label(rt.alloc(), (DELETE, &[0]), Naming::Canonical, &CODE);
+    assert!(rt; answer == Ok(true));
+    Ok(())
+}
+
+/// Over 10, T0 deletes 10, and T1 looks for it.
+const DELETE_AND_FIND: &str =
+    r#"{"version":1,"tree":"nm","initial":[10],"threads":[[{"op":"delete","key":10}],[{"op":"find","key":10}]]}"#;
+
+/// T1 has come to node 6 when T0 cuts that off with its leaf, node 5: T0 has flagged node 5 and tagged node 3 in node
+/// 6, and put node 3 below node 1.
+const CUT_OFF: [u8; 8] = [1, 0, 0, 0, 0, 0, 0, 0];
+
+/// The walk from nodes 0 and 1 meets node 2 at node 0, and nodes 3 and 4 at node 1. Behind these nodes stands what the
+/// threads hold, and behind that stand nodes 6 and 5, to which T1 alone leads. So the canonical numbers are, from 1 on,
+/// those of nodes 0, 1, 2, 3, 4, 6, 5.
+const HELD_ALONE: [u8; 48] = [
+    0, // no steps
+    2, 3, 1, // two threads, with the reply yes and with none
+    2, 1, 32, 0, 1, 32, 0, // two threads, each with one note of two counts, 0 and 0
+    0, // none astray
+    5, 0, // five nodes and no record
+    72, 102, 0, 2, 3, // node 0: of key 102, over nodes 1 and 2, with no flag or tag
+    72, 101, 0, 4, 5, // node 1: over nodes 3 and 4
+    1, 102, // node 2
+    1, 100, // node 3
+    1, 101, // node 4
+    0, // T0, which holds nothing
+    177, 2, 0, 1, 2, 2, 6, 0, // T1, at Down, with ancestor 0, successor and parent 1, and leaf 6
+    2, 0, // two nodes more and no record
+    72, 100, 9, 7, 4, // node 6: over nodes 5, flagged, and 3, tagged
+    1, 10, // node 5
+];
+
+#[test]
+fn nodes_that_a_thread_alone_leads_to_stand_last(rt: HostRuntime) -> Result<(), Fail> {
+    let run = (DELETE_AND_FIND, CUT_OFF.as_slice());
+    let answer = has_label(rt.alloc(), run, Naming::Canonical, &HELD_ALONE);
     assert!(rt; answer == Ok(true));
     Ok(())
 }

@@ -2,13 +2,16 @@
 ghost use Rattle.tree_machine.specs.Step.{Fits};
 ghost use Rattle.natmit.specs.NatMitRules.{natmit_rules};
 
-use crate::machine::by_names::is_read_by_names;
+use crate::machine::labels::{
+    Desk, Labelling, NAMINGS, StepKinds, beginnings_read, is_read_after, is_read_back,
+    is_step_labelled, label_of, most_beginnings,
+};
 use crate::on_natmit::follow::{Broken, WHOLE, advance, program_of};
 use natmit::{NatMit, NatMitLoc, NatMitMem};
 use sched_program::{Program, Sequence, ShortList};
 use std::alloc::Global;
 use std::test::Fail;
-use tree_machine::{Machine, Replies, Room, State, Thread};
+use tree_machine::{Encode, Front, Naming, Replies, State, Thread};
 
 /// Over the key 10, T0 deletes it and T1 inserts 5: each kind of place is met.
 const DELETE_AND_INSERT: &str =
@@ -32,6 +35,13 @@ const LEAF_AND_IDLE: [u8; 5] = [1, 0, 1, 7, 0];
 
 /// An internal node over two leaves, and a thread that is about to begin its search.
 const THREE_AND_BEGUN: [u8; 14] = [3, 0, 72, 9, 0, 2, 3, 1, 5, 1, 9, 36, 1, 0];
+
+/// The only node in front is a leaf. Behind the thread, which holds an own leaf alone, that leaf stands, to which
+/// nothing else leads.
+const CUT_OFF: [u8; 11] = [1, 0, 1, 7, 36, 1, 2, 1, 0, 1, 9];
+
+/// By which T0 cuts its leaf off while T1 holds it and the node above it, to which T1 alone leads then.
+const OVERTAKEN: [u8; 17] = [0, 1, 1, 0, 0, 0, 0, 0, 0, 1, 1, 1, 1, 1, 1, 1, 1];
 
 /// All kinds of places.
 const ALL_KINDS: u32 = 511;
@@ -63,67 +73,17 @@ fn kinds_in(state: &State<NatMit>) -> u32 {
     kinds
 }
 
-/// What is used again from one state to the next: the state that is read, the room in which the bytes are written, and
-/// the kinds of places met so far.
+/// A desk with a state of another program, and the kinds of places met so far.
 #[derive(Drop)]
-struct Desk {
-    shell: State<NatMit>,
-    room: Room,
+struct Kinds {
+    desk: Desk<NatMit>,
     kinds: u32,
 }
 
 /// A desk with a state of another program.
-fn desk_of(alloc: Global) -> Result<Desk, Broken> {
+fn desk_of(alloc: Global) -> Result<Desk<NatMit>, Broken> {
     let other = program_of(alloc, LONE_FIND)?;
-    Ok(Desk {
-        shell: State::start(alloc, WHOLE, &other)?,
-        room: Room::new(alloc),
-        kinds: 0,
-    })
-}
-
-/// Whether a state is read back from its bytes.
-fn is_read_back(
-    alloc: Global,
-    machine: NatMit,
-    program: &Program,
-    state: &State<NatMit>,
-    desk: &mut Desk,
-) -> Result<bool, Broken>
-    requires { Fits (natmit_rules machine) program.now state.now }
-{
-    // Whoever reads a program knows that it meets the limits.
-    let _ = program.initial();
-    let bytes = state.code_in(alloc, machine, &mut desk.room, Vec::new(alloc))?;
-    let is_read = desk.shell.read_in(alloc, machine, bytes.as_slice())?;
-    desk.kinds |= kinds_in(&desk.shell);
-    Ok(is_read && desk.shell == *state)
-}
-
-/// Whether a state is read back from its bytes where another one was read before, of whose bytes it is known where their parts
-/// begin.
-fn is_read_after(
-    alloc: Global,
-    machine: NatMit,
-    program: &Program,
-    before: &State<NatMit>,
-    state: &State<NatMit>,
-    desk: &mut Desk,
-) -> Result<bool, Broken>
-    requires before { Fits (natmit_rules machine) program.now before.now }
-    requires fits { Fits (natmit_rules machine) program.now state.now }
-{
-    // Whoever reads a program knows that it meets the limits.
-    let _ = program.initial();
-    let told = before.code_in(alloc, machine, &mut desk.room, Vec::new(alloc))?;
-    let bytes = state.code_in(alloc, machine, &mut desk.room, Vec::new(alloc))?;
-    let Some(cuts) = desk.shell.read_cut(alloc, machine, told.as_slice())? else {
-        return Ok(false);
-    };
-    let read = desk
-        .shell
-        .read_after(alloc, machine, bytes.as_slice(), told.as_slice(), cuts)?;
-    Ok(read.is_some() && desk.shell == *state)
+    Ok(Desk::with(alloc, State::start(alloc, WHOLE, &other)?))
 }
 
 /// Reads each state along a schedule, of which each bit is a thread, as long as that has a step.
@@ -132,14 +92,20 @@ fn read_along(
     machine: NatMit,
     program: &Program,
     schedule: u32,
-    desk: &mut Desk,
+    met: &mut Kinds,
 ) -> Result<(), Broken> {
+    let how = Labelling {
+        machine,
+        program,
+        naming: Naming::Own,
+    };
     let mut state = State::start(alloc, machine, program)?;
     let mut left = schedule;
     for step in 0..STEPS {
-        if !is_read_back(alloc, machine, program, &state, desk)? {
+        if !is_read_back(alloc, &how, &state, &mut met.desk)? {
             return Err(Broken::Row(step));
         }
+        met.kinds |= kinds_in(&met.desk.shell);
         let thread = (left % 2) as u8;
         left /= 2;
         if !state.enabled(program, thread) {
@@ -153,114 +119,135 @@ fn read_along(
 /// Reads all states of a program that have fewer steps than a schedule. The answer is the kinds of places met.
 fn read_all(alloc: Global, text: &str) -> Result<u32, Broken> {
     let program = program_of(alloc, text)?;
-    let mut desk = desk_of(alloc)?;
+    let mut met = Kinds {
+        desk: desk_of(alloc)?,
+        kinds: 0,
+    };
     for schedule in 0..SCHEDULES {
-        read_along(alloc, WHOLE, &program, schedule, &mut desk)?;
+        read_along(alloc, WHOLE, &program, schedule, &mut met)?;
     }
-    Ok(desk.kinds)
+    Ok(met.kinds)
 }
 
-/// Whether a state is read from any of its bytes but the last ones, or from these with one more behind.
+/// Whether a state is read from its label with one byte more, or from more beginnings of it than may be read.
 fn is_read_cut(
     alloc: Global,
-    machine: NatMit,
-    program: &Program,
+    how: &Labelling<'_, NatMit>,
     state: &State<NatMit>,
-    desk: &mut Desk,
+    desk: &mut Desk<NatMit>,
 ) -> Result<bool, Broken>
-    requires { Fits (natmit_rules machine) program.now state.now }
+    requires { Fits (natmit_rules how.now.machine) how.now.program.now state.now }
 {
-    // Whoever reads a program knows that it meets the limits.
-    let _ = program.initial();
-    let bytes = state.code_in(alloc, machine, &mut desk.room, Vec::new(alloc))?;
-    let whole = bytes.as_slice();
-    for count in 0..whole.len() {
-        if desk.shell.read_in(alloc, machine, &whole[..count])? {
-            return Ok(true);
-        }
+    let label = label_of(alloc, how, state, &mut desk.buffer)?;
+    let whole = label.as_slice();
+    if beginnings_read(alloc, how.machine, whole, &mut desk.shell)? > most_beginnings(how.naming) {
+        return Ok(true);
     }
     let mut longer = Vec::from_slice(alloc, whole)?;
     longer.extend_from_slice(&[0])?;
-    Ok(desk.shell.read_in(alloc, machine, longer.as_slice())?)
+    let read = desk.shell.read_in(alloc, how.machine, longer.as_slice())?;
+    Ok(read.is_some())
 }
 
-/// Tries to read each state along a schedule from bytes that are not all of its own, or too many.
-fn read_cut_along(
+/// What is looked at of each state along a schedule.
+#[derive(Clone, Copy)]
+enum Look {
+    /// It is read from its label, into the one that was read before.
+    Read,
+    /// It is read from no bytes that are not all of its label, or too many.
+    ReadCut,
+    /// The next one is read where it was read.
+    ReadAfter,
+    /// The labels of its steps are copied from its own.
+    Steps,
+}
+
+/// Whether the labels of the steps of both threads, as far as they have one, are copied from that of the state.
+fn are_steps_labelled(
     alloc: Global,
-    machine: NatMit,
-    program: &Program,
-    schedule: &[u8],
-) -> Result<(), Broken> {
-    let mut desk = desk_of(alloc)?;
-    let mut state = State::start(alloc, machine, program)?;
-    for (step, thread) in schedule.iter().enumerate() {
-        state = advance(alloc, machine, program, state, *thread, 1)?;
-        if is_read_cut(alloc, machine, program, &state, &mut desk)? {
-            return Err(Broken::Row(step));
+    how: &Labelling<'_, NatMit>,
+    state: &State<NatMit>,
+    desk: &mut Desk<NatMit>,
+) -> Result<bool, Broken>
+    requires { Fits (natmit_rules how.now.machine) how.now.program.now state.now }
+{
+    for thread in 0..2 {
+        if state.enabled(how.program, thread) {
+            if !is_step_labelled(alloc, how, state, thread, desk)? {
+                return Ok(false);
+            }
         }
     }
-    Ok(())
+    Ok(true)
 }
 
-/// The same along a schedule of the program of a text.
-fn read_cut(alloc: Global, text: &str, schedule: &[u8]) -> Result<(), Broken> {
-    let program = program_of(alloc, text)?;
-    read_cut_along(alloc, WHOLE, &program, schedule)
-}
-
-/// Reads each state along a schedule where the one before it was read.
-fn read_after_along(
+/// Whether a state is right, and the next one.
+fn is_right(
     alloc: Global,
-    machine: NatMit,
-    program: &Program,
+    how: &Labelling<'_, NatMit>,
+    look: Look,
+    state: &State<NatMit>,
+    next: &State<NatMit>,
+    desk: &mut Desk<NatMit>,
+) -> Result<bool, Broken>
+    requires state { Fits (natmit_rules how.now.machine) how.now.program.now state.now }
+    requires next { Fits (natmit_rules how.now.machine) how.now.program.now next.now }
+{
+    match look {
+        Look::Read => Ok(is_read_back(alloc, how, next, desk)?),
+        Look::ReadCut => Ok(!is_read_cut(alloc, how, next, desk)?),
+        Look::ReadAfter => Ok(is_read_after(alloc, how, state, next, desk)?),
+        Look::Steps => are_steps_labelled(alloc, how, state, desk),
+    }
+}
+
+/// Looks at each state along a schedule, and returns the kinds of the steps that were labelled.
+fn look_along(
+    alloc: Global,
+    how: &Labelling<'_, NatMit>,
+    look: Look,
     schedule: &[u8],
-) -> Result<(), Broken> {
+) -> Result<StepKinds, Broken> {
     let mut desk = desk_of(alloc)?;
-    let mut state = State::start(alloc, machine, program)?;
+    let mut state = State::start(alloc, how.machine, how.program)?;
     for (step, thread) in schedule.iter().enumerate() {
-        let copy = state.copy(alloc, machine)?;
-        let next = advance(alloc, machine, program, copy, *thread, 1)?;
-        if !is_read_after(alloc, machine, program, &state, &next, &mut desk)? {
+        let copy = state.copy(alloc, how.machine)?;
+        let next = advance(alloc, how.machine, how.program, copy, *thread, 1)?;
+        if !is_right(alloc, how, look, &state, &next, &mut desk)? {
             return Err(Broken::Row(step));
         }
         state = next;
     }
-    Ok(())
+    Ok(desk.kinds)
 }
 
-/// The same along a schedule of the program of a text.
-fn read_after(alloc: Global, text: &str, schedule: &[u8]) -> Result<(), Broken> {
-    let program = program_of(alloc, text)?;
-    read_after_along(alloc, WHOLE, &program, schedule)
-}
-
-/// Reads each state along a schedule from its code by names, into the one that was read before.
-fn read_named_along(
+/// Looks at each state along a schedule of the program of a text. It tries again where memory was refused, which
+/// happens once at most.
+fn looked(
     alloc: Global,
-    machine: NatMit,
-    program: &Program,
+    naming: Naming,
+    look: Look,
+    text: &str,
     schedule: &[u8],
-) -> Result<(), Broken> {
-    let mut desk = desk_of(alloc)?;
-    let mut state = State::start(alloc, machine, program)?;
-    for (step, thread) in schedule.iter().enumerate() {
-        if !is_read_by_names(alloc, machine, program, &state, &mut desk.shell)? {
-            return Err(Broken::Row(step));
-        }
-        state = advance(alloc, machine, program, state, *thread, 1)?;
+) -> Result<StepKinds, Broken> {
+    let program = match program_of(alloc, text) {
+        Err(Broken::OutOfMemory) => program_of(alloc, text)?,
+        program => program?,
+    };
+    let how = Labelling {
+        machine: WHOLE,
+        program: &program,
+        naming,
+    };
+    match look_along(alloc, &how, look, schedule) {
+        Err(Broken::OutOfMemory) => look_along(alloc, &how, look, schedule),
+        kinds => kinds,
     }
-    Ok(())
 }
 
-/// The same along a schedule of the program of a text.
-fn read_named(alloc: Global, text: &str, schedule: &[u8]) -> Result<(), Broken> {
-    let program = program_of(alloc, text)?;
-    read_named_along(alloc, WHOLE, &program, schedule)
-}
-
-/// How many bytes are answered to be those of the memory, where what one thread holds stands behind them. That is then read once
-/// more, alone.
-fn front_of(alloc: Global, bytes: &[u8]) -> Result<Option<usize>, Broken> {
+/// How many bytes are answered to stand in front of what one thread holds, and the front. What stands behind is then
+/// read once more, alone.
+fn front_of(alloc: Global, bytes: &[u8]) -> Result<Option<(usize, Front)>, Broken> {
     let mut mem = NatMitMem {
         nodes: Sequence::new(alloc),
     };
@@ -269,31 +256,42 @@ fn front_of(alloc: Global, bytes: &[u8]) -> Result<Option<usize>, Broken> {
         place: None,
         notes: ShortList::new(),
     }];
-    let Some(front) = WHOLE.read_whole(alloc, bytes, &mut mem, &mut threads)? else {
+    let Some((end, front)) = WHOLE.read_whole(alloc, bytes, &mut mem, &mut threads)? else {
         return Ok(None);
     };
     let place = threads[0].place.take();
-    let is_read = WHOLE.read_held(alloc, &bytes[front..], &mem, &mut threads)?;
-    if is_read && threads[0].place == place {
-        Ok(Some(front))
+    let nodes = Vec::from_slice(alloc, mem.nodes.as_slice())?;
+    let is_read = WHOLE.read_behind(alloc, &bytes[end..], front, &mut mem, &mut threads)?;
+    if is_read && threads[0].place == place && mem.nodes.as_slice() == nodes.as_slice() {
+        Ok(Some((end, front)))
     } else {
         Ok(None)
     }
 }
 
 /// The same, tried once more where a growth was refused: that happens once at most.
-fn front_at_last(alloc: Global, bytes: &[u8]) -> Result<Option<usize>, Broken> {
+fn front_at_last(alloc: Global, bytes: &[u8]) -> Result<Option<(usize, Front)>, Broken> {
     match front_of(alloc, bytes) {
         Err(Broken::OutOfMemory) => front_of(alloc, bytes),
         front => front,
     }
 }
 
+/// A front of so many nodes.
+fn nodes_in_front(nodes: u16) -> Front {
+    Front { nodes, records: 0 }
+}
+
 #[test]
-fn the_bytes_of_the_memory_are_counted(rt: HostRuntime) -> Result<(), Fail> {
-    assert!(rt; front_at_last(rt.alloc(), &LEAF_AND_IDLE) == Ok(Some(4)));
-    assert!(rt; front_at_last(rt.alloc(), &THREE_AND_BEGUN) == Ok(Some(11)));
+fn the_bytes_in_front_are_counted(rt: HostRuntime) -> Result<(), Fail> {
+    let leaf = front_at_last(rt.alloc(), &LEAF_AND_IDLE);
+    assert!(rt; leaf == Ok(Some((4, nodes_in_front(1)))));
+    let three = front_at_last(rt.alloc(), &THREE_AND_BEGUN);
+    assert!(rt; three == Ok(Some((11, nodes_in_front(3)))));
+    let cut_off = front_at_last(rt.alloc(), &CUT_OFF);
+    assert!(rt; cut_off == Ok(Some((4, nodes_in_front(1)))));
     assert!(rt; front_at_last(rt.alloc(), &LEAF_AND_IDLE[..4]) == Ok(None));
+    assert!(rt; front_at_last(rt.alloc(), &CUT_OFF[..10]) == Ok(None));
     Ok(())
 }
 
@@ -310,33 +308,72 @@ fn each_state_is_read_back(rt: HostRuntime) -> Result<(), Fail> {
 
 #[test]
 fn no_state_is_read_from_other_bytes(rt: HostRuntime) -> Result<(), Fail> {
-    // Once more where a growth was refused: that happens once at most.
-    let end = match read_cut(rt.alloc(), DELETE_AND_INSERT, &HELPED) {
-        Err(Broken::OutOfMemory) => read_cut(rt.alloc(), DELETE_AND_INSERT, &HELPED),
-        end => end,
-    };
-    assert!(rt; end == Ok(()));
+    for naming in NAMINGS {
+        let end = looked(
+            rt.alloc(),
+            naming,
+            Look::ReadCut,
+            DELETE_AND_INSERT,
+            &HELPED,
+        );
+        assert!(rt; end == Ok(StepKinds::none()));
+    }
     Ok(())
 }
 
 #[test]
 fn states_are_read_one_after_the_other(rt: HostRuntime) -> Result<(), Fail> {
-    // Once more where a growth was refused: that happens once at most.
-    let end = match read_after(rt.alloc(), DELETE_AND_INSERT, &HELPED) {
-        Err(Broken::OutOfMemory) => read_after(rt.alloc(), DELETE_AND_INSERT, &HELPED),
-        end => end,
-    };
-    assert!(rt; end == Ok(()));
+    for naming in NAMINGS {
+        let end = looked(
+            rt.alloc(),
+            naming,
+            Look::ReadAfter,
+            DELETE_AND_INSERT,
+            &HELPED,
+        );
+        assert!(rt; end == Ok(StepKinds::none()));
+        let end = looked(
+            rt.alloc(),
+            naming,
+            Look::ReadAfter,
+            DELETE_AND_INSERT,
+            &OVERTAKEN,
+        );
+        assert!(rt; end == Ok(StepKinds::none()));
+    }
     Ok(())
 }
 
 #[test]
-fn states_are_read_from_their_code_by_names(rt: HostRuntime) -> Result<(), Fail> {
-    // Once more where a growth was refused: that happens once at most.
-    let end = match read_named(rt.alloc(), DELETE_AND_INSERT, &HELPED) {
-        Err(Broken::OutOfMemory) => read_named(rt.alloc(), DELETE_AND_INSERT, &HELPED),
-        end => end,
-    };
-    assert!(rt; end == Ok(()));
+fn states_are_read_from_their_labels(rt: HostRuntime) -> Result<(), Fail> {
+    for naming in NAMINGS {
+        let end = looked(rt.alloc(), naming, Look::Read, DELETE_AND_INSERT, &HELPED);
+        assert!(rt; end == Ok(StepKinds::none()));
+        let end = looked(
+            rt.alloc(),
+            naming,
+            Look::Read,
+            DELETE_AND_INSERT,
+            &OVERTAKEN,
+        );
+        assert!(rt; end == Ok(StepKinds::none()));
+    }
+    Ok(())
+}
+
+#[test]
+fn labels_of_steps_are_copied(rt: HostRuntime) -> Result<(), Fail> {
+    for naming in NAMINGS {
+        let kinds = looked(rt.alloc(), naming, Look::Steps, DELETE_AND_INSERT, &HELPED);
+        assert!(rt; kinds == Ok(StepKinds::all()));
+        let kinds = looked(
+            rt.alloc(),
+            naming,
+            Look::Steps,
+            DELETE_AND_INSERT,
+            &OVERTAKEN,
+        );
+        assert!(rt; kinds == Ok(StepKinds::all()));
+    }
     Ok(())
 }

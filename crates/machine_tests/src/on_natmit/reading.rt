@@ -1,10 +1,10 @@
-//! Places at which an access only reads, and at which it keeps search order.
+//! Places at which an access only reads.
 
 use crate::on_natmit::follow::WHOLE;
 use natmit::{Mode, NatMitLoc};
 use sched_program::Op;
 use std::test::Fail;
-use tree_machine::{Machine, Side};
+use tree_machine::{Encode, Machine, Side};
 
 const READS: [NatMitLoc; 5] = [
     NatMitLoc::Begin { mode: Mode::Plain },
@@ -70,22 +70,8 @@ const PUT: NatMitLoc = NatMitLoc::Put {
 
 #[test]
 fn an_exchange_may_write(rt: HostRuntime) -> Result<(), Fail> {
-    assert!(rt; !WHOLE.only_reads(&FLAG));
-    Ok(())
-}
-
-#[test]
-fn reads_flags_and_tags_keep_order(rt: HostRuntime) -> Result<(), Fail> {
-    for place in READS {
-        assert!(rt; WHOLE.keeps_order(&place));
+    for place in [FLAG, TAG, PUT] {
+        assert!(rt; !WHOLE.only_reads(&place));
     }
-    assert!(rt; WHOLE.keeps_order(&FLAG));
-    assert!(rt; WHOLE.keeps_order(&TAG));
-    Ok(())
-}
-
-#[test]
-fn a_child_that_is_put_may_disturb_order(rt: HostRuntime) -> Result<(), Fail> {
-    assert!(rt; !WHOLE.keeps_order(&PUT));
     Ok(())
 }

@@ -1,10 +1,12 @@
 -- The parts of a memory and of the places held tell them wholly.
-use Rattle.std.specs.Prelude.{◌≡◌, List, ◌++◌, refl, Option, Some, None}
-use Rattle.std.proofs.Common.{ap, sym}
+use Rattle.std.specs.Prelude.{◌≡◌, List, refl, Option, Some, None}
+use Rattle.std.proofs.Common.{ap, sym, ◌∙◌}
 use Rattle.tree_machine.specs.Parts.{Part}
-use Rattle.tree_machine.specs.FormCode.{TellsWholly}
+use Rattle.tree_machine.specs.FormCode.{TellsWholly, cut_code}
 use Rattle.tree_machine.specs.Laws.Codes.{map_tells, parts_code_tells}
-use Rattle.tree_machine.specs.Laws.Flat.{parts_parted}
+use Rattle.tree_machine.specs.Flat.{all_front}
+use Rattle.tree_machine.specs.declared.front.Front.{Front}
+use Rattle.std.proofs.lemmas.List.{length-map}
 use Rattle.natmit.specs.declared.memory.Node.{Node}
 use Rattle.natmit.specs.declared.memory.Node.TheVariants.{Leaf, Internal}
 use Rattle.natmit.specs.declared.memory.NatMitMem.{NatMitMem}
@@ -14,7 +16,7 @@ use Rattle.natmit.specs.declared.place.NatMitLoc.{NatMitLoc}
 use Rattle.natmit.specs.declared.place.NatMitLoc.TheVariants.{Begin, Down, Put, Flag, Look, CleanRead, Tag, Sibling}
 use Rattle.natmit.specs.declared.place.NatMitLoc.TheVariants.{Swing}
 use Rattle.natmit.specs.Parts.{owned, node_part, place_part, held_part, natmit_parts, natmit_code}
-use Rattle.natmit.specs.Parts.{natmit_memory_code, natmit_held_code}
+use Rattle.natmit.specs.Parts.{natmit_front_code, natmit_behind_code}
 use Rattle.natmit.specs.Laws.Parts.{bit_tells, marks_tell, side_tells, never_idle}
 
 -- equal parts have equal facts and name equal nodes
@@ -92,11 +94,14 @@ parts_tell memory other held others e =
     (λ i. record { nodes = nodes i }, map_tells held_part held_tells held others (λ i. (e i).held))
 
 -- and so do their bytes
-pub natmit_tells : TellsWholly natmit_code
-natmit_tells memory other held others e =
-    parts_tell memory other held others (parts_code_tells (natmit_parts memory held) (natmit_parts other others) e)
+pub natmit_tells : (front other_front : Front) → TellsWholly (cut_code natmit_front_code natmit_behind_code front)
+    (cut_code natmit_front_code natmit_behind_code other_front)
+natmit_tells front other_front memory other held others many e =
+    parts_tell memory other held others
+    (parts_code_tells front other_front (natmit_parts memory held) (natmit_parts other others)
+    (length-map held held_part ∙ (many ∙ sym (length-map others held_part))) e).0
 
--- the bytes of the memory stand first, and those of what the threads hold behind them
-pub natmit_parted : (memory : NatMitMem) (held : List (Option NatMitLoc))
-    → natmit_code memory held ≡ natmit_memory_code memory ++ natmit_held_code memory held
-natmit_parted memory held = parts_parted (natmit_parts memory held)
+-- by own numbers all nodes stand in front
+pub natmit_whole : (memory : NatMitMem) (held : List (Option NatMitLoc)) → (front : Front)
+    × (natmit_code memory held ≡ cut_code natmit_front_code natmit_behind_code front memory held)
+natmit_whole memory held = (all_front (natmit_parts memory held), refl)

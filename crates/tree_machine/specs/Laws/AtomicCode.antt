@@ -38,13 +38,14 @@ atomic_codes a b e =
 
 -- there are no numbers to leave out: the bytes of the form tell the keys and what the threads hold
 pub atomic_tells : TellsWholly (λ keys held. atomic_code (atomic_form keys held))
-atomic_tells keys others held twins e = let same = held_readable held twins keys others e in (same.1, same.0)
+    (λ keys held. atomic_code (atomic_form keys held))
+atomic_tells keys others held twins many e = let same = held_readable held twins keys others e in (same.1, same.0)
 
 -- a form's bytes are those of the keys and of what the threads hold
 pub atomic_decodes : {Machine : Type 0} (machine : Machine)
     → DecodesForms atomic_rules atomic_form atomic_code (λ keys held. atomic_code (atomic_form keys held))
-atomic_decodes machine keys others held twins range places e =
-    let same = atomic_tells others keys twins held e in (
+atomic_decodes machine keys others held twins range places many e =
+    let same = atomic_tells others keys twins held (sym many) e in (
       subst atomic_rules.IsInRange (sym same.0) range,
       subst (λ k. ArePlacesInRange atomic_rules k twins) (sym same.0)
           (subst (ArePlacesInRange atomic_rules keys) (sym same.1) places),

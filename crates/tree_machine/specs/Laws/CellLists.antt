@@ -1,13 +1,14 @@
 -- Lists of cells and of numbers, end to end.
-use Rattle.std.proofs.Common.{◌≡◌, ℕ, zero, suc, ◌+◌, ◌<◌, ◌≤◌, ◌⊎◌, true, false, List, [], ◌∷◌, ◌++◌, length, refl}
-use Rattle.std.proofs.Common.{sym, ◌∙◌, ap, subst, inl, inr, arith, zero-add, add-zero}
+use Rattle.std.proofs.Common.{◌≡◌, ℕ, zero, suc, ◌+◌, ◌<◌, ◌≤◌, ◌⊎◌, true, false, List, [], ◌∷◌, ◌++◌, map, length}
+use Rattle.std.proofs.Common.{refl, sym, ◌∙◌, ap, subst, inl, inr, arith, zero-add, add-zero}
 use Rattle.std.specs.Prelude.{nat_eq}
 use Rattle.std.specs.List.{AllZip, All, AllByRecursion, IsDistinct}
 use Rattle.std.proofs.lemmas.Bool.Decides.{eqb_tells}
 use Rattle.std.proofs.lemmas.List.Elements.{All-append, All-weaker, All-from_recursion, recursion_from_All}
-use Rattle.std.proofs.lemmas.Map.Keys.{IsDistinct-cons}
+use Rattle.std.proofs.lemmas.Map.Keys.{IsDistinct-cons, IsDistinct-head, IsDistinct-tail}
 use Rattle.tree_machine.specs.Cells.{Content, content_at}
 use Rattle.tree_machine.specs.Graphs.{numbers_from}
+use Rattle.tree_machine.specs.Laws.CellSteps.{same_tests}
 
 -- ---- lists end to end
 
@@ -64,7 +65,7 @@ numbers_all P a n h = All-from_recursion P (numbers_from a n) (go a n h)
     go a zero h = tt
     go a (suc n) h = (h a (omega arith) (omega arith), go (suc a) n (λ x l k. h x (omega arith) (omega arith)))
 
-apart_above : (a : ℕ) (xs : List ℕ) → All (λ x. a < x) xs → AllByRecursion (λ y. nat_eq a y ≡ false) xs
+pub apart_above : (a : ℕ) (xs : List ℕ) → All (λ x. a < x) xs → AllByRecursion (λ y. nat_eq a y ≡ false) xs
 apart_above a xs h =
     recursion_from_All _ xs (All-weaker (λ x. a < x) (λ y. nat_eq a y ≡ false) (λ x l. go x l (eqb_tells a x)) xs h)
   where
@@ -90,3 +91,36 @@ numbers_distinct a (suc f) n t l =
     (All-append (λ x. a < x) (numbers_from (suc a) f) (numbers_from n t)
     (numbers_all (λ x. a < x) (suc a) f (λ x l k. l)) (numbers_all (λ x. a < x) n t (λ x g k. omega arith))))
     (numbers_distinct (suc a) f n t (omega arith))
+
+-- distinct lists of which no element stands in both
+pub distinct_join : (xs ys : List ℕ) → IsDistinct nat_eq xs → IsDistinct nat_eq ys
+    → AllByRecursion (λ x. AllByRecursion (λ y. nat_eq x y ≡ false) ys) xs → IsDistinct nat_eq (xs ++ ys)
+distinct_join [] ys d e h = e
+distinct_join (x ∷ xs) ys d e h =
+    IsDistinct-cons nat_eq x (xs ++ ys) (apart_join xs (IsDistinct-head nat_eq x xs d) h.0)
+    (distinct_join xs ys (IsDistinct-tail nat_eq x xs d) e h.1)
+  where
+    apart_join : (zs : List ℕ) → AllByRecursion (λ y. nat_eq x y ≡ false) zs
+        → AllByRecursion (λ y. nat_eq x y ≡ false) ys → AllByRecursion (λ y. nat_eq x y ≡ false) (zs ++ ys)
+    apart_join [] h g = g
+    apart_join (z ∷ zs) h g = (h.0, apart_join zs h.1 g)
+
+-- numbers that are all raised stay distinct
+pub raised_distinct : (n : ℕ) (xs : List ℕ) → IsDistinct nat_eq xs → IsDistinct nat_eq (map (λ x. n + x) xs)
+raised_distinct n [] d = distinct_none
+raised_distinct n (x ∷ xs) d =
+    IsDistinct-cons nat_eq (n + x) (map (λ x. n + x) xs) (go xs (IsDistinct-head nat_eq x xs d))
+    (raised_distinct n xs (IsDistinct-tail nat_eq x xs d))
+  where
+    go : (ys : List ℕ) → AllByRecursion (λ y. nat_eq x y ≡ false) ys
+        → AllByRecursion (λ y. nat_eq (n + x) y ≡ false) (map (λ x. n + x) ys)
+    go [] h = tt
+    go (y ∷ ys) h = (
+      same_tests (n + x) x (n + y) y (λ e. omega (arith, e), λ e. ap (λ z. n + z) e) ∙ h.0,
+      go ys h.1,
+    )
+
+pub rec_weaker : {A : Type 0} (P Q : A → Type 0) → ((x : A) → P x → Q x) → (xs : List A) → AllByRecursion P xs
+    → AllByRecursion Q xs
+rec_weaker P Q f [] h = tt
+rec_weaker P Q f (x ∷ xs) h = (f x h.0, rec_weaker P Q f xs h.1)

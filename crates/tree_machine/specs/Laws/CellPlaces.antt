@@ -113,3 +113,24 @@ place_at (y ∷ xs) d (suc k) x h =
         let itself : nat_eq y x ≡ true = eq-eqb y x (sym e.1) in
         cc
     apart (inr e) = e.0
+
+-- places of distinct numbers, side by side, are pairs one to one
+pub zip_one : (xs ys : List ℕ) → IsDistinct nat_eq xs → IsDistinct nat_eq ys → IsOneToOne (IsAmong (zip xs ys))
+zip_one xs ys here there x y a b h g =
+    let p = at_among xs ys x y h in
+    let q = at_among xs ys a b g in
+    let px = place_at xs here p.0 x p.1 in
+    let py = place_at ys there p.0 y p.2 in
+    let qa = place_at xs here q.0 a q.1 in
+    let qb = place_at ys there q.0 b q.2 in (
+      λ e.
+          let k : Some p.0 ≡ Some q.0 = sym px ∙ (ap (place_in xs) e ∙ qa) in
+          let same : p.0 ≡ q.0 = cc in
+          let found : Some y ≡ Some b = sym p.2 ∙ (ap (slice_get ys) same ∙ q.2) in
+          cc,
+      λ e.
+          let k : Some p.0 ≡ Some q.0 = sym py ∙ (ap (place_in ys) e ∙ qb) in
+          let same : p.0 ≡ q.0 = cc in
+          let found : Some x ≡ Some a = sym p.1 ∙ (ap (slice_get xs) same ∙ q.1) in
+          cc,
+    )

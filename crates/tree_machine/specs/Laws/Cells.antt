@@ -11,7 +11,7 @@ use Rattle.tree_machine.specs.Laws.CellSteps.{met_in_paired}
 use Rattle.tree_machine.specs.Laws.CellOrder.{HasAll, Extends, IsOrder, met_in_order, met_in_stable, met_in_extends}
 use Rattle.tree_machine.specs.Laws.CellOrder.{order_closed}
 use Rattle.tree_machine.specs.Laws.CellPlaces.{refs_renamed, place_from_has, get_place, has_at, among_at, at_among}
-use Rattle.tree_machine.specs.Laws.CellPlaces.{rel_among, place_at}
+use Rattle.tree_machine.specs.Laws.CellPlaces.{rel_among, zip_one}
 
 -- ---- from a pairing to equal answers
 
@@ -43,7 +43,7 @@ module _ (P : ℕ → ℕ → Type 0) (cells others : List Content) (roots targe
 
 -- ---- from equal answers to a pairing
 
-unmap : {A B C : Type 0} (f : A → C) (g : B → C) (xs : List A) (ys : List B) → map f xs ≡ map g ys
+pub unmap : {A B C : Type 0} (f : A → C) (g : B → C) (xs : List A) (ys : List B) → map f xs ≡ map g ys
     → AllZip (λ x y. f x ≡ g y) xs ys
 unmap f g [] [] e = tt
 unmap f g [] (y ∷ ys) e = cc
@@ -72,7 +72,7 @@ fronts_paired (x ∷ xs) (y ∷ ys) vs ws e = (
       (fronts_paired xs ys vs ws (omega arith)),
 )
 
-refs_from_renamed : (xs ys : List ℕ) (refs sefs : List (Option ℕ)) → HasAll xs refs → HasAll ys sefs
+pub refs_from_renamed : (xs ys : List ℕ) (refs sefs : List (Option ℕ)) → HasAll xs refs → HasAll ys sefs
     → map (option_and_then (place_in xs)) refs ≡ map (option_and_then (place_in ys)) sefs
     → AllZip (IsPairedOrNone (IsAmong (zip xs ys))) refs sefs
 refs_from_renamed xs ys [] [] h g e = tt
@@ -104,26 +104,6 @@ refs_from_renamed xs ys (Some x ∷ refs) (Some y ∷ sefs) h g e =
 -- the places of two orders that make equal answers
 module _ (cells others : List Content) (xs ys : List ℕ) (xs_order : IsOrder (length cells) xs)
     (ys_order : IsOrder (length others) ys) where
-  one_place : (x y a b : ℕ) → IsAmong (zip xs ys) x y → IsAmong (zip xs ys) a b → (x ≡ a) ↔ (y ≡ b)
-  one_place x y a b h g =
-      let p = at_among xs ys x y h in
-      let q = at_among xs ys a b g in
-      let px = place_at xs xs_order.distinct p.0 x p.1 in
-      let py = place_at ys ys_order.distinct p.0 y p.2 in
-      let qa = place_at xs xs_order.distinct q.0 a q.1 in
-      let qb = place_at ys ys_order.distinct q.0 b q.2 in (
-        λ e.
-            let k : Some p.0 ≡ Some q.0 = sym px ∙ (ap (place_in xs) e ∙ qa) in
-            let same : p.0 ≡ q.0 = cc in
-            let found : Some y ≡ Some b = sym p.2 ∙ (ap (slice_get ys) same ∙ q.2) in
-            cc,
-        λ e.
-            let k : Some p.0 ≡ Some q.0 = sym py ∙ (ap (place_in ys) e ∙ qb) in
-            let same : p.0 ≡ q.0 = cc in
-            let found : Some x ≡ Some a = sym p.1 ∙ (ap (slice_get xs) same ∙ q.1) in
-            cc,
-      )
-
   pairing_from_orders : (roots targets : List ℕ) → length roots ≡ length targets → Extends roots xs → Extends targets ys
       →
       ((k x : ℕ) → slice_get xs k ≡ Some x → HasAll xs (content_at cells x).refs)
@@ -133,7 +113,7 @@ module _ (cells others : List Content) (xs ys : List ℕ) (xs_order : IsOrder (l
   pairing_from_orders roots targets l front_x front_y closed_x closed_y e =
       let same = unmap (λ x. renamed xs (content_at cells x)) (λ y. renamed ys (content_at others y)) xs ys e in
       record {
-        one_to_one = one_place;
+        one_to_one = zip_one xs ys xs_order.distinct ys_order.distinct;
         in_range = λ x y h.
             let p = at_among xs ys x y h in
             (xs_order.below x (has_at xs p.0 x p.1), ys_order.below y (has_at ys p.0 y p.2));

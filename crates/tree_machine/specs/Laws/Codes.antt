@@ -1,15 +1,15 @@
 -- Bytes tell what they are of: nodes, records and what threads hold, and states.
-use Rattle.std.proofs.Common.{◌≡◌, ℕ, ◌+◌, List, [], ◌∷◌, ◌++◌, map, length, refl, sym, ◌∙◌, ap, arith}
-use Rattle.std.specs.Prelude.{Option, Some, None}
-use Rattle.std.specs.Option.{option_map}
-use Rattle.std.proofs.lemmas.List.{length-map}
+use Rattle.std.proofs.Common.{◌≡◌, ℕ, ◌/◌, ◌%◌, ◌⊎◌, List, [], ◌∷◌, ◌++◌, map, length, take, drop, replicate}
+use Rattle.std.proofs.Common.{refl, sym, ◌∙◌, ap, inl, inr, arith, append_assoc, append-nil, length-append}
+use Rattle.std.specs.Prelude.{Option}
+use Rattle.std.proofs.lemmas.List.{length-map, take-append-drop}
 use Rattle.tree_machine.specs.Cells.{Content}
-use Rattle.tree_machine.specs.Parts.{Part, Parts, part_cell, parts_graph, parts_held}
-use Rattle.tree_machine.specs.Flat.{number_code, flat, parts_code}
-use Rattle.tree_machine.specs.Laws.Flat.{number_split, flat_equal}
-use Rattle.tree_machine.specs.Laws.Parts.{length-parts_graph}
+use Rattle.tree_machine.specs.Parts.{Part, Parts}
+use Rattle.tree_machine.specs.Flat.{number_code, part_content, part_codes, graph_code, left_code, parts_code}
+use Rattle.tree_machine.specs.Laws.Flat.{number_before, number_split, flat_split}
+use Rattle.tree_machine.specs.declared.front.Front.{Front}
 use Rattle.tree_machine.specs.Alike.{FormContent, places_of, replies_of, notes_of}
-use Rattle.tree_machine.specs.FormCode.{IsInjective, TellsWholly, content_code, state_code}
+use Rattle.tree_machine.specs.FormCode.{IsInjective, TellsWholly, content_code, cut_code, state_code}
 use Rattle.tree_machine.specs.Laws.FormCode.{content_readable}
 use Rattle.tree_machine.specs.declared.state.Thread.{Thread}
 use Rattle.tree_machine.specs.declared.state.State.{State}
@@ -37,60 +37,99 @@ halves (x ∷ xs) (u ∷ us) ys vs l e =
     let rest = halves xs us ys vs (omega arith) behind in
     (ap (λ z. z ∷ xs) first ∙ ap (λ l. u ∷ l) rest.0, rest.1)
 
--- ---- one part
+-- ---- parts
 
-shifted_tells : (n : ℕ) (r s : Option ℕ) → option_map (λ x. n + x) r ≡ option_map (λ x. n + x) s → r ≡ s
-shifted_tells n None None e = refl
-shifted_tells n None (Some y) e = cc
-shifted_tells n (Some x) None e = cc
-shifted_tells n (Some x) (Some y) e =
-    let sum : n + x ≡ n + y = cc in
-    let inner : x ≡ y = omega arith in
-    ap Some inner
-
-part_told : (n : ℕ) (p q : Part) → part_cell n p ≡ part_cell n q → p ≡ q
-part_told n p q e =
+part_told : (p q : Part) → part_content p ≡ part_content q → p ≡ q
+part_told p q e =
     let f = ap (λ (c : Content). c.facts) e in
     let r = ap (λ (c : Content). c.refs) e in
     let lengths : length p.nodes ≡ length q.nodes = cc in
     let facts : p.facts ≡ q.facts = cc in
-    let names =
-    halves p.nodes q.nodes (map (option_map (λ x. n + x)) p.records) (map (option_map (λ x. n + x)) q.records)
-    lengths r in
-    let records = map_tells (option_map (λ x. n + x)) (shifted_tells n) p.records q.records names.1 in
-    λ i. record { facts = facts i; nodes = names.0 i; records = records i }
+    let names = halves p.nodes q.nodes p.records q.records lengths r in
+    λ i. record { facts = facts i; nodes = names.0 i; records = names.1 i }
 
--- ---- all parts
+-- equally many parts in front of other bytes
+parts_split : (ps qs : List Part) (xs ys : List ℕ) → length ps ≡ length qs → part_codes ps ++ xs ≡ part_codes qs ++ ys
+    → (ps ≡ qs) × (xs ≡ ys)
+parts_split ps qs xs ys l e =
+    let long = length-map ps part_content ∙ (l ∙ sym (length-map qs part_content)) in
+    let split = flat_split (map part_content ps) (map part_content qs) xs ys long e in
+    (map_tells part_content part_told ps qs split.0, split.1)
 
--- equal bytes are of equal parts
-pub parts_code_tells : (s t : Parts) → parts_code s ≡ parts_code t → s ≡ t
-parts_code_tells s t e =
-    let n = length s.nodes in
-    let first =
-    number_split n (length t.nodes) (number_code (length s.records) ++ flat (parts_graph s ++ parts_held s))
-    (number_code (length t.records) ++ flat (parts_graph t ++ parts_held t)) e in
-    let second =
-    number_split (length s.records) (length t.records) (flat (parts_graph s ++ parts_held s))
-    (flat (parts_graph t ++ parts_held t)) first.1 in
-    let cells = flat_equal (parts_graph s ++ parts_held s) (parts_graph t ++ parts_held t) second.1 in
-    let lengths : length (parts_graph s) ≡ length (parts_graph t) =
-    omega (arith, length-parts_graph s, length-parts_graph t, first.0, second.0) in
-    let whole = halves (parts_graph s) (parts_graph t) (parts_held s) (parts_held t) lengths cells in
-    let node_lengths : length (map (part_cell n) s.nodes) ≡ length (map (part_cell (length t.nodes)) t.nodes) =
-    length-map s.nodes (part_cell n) ∙ (first.0 ∙ sym (length-map t.nodes (part_cell (length t.nodes)))) in
-    let graph =
-    halves (map (part_cell n) s.nodes) (map (part_cell (length t.nodes)) t.nodes) (map (part_cell n) s.records)
-    (map (part_cell (length t.nodes)) t.records) node_lengths whole.0 in
+-- nodes and records in front of other bytes
+graph_split : (ns rs ms ss : List Part) (xs ys : List ℕ) → graph_code ns rs ++ xs ≡ graph_code ms ss ++ ys
+    → (ns ≡ ms) × (rs ≡ ss) × (xs ≡ ys)
+graph_split ns rs ms ss xs ys e =
     let nodes =
-    map_tells (part_cell n) (part_told n) s.nodes t.nodes
-    (graph.0 ∙ ap (λ m. map (part_cell m) t.nodes) (sym first.0)) in
-    let records =
-    map_tells (part_cell n) (part_told n) s.records t.records
-    (graph.1 ∙ ap (λ m. map (part_cell m) t.records) (sym first.0)) in
-    let held =
-    map_tells (part_cell n) (part_told n) s.held t.held
-    (whole.1 ∙ ap (λ m. map (part_cell m) t.held) (sym first.0)) in
-    λ i. record { nodes = nodes i; records = records i; held = held i }
+    number_split (length ns) (length ms) _ _ (sym (graph_before ns rs xs) ∙ (e ∙ graph_before ms ss ys)) in
+    let records = number_split (length rs) (length ss) _ _ nodes.1 in
+    let long : length (ns ++ rs) ≡ length (ms ++ ss) =
+    omega (arith, length-append ns rs, length-append ms ss, nodes.0, records.0) in
+    let split = parts_split (ns ++ rs) (ms ++ ss) xs ys long records.1 in
+    let both = halves ns ms rs ss nodes.0 split.0 in
+    (both.0, both.1, split.1)
+  where
+    graph_before : (ns rs : List Part) (xs : List ℕ) → graph_code ns rs ++ xs
+        ≡ number_code (length ns) ++ (number_code (length rs) ++ (part_codes (ns ++ rs) ++ xs))
+    graph_before ns rs xs =
+        append_assoc (number_code (length ns)) (number_code (length rs) ++ part_codes (ns ++ rs)) xs
+        ∙ ap (λ l. number_code (length ns) ++ l)
+        (append_assoc (number_code (length rs)) (part_codes (ns ++ rs)) xs)
+
+-- what is left, if something is
+IsLeft : List Part → List Part → Type 0
+IsLeft ns rs = ((ns ≡ []) × (rs ≡ []) × (left_code ns rs ≡ [])) ⊎ (left_code ns rs ≡ graph_code ns rs)
+
+is_left : (ns rs : List Part) → IsLeft ns rs
+unfolding IsLeft
+is_left [] [] = inl (refl, refl, refl)
+is_left [] (r ∷ rs) = inr refl
+is_left (n ∷ ns) rs = inr refl
+
+graph_is_some : (ns rs : List Part) → [] ≡ graph_code ns rs → ⊥
+graph_is_some ns rs e =
+    let long : 0 ≡ length (replicate (length ns / 255) 255
+        ++ (length ns % 255) ∷ (number_code (length rs) ++ part_codes (ns ++ rs))) =
+    ap length (e ∙ number_before (length ns) (number_code (length rs) ++ part_codes (ns ++ rs))) in
+    omega (
+      arith,
+      long,
+      length-append (replicate (length ns / 255) 255)
+          ((length ns % 255) ∷ (number_code (length rs) ++ part_codes (ns ++ rs))),
+    )
+
+left_tells : (ns rs ms ss : List Part) → left_code ns rs ≡ left_code ms ss → (ns ≡ ms) × (rs ≡ ss)
+unfolding IsLeft
+left_tells ns rs ms ss e = go (is_left ns rs) (is_left ms ss)
+  where
+    go : IsLeft ns rs → IsLeft ms ss → (ns ≡ ms) × (rs ≡ ss)
+    go (inl p) (inl q) = (p.0 ∙ sym q.0, p.1 ∙ sym q.1)
+    go (inl p) (inr q) = absurd (graph_is_some ms ss (sym p.2 ∙ (e ∙ q)))
+    go (inr p) (inl q) = absurd (graph_is_some ns rs (sym q.2 ∙ (sym e ∙ p)))
+    go (inr p) (inr q) =
+        let split =
+        graph_split ns rs ms ss [] []
+        (append-nil (graph_code ns rs) ∙ (sym p ∙ (e ∙ q)) ∙ sym (append-nil (graph_code ms ss))) in
+        (split.0, split.1)
+
+-- equal bytes are of equal parts, cut alike
+pub parts_code_tells : (f g : Front) (s t : Parts) → length s.held ≡ length t.held → parts_code f s ≡ parts_code g t
+    → (s ≡ t) × (take f.nodes s.nodes ≡ take g.nodes t.nodes) × (take f.records s.records ≡ take g.records t.records)
+parts_code_tells f g s t l e =
+    let front =
+    graph_split (take f.nodes s.nodes) (take f.records s.records) (take g.nodes t.nodes) (take g.records t.records) _ _
+    e in
+    let held = parts_split s.held t.held _ _ l front.2 in
+    let left =
+    left_tells (drop f.nodes s.nodes) (drop f.records s.records) (drop g.nodes t.nodes) (drop g.records t.records)
+    held.1 in
+    let nodes : s.nodes ≡ t.nodes =
+    sym (take-append-drop f.nodes s.nodes)
+    ∙ ((λ i. front.0 i ++ left.0 i) ∙ take-append-drop g.nodes t.nodes) in
+    let records : s.records ≡ t.records =
+    sym (take-append-drop f.records s.records)
+    ∙ ((λ i. front.1 i ++ left.1 i) ∙ take-append-drop g.records t.records) in
+    (λ i. record { nodes = nodes i; records = records i; held = held.0 i }, front.0, front.1)
 
 -- ---- states
 
@@ -106,30 +145,53 @@ threads_told (t ∷ a) (u ∷ b) places replies notes =
     let rest = threads_told a b (cc) (cc) (cc) in
     λ i. record { replies = reply i; place = place i; notes = note i } ∷ rest i
 
--- all that a state is but for the number of steps
-content_of : {Machine Memory Place Form : Type 0} → State Machine Memory Place Form
-    → FormContent (Memory × List (Option Place))
-content_of s =
-    record {
-      form = (s.memory, places_of s.threads);
+-- equal bytes are of equal states, where those of memories and places held are of equal ones
+pub state_codes_tell : {Machine Memory Place Form : Type 0} (code twin_code : Memory → List (Option Place) → List ℕ)
+    → TellsWholly code twin_code → (s t : State Machine Memory Place Form)
+    → state_code code s ≡ state_code twin_code t → s ≡ t
+state_codes_tell {Machine} {Memory} {Place} {Form} code twin_code tells s t e =
+    let here : FormContent (List ℕ) = record {
+      form = code s.memory (places_of s.threads);
       replies = replies_of s.threads;
       notes = notes_of s.threads;
       astray = s.astray;
-    }
-
--- equal bytes are of equal states
-pub state_code_tells : {Machine Memory Place Form : Type 0} (code : Memory → List (Option Place) → List ℕ)
-    → TellsWholly code → IsInjective (state_code {Machine = Machine} {Form = Form} code)
-unfolding content_of
-state_code_tells {Machine} {Memory} {Place} {Form} code tells s t e =
-    let both : Memory × List (Option Place) → List ℕ = λ p. code p.0 p.1 in
-    let steps =
-    number_split s.steps t.steps (content_code both (content_of s)) (content_code both (content_of t)) e in
-    let same = content_readable both (λ p q h. let w = tells p.0 q.0 p.1 q.1 h in λ i. (w.0 i, w.1 i)) _ _ steps.1 in
-    let form = ap (λ (c : FormContent (Memory × List (Option Place))). c.form) same in
+    } in
+    let there : FormContent (List ℕ) = record {
+      form = twin_code t.memory (places_of t.threads);
+      replies = replies_of t.threads;
+      notes = notes_of t.threads;
+      astray = t.astray;
+    } in
+    let steps = number_split s.steps t.steps (content_code (λ l. l) here) (content_code (λ l. l) there) e in
+    let same = content_readable (λ l. l) (λ a b h. h) here there steps.1 in
+    let replies = ap (λ (c : FormContent (List ℕ)). c.replies) same in
+    let many : length (places_of s.threads) ≡ length (places_of t.threads) =
+    length-map s.threads (λ thread. thread.place) ∙ sym (length-map s.threads (λ thread. thread.replies))
+    ∙ ap length replies ∙ length-map t.threads (λ thread. thread.replies)
+    ∙ sym (length-map t.threads (λ thread. thread.place)) in
+    let form =
+    tells s.memory t.memory (places_of s.threads) (places_of t.threads) many
+    (ap (λ (c : FormContent (List ℕ)). c.form) same) in
     let threads =
-    threads_told s.threads t.threads (ap (λ (p : Memory × List (Option Place)). p.1) form)
-    (ap (λ (c : FormContent (Memory × List (Option Place))). c.replies) same)
-    (ap (λ (c : FormContent (Memory × List (Option Place))). c.notes) same) in
-    let astray = ap (λ (c : FormContent (Memory × List (Option Place))). c.astray) same in
-    λ i. record { memory = (form i).0; threads = threads i; steps = steps.0 i; astray = astray i }
+    threads_told s.threads t.threads form.1 replies (ap (λ (c : FormContent (List ℕ)). c.notes) same) in
+    let astray = ap (λ (c : FormContent (List ℕ)). c.astray) same in
+    λ i. record { memory = form.0 i; threads = threads i; steps = steps.0 i; astray = astray i }
+
+pub state_code_tells : {Machine Memory Place Form : Type 0} (code : Memory → List (Option Place) → List ℕ)
+    → TellsWholly code code → IsInjective (state_code {Machine = Machine} {Form = Form} code)
+state_code_tells code tells = state_codes_tell code code tells
+
+-- whole codes are each cut at some front
+module _ {Memory Place : Type 0} (front_code : Front → Memory → List ℕ)
+    (behind_code : Front → Memory → List (Option Place) → List ℕ) (whole_code : Memory → List (Option Place) → List ℕ)
+    (tells : (front other : Front)
+    → TellsWholly (cut_code front_code behind_code front) (cut_code front_code behind_code other))
+    (whole : (memory : Memory) (held : List (Option Place))
+    → (front : Front) × (whole_code memory held ≡ cut_code front_code behind_code front memory held)) where
+  pub cut_tells : (front : Front) → TellsWholly (cut_code front_code behind_code front) whole_code
+  cut_tells front memory other held others many e =
+      let w = whole other others in tells front w.0 memory other held others many (e ∙ w.1)
+
+  pub whole_tells : TellsWholly whole_code whole_code
+  whole_tells memory other held others many e =
+      let w = whole memory held in cut_tells w.0 memory other held others many (sym w.1 ∙ e)

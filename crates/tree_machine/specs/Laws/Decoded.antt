@@ -101,10 +101,16 @@ module _ {Machine Memory Place Form : Type 0} (rules : Rules Memory Place)
       number_split c.steps 0 (content_code (λ l. l) whole) (content_code (λ l. l) named) same in
       (steps.0, content_readable (λ l. l) (λ a b h. h) whole named steps.1)
 
+  many : length (places_of s.threads) ≡ length (places_of c.threads)
+  many =
+      length-map s.threads (λ thread. thread.place) ∙ sym (length-map s.threads (λ thread. thread.replies))
+      ∙ sym (ap length (ap (λ (x : FormContent (List ℕ)). x.replies) pieces.1))
+      ∙ length-map c.threads (λ thread. thread.replies) ∙ sym (length-map c.threads (λ thread. thread.place))
+
   decoded : rules.IsInRange c.memory × ArePlacesInRange rules c.memory (places_of c.threads)
       × AreAlike rules.pairs s.memory (places_of s.threads) c.memory (places_of c.threads)
   decoded =
-      decodes s.memory c.memory (places_of s.threads) (places_of c.threads) range.memory range.places
+      decodes s.memory c.memory (places_of s.threads) (places_of c.threads) range.memory range.places many
       (ap (λ (x : FormContent (List ℕ)). x.form) pieces.1)
 
   -- it has no steps
@@ -144,7 +150,8 @@ module _ {Machine Memory Place Form : Type 0} (rules : Rules Memory Place)
               ap (λ rs. length rs + (if is_some thread.place then 1 else 0)) (sym twin.2)
               ∙ ap (λ b. length twin.0.replies + (if b then 1 else 0)) held ∙ twin_fits.replies
               ∙ ap length same_notes;
-          place = all_at (λ place. IfSome place (rules.IsPlaceInRange c.memory)) (λ (x : Thread Place). x.place) c.threads
+          place = all_at (λ place. IfSome place (rules.IsPlaceInRange c.memory))
+              (λ (x : Thread Place). x.place) c.threads
               (recursion_from_All _ (places_of c.threads) decoded.1) t thread thread_at;
         };
   }

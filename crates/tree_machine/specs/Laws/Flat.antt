@@ -1,17 +1,14 @@
--- Forms in bytes are equal exactly where the parts can be paired.
+-- Bytes tell the numbers and the cells that they begin with.
 use Rattle.std.proofs.Common.{◌≡◌, ℕ, zero, suc, ◌+◌, ◌*◌, ◌/◌, ◌%◌, ◌<◌, ◌⊎◌, Bool, true, false, List, []}
 use Rattle.std.proofs.Common.{◌∷◌, ◌++◌, map, length, replicate, refl, sym, ◌∙◌, ap, inl, inr, arith, append_assoc}
 use Rattle.std.specs.Prelude.{Option, Some, None, nat_lt}
 use Rattle.std.specs.List.{flat_map}
 use Rattle.std.proofs.Math.Nat.{mod-lt, div-add-mod}
 use Rattle.std.proofs.lemmas.Bool.Decides.{nat_tests}
-use Rattle.std.proofs.lemmas.Grind.{flat_map-append}
 use Rattle.std.proofs.lemmas.List.{length-map}
 use Rattle.std.proofs.lemmas.List.Concat.{flat_map-cons}
 use Rattle.tree_machine.specs.Cells.{Content}
 use Rattle.tree_machine.specs.Flat.{number_code, long_code, facts_code, reference_number, cell_code, flat}
-use Rattle.tree_machine.specs.Flat.{parts_code, graph_code}
-use Rattle.tree_machine.specs.Parts.{Parts, parts_graph, parts_held}
 
 -- ---- one number
 
@@ -143,17 +140,6 @@ facts_split fs gs r s xs ys e = go (facts_told fs r) (facts_told gs s)
     go (inr p) (inr q) =
         long_split fs gs r s xs ys (sym (ap (λ l. l ++ xs) p) ∙ (e ∙ ap (λ l. l ++ ys) q))
 
-facts_are_some : (fs : List ℕ) (r : ℕ) (xs : List ℕ) → [] ≡ facts_code fs r ++ xs → ⊥
-unfolding Told
-facts_are_some fs r xs e = go (facts_told fs r)
-  where
-    go : Told fs r → ⊥
-    go (inl p) =
-        let none : [] ≡ (length p.1 + 5 * p.0 + 30 * r) ∷ (flat_map number_code p.1 ++ xs) =
-        e ∙ ap (λ l. l ++ xs) p.6 in
-        cc
-    go (inr p) = let none : [] ≡ long_code fs r ++ xs = e ∙ ap (λ l. l ++ xs) p in cc
-
 -- ---- cells
 
 references_equal : (refs sefs : List (Option ℕ)) → map reference_number refs ≡ map reference_number sefs → refs ≡ sefs
@@ -189,27 +175,20 @@ cell_split c d xs ys e =
     let same = references_equal c.refs d.refs refs.0 in
     (λ i. record { facts = facts.0 i; refs = same i }, refs.1)
 
-cell_is_some : (c : Content) (xs : List ℕ) → [] ≡ cell_code c ++ xs → ⊥
-cell_is_some c xs e =
-    facts_are_some c.facts (length c.refs) (flat_map number_code (map reference_number c.refs) ++ xs)
-    (e ∙ cell_before c xs)
-
-pub flat_equal : (cells others : List Content) → flat cells ≡ flat others → cells ≡ others
-flat_equal [] [] e = refl
-flat_equal [] (d ∷ others) e = absurd (cell_is_some d (flat others) (e ∙ flat_map-cons cell_code d others))
-flat_equal (c ∷ cells) [] e = absurd (cell_is_some c (flat cells) (sym e ∙ flat_map-cons cell_code c cells))
-flat_equal (c ∷ cells) (d ∷ others) e =
+-- equally many cells in front of other bytes
+pub flat_split : (cells others : List Content) (xs ys : List ℕ) → length cells ≡ length others
+    → flat cells ++ xs ≡ flat others ++ ys → (cells ≡ others) × (xs ≡ ys)
+flat_split [] [] xs ys l e = (refl, e)
+flat_split [] (d ∷ others) xs ys l e = absurd (omega arith)
+flat_split (c ∷ cells) [] xs ys l e = absurd (omega arith)
+flat_split (c ∷ cells) (d ∷ others) xs ys l e =
     let split =
-    cell_split c d (flat cells) (flat others)
-    (sym (flat_map-cons cell_code c cells) ∙ (e ∙ flat_map-cons cell_code d others)) in
-    ap (λ x. x ∷ cells) split.0 ∙ ap (λ xs. d ∷ xs) (flat_equal cells others split.1)
-
--- what the threads hold stands last in the bytes of all
-pub parts_parted : (s : Parts) → parts_code s ≡ graph_code s ++ flat (parts_held s)
-parts_parted s =
-    let nodes = number_code (length s.nodes) in
-    let records = number_code (length s.records) in
-    let graph = flat (parts_graph s) in
-    let held = flat (parts_held s) in
-    ap (λ l. nodes ++ (records ++ l)) (flat_map-append cell_code (parts_graph s) (parts_held s))
-    ∙ (ap (λ l. nodes ++ l) (sym (append_assoc records graph held)) ∙ sym (append_assoc nodes (records ++ graph) held))
+    cell_split c d (flat cells ++ xs) (flat others ++ ys) 
+    (sym (flat_before c cells xs) ∙ (e ∙ flat_before d others ys)) in
+    let rest = flat_split cells others xs ys (omega arith) split.1 in
+    (ap (λ x. x ∷ cells) split.0 ∙ ap (λ xs. d ∷ xs) rest.0, rest.1)
+  where
+    flat_before : (c : Content) (cells : List Content) (xs : List ℕ)
+        → flat (c ∷ cells) ++ xs ≡ cell_code c ++ (flat cells ++ xs)
+    flat_before c cells xs =
+        ap (λ l. l ++ xs) (flat_map-cons cell_code c cells) ∙ append_assoc (cell_code c) (flat cells) xs

@@ -1,20 +1,21 @@
 -- Lists of the nodes and of the records that are met: distinct, in range, and paired where the orders are.
 use Rattle.std.proofs.Common.{◌≡◌, ℕ, zero, suc, ◌+◌, ◌-◌, ◌<◌, ◌≤◌, ◌⊎◌, Bool, true, false, cond, ◌||◌, ◌&&◌}
-use Rattle.std.proofs.Common.{List, [], ◌∷◌, map, length, refl, sym, ◌∙◌, ap, subst, inl, inr, arith}
+use Rattle.std.proofs.Common.{List, [], ◌∷◌, ◌++◌, map, length, refl, sym, ◌∙◌, ap, subst, inl, inr, arith, append-nil}
 use Rattle.std.specs.Prelude.{slice_get, Option, Some, None, nat_eq, nat_lt, nat_le}
 use Rattle.std.specs.List.{AllZip, AllByRecursion, filter, list_any, zip, IsDistinct}
 use Rattle.std.specs.Option.{option_and_then}
 use Rattle.std.proofs.lemmas.Bool.{eqb-true}
 use Rattle.std.proofs.lemmas.Bool.Decides.{nat_tests, eqb_tells}
 use Rattle.std.proofs.lemmas.List.Elements.{All-filter, All-map, All-weaker, All-from_recursion, recursion_from_All}
-use Rattle.std.proofs.lemmas.List.Elements.{filter_passes}
+use Rattle.std.proofs.lemmas.List.Elements.{filter_passes, filter-append}
+use Rattle.std.proofs.lemmas.List.{map-append}
 use Rattle.std.proofs.lemmas.Map.Keys.{IsDistinct-cons, IsDistinct-head, IsDistinct-tail}
 use Rattle.std.proofs.lemmas.Option.{slice_get_within}
 use Rattle.tree_machine.specs.Cells.{IsPairedOrNone, place_in}
 use Rattle.tree_machine.specs.Pairing.{IsOneToOne, IsAmong}
 use Rattle.tree_machine.specs.Graphs.{numbers_from}
-use Rattle.tree_machine.specs.Canonical.{nodes_met, records_met}
-use Rattle.tree_machine.specs.Laws.CellLists.{distinct_none}
+use Rattle.tree_machine.specs.Canonical.{nodes_met, records_met, as_cells}
+use Rattle.tree_machine.specs.Laws.CellLists.{distinct_none, rec_weaker}
 use Rattle.tree_machine.specs.Laws.CellOrder.{Has, HasAll, has_itself, or_cases, or_true}
 use Rattle.tree_machine.specs.Laws.CellPlaces.{among_at, at_among, place_at, place_from_has, get_place}
 
@@ -110,6 +111,10 @@ pub filter_all : (p : ℕ → Bool) (xs : List ℕ) → AllByRecursion (λ x. p 
 filter_all p [] h = refl
 filter_all p (x ∷ xs) h =
     ap (λ b. cond b (x ∷ filter p xs) (filter p xs)) h.0 ∙ ap (λ l. x ∷ l) (filter_all p xs h.1)
+
+pub filter_none : (p : ℕ → Bool) (xs : List ℕ) → AllByRecursion (λ x. p x ≡ false) xs → filter p xs ≡ []
+filter_none p [] h = refl
+filter_none p (x ∷ xs) h = ap (λ b. cond b (x ∷ filter p xs) (filter p xs)) h.0 ∙ filter_none p xs h.1
 
 -- tests that agree on pairs keep pairs
 pub filter_zip : (Q : ℕ → ℕ → Type 0) (p q : ℕ → Bool) → ((x y : ℕ) → Q x y → p x ≡ q y) → (xs ys : List ℕ)
@@ -263,3 +268,60 @@ module _ (n : ℕ) (order : List ℕ) where
         has_lowered n _ y
         (has_filter (λ x. nat_le n x && nat_lt x (n + r)) order (n + y) h
         (test_record n r (n + y) (omega arith) (omega arith)))
+
+-- ---- nodes and records as cells
+
+module _ (n r : ℕ) where
+  nodes_of_records : (ys : List ℕ) → nodes_met n (map (λ y. n + y) ys) ≡ []
+  nodes_of_records ys = filter_none (λ x. nat_lt x n) (map (λ y. n + y) ys) (go ys)
+    where
+      go : (ys : List ℕ) → AllByRecursion (λ x. nat_lt x n ≡ false) (map (λ y. n + y) ys)
+      go [] = tt
+      go (y ∷ ys) = (test_other n (n + y) (omega arith), go ys)
+
+  records_of_nodes : (xs : List ℕ) → AllByRecursion (λ x. x < n) xs → records_met n r xs ≡ []
+  records_of_nodes xs h =
+      ap (map (λ x. x - n))
+      (filter_none (λ x. nat_le n x && nat_lt x (n + r)) xs
+      (rec_weaker (λ x. x < n) (λ x. (nat_le n x && nat_lt x (n + r)) ≡ false) (λ x l. test_before n r x l) xs h))
+
+  records_of_records : (ys : List ℕ) → AllByRecursion (λ y. y < r) ys → records_met n r (map (λ y. n + y) ys) ≡ ys
+  records_of_records ys h =
+      ap (map (λ x. x - n)) (filter_all (λ x. nat_le n x && nat_lt x (n + r)) (map (λ y. n + y) ys) (go ys h)) ∙ back ys
+    where
+      go : (ys : List ℕ) → AllByRecursion (λ y. y < r) ys
+          → AllByRecursion (λ x. (nat_le n x && nat_lt x (n + r)) ≡ true) (map (λ y. n + y) ys)
+      go [] h = tt
+      go (y ∷ ys) h =
+          let l : y < r = h.0 in (test_record n r (n + y) (omega arith) (omega arith), go ys h.1)
+
+      back : (ys : List ℕ) → map (λ x. x - n) (map (λ y. n + y) ys) ≡ ys
+      back [] = refl
+      back (y ∷ ys) = let first : n + y - n ≡ y = omega arith in let rest = back ys in cc
+
+  -- in front of other cells
+  pub nodes_first : (nodes records zs : List ℕ) → AllByRecursion (λ x. x < n) nodes
+      → nodes_met n (as_cells n nodes records ++ zs) ≡ nodes ++ nodes_met n zs
+  nodes_first nodes records zs h =
+      let p : ℕ → Bool = λ x. nat_lt x n in
+      filter-append p (as_cells n nodes records) zs
+      ∙ ap (λ l. l ++ nodes_met n zs)
+      (filter-append p nodes (map (λ y. n + y) records)
+      ∙ ap (λ l. filter p nodes ++ l) (nodes_of_records records)
+      ∙ append-nil (filter p nodes)
+      ∙ filter_all p nodes (rec_weaker (λ x. x < n) (λ x. nat_lt x n ≡ true) (λ x l. test_node n x l) nodes h))
+
+  pub records_first : (nodes records zs : List ℕ) → AllByRecursion (λ x. x < n) nodes
+      → AllByRecursion (λ y. y < r) records
+      → records_met n r (as_cells n nodes records ++ zs) ≡ records ++ records_met n r zs
+  records_first nodes records zs h g =
+      join (as_cells n nodes records) zs
+      ∙ ap (λ l. l ++ records_met n r zs)
+      (join nodes (map (λ y. n + y) records)
+      ∙ ap (λ l. l ++ records_met n r (map (λ y. n + y) records)) (records_of_nodes nodes h)
+      ∙ records_of_records records g)
+    where
+      join : (xs ys : List ℕ) → records_met n r (xs ++ ys) ≡ records_met n r xs ++ records_met n r ys
+      join xs ys =
+          let p : ℕ → Bool = λ x. nat_le n x && nat_lt x (n + r) in
+          ap (map (λ x. x - n)) (filter-append p xs ys) ∙ map-append (λ x. x - n) (filter p xs) (filter p ys)

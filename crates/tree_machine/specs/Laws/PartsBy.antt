@@ -4,7 +4,7 @@ use Rattle.std.proofs.Common.{◌≡◌, ℕ, zero, suc, ◌+◌, ◌<◌, ◌�
 use Rattle.std.proofs.Common.{[], ◌∷◌, map, length, refl, sym, ◌∙◌, ap, subst}
 use Rattle.std.proofs.Common.{zero-add}
 use Rattle.std.specs.Prelude.{slice_get, Option, Some, None, nat_eq, IfSome}
-use Rattle.std.specs.List.{AllZip, All, AllByRecursion, IsDistinct}
+use Rattle.std.specs.List.{AllZip, All, AllByRecursion, IsDistinct, zip}
 use Rattle.std.specs.Option.{option_and_then}
 use Rattle.std.proofs.lemmas.List.{length-map}
 use Rattle.std.proofs.lemmas.List.Elements.{All-from_recursion}
@@ -14,17 +14,16 @@ use Rattle.tree_machine.specs.Pairing.{IsAmong}
 use Rattle.tree_machine.specs.Graphs.{numbers_from}
 use Rattle.tree_machine.specs.Parts.{Part, Parts, part_at, ArePartsPaired, IsPartsPairing, IsPartBelow, ArePartsInRange}
 use Rattle.tree_machine.specs.Canonical.{renamed_part, parts_by}
-use Rattle.tree_machine.specs.Laws.Cells.{map_paired}
+use Rattle.tree_machine.specs.Laws.Cells.{map_paired, unmap, refs_from_renamed}
 use Rattle.tree_machine.specs.Laws.CellOrder.{Has, HasAll, Extends, all_has, get_extends}
-use Rattle.tree_machine.specs.Laws.CellPlaces.{refs_renamed, get_place, has_at}
+use Rattle.tree_machine.specs.Laws.CellPlaces.{refs_renamed, get_place, has_at, among_at, at_among, rel_among, zip_one}
 use Rattle.tree_machine.specs.Laws.MetLists.{number_at, places, among_places, places_among, places_one, refs_placed}
 
 -- the nodes and the records that a part names are among these
 abbrev pub IsPartMet : List ℕ → List ℕ → Part → Type 0
 IsPartMet nodes records p = HasAll nodes p.nodes × HasAll records p.records
 
--- these nodes and records stand once each and begin with the fixed nodes, and what they and what is held name is among
--- them
+-- these nodes and records stand once each and begin with the fixed nodes, and what they name is among them
 pub record AreMet (fixed : ℕ) (s : Parts) (nodes records : List ℕ) : Type 0 where
   pub nodes_distinct : IsDistinct nat_eq nodes
   pub records_distinct : IsDistinct nat_eq records
@@ -33,7 +32,6 @@ pub record AreMet (fixed : ℕ) (s : Parts) (nodes records : List ℕ) : Type 0 
   pub fixed_first : Extends (numbers_from 0 fixed) nodes
   pub nodes_closed : (x : ℕ) → Has nodes x → IsPartMet nodes records (part_at s.nodes x)
   pub records_closed : (y : ℕ) → Has records y → IsPartMet nodes records (part_at s.records y)
-  pub held_closed : AllByRecursion (IsPartMet nodes records) s.held
 
 part_map_at : (f : ℕ → Part) (xs : List ℕ) (k x : ℕ) → slice_get xs k ≡ Some x → part_at (map f xs) k ≡ f x
 part_map_at f [] k x h = cc
@@ -67,8 +65,9 @@ module _ (nodes records : List ℕ) where
 
   -- each with its place is a pairing
   pub by_paired : (fixed : ℕ) (s : Parts) → AreMet fixed s nodes records
+      → AllByRecursion (IsPartMet nodes records) s.held
       → IsPartsPairing (IsAmong (places nodes)) (IsAmong (places records)) fixed s (parts_by nodes records s)
-  by_paired fixed s h =
+  by_paired fixed s h closed =
       let f : ℕ → Part = λ x. renamed_part nodes records (part_at s.nodes x) in
       let g : ℕ → Part = λ y. renamed_part nodes records (part_at s.records y) in
       let P : ℕ → ℕ → Type 0 = IsAmong (places nodes) in
@@ -98,7 +97,7 @@ module _ (nodes records : List ℕ) where
             let at = places_among records x y p in
             subst (λ b. ArePartsPaired P R (part_at s.records x) b) (sym (part_map_at g records y x at))
             (part_paired (part_at s.records x) (h.records_closed x (has_at records y x at)));
-        held_paired = held_paired s.held h.held_closed;
+        held_paired = held_paired s.held closed;
       }
 
   -- what is renamed is in range
@@ -147,7 +146,8 @@ by_same P R fixed s t nodes records others targets h z w =
     let then = refs_renamed R h.records_one_to_one records targets w a.records b.records p.records in
     λ i. record { facts = facts i; nodes = first i; records = then i } in
     let first =
-    map_paired P (λ x. renamed_part nodes records (part_at s.nodes x)) (λ y. renamed_part others targets (part_at t.nodes y))
+    map_paired P (λ x. renamed_part nodes records (part_at s.nodes x))
+        (λ y. renamed_part others targets (part_at t.nodes y))
     (λ x y p. same _ _ (h.nodes_paired x y p)) nodes others z in
     let then =
     map_paired R (λ x. renamed_part nodes records (part_at s.records x))
@@ -157,3 +157,82 @@ by_same P R fixed s t nodes records others targets h z w =
     map_paired (ArePartsPaired P R) (renamed_part nodes records) (renamed_part others targets) same s.held t.held
     h.held_paired in
     λ i. record { nodes = first i; records = then i; held = last i }
+
+-- and the same is left of nodes and records that are paired place by place
+module _ (fixed : ℕ) (s t : Parts) (nodes records others targets : List ℕ) (here : AreMet fixed s nodes records)
+    (there : AreMet fixed t others targets) where
+  P : ℕ → ℕ → Type 0
+  P = IsAmong (zip nodes others)
+
+  R : ℕ → ℕ → Type 0
+  R = IsAmong (zip records targets)
+
+  part_from_same : (a b : Part) → IsPartMet nodes records a → IsPartMet others targets b
+      → renamed_part nodes records a ≡ renamed_part others targets b → ArePartsPaired P R a b
+  unfolding P R
+  part_from_same a b h g e = record {
+    facts = ap (λ p. p.facts) e;
+    nodes = refs_from_renamed nodes others a.nodes b.nodes h.0 g.0 (ap (λ p. p.nodes) e);
+    records = refs_from_renamed records targets a.records b.records h.1 g.1 (ap (λ p. p.records) e);
+  }
+
+  held_from_same : (ps qs : List Part) → AllByRecursion (IsPartMet nodes records) ps
+      → AllByRecursion (IsPartMet others targets) qs
+      → map (renamed_part nodes records) ps ≡ map (renamed_part others targets) qs → AllZip (ArePartsPaired P R) ps qs
+  held_from_same [] [] h g e = tt
+  held_from_same [] (q ∷ qs) h g e = cc
+  held_from_same (p ∷ ps) [] h g e = cc
+  held_from_same (p ∷ ps) (q ∷ qs) h g e = (
+    part_from_same p q h.0 g.0
+        (let first : renamed_part nodes records p ≡ renamed_part others targets q = cc in first),
+    held_from_same ps qs h.1 g.1
+        (let rest : map (renamed_part nodes records) ps ≡ map (renamed_part others targets) qs = cc in rest),
+  )
+
+  fixed_among : (x : ℕ) → x < fixed → P x x
+  unfolding P
+  fixed_among x l =
+      let same : 0 + x ≡ x = zero-add x in
+      let at = number_at 0 fixed x l ∙ ap Some same in
+      among_at nodes others x x x (get_extends here.fixed_first x x at) (get_extends there.fixed_first x x at)
+
+  pub paired_from_same : AllByRecursion (IsPartMet nodes records) s.held
+      → AllByRecursion (IsPartMet others targets) t.held
+      → parts_by nodes records s ≡ parts_by others targets t
+      → IsPartsPairing (IsAmong (zip nodes others)) (IsAmong (zip records targets)) fixed s t
+  unfolding P R
+  paired_from_same h g e =
+      let f : ℕ → Part = λ x. renamed_part nodes records (part_at s.nodes x) in
+      let v : ℕ → Part = λ x. renamed_part others targets (part_at t.nodes x) in
+      let same_nodes : AllZip (λ x y. f x ≡ v y) nodes others = unmap f v nodes others (ap (λ p. p.nodes) e) in
+      let k : ℕ → Part = λ y. renamed_part nodes records (part_at s.records y) in
+      let w : ℕ → Part = λ y. renamed_part others targets (part_at t.records y) in
+      let same_records : AllZip (λ x y. k x ≡ w y) records targets =
+      unmap k w records targets (ap (λ p. p.records) e) in
+      record {
+        nodes_one_to_one = zip_one nodes others here.nodes_distinct there.nodes_distinct;
+        records_one_to_one = zip_one records targets here.records_distinct there.records_distinct;
+        fixed_paired = fixed_among;
+        nodes_in_range = λ x y p.
+            let at = at_among nodes others x y p in (
+              all_has (λ x. x < length s.nodes) nodes here.nodes_below x (has_at nodes at.0 x at.1),
+              all_has (λ x. x < length t.nodes) others there.nodes_below y (has_at others at.0 y at.2),
+            );
+        records_in_range = λ x y p.
+            let at = at_among records targets x y p in (
+              all_has (λ x. x < length s.records) records here.records_below x (has_at records at.0 x at.1),
+              all_has (λ x. x < length t.records) targets there.records_below y (has_at targets at.0 y at.2),
+            );
+        nodes_paired = λ x y p.
+            let at = at_among nodes others x y p in
+            part_from_same (part_at s.nodes x) (part_at t.nodes y) (here.nodes_closed x (has_at nodes at.0 x at.1))
+            (there.nodes_closed y (has_at others at.0 y at.2))
+            (rel_among (λ x y. f x ≡ v y) nodes others same_nodes x y p);
+        records_paired = λ x y p.
+            let at = at_among records targets x y p in
+            part_from_same (part_at s.records x) (part_at t.records y)
+            (here.records_closed x (has_at records at.0 x at.1))
+            (there.records_closed y (has_at targets at.0 y at.2))
+            (rel_among (λ x y. k x ≡ w y) records targets same_records x y p);
+        held_paired = held_from_same s.held t.held h g (ap (λ p. p.held) e);
+      }

@@ -12,8 +12,8 @@ returns g c =
       c.in_ok-state.state,
       c.in_ok-finding.finding,
       c.in_ok-state.ensures.start,
-      c.in_ok-new.ensures.entries ∙ ap (λ s. entry s ∷ []) c.in_ok-known.ensures.state,
-      c.in_ok-new.ensures.labels ∙ ap (λ f. f ∷ []) c.in_ok-known.ensures.label,
+      c.in_ok-new.ensures.entries ∙ ap (λ s. entry s ∷ []) c.of.ensures,
+      c.in_ok-new.ensures.labels ∙ ap (λ f. f ∷ []) c.in_ok-label.ensures,
       c.in_ok-state.ensures.fits,
       c.in_ok-finding.ensures,
     )

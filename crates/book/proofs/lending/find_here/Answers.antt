@@ -16,6 +16,6 @@ returns-in_default-reply_since-clause-none g c =
       step_silent (g.M.Machine.rules c.args.machine) c.args.program.now c.args.here.now.source.now.value
           c.args.here.now.next.now c.args.here.now.thread c.requires.step
           (λ a b at_a at_b. ap (λ (x : Thread g.row.M-Loc.Denot). slice_get b.replies (length x.replies))
-          (same_Some _ _ (sym at_a ∙ c.requires.was)) ∙ c.in_default-reply_since.ensures b at_b)
+          (same_Some _ _ (sym at_a ∙ c.requires.back.was) ∙ sym c.thread.ensures) ∙ c.in_default-reply_since.ensures b at_b)
           c.args.order.now c.requires.sound.2,
     )

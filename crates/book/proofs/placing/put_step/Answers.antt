@@ -1,38 +1,73 @@
-use Rattle.std.proofs.Common.{Bool, is_some, length, ap, ◌∙◌}
-use Rattle.book.specs.declared.entry.Row.{Row}
-use Rattle.book.specs.Labels.{Labelled, same_label}
-use Rattle.book.specs.Laws.Labels.{same_label_equiv}
-use Rattle.book.specs.Slots.{keyed_of}
-use Rattle.book.proofs.Leaving.{keeps_none, keeps_one}
-use Rattle.book.proofs.Left.{grown_front, grown_itself, grown_same}
-use Rattle.book.proofs.SlotLemmas.{put_step, step_row}
+use Rattle.std.proofs.Common.{◌≡◌, ◌++◌, ◌∷◌, [], ℕ, Option, Some, List, map, refl, sym, ap, ◌∙◌}
+use Rattle.std.specs.Cmp.Lexicographic.{lists_equiv}
+use Rattle.std.specs.Map.{keys_of}
+use Rattle.tree_machine.specs.Laws.CellOrder.{nat_equivalence}
+use Rattle.tree_machine.specs.Step.{step}
+use Rattle.book.specs.declared.entry.Mark.TheVariants.{Open}
+use Rattle.book.specs.Entries.{Entry, Successor, opened, states}
+use Rattle.book.specs.Labels.{same_label}
+use Rattle.book.specs.Slots.{AreSteps, keyed_of, unlisted}
+use Rattle.book.specs.Unknown.{unknown}
+use Rattle.book.proofs.Left.{grown_front, grown_same}
+use Rattle.book.proofs.SlotLemmas.{no_steps, one_step, put_step, step_row}
 use Rattle.book.proofs.placing.put_step.Goals as goal
 
-pub returns-clause-put : goal.returns-clause-put
-returns-clause-put g c =
-    let fields = c.into_fields-thread in
-    let eq : Labelled g.row.S.Denot → Labelled g.row.S.Denot → Bool =
-    same_label in
-    put_step eq eq same_label_equiv.symm c.args.slots.now.entries c.put_new.new.slots.entries c.args.parent
-    c.args.step fields.result.1 c.in_ok-row.row
-    c.in_ok-known.ensures.put (ap (λ (row : Row). keyed_of (fields.result.1, row)) c.in_ok-row.ensures.row
-    ∙ step_row c.args.parent c.args.step fields.result.1 fields.result.0 fields.result.2 fields.ensures.0
-    fields.ensures.1 fields.ensures.2)
+-- the row of a step is put in
+module _ {S : Type 0} (es new : List (List ℕ × Entry S)) (i : ℕ) (one : Successor (List ℕ)) (row : Entry S) (s : S)
+    (put : new ≡ es ++ unlisted same_label (keys_of es) ((one.state, row) ∷ []))
+    (is : row ≡ record {
+      state = s;
+      finding = one.finding;
+      origin = Some (record { parent = i; thread = one.thread });
+      mark = Open;
+    }) where
+  under_label : map keyed_of new
+      ≡ map keyed_of es ++ map (opened i) (unknown same_label (states (map keyed_of es)) (one ∷ []))
+  under_label =
+      put_step same_label same_label (lists_equiv nat_equivalence).symm es new i one one.state row put
+      (ap (λ (r : Entry S). keyed_of (one.state, r)) is
+      ∙ step_row i one one.state one.thread one.finding s refl refl refl)
 
-pub returns-clause-kept : goal.returns-clause-kept
-returns-clause-kept g c =
+  is_step : (step : S → ℕ → Option S) (source : S) → step source one.thread ≡ Some s → AreSteps step source es new
+  is_step step source leads =
+      one_step step source same_label es new one.state row (record { parent = i; thread = one.thread }) put
+      (ap (λ (r : Entry S). r.origin) is) (leads ∙ ap (λ (r : Entry S). Some r.state) (sym is))
+
+pub returns-in-Some-clause-put : goal.returns-in-Some-clause-put
+returns-in-Some-clause-put g c =
+    under_label c.args.slots.now.entries c.put_new.new.slots.entries c.args.parent c.args.one c.open-row.result
+    c.shown_step-shown.result.value c.in_ok-known.ensures.put c.open-row.ensures
+
+pub returns-in_default-clause-put : goal.returns-in_default-clause-put
+returns-in_default-clause-put g c =
+    under_label c.args.slots.now.entries c.put_new.new.slots.entries c.args.parent c.args.one c.open-row.result
+    c.shown_step-shown.result.value c.in_ok-known.ensures.put c.open-row.ensures
+
+pub returns-in-Some-clause-steps : goal.returns-in-Some-clause-steps
+returns-in-Some-clause-steps g c =
+    is_step c.args.slots.now.entries c.put_new.new.slots.entries c.args.parent c.args.one c.open-row.result
+    c.shown_step-shown.result.value c.in_ok-known.ensures.put c.open-row.ensures
+    (step (g.M.Machine.rules c.args.machine) c.args.program.now) c.args.source.now.value c.shown_step-shown.ensures
+
+pub returns-in_default-clause-steps : goal.returns-in_default-clause-steps
+returns-in_default-clause-steps g c =
+    is_step c.args.slots.now.entries c.put_new.new.slots.entries c.args.parent c.args.one c.open-row.result
+    c.shown_step-shown.result.value c.in_ok-known.ensures.put c.open-row.ensures
+    (step (g.M.Machine.rules c.args.machine) c.args.program.now) c.args.source.now.value c.shown_step-shown.ensures
+
+pub returns-in-Some-clause-kept : goal.returns-in-Some-clause-kept
+returns-in-Some-clause-kept g c =
     grown_front c.args.slots.now.entries _ c.put_new.new.slots.entries c.in_ok-known.ensures.put
 
-pub returns-clause-left : goal.returns-clause-left
-returns-clause-left g c =
-    let was = length c.args.slots.now.entries in
-    keeps_one (is_some c.in_ok-known.known) c.args.leftovers.now c.args.leftovers.now c.keep.new.self was was
-    (length c.put_new.new.slots.entries) 0 (keeps_none c.args.leftovers.now was) c.in_ok-known.ensures.len
-    c.keep.ensures
-
-pub returns-in_err-row-clause-kept : goal.returns-in_err-row-clause-kept
-returns-in_err-row-clause-kept g c = grown_itself c.args.slots.now.entries
+pub returns-in_default-clause-kept : goal.returns-in_default-clause-kept
+returns-in_default-clause-kept g c =
+    grown_front c.args.slots.now.entries _ c.put_new.new.slots.entries c.in_ok-known.ensures.put
 
 pub returns-in_err-known-clause-kept : goal.returns-in_err-known-clause-kept
 returns-in_err-known-clause-kept g c =
     grown_same c.args.slots.now.entries c.put_new.new.slots.entries c.in_err-known.ensures.err
+
+pub returns-in_err-known-clause-steps : goal.returns-in_err-known-clause-steps
+returns-in_err-known-clause-steps g c =
+    no_steps (step (g.M.Machine.rules c.args.machine) c.args.program.now) c.args.source.now.value
+    c.args.slots.now.entries c.put_new.new.slots.entries c.in_err-known.ensures.err

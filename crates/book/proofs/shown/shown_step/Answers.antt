@@ -14,7 +14,7 @@ pub returns : goal.returns
 returns g c =
     some_of (step (g.M.Machine.rules c.args.machine) c.args.program.now c.args.source.now.value c.args.thread)
     c.args.source.now.value c.any.result.value c.requires
-    (rw (c.of.ensures, c.again.ensures) at c.any.ensures)
+    (rw (c.of.ensures, c.copy.ensures) at c.any.ensures)
 
 -- a lifetime within those of a machine's types is within those of its states
 module _ (κ m memory place form : Lft) (in_m : κ ⊑ m) (in_memory : κ ⊑ memory) (in_place : κ ⊑ place)

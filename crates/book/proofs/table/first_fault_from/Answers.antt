@@ -9,18 +9,16 @@ use Rattle.book.proofs.table.first_fault_from.Goals as goal
 
 pub returns-then-not-is_sound : goal.returns-then-not-is_sound
 returns-then-not-is_sound g c =
-    let at = c.row_at.ensures in
     sym (first_is (λ (e : Entry g.row.S.Denot). not (is_sound e.finding)) (entries_of c.args.slots.now.entries)
-    c.loop-index.index at.0 at.1
-    (ap (λ f. not (is_sound f)) at.2 ∙ ap not (sym c.is_sound.ensures ∙ c.if-not-is_sound.true))
+    c.loop-index.index c.slot_at.result.1.now c.slot_at.ensures.row
+    (ap not (sym c.is_sound.ensures ∙ c.if-not-is_sound.true))
     (λ k y there less. ap not (c.loop-index.invariant k y there less)))
 
 pub loop-index-preserved : goal.loop-index-preserved
 loop-index-preserved g c =
-    let at = c.row_at.ensures in
     below_next (λ (e : Entry g.row.S.Denot). is_sound e.finding ≡ true) (entries_of c.args.slots.now.entries)
-    c.loop-index.index at.0 at.1
-    (ap is_sound at.2 ∙ sym c.is_sound.ensures ∙ c.if-not-is_sound.false) c.loop-index.invariant
+    c.loop-index.index c.slot_at.result.1.now c.slot_at.ensures.row
+    (sym c.is_sound.ensures ∙ c.if-not-is_sound.false) c.loop-index.invariant
 
 pub returns : goal.returns
 returns g c =

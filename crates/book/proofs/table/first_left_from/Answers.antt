@@ -1,6 +1,6 @@
-use Rattle.std.proofs.Common.{◌≡◌, ◌<◌, ◌≤◌, length, sym, ap, ◌∙◌, arith}
+use Rattle.std.proofs.Common.{◌≡◌, ◌<◌, ◌≤◌, length, sym, ◌∙◌, arith}
 use Rattle.book.specs.declared.entry.Mark.TheVariants.{Expanded}
-use Rattle.book.specs.Entries.{Entry, is_expanded}
+use Rattle.book.specs.Entries.{Entry}
 use Rattle.book.specs.Slots.{entries_of}
 use Rattle.book.proofs.EntryLemmas.{get_within}
 use Rattle.book.proofs.SlotLemmas.{length-entries}
@@ -10,10 +10,9 @@ use Rattle.book.proofs.table.first_left_from.Goals as goal
 
 pub loop-index-preserved : goal.loop-index-preserved
 loop-index-preserved g c =
-    let at = c.row_at.ensures in
     below_next (λ (e : Entry g.row.S.Denot). e.mark ≡ Expanded) (entries_of c.args.slots.now.entries) c.loop-index.index
-    at.0 at.1
-    (expanded_by at.0.mark (ap is_expanded at.4 ∙ sym c.is_expanded.ensures ∙ c.if-not-is_expanded.false))
+    c.slot_at.result.1.now c.slot_at.ensures.row
+    (expanded_by c.slot_at.result.1.now.mark (sym c.is_expanded.ensures ∙ c.if-not-is_expanded.false))
     c.loop-index.invariant
 
 pub returns : goal.returns

@@ -1,6 +1,6 @@
 use Rattle.std.proofs.Common.{◌≡◌, ◌∙◌, sym, ap, subst, IsSome, is_some}
 use Rattle.std.proofs.lemmas.Bool.{false≢true}
-use Rattle.book.specs.Books.{counted_as_one, machine_in, right_in}
+use Rattle.book.specs.Books.{CountsAsOne, machine_in, right_in}
 use Rattle.crew.specs.Reading.{IsCutAt, IsWorkedOff}
 use Rattle.crew.specs.Reporting.{IsBookOf}
 use Rattle.crew.proofs.Ends.{is_answered, cut_kept}
@@ -12,10 +12,6 @@ unreachable-requires g c =
     let b = c.args.book.now in
     let new = c.drive.new.book in
     let n = c.args.options.steps in
-    let place_eq = g.M.Loc.PartialEq.eq in
-    let memory_eq = g.M.Mem.PartialEq.eq in
-    let form_eq = g.M.Form.PartialEq.eq in
-    let form_of = g.M.Machine.form_of in
     let kept = c.in_ok-cut.ensures.kept in
     let opened = c.requires.asked in
     let steps : c.steps.result ≡ n = c.steps.ensures in
@@ -29,12 +25,12 @@ unreachable-requires g c =
     is_answered (IsWorkedOff (machine_in g.M.Machine.rules b).steps new.entries c.steps.result)
     (IsSome c.in_ok-answer.field-0) c.steps.result n
     (λ d i. IsCutAt (machine_in g.M.Machine.rules b)
-    (counted_as_one {Machine = g.row.M.Denot} {Form = g.row.M-Form.Denot} place_eq memory_eq form_eq
-    (form_of b.machine) b.merge) (right_in g.M.Machine.rules b) new d i)
+    (CountsAsOne {Machine = g.row.M.Denot} {Form = g.row.M-Form.Denot} (g.M.Machine.rules b.machine) b.merge)
+    (right_in g.M.Machine.rules b) new d i)
     (λ d i. IsCutAt (machine_in g.M.Machine.rules new)
-    (counted_as_one {Machine = g.row.M.Denot} {Form = g.row.M-Form.Denot} place_eq memory_eq form_eq
-    (form_of new.machine) new.merge) (right_in g.M.Machine.rules new) new d i)
-    steps (λ d i cut. cut_kept g.M.Machine.rules place_eq memory_eq form_eq form_of b new new d i kept cut)
+    (CountsAsOne {Machine = g.row.M.Denot} {Form = g.row.M-Form.Denot} (g.M.Machine.rules new.machine) new.merge)
+    (right_in g.M.Machine.rules new) new d i)
+    steps (λ d i cut. cut_kept g.M.Machine.rules b new new d i kept cut)
     c.in_ok-cut.cut c.in_ok-cut.ensures.done c.in_ok-cut.ensures.cut
     (λ none worked. c.in_ok-answer.ensures.finished asked none
     (subst (λ k. IsWorkedOff (machine_in g.M.Machine.rules b).steps new.entries k) steps worked))

@@ -18,7 +18,7 @@ returns-clause-due g c =
     let a : c.from.result ≡ c.steps.result = c.from.ensures in
     let d : c.steps.result ≡ c.args.options.steps = c.steps.ensures in omega arith) in
     let due =
-    stopped_is_due g.M.Machine.rules c.args.book.now law.machine law.merges law.alike law.counts law.law c.args.id
+    stopped_is_due g.M.Machine.rules c.args.book.now law.machine law.test law.findings law.law c.args.id
     (c.in_ok-is_full_at.ensures.full c.if-not-branch-2.false) c.len-holds_to.result
     (s.0, s.1, c.len-holds_to.ensures ∙ c.in_ok-schedule.schedule.ok.0 ∙ s.3)
     (c.in_ok-is_sound_to.ensures.0 c.if-not-branch.false) c.args.options.steps less in
@@ -28,7 +28,7 @@ pub returns-clause-headline : goal.returns-clause-headline
 returns-clause-headline g c =
     let law = c.law.ensures in
     let s = c.in_ok-schedule.ensures.leads in
-    stopped_true g.M.Machine.rules c.args.book.now law.machine law.merges law.alike law.counts law.law c.args.id
+    stopped_true g.M.Machine.rules c.args.book.now law.machine law.test law.findings law.law c.args.id
     (c.in_ok-is_full_at.ensures.full c.if-not-branch-2.false) c.len-holds_to.result
     (s.0, s.1, c.len-holds_to.ensures ∙ c.in_ok-schedule.schedule.ok.0 ∙ s.3)
     (c.in_ok-is_sound_to.ensures.0 c.if-not-branch.false)

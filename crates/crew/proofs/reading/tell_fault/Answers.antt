@@ -15,7 +15,7 @@ returns-then-length-from-clause-some g c =
     let is : c.len-length.result ≡ length v.items = c.len-length.ensures ∙ v.ok.0 in
     λ worked.
     let last =
-    fault_is_last g.M.Machine.rules b law.machine law.merges law.alike law.counts law.law c.args.id c.requires v.items
+    fault_is_last g.M.Machine.rules b law.machine law.test law.findings law.law c.args.id c.requires v.items
     c.in_ok-schedule.ensures.leads c.args.steps worked in
     elim c.then-length-from.branch [
       | then-length-from-via-then-length-from w
@@ -37,7 +37,7 @@ returns-clause-due g c =
     let le : c.len-length.result ≤ c.args.steps =
     (let few : c.len-length.result ≤ c.from.result = c.if-length-from.false in
     let from : c.from.result ≡ c.args.steps = c.from.ensures in omega arith) in
-    fault_is_due g.M.Machine.rules c.args.book.now law.machine law.merges law.alike law.counts law.law c.args.id
+    fault_is_due g.M.Machine.rules c.args.book.now law.machine law.test law.findings law.law c.args.id
     c.requires v.items c.in_ok-schedule.ensures.leads _ c.fault_at-finding.ensures
     c.args.steps c.len-length.result (c.len-length.ensures ∙ v.ok.0) le
     (c.is_last_layer.ensures.0 c.if-not-is_last_layer.false)
@@ -45,11 +45,11 @@ returns-clause-due g c =
 pub returns-clause-first : goal.returns-clause-first
 returns-clause-first g c =
     let law = c.law.ensures in
-    first_told g.M.Machine.rules c.args.book.now law.machine law.merges law.alike law.counts law.law c.args.id
+    first_told g.M.Machine.rules c.args.book.now law.machine law.test law.findings law.law c.args.id
     c.requires c.in_ok-schedule.schedule.items c.in_ok-schedule.ensures.leads _ c.fault_at-finding.ensures
 
 pub returns-clause-headline : goal.returns-clause-headline
 returns-clause-headline g c =
     let law = c.law.ensures in
-    fault_true g.M.Machine.rules c.args.book.now law.machine law.merges law.alike law.counts law.law c.args.id
+    fault_true g.M.Machine.rules c.args.book.now law.machine law.test law.findings law.law c.args.id
     c.requires c.in_ok-schedule.schedule.items c.in_ok-schedule.ensures.leads _ c.fault_at-finding.ensures

@@ -26,7 +26,7 @@ returns-in-Some-clause-report g c =
     let closed : TellsClosed b c.in-Some.answer = rw c.in-Some.is at c.in_ok-answer.ensures.closed in
     let same : read ≡ b = rw c.in-Some.is at c.in_ok-answer.ensures.same in
     reported rules c.args.machine c.args.program.now c.args.options b read c.in-Some.answer c.totals.result
-    c.args.shares.now (c.is_asked.ensures.0 c.if-not-is_asked.false) law.machine law.merges law.counts due headline
+    c.args.shares.now (c.is_asked.ensures.0 c.if-not-is_asked.false) law.machine law.test due headline
     first closed same
     c.totals.ensures.totals c.requires.shares c.requires.ledger
 

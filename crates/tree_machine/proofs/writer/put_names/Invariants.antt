@@ -8,7 +8,7 @@ abbrev pub invariant-loop-name : goal.invariant-loop-name
 invariant-loop-name l =
     record {
       put : take l.at l.bytes
-          ≡ take l.start l.fn.bytes ++ flat_map (λ r. name_code l.numbering.order.items l.first r) (take l.name-index l.names);
+          ≡ take l.start l.fn.bytes ++ flat_map (λ r. name_code l.numbering.order.items r) (take l.name-index l.names);
       at : l.at ≡ l.start + l.name-index;
       length : length l.bytes ≡ length l.fn.bytes;
     }

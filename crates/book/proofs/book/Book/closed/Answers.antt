@@ -2,7 +2,7 @@ use Rattle.std.proofs.Common.{rules, ◌≡◌, ◌∙◌, sym}
 use Rattle.std.specs.Prelude.{◌↔◌, IsTrue}
 use Rattle.std.proofs.lemmas.Bool.{true≢false}
 use Rattle.book.specs.declared.book.Merge.TheVariants.{Names}
-use Rattle.book.specs.Books.{machine_in, right_in, counted_as_one}
+use Rattle.book.specs.Books.{machine_in, right_in}
 use Rattle.book.specs.Schedule.{AreOneBy}
 use Rattle.book.proofs.Agreeing.{book_back}
 use Rattle.book.proofs.Closed.{worked_out, left_out, closed_holds}
@@ -31,14 +31,14 @@ returns-in-None-clause-every g c =
     let s = c.self.inside in
     let m = machine_in g.M.Machine.rules b in
     let right = right_in g.M.Machine.rules b in
-    let same =
-    counted_as_one {Machine = g.row.M.Denot} {Form = g.row.M-Form.Denot} g.M.Loc.PartialEq.eq g.M.Mem.PartialEq.eq
-    g.M.Form.PartialEq.eq (g.M.Machine.form_of b.machine) b.merge in
     let law = c.law.ensures in
-    let tested = book_back m law.machine (AreOneBy same) _ law.counts right b law.law in
+    let same = law.test.0 in
+    let tested = book_back m law.machine (AreOneBy same) _ law.test.2 right b law.law in
     let out = worked_out s.table.entries (sym c.first_left.ensures ∙ c.in-None.is) in
-    λ _ sound. closed_holds m same right law.machine law.merges law.alike b.entries tested.law
-    (rw (← c.self.view_is) out) sound
+    λ _ sound. closed_holds m same right law.machine law.test.1
+    (λ r t r_fits t_fits one found.
+    (found.0, law.findings r t r_fits t_fits ((law.test.2 r t r_fits t_fits).0 one) found.0 found.1, found.2))
+    b.entries tested.law (rw (← c.self.view_is) out) sound
 
 pub returns-in-Some-clause-every : goal.returns-in-Some-clause-every
 returns-in-Some-clause-every g c = λ h. absurd (true≢false (sym h))

@@ -1,6 +1,6 @@
 use Rattle.std.proofs.Common.{sym, subst, leb}
 use Rattle.tree_machine.specs.declared.state.State.{State}
-use Rattle.book.specs.Books.{machine_in, right_in, counted_as_one, CountsAsOne}
+use Rattle.book.specs.Books.{machine_in, right_in, CountsAsOne}
 use Rattle.book.specs.Entries.{Entry}
 use Rattle.std.proofs.lemmas.Bool.{le-leb}
 use Rattle.book.specs.Counts.{IsCount}
@@ -23,14 +23,12 @@ returns-clause-count g c =
     let b = c.args.self.now in
     let m = machine_in g.M.Machine.rules b in
     let right = right_in g.M.Machine.rules b in
-    let same =
-    counted_as_one {Machine = g.row.M.Denot} {Form = g.row.M-Form.Denot} g.M.Loc.PartialEq.eq g.M.Mem.PartialEq.eq
-    g.M.Form.PartialEq.eq (g.M.Machine.form_of b.machine) b.merge in
     let law = c.law.ensures in
-    let tested = book_back m law.machine (AreOneBy same) _ law.counts right b law.law in
+    let same = law.test.0 in
+    let tested = book_back m law.machine (AreOneBy same) _ law.test.2 right b law.law in
     let alike =
     CountsAsOne {Machine = g.row.M.Denot} {Form = g.row.M-Form.Denot} (g.M.Machine.rules b.machine) b.merge in
     λ done. subst (λ k. IsCount m alike c.args.steps k) (sym (returns-clause-value g c))
-    (count_as m law.machine (AreOneBy same) alike law.counts c.args.steps _
-    (count_to_is m same right law.machine law.merges b.entries tested.law c.args.steps done
+    (count_as m law.machine (AreOneBy same) alike law.test.2 c.args.steps _
+    (count_to_is m same right law.machine law.test.1 b.entries tested.law c.args.steps done
     (λ r h leads. steps_after m law.machine h r leads)))

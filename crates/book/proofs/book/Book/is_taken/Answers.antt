@@ -8,13 +8,14 @@ use Rattle.book.proofs.book.Book.is_taken.Goals as goal
 pub returns-in-Some : goal.returns-in-Some
 returns-in-Some g c =
     let es = c.self.inside.table.entries in
-    let at = c.in-Some.ensures.some in
+    let row : Entry (State g.row.M.Denot g.row.M-Mem.Denot g.row.M-Loc.Denot g.row.M-Form.Denot) = c.in-Some.row.now in
+    let at : slice_get es c.args.id ≡ Some row = sym (rw c.in-Some.is at c.row.ensures) in
     rw (← c.self.view_is) (
-      (λ is. (at.0, at.1, taken_from at.0.mark (ap is_taken at.4 ∙ sym c.is_taken.ensures ∙ is))),
-      (λ taken. let same : at.0 ≡ taken.0 = (let u : slice_get es c.args.id ≡ Some at.0 = at.1 in
-          let v : slice_get es c.args.id ≡ Some taken.0 = taken.1 in cc) in
-          c.is_taken.ensures ∙ sym (ap is_taken at.4)
-          ∙ ap (λ (e : Entry (State g.row.M.Denot g.row.M-Mem.Denot g.row.M-Loc.Denot g.row.M-Form.Denot)). is_taken e.mark) same
+      (λ is. (row, at, taken_from row.mark (sym c.is_taken.ensures ∙ is))),
+      (λ taken. let same : row ≡ taken.0 = (let v : slice_get es c.args.id ≡ Some taken.0 = taken.1 in cc) in
+          c.is_taken.ensures
+          ∙ ap (λ (e : Entry (State g.row.M.Denot g.row.M-Mem.Denot g.row.M-Loc.Denot g.row.M-Form.Denot)).
+          is_taken e.mark) same
           ∙ ap is_taken taken.2),
     )
 
@@ -23,6 +24,6 @@ returns-in-None g c =
     let es = c.self.inside.table.entries in
     rw (← c.self.view_is) (
       (λ is. absurd (true≢false (sym is))),
-      (λ taken. let none : slice_get es c.args.id ≡ None = c.in-None.ensures.none in
+      (λ taken. let none : None ≡ slice_get es c.args.id = rw c.in-None.is at c.row.ensures in
           let some : slice_get es c.args.id ≡ Some taken.0 = taken.1 in cc),
     )

@@ -17,9 +17,8 @@ invariant_of-self g c =
     let s = c.self.inside in
     rw c.mark_taken.ensures (
       next_taken c.self.invariant.0 c.args.self.now c.self.view_is c.in-Some.id c.in-Some.ensures.next,
-      known_mark (label_by g.M.Machine.whole_code g.M.Machine.form_code (g.M.Machine.form_of s.machine) s.merge) s.table
+      known_mark (label_by g.M.Encode.whole_code g.M.Encode.form_code (g.M.Machine.form_of s.machine) s.merge) s.table
           c.in-Some.id Taken c.self.invariant.1,
-      c.self.invariant.2,
     )
 
 pub returns-clause-taken : goal.returns-clause-taken

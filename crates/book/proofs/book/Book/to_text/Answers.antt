@@ -1,6 +1,6 @@
 use Rattle.std.proofs.Common.{◌<◌, ◌≤◌, ◌∙◌, arith, length, sym, ap, subst, List}
 use Rattle.tree_machine.specs.declared.state.State.{State}
-use Rattle.book.specs.Books.{counted_as_one, machine_in, right_in}
+use Rattle.book.specs.Books.{machine_in, right_in}
 use Rattle.book.specs.BookFile.Written.{AreWritable, IsFileOf}
 use Rattle.book.specs.Closed.{AreSound}
 use Rattle.book.specs.Entries.{Contents, Entry}
@@ -19,11 +19,9 @@ returns-then-is_some-clause-none g c =
 pub write_entries-requires-clause-writable : goal.write_entries-requires-clause-writable
 write_entries-requires-clause-writable g c =
     let b = c.args.self.now in
-    let same =
-    counted_as_one {Machine = g.row.M.Denot} {Form = g.row.M-Form.Denot} g.M.Loc.PartialEq.eq g.M.Mem.PartialEq.eq
-    g.M.Form.PartialEq.eq (g.M.Machine.form_of b.machine) b.merge in
     let law = c.law.ensures in
-    let tested = book_back (machine_in g.M.Machine.rules b) law.machine (AreOneBy same) _ law.counts
+    let same = law.test.0 in
+    let tested = book_back (machine_in g.M.Machine.rules b) law.machine (AreOneBy same) _ law.test.2
     (right_in g.M.Machine.rules b) b law.law in
     let sound : AreSound b.entries =
     all_sound b.entries c.first_fault.result c.first_fault.ensures (sym c.is_some.ensures ∙ c.if-is_some.false) in
@@ -57,8 +55,10 @@ returns-clause-passes g c =
     subst (λ (es : List (Entry (State g.row.M.Denot g.row.M-Mem.Denot g.row.M-Loc.Denot g.row.M-Form.Denot))). IsFileOf
     es c.in_ok-write_entries.field-0.items) entries text in
     let pass =
-    written_pass g.M.Machine.rules b law.law law.machine law.merges law.counts law.alike ready.0 ready.1 is.lines
-    is.of_entries in
+    written_pass g.M.Machine.rules b law.law law.machine law.test.1 law.test.2
+    (λ r s r_fits s_fits one found.
+    (found.0, law.findings r s r_fits s_fits ((law.test.2 r s r_fits s_fits).0 one) found.0 found.1, found.2))
+    ready.0 ready.1 is.lines is.of_entries in
     let some : 1
     ≤ length b.entries =
     (let within : 0 < length b.entries = get_within b.entries 0 law.law.law.start.0 law.law.law.start.1 in

@@ -1,13 +1,12 @@
-use Rattle.std.proofs.Common.{◌≡◌, ℕ, ◌<◌, true, Some, nat_eq}
-use Rattle.std.specs.HashSet.{contains}
+use Rattle.std.proofs.Common.{◌≡◌, ℕ, ◌<◌, Contains, Some}
 use Rattle.book.specs.Labels.{named_by}
 use Rattle.tree_machine.specs.Step.{step}
-use Rattle.std.specs.Cmp.Lexicographic.{pointwise}
 use Rattle.tree_machine.specs.declared.state.State.{State}
 use Rattle.book.proofs.file.closing.leads_out.Given as goal
 
 abbrev pub invariant-loop-thread : goal.invariant-loop-thread
-invariant-loop-thread g l = (l.state ≡ l.fn.state)
+invariant-loop-thread g l = (l.work.state ≡ l.fn.work.state)
     × ((t : ℕ) (next : State g.row.M.Denot g.row.M-Mem.Denot g.row.M-Loc.Denot g.row.M-Form.Denot)
-    → t < l.thread → step (g.M.Machine.rules l.machine) l.program l.fn.state t ≡ Some next
-    → contains (pointwise nat_eq) l.forms (named_by g.M.Machine.form_code (g.M.Machine.form_of l.machine) next) ≡ true)
+    → t < l.thread
+    → step (g.M.Machine.rules l.fn.input.machine) l.fn.input.program.now l.fn.work.state t ≡ Some next
+    → Contains l.fn.labels (named_by g.M.Encode.form_code (g.M.Machine.form_of l.fn.input.machine) next))

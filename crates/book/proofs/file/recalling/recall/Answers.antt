@@ -2,14 +2,39 @@ use Rattle.std.proofs.Common.{◌≡◌, Some, None, ap, sym, ◌∙◌}
 use Rattle.book.specs.Findings.{machine_of}
 use Rattle.book.specs.Schedule.{after}
 use Rattle.book.proofs.Stopping.{stopped}
+use Rattle.book.proofs.BookFile.Twins.{read_stands_for, run_stands_for}
 use Rattle.book.proofs.file.recalling.recall.Goals as goal
+
+pub returns : goal.returns
+returns g c =
+    let bound = g.met.M.Machine g.world.𝓛 g.world.𝓜 g.world.𝓡 ((λ s x. x), (λ x. x), (λ x. x), λ x. x) in
+    let input = c.args.input.now in
+    read_stands_for (g.M.Machine.rules input.machine) input.program.now (bound.lawful input.machine)
+    c.initial.ensures.limits (g.M.Machine.form_of input.machine) (bound.forms input.machine) input.lines.now
+    c.args.index g.M.Encode.front_code g.M.Encode.behind_code g.M.Encode.whole_code g.M.Encode.form_code
+    c.args.labels.now
+    c.requires.kept c.in-Some.label.now c.in-Some-2.field-0 c.read_state.new.state c.in-Some.ensures
+    (rw c.in-Some-2.is at c.in_ok-read_state.ensures)
+
+pub returns-in-Ok : goal.returns-in-Ok
+returns-in-Ok g c =
+    let bound = g.met.M.Machine g.world.𝓛 g.world.𝓜 g.world.𝓡 ((λ s x. x), (λ x. x), (λ x. x), λ x. x) in
+    let input = c.args.input.now in
+    let m =
+    machine_of {Machine = g.row.M.Denot} {Form = g.row.M-Form.Denot} (g.M.Machine.rules input.machine)
+    input.program.now in
+    run_stands_for (g.M.Machine.rules input.machine) input.program.now (bound.lawful input.machine)
+    c.initial.ensures.limits (g.M.Machine.form_of input.machine) (bound.forms input.machine) input.lines.now
+    c.args.index c.in_ok-way.way.items c.in-Ok.end.state c.in_ok-way.ensures
+    (ap (after m) (sym c.as_slice.ensures.value) ∙ c.in-Ok.ensures.state) c.in-Ok.ensures.fits
 
 pub unreachable-requires : goal.unreachable-requires
 unreachable-requires g c =
+    let input = c.args.input.now in
     let m =
-    machine_of {Machine = g.row.M.Denot} {Form = g.row.M-Form.Denot} (g.M.Machine.rules c.args.machine)
-    c.args.program.now in
-    let leads = c.in_ok-way.ensures in
+    machine_of {Machine = g.row.M.Denot} {Form = g.row.M-Form.Denot} (g.M.Machine.rules input.machine)
+    input.program.now in
+    let leads = c.in_ok-way.ensures c.requires.kept.states c.requires.kept.replayed in
     let stops = rw c.in-Err-NotEnabled.field-0-is at c.in-Err-NotEnabled.ensures.not_enabled in
     let none : after m c.as_slice.result.now ≡ None =
     stopped m m.start c.as_slice.result.now c.in-Err-NotEnabled.field-0-0 stops.3 in

@@ -1,10 +1,15 @@
-use Rattle.std.proofs.Common.{reverse}
+use Rattle.std.proofs.Common.{List, reverse}
+use Rattle.tree_machine.specs.declared.state.State.{State}
+use Rattle.book.specs.BookFile.Replays.{AreReplayed}
 use Rattle.book.proofs.BookFile.Recalled.{LeadsTo}
 use Rattle.book.proofs.file.recalling.way_to.Given as goal
 
 abbrev pub invariant-back : goal.invariant-back
 invariant-back g l =
-    LeadsTo (g.M.Machine.rules l.fn.machine) l.fn.program l.states l.at (reverse l.way.items) l.fn.index
+    (states : List (State g.row.M.Denot g.row.M-Mem.Denot g.row.M-Loc.Denot g.row.M-Form.Denot))
+    → AreReplayed (g.M.Machine.rules l.fn.input.machine) l.fn.input.program.now l.fn.input.lines.now states
+    → LeadsTo (g.M.Machine.rules l.fn.input.machine) l.fn.input.program.now states l.at (reverse l.way.items)
+    l.fn.index
 
 abbrev pub decreases-back : goal.decreases-back
 decreases-back g l = l.at

@@ -4,8 +4,6 @@ use Rattle.std.proofs.lemmas.List.{take_all}
 use Rattle.tree_machine.proofs.Lists.{get_at}
 use Rattle.book.specs.Text.Files.{ended}
 use Rattle.book.specs.Text.Written.{head_text}
-use Rattle.book.specs.declared.finding.Finding.{Finding}
-use Rattle.book.specs.BookFile.Writing.{FindsOrder, IsLineOf}
 use Rattle.book.proofs.BookFile.Writable.{HasWritten, written_none, written_next, written_all}
 use Rattle.book.proofs.file.writing.write_entries.Goals as goal
 
@@ -19,7 +17,8 @@ loop-index-init g c =
 
 pub unreachable-requires : goal.unreachable-requires
 unreachable-requires g c =
-    let none : slice_get c.args.table.now.entries c.loop-index.index ≡ None = c.in_default.ensures.none in
+    let none : slice_get c.args.table.now.entries c.loop-index.index ≡ None =
+    sym c.in_default.ensures in
     let below : c.loop-index.index < c.len-index-end.result = c.loop-index-test.true in
     let end : c.len-index-end.result ≡ length c.args.table.now.entries = c.len-index-end.ensures in
     let there = get_at c.args.table.now.entries c.loop-index.index (omega arith) in
@@ -28,13 +27,10 @@ unreachable-requires g c =
 pub loop-index-preserved : goal.loop-index-preserved
 loop-index-preserved g c =
     let entries = c.args.table.now.entries in
-    let e = c.in-Some.ensures.some in
     let w = c.in_ok-push_row.ensures in
     let some : 1 ≤ c.loop-index.index = c.loop-index.auto.index in
-    let is : IsLineOf e.0.origin e.0.finding w.0 =
-    record { step = e.3 ∙ w.1.step; order = subst (λ (f : Finding). FindsOrder f w.0.order) (sym e.2) w.1.order } in
-    written_next (length entries) entries c.loop-index.index e.0 w.0 c.loop-index.text.items c.push_row.new.text.items
-    e.1 (omega arith) is w.2 w.3 c.loop-index.invariant
+    written_next (length entries) entries c.loop-index.index c.in-Some.row.now w.0 c.loop-index.text.items
+    c.push_row.new.text.items (sym c.in-Some.ensures) (omega arith) w.1 w.2 w.3 c.loop-index.invariant
 
 pub returns : goal.returns
 returns g c =

@@ -1,11 +1,10 @@
-use Rattle.std.proofs.Common.{◌≡◌, ◌∷◌, ◌++◌, [], refl, None, Some, cond, sym, ap, ◌∙◌, List}
+use Rattle.std.proofs.Common.{◌≡◌, ℕ, ◌∷◌, ◌++◌, [], refl, None, Some, cond, sym, ap, ◌∙◌, List}
 use Rattle.std.specs.List.{list_any}
 use Rattle.std.specs.Map.{keys_of}
 use Rattle.book.specs.declared.entry.Mark.TheVariants.{Open}
-use Rattle.book.specs.declared.entry.Row.{Row}
 use Rattle.book.specs.Entries.{Entry}
 use Rattle.book.specs.Findings.{is_sound}
-use Rattle.book.specs.Labels.{Labelled, same_label}
+use Rattle.book.specs.Labels.{same_label}
 use Rattle.book.specs.Slots.{entries_of}
 use Rattle.book.proofs.Cursors.{cursors_one, fault_of_one}
 use Rattle.book.proofs.table.Table.new.Goals as goal
@@ -13,16 +12,15 @@ use Rattle.book.proofs.table.Table.new.Goals.{then-is_sound, else-is_sound}
 
 pub invariant_of-result : goal.invariant_of-result
 invariant_of-result g c =
-    let row : Row = record { finding = c.args.finding; origin = None; mark = Open } in
     let e : Entry g.row.S.Denot =
-    record { state = c.args.known.state; finding = c.args.finding; origin = None; mark = Open } in
+    record { state = c.args.shown.value; finding = c.args.finding; origin = None; mark = Open } in
     let empty : c.new-slots.result.entries ≡ [] = c.new-slots.ensures.empty in
-    let one : c.put_new.new.slots.entries ≡ (c.args.known, row) ∷ [] =
+    let one : c.put_new.new.slots.entries ≡ (c.args.label, e) ∷ [] =
     c.in_ok-put_new.ensures.put
-    ∙ (ap (λ (es : List (Labelled g.row.S.Denot × Row)). es
-    ++ cond (list_any (same_label c.args.known) (keys_of es)) []
-    ((c.args.known, c.in_ok-row.row) ∷ [])) empty
-    ∙ ap (λ (packed : Row). (c.args.known, packed) ∷ []) c.in_ok-row.ensures.row) in
+    ∙ (ap (λ (es : List (List ℕ × Entry g.row.S.Denot)). es
+    ++ cond (list_any (same_label c.args.label) (keys_of es)) []
+    ((c.args.label, c.open-row.result) ∷ [])) empty
+    ∙ ap (λ (row : Entry g.row.S.Denot). (c.args.label, row) ∷ []) c.open-row.ensures) in
     let fault : c.if-is_sound.fault ≡ cond (is_sound c.args.finding) None (Some 0) = (elim c.if-is_sound.branch [
       | then-is_sound w ↦ w.fault-is ∙ ap (λ b. cond b None (Some 0))
           (sym (sym c.is_sound.ensures ∙ w.if-is_sound.true))

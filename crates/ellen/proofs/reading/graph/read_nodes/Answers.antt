@@ -1,11 +1,15 @@
-use Rattle.std.proofs.Common.{◌≡◌, length, arith}
-use Rattle.ellen.proofs.ReadBytes.{filled}
+use Rattle.std.proofs.Common.{arith}
+use Rattle.tree_machine.specs.Laws.ReadParts.{one_read}
+use Rattle.ellen.specs.Parts.{node_part}
 use Rattle.ellen.proofs.reading.graph.read_nodes.Goals as goal
 
-pub returns-clause-nodes : goal.returns-clause-nodes
-returns-clause-nodes c =
-    let count : length c.read_each_node-read.new.nodes ≡ c.resize.new.self.len = omega arith in
-    let same : c.from_vec.result ≡ c.read_each_node-read.new.nodes =
-    filled c.resize.new.self.len c.read_each_node-read.new.nodes c.resize.new.self.items c.from_vec.result c.from_vec.ensures
-    count in
-    rw same c.read_each_node-read.ensures.nodes
+pub loop-each-preserved : goal.loop-each-preserved
+loop-each-preserved c =
+    let read = c.loop-each.invariant.read in
+    record {
+      read = one_read node_part c.args.nodes.now.items read.0 c.in-Some.node c.loop-each._each c.loop-each.nodes.items
+          c.push_reserved.new.self.items c.args.bytes.now c.loop-each.rest.now c.in-Some.behind.now read.1 read.2 read.3
+          c.push_reserved.ensures.items c.in-Some.ensures;
+      len = omega (arith, c.push_reserved.ensures.len, c.loop-each.invariant.len);
+      place = omega (arith, c.push_reserved.ensures.capacity, c.loop-each.invariant.place);
+    }

@@ -6,7 +6,7 @@ use Rattle.std.specs.List.{flat_map}
 use Rattle.std.specs.Prelude.{Option}
 use Rattle.tree_machine.specs.Alike.{replies_of, notes_of}
 use Rattle.tree_machine.specs.Flat.{cell_code}
-use Rattle.tree_machine.specs.Parts.{part_cell}
+use Rattle.tree_machine.specs.Flat.{part_content}
 use Rattle.tree_machine.specs.declared.state.Thread.{Thread}
 use Rattle.ellen.specs.declared.place.EllenLoc.{EllenLoc}
 use Rattle.ellen.specs.Parts.{held_part}
@@ -68,7 +68,7 @@ loop-thread-preserved c =
     let held = c.read_held.new.held in
     record {
       read =
-          read_more (λ (thread : Thread EllenLoc). cell_code (part_cell c.args.nodes (held_part thread.place))) threads i
+          read_more (λ (thread : Thread EllenLoc). cell_code (part_content (held_part thread.place))) threads i
           (at_place (get_or threads i d) held) c.args.bytes.now c.loop-thread.rest.now c.in-Some.behind.now
           (omega arith) c.loop-thread.invariant.read (rw c.in-Some.is at c.in_ok-behind.ensures);
       replies = replies_kept threads i d held ∙ c.loop-thread.invariant.replies;

@@ -2,7 +2,7 @@ use Rattle.std.proofs.Common.{◌≡◌, ◌++◌, take}
 use Rattle.std.specs.List.{flat_map}
 use Rattle.tree_machine.specs.Alike.{replies_of, notes_of}
 use Rattle.tree_machine.specs.Flat.{cell_code}
-use Rattle.tree_machine.specs.Parts.{part_cell}
+use Rattle.tree_machine.specs.Flat.{part_content}
 use Rattle.ellen.specs.Parts.{held_part}
 use Rattle.ellen.proofs.reading.held.read_each.Given as goal
 
@@ -12,7 +12,7 @@ invariant-loop-thread l =
     record {
       read :
           l.fn.bytes
-          ≡ flat_map (λ thread. cell_code (part_cell l.nodes (held_part thread.place))) (take l.thread-index l.threads)
+          ≡ flat_map (λ thread. cell_code (part_content (held_part thread.place))) (take l.thread-index l.threads)
           ++ l.rest;
       replies : replies_of l.threads ≡ replies_of l.fn.threads;
       notes : notes_of l.threads ≡ notes_of l.fn.threads;

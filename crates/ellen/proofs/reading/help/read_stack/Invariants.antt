@@ -6,7 +6,7 @@ use Rattle.ellen.proofs.reading.help.read_stack.Given as goal
 abbrev pub invariant-loop-i : goal.invariant-loop-i
 invariant-loop-i l =
     record {
-      stack : l.fn.bytes ≡ map (λ number. l.nodes + number + 1) l.stack ++ l.rest;
-      small : All (λ number. l.nodes + number < 254) l.stack;
+      stack : l.fn.bytes ≡ map (λ number. number + 1) l.stack ++ l.rest;
+      small : All (λ number. number < 254) l.stack;
       count : length l.stack ≡ l._i;
     }

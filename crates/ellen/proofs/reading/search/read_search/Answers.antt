@@ -21,7 +21,7 @@ returns-in-102-2 c =
 pub returns-in-71 : goal.returns-in-71
 returns-in-71 c =
     IfSome_then c.read_insert_only.result c.read_insert_only.ensures
-    (λ read e. behind_two c.args.bytes.now _ 71 3 (omega arith) (omega arith) (omega arith) (e c.args.nodes))
+    (λ read e. behind_two c.args.bytes.now _ 71 3 (omega arith) (omega arith) (omega arith) e)
 
 pub returns-in-168 : goal.returns-in-168
 returns-in-168 c =

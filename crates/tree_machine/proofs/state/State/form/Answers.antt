@@ -15,7 +15,7 @@ returns-clause-form g c = rw (c.of.ensures, c.of-2.ensures) refl
 
 pub invariant_of-result : goal.invariant_of-result
 invariant_of-result g c =
-    let code = content_code g.M.Machine.form_code
+    let code = content_code g.M.Encode.form_code
     (state_form (g.M.Machine.form_of c.args.machine) c.args.self.now) in
     rw (c.of.ensures, c.of-2.ensures)
-    (c.into_bytes.ensures ∙ c.in_ok-put_form.ensures ∙ ap (λ l. l ++ code) c.new-room.ensures)
+    (c.into_bytes.ensures ∙ c.in_ok-put_form.ensures ∙ ap (λ l. l ++ code) c.new-buffer.ensures)

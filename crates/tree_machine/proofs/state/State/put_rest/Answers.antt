@@ -1,12 +1,36 @@
+use Rattle.std.proofs.Common.{◌∙◌, sym}
+use Rattle.std.proofs.lemmas.Result.{on_ok_weaker}
+use Rattle.tree_machine.specs.FormCode.{cut_code}
 use Rattle.tree_machine.proofs.Forms.{held_in_range}
+use Rattle.tree_machine.proofs.Labels.{read_from, rest_written}
 use Rattle.tree_machine.proofs.state.State.put_rest.Goals as goal
 
-pub write_held-requires-clause-places_in_range : goal.write_held-requires-clause-places_in_range
-write_held-requires-clause-places_in_range g c =
+pub write_behind-requires-clause-places_in_range : goal.write_behind-requires-clause-places_in_range
+write_behind-requires-clause-places_in_range g c =
     rw c.as_slice-threads.ensures
-    (held_in_range (g.M.Machine.rules c.args.machine) c.requires.0 c.args.self.now c.requires.2)
+    (held_in_range (g.M.Machine.rules c.args.machine) c.requires.fits.0 c.args.self.now c.requires.fits.2)
 
-pub write_whole-requires-clause-places_in_range : goal.write_whole-requires-clause-places_in_range
-write_whole-requires-clause-places_in_range g c =
+pub write_code-requires-clause-places_in_range : goal.write_code-requires-clause-places_in_range
+write_code-requires-clause-places_in_range g c =
     rw c.as_slice-threads.ensures
-    (held_in_range (g.M.Machine.rules c.args.machine) c.requires.0 c.args.self.now c.requires.2)
+    (held_in_range (g.M.Machine.rules c.args.machine) c.requires.fits.0 c.args.self.now c.requires.fits.2)
+
+pub write_behind-requires-clause-read : goal.write_behind-requires-clause-read
+write_behind-requires-clause-read g c =
+    let origin = c.args.origin.now in
+    read_from (g.M.Machine.rules c.args.machine) c.args.naming g.M.Encode.whole_code g.M.Encode.form_code
+    (g.M.Machine.form_of c.args.machine)
+    (cut_code g.M.Encode.front_code g.M.Encode.behind_code origin.offsets.front) c.requires.coded.0
+    origin.state.now.value c.args.self.now.memory c.requires.coded.1
+    (sym c.requires.offsets.written ∙ c.requires.coded.2) (c.requires.memory (sym c.reads.ensures ∙ c.if-reads.true))
+
+pub returns-else-reads : goal.returns-else-reads
+returns-else-reads g c =
+    let origin = c.args.origin.now in
+    let mem = c.args.self.now.memory in
+    on_ok_weaker c.write_code.result
+    (λ put before e. rest_written c.args.naming g.M.Encode.whole_code g.M.Encode.form_code
+    (g.M.Machine.form_of c.args.machine) mem c.as_slice-threads.result.now c.args.self.now.threads
+    origin.undo.now.reads (g.M.Encode.front_code origin.offsets.front mem) before c.args.buffer.now
+    c.write_code.new.buffer (sym c.reads.ensures ∙ c.if-reads.false) c.as_slice-threads.ensures put e)
+    c.write_code.ensures

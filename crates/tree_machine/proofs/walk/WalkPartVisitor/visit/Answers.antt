@@ -1,9 +1,9 @@
-use Rattle.std.proofs.Common.{◌≡◌, ◌<◌, ◌++◌, length, map, Some, ap, sym, ◌∙◌, subst, arith}
+use Rattle.std.proofs.Common.{◌≡◌, ◌+◌, ◌<◌, ◌++◌, length, map, Some, ap, sym, ◌∙◌, subst, arith}
 use Rattle.std.specs.Prelude.{IfSome}
 use Rattle.std.specs.List.{All}
 use Rattle.tree_machine.specs.Parts.{Part}
 use Rattle.tree_machine.specs.Walked.{Walked}
-use Rattle.tree_machine.proofs.VisitedParts.{stack_below, is_visited}
+use Rattle.tree_machine.proofs.VisitedParts.{stack_all, is_visited}
 use Rattle.tree_machine.proofs.Passes.{lists_met}
 use Rattle.tree_machine.proofs.walk.WalkPartVisitor.visit.Goals as goal
 
@@ -14,9 +14,9 @@ meet_stack-requires c =
     let below =
     subst (λ b. All (λ x. IfSome x (λ y. y < b)) (c.args.records.now ++ map Some c.args.stack.now)) same
     c.requires.records in
-    stack_below c.self.inside.nodes records (length c.meet_names-2.new.met.numbers.items)
+    stack_all (λ x. x < records) (λ x. c.self.inside.nodes + x < length c.meet_names-2.new.met.numbers.items)
     c.args.records.now c.args.stack.now
-    (omega (arith, c.self.inside.room, c.meet_names.ensures.cells, c.meet_names-2.ensures.cells)) below
+    (λ x l. omega (arith, c.self.inside.room, c.meet_names.ensures.cells, c.meet_names-2.ensures.cells)) below
 
 pub returns : goal.returns
 returns c =

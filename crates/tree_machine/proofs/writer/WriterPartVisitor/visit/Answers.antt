@@ -5,7 +5,7 @@ use Rattle.std.proofs.lemmas.List.{with_items_is}
 use Rattle.std.specs.List.{All}
 use Rattle.tree_machine.specs.Parts.{Part}
 use Rattle.tree_machine.specs.Written.{Written}
-use Rattle.tree_machine.proofs.VisitedParts.{stack_below, is_written}
+use Rattle.tree_machine.proofs.VisitedParts.{stack_all, is_written}
 use Rattle.tree_machine.proofs.Passes.{part_written}
 use Rattle.tree_machine.proofs.writer.WriterPartVisitor.visit.Goals as goal
 
@@ -16,16 +16,17 @@ put_stack-self-inside-requires-clause-known c =
     let below =
     subst (λ b. All (λ x. IfSome x (λ y. y < b)) (c.args.records.now ++ map Some c.args.stack.now)) same
     c.requires.records in
-    stack_below c.self.inside.nodes records (length c.self.inside.numbering.now.numbers.items)
-    c.args.records.now c.args.stack.now (omega (arith, c.self.inside.room)) below
+    stack_all (λ x. x < records) (λ x. x < length c.self.inside.record_names.now.numbers.items) c.args.records.now
+    c.args.stack.now (λ x l. omega (arith, c.self.inside.all_records)) below
 
 pub returns : goal.returns
 returns c =
     let inside = c.self.inside in
-    let order = inside.numbering.now.order.items in
+    let node_order = inside.node_names.now.order.items in
+    let record_order = inside.record_names.now.order.items in
     let part : Part =
     record { facts = c.args.facts.now; nodes = c.args.nodes.now; records = c.args.records.now ++ map Some c.args.stack.now } in
-    is_written c.args.self.now inside.nodes inside.records order
+    is_written c.args.self.now inside.nodes inside.records node_order record_order
     (take inside.at inside.bytes.items)
     (take c.put_stack-self-inside.result (with_items c.put_front.new.bytes c.put_stack-self-inside.new.bytes).items)
     part c.self.view_is
@@ -33,9 +34,9 @@ returns c =
     (with_items_is c.put_front.new.bytes c.put_stack-self-inside.new.bytes
     (c.put_stack-self-inside.ensures.length ∙ c.put_names-records_end.ensures.length
     ∙ c.put_names-nodes_end.ensures.length ∙ c.as_mut_slice-bytes.ensures.len))
-    ∙ part_written inside.nodes
+    ∙ part_written
     (length c.args.nodes.now + length c.args.records.now + length c.args.stack.now) c.args.facts.now
-    c.args.nodes.now c.args.records.now c.args.stack.now order
+    c.args.nodes.now c.args.records.now c.args.stack.now node_order record_order
     (take inside.at inside.bytes.items)
     (take c.in_ok-start.start c.as_mut_slice-bytes.result.now)
     (take c.put_names-nodes_end.result c.put_names-nodes_end.new.bytes)

@@ -1,0 +1,18 @@
+-- The step is put as the state that it leads to, with what is found there.
+use Rattle.std.proofs.Common.{ap, Err, refl, ◌∙◌}
+use Rattle.book.specs.Findings.{machine_of, IsFindingOf}
+use Rattle.book.proofs.ThreadSteps.{puts_next}
+use Rattle.book.proofs.expansion.put_step.Goals as goal
+
+pub returns-clause-put : goal.returns-clause-put
+returns-clause-put g c =
+    let rules = g.M.Machine.rules c.args.machine in
+    let m = machine_of {Machine = g.row.M.Denot} {Form = g.row.M-Form.Denot} rules c.args.program.now in
+    let right = IsFindingOf {Machine = g.row.M.Denot} {Form = g.row.M-Form.Denot} rules c.args.program.now in
+    puts_next m right c.args.source.now (λ s. s) c.args.thread c.args.steps.now.items c.push_reserved.new.self.items
+    (record { thread = c.args.thread; state = c.in-Ok.next; finding = c.in_ok-finding.finding }) c.in-Ok.next
+    c.in-Ok.ensures.step c.push_reserved.ensures.items refl refl c.in_ok-finding.ensures c.in-Ok.ensures.fits
+
+pub returns-in-Err-NotEnabled-clause-put : goal.returns-in-Err-NotEnabled-clause-put
+returns-in-Err-NotEnabled-clause-put g c =
+    rw (c.step.ensures.no_step.0 (c.in-Err-NotEnabled.is ∙ ap Err c.in-Err-NotEnabled.field-0-is)) refl

@@ -1,9 +1,0 @@
--- Equal values have equal hashes, so the hashes may be compared first.
-use Rattle.std.proofs.Common.{rules}
-use Rattle.book.proofs.hashed.HashedPartialEq.eq.Goals as goal
-
-pub returns-then-self-other : goal.returns-then-self-other
-returns-then-self-other g c = search rules
-
-pub returns-else-self-other : goal.returns-else-self-other
-returns-else-self-other g c = search rules

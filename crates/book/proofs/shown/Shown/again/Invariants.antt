@@ -1,4 +1,0 @@
-use Rattle.book.proofs.shown.Shown.again.Given as goal
-
-abbrev pub ghost-any : goal.ghost-any
-ghost-any g a = a.x.now.value

@@ -1,0 +1,91 @@
+use Rattle.std.proofs.Common.{◌≡◌, ◌++◌, ◌+◌, ◌<◌, true, false, None, Some, Option, is_some, ℕ, not, length, map}
+use Rattle.std.proofs.Common.{position, sym, ap, ◌∙◌, arith, refl, subst, take, List, true≢false}
+use Rattle.tree_machine.specs.Step.{step}
+use Rattle.tree_machine.specs.declared.state.State.{State}
+use Rattle.book.specs.Entries.{Entry, At, opened, states}
+use Rattle.book.specs.Unknown.{unknown}
+use Rattle.book.specs.Findings.{is_sound}
+use Rattle.book.specs.Labels.{Kept, same_as, same_label, steps_of}
+use Rattle.book.specs.Slots.{entries_of, labels_of, keyed_of}
+use Rattle.book.proofs.SlotLemmas.{length-entries}
+use Rattle.book.proofs.Cursors.{all_sound, cursors_appended, fault-append}
+use Rattle.book.proofs.Labels.{appended_known, appended_length, appended_some}
+use Rattle.book.proofs.table.Table+State+M.append.Goals as goal
+use Rattle.book.proofs.table.Table+State+M.append.Goals.{then-is_none, else-is_none}
+
+none_of : {X : Type 0} (o : Option X) → is_some o ≡ false → o ≡ None
+none_of None h = refl
+none_of (Some x) h = absurd (true≢false h)
+
+some_of : {X : Type 0} (o : Option X) → is_some o ≡ true → (x : X) × (o ≡ Some x)
+some_of None h = absurd (true≢false (sym h))
+some_of (Some x) h = (x, refl)
+
+pub first_fault_from-self-inside-requires : goal.first_fault_from-self-inside-requires
+first_fault_from-self-inside-requires g c =
+    let s = c.self.inside in
+    let es : List (Entry (State g.row.M.Denot g.row.M-Mem.Denot g.row.M-Loc.Denot g.row.M-Form.Denot)) = entries_of s.slots.entries in
+    let some =
+    appended_some s.slots.entries c.put_steps.new.slots.entries c.args.parent
+    (unknown same_label (states (map keyed_of s.slots.entries)) c.args.steps.items) c.put_steps.ensures.kept
+    c.in-Ok.ensures.put in
+    let l : length es ≡ length s.slots.entries = length-entries s.slots.entries in
+    let n : c.len-was.result ≡ length s.slots.entries = c.len-was.ensures.len in
+    let none : position (λ (e : Entry (State g.row.M.Denot g.row.M-Mem.Denot g.row.M-Loc.Denot g.row.M-Form.Denot)). not (is_sound e.finding)) es ≡ None =
+    sym c.self.invariant.first_fault ∙ none_of c.self.inside.fault c.if-is_none.ensures in
+    λ i e at less. all_sound es (map (opened c.args.parent) some.0) none i e
+    (subst (λ (xs : List (Entry (State g.row.M.Denot g.row.M-Mem.Denot g.row.M-Loc.Denot g.row.M-Form.Denot))). At xs i e) some.1 at)
+    (omega arith)
+
+pub invariant_of-self-then-is_none : goal.invariant_of-self-then-is_none
+invariant_of-self-then-is_none g c =
+    let s = c.self.inside in
+    let some =
+    appended_some s.slots.entries c.put_steps.new.slots.entries c.args.parent
+    (unknown same_label (states (map keyed_of s.slots.entries)) c.args.steps.items) c.put_steps.ensures.kept
+    c.in-Ok.ensures.put in
+    rw some.1 (cursors_appended (entries_of s.slots.entries) s.next_open s.first_left s.fault c.self.invariant
+    c.args.parent some.0 c.first_fault_from-self-inside.result
+    (c.first_fault_from-self-inside.ensures
+    ∙ ap (position (λ (e : Entry (State g.row.M.Denot g.row.M-Mem.Denot g.row.M-Loc.Denot g.row.M-Form.Denot)). not (is_sound e.finding))) some.1))
+
+pub invariant_of-self-else-is_none : goal.invariant_of-self-else-is_none
+invariant_of-self-else-is_none g c =
+    let s = c.self.inside in
+    let some =
+    appended_some s.slots.entries c.put_steps.new.slots.entries c.args.parent
+    (unknown same_label (states (map keyed_of s.slots.entries)) c.args.steps.items) c.put_steps.ensures.kept
+    c.in-Ok.ensures.put in
+    let is = some_of s.fault c.if-is_none.ensures in
+    let first : position (λ (e : Entry (State g.row.M.Denot g.row.M-Mem.Denot g.row.M-Loc.Denot g.row.M-Form.Denot)). not (is_sound e.finding)) (entries_of s.slots.entries) ≡ Some is.0 =
+    sym c.self.invariant.first_fault ∙ is.1 in
+    rw some.1 (cursors_appended (entries_of s.slots.entries) s.next_open s.first_left s.fault c.self.invariant
+    c.args.parent some.0 s.fault
+    (is.1 ∙ sym (fault-append (entries_of s.slots.entries) (map (opened c.args.parent) some.0) is.0 first)))
+
+pub returns-then-len-limit-clause-full : goal.returns-then-len-limit-clause-full
+returns-then-len-limit-clause-full g c = λ _ label_of e known at are.
+    let old = c.self.inside.slots.entries in
+    let new = c.put_steps.new.slots.entries in
+    let count =
+    appended_length label_of (step (g.M.Machine.rules c.args.machine) c.args.program.now) c.args.self.now old new
+    c.self.view_is c.args.parent c.args.steps.items c.put_steps.ensures.kept c.in-Ok.ensures.put c.entry.result.now
+    c.entry.ensures c.copy-source.result.value (c.copy-source.ensures ∙ c.shown.ensures) c.put_steps.ensures.steps e
+    known at are (c.requires.enabled e at) (record { entries = entries_of new; labels = labels_of new }) refl in
+    let more : c.args.limit < c.len.result = c.if-len-limit.true in
+    let n : c.len.result ≡ length new = c.len.ensures.len in
+    let l : length (entries_of new) ≡ length new = length-entries new in
+    omega arith
+
+pub returns-clause-put : goal.returns-clause-put
+returns-clause-put g c = λ label_of e known at are.
+    let old = c.self.inside.slots.entries in
+    let new = c.put_steps.new.slots.entries in
+    let after = appended_known label_of (step (g.M.Machine.rules c.args.machine) c.args.program.now) c.args.self.now old
+    new c.self.view_is c.args.parent c.args.steps.items c.put_steps.ensures.kept c.in-Ok.ensures.put
+    c.entry.result.now c.entry.ensures c.copy-source.result.value (c.copy-source.ensures ∙ c.shown.ensures)
+    c.put_steps.ensures.steps e known at are (c.requires.enabled e at) c.if-is_none.self in
+    elim c.if-is_none.branch [
+      | then-is_none w ↦ after w.self-is
+      | else-is_none w ↦ after w.self-is
+    ]

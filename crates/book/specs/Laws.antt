@@ -1,2 +1,0 @@
--- What is proved of the definitions. No contract's meaning rests on these files, and no definition imports one.
-pub mod Labels

@@ -1,0 +1,157 @@
+//! The expansion of entries outside a book: what a worker takes under the lock of a book, works on
+//! without it, and enters under it again.
+ghost use Rattle.std.specs.Prelude.{◌≡◌, IfOk, IfSome, length};
+
+use crate::book::Merge;
+use crate::finding::Finding;
+use crate::in_place::{Source, steps_here};
+use crate::label::Label;
+use crate::scratch::Scratch;
+use crate::successor::Successor;
+use sched_program::{OutOfMemory, Program};
+use std::alloc::Global;
+use std::marker::Model;
+use tree_machine::{Bytes, Encode};
+
+/// A taken entry of a book, by its label, with what was found of its state.
+#[derive(Drop)]
+pub struct TakenEntry<'a, M: Encode> {
+    pub(crate) id: usize,
+    pub(crate) machine: M,
+    pub(crate) program: &'a Program,
+    pub(crate) merge: Merge,
+    pub(crate) label: Bytes,
+    pub(crate) finding: Finding,
+}
+
+impl<'a, M: Encode> Model for TakenEntry<'a, M> {
+    ghost use Rattle.book.specs.ByLabel.{IsTakenOf, TakenView};
+
+    ghost Value = { TakenView M };
+
+    ghost view = { λ t. record {
+      key = record {
+        id = t.id;
+        machine = t.machine;
+        program = t.program.now;
+        merge = t.merge;
+        label = t.label;
+      };
+      finding = t.finding;
+    } };
+
+    ghost invariant = { λ t. IsTakenOf M.rules M.whole_code M.form_code M.form_of (record {
+      key = record {
+        id = t.id;
+        machine = t.machine;
+        program = t.program.now;
+        merge = t.merge;
+        label = t.label;
+      };
+      finding = t.finding;
+    }) };
+}
+
+/// An entry with all enabled steps of its state, in the order of the threads, each by the label of
+/// where it leads and with what was found there.
+#[derive(Drop)]
+pub struct ExpandedEntry<'a, M: Encode> {
+    pub(crate) id: usize,
+    pub(crate) machine: M,
+    pub(crate) program: &'a Program,
+    pub(crate) merge: Merge,
+    pub(crate) label: Bytes,
+    pub(crate) steps: Vec<Successor<Label>>,
+}
+
+impl<'a, M: Encode> Model for ExpandedEntry<'a, M> {
+    ghost use Rattle.book.specs.ByLabel.{ExpandedView, IsExpandedOf};
+
+    ghost Value = { ExpandedView M };
+
+    ghost view = { λ x. record {
+      key = record {
+        id = x.id;
+        machine = x.machine;
+        program = x.program.now;
+        merge = x.merge;
+        label = x.label;
+      };
+      steps = x.steps.items;
+    } };
+
+    ghost invariant = { λ x. IsExpandedOf M.rules M.whole_code M.form_code M.form_of (record {
+      key = record {
+        id = x.id;
+        machine = x.machine;
+        program = x.program.now;
+        merge = x.merge;
+        label = x.label;
+      };
+      steps = x.steps.items;
+    }) };
+}
+
+impl<'a, M: Encode> TakenEntry<'a, M> {
+    /// Makes the steps of the entry's state in what is decoded from its label. None where the entry
+    /// is not sound, or its label can't be decoded.
+    #[inline(always)]
+    pub fn expand(
+        self,
+        alloc: Global,
+        scratch: &mut Scratch<M>,
+    ) -> Result<Option<ExpandedEntry<'a, M>>, OutOfMemory>
+        ensures { IfOk result (λ o. IfSome o (λ x. x.key ≡ self.entry.key)) }
+    {
+        // Whoever reads a program knows that it meets the limits.
+        let _ = self.program.initial();
+        let TakenEntry {
+            id,
+            machine,
+            program,
+            merge,
+            label,
+            finding,
+        } = self;
+        let Finding::Sound(order) = finding else {
+            return Ok(None);
+        };
+        let Some(mut decoded) = scratch.decode(alloc, machine, program, label.as_slice())? else {
+            return Ok(None);
+        };
+        let from = Source {
+            machine,
+            program,
+            merge,
+            label: label.as_slice(),
+            offsets: decoded.offsets,
+            order: &order,
+        };
+        let steps = steps_here(alloc, &from, &mut *decoded.state, scratch)?;
+        scratch.last = Some(decoded);
+        Ok(Some(ExpandedEntry {
+            id,
+            machine,
+            program,
+            merge,
+            label,
+            steps,
+        }))
+    }
+}
+
+impl<'a, M: Encode> ExpandedEntry<'a, M> {
+    /// The number of the entry.
+    pub fn id(&self) -> usize
+        ensures { result ≡ self.now.key.id }
+    {
+        self.id
+    }
+
+    /// How many steps it has.
+    pub fn len(&self) -> usize
+        ensures { result ≡ length self.now.steps }
+    {
+        self.steps.len()
+    }
+}

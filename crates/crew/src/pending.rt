@@ -1,0 +1,66 @@
+//! What a worker has expanded and not entered.
+use crate::answer::Share;
+use crate::worker::Stop;
+use book::{Book, ExpandedEntry, Recycled};
+use std::alloc::Global;
+use tree_machine::Encode;
+
+/// Expanded entries that are not entered.
+#[derive(Drop)]
+pub struct Pending<'a, M: Encode> {
+    pub entries: Vec<ExpandedEntry<'a, M>>,
+    /// How many of them, from the first, were prefetched.
+    prefetched: usize,
+}
+
+impl<'a, M: Encode> Pending<'a, M> {
+    /// No entry. It takes no memory.
+    pub fn new(alloc: Global) -> Pending<'a, M> {
+        Pending {
+            entries: Vec::new(alloc),
+            prefetched: 0,
+        }
+    }
+
+    /// How many steps all of them have.
+    pub fn count_steps(&self) -> usize {
+        let mut steps = 0usize;
+        for entry in &self.entries {
+            steps = steps.saturating_add(entry.len());
+        }
+        steps
+    }
+
+    /// Prefetches the entries for which this was not done yet. What the book has of their steps is
+    /// mostly not in the processor's caches: looked for one right after the other, they are not
+    /// waited for one by one. The sum of what it sees is of no use.
+    pub fn prefetch(&mut self, book: &Book<M>) -> usize {
+        let mut seen = 0usize;
+        if let Some(others) = self.entries.get(self.prefetched..) {
+            for entry in others {
+                seen = seen.wrapping_add(book.prefetch(entry));
+            }
+        }
+        self.prefetched = self.entries.len();
+        seen
+    }
+
+    /// Enters all of them, and counts them in the worker's share. The labels of known states are
+    /// left for after the lock.
+    pub fn enter_all(
+        &mut self,
+        book: &mut Book<M>,
+        share: &mut Share,
+        recycled: &mut Recycled,
+    ) -> Result<(), Stop> {
+        self.prefetched = 0;
+        for entry in self.entries.drain(..) {
+            let id = entry.id();
+            match book.enter_expanded(entry, recycled) {
+                Ok(counts) => share.add(counts),
+                Err(fault) => return Err(Stop::of(fault, id)),
+            }
+        }
+        Ok(())
+    }
+}

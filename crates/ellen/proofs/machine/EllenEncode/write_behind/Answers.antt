@@ -1,0 +1,21 @@
+use Rattle.std.proofs.Common.{map, sym, ◌∙◌}
+use Rattle.std.proofs.lemmas.List.{length-map}
+use Rattle.ellen.specs.Parts.{held_part, ellen_parts}
+use Rattle.ellen.specs.Laws.PartsRange.{parts_in_range}
+use Rattle.ellen.proofs.machine.EllenEncode.write_behind.Goals as goal
+
+pub write_parts_behind-requires-clause-in_range : goal.write_parts_behind-requires-clause-in_range
+write_parts_behind-requires-clause-in_range c =
+    search (parts_in_range, c.requires.memory_in_range, c.requires.places_in_range)
+
+-- what was read as a memory was read as parts
+pub write_parts_behind-requires-clause-read : goal.write_parts_behind-requires-clause-read
+write_parts_behind-requires-clause-read c =
+    let read = c.requires.read in
+    record {
+      other = ellen_parts read.other read.held;
+      twins = map held_part read.twins;
+      in_range = parts_in_range read.other read.held read.in_range read.places_in_range;
+      many = length-map read.held held_part ∙ read.many ∙ sym (length-map read.twins held_part);
+      same = read.same;
+    }

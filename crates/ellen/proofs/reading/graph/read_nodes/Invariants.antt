@@ -1,0 +1,15 @@
+use Rattle.std.proofs.Common.{◌≡◌, ◌+◌, ◌≤◌, ◌++◌, List, length, map, vec_len, vec_capacity}
+use Rattle.tree_machine.specs.Flat.{part_codes}
+use Rattle.ellen.specs.declared.memory.Node.{Node}
+use Rattle.ellen.specs.Parts.{node_part}
+use Rattle.ellen.proofs.reading.graph.read_nodes.Given as goal
+
+-- so many are read, where there is place for all of them
+abbrev pub invariant-loop-each : goal.invariant-loop-each
+invariant-loop-each l =
+    record {
+      read : (more : List Node) × (l.nodes.items ≡ l.fn.nodes.items ++ more) × (length more ≡ l._each)
+          × (l.bytes ≡ part_codes (map node_part more) ++ l.rest);
+      len : vec_len l.nodes ≡ vec_len l.fn.nodes + l._each;
+      place : vec_len l.fn.nodes + l.count ≤ vec_capacity l.nodes;
+    }

@@ -1,6 +1,0 @@
-use Rattle.tree_machine.specs.Step.{Fits}
-use Rattle.ellen.specs.EllenRules.{ellen_rules}
-use Rattle.machine_tests.proofs.on_ellen.read_back.lost.Given as goal
-
-abbrev pub invariant-loop-line : goal.invariant-loop-line
-invariant-loop-line l = Fits (ellen_rules l.machine) l.program l.state.value

@@ -1,0 +1,15 @@
+use Rattle.std.proofs.Common.{arith}
+use Rattle.tree_machine.specs.Laws.ReadParts.{one_read}
+use Rattle.natmit.specs.Parts.{node_part}
+use Rattle.natmit.proofs.reading.read_nodes.Goals as goal
+
+pub loop-each-preserved : goal.loop-each-preserved
+loop-each-preserved c =
+    let read = c.loop-each.invariant.read in
+    record {
+      read = one_read node_part c.args.nodes.now.items read.0 c.in-Some.node c.loop-each._each c.loop-each.nodes.items
+          c.push_reserved.new.self.items c.args.bytes.now c.loop-each.rest.now c.in-Some.behind.now read.1 read.2 read.3
+          c.push_reserved.ensures.items c.in-Some.ensures;
+      len = omega (arith, c.push_reserved.ensures.len, c.loop-each.invariant.len);
+      place = omega (arith, c.push_reserved.ensures.capacity, c.loop-each.invariant.place);
+    }

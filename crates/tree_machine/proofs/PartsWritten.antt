@@ -1,0 +1,345 @@
+-- Parts that are written one behind the other.
+use Rattle.std.proofs.Common.{◌≡◌, ℕ, zero, suc, ◌+◌, ◌-◌, ◌<◌, ◌≤◌, List, [], ◌∷◌, ◌++◌, map, length, take, drop}
+use Rattle.std.proofs.Common.{refl, sym, ◌∙◌, ap, subst, arith, append_assoc, append-nil, add-one}
+use Rattle.std.specs.Prelude.{slice_get, Some}
+use Rattle.std.specs.List.{All, AllByRecursion}
+use Rattle.std.proofs.lemmas.Grind.{flat_map-append}
+use Rattle.std.proofs.lemmas.List.{map-append, length-map}
+use Rattle.std.proofs.lemmas.List.Concat.{flat_map-cons}
+use Rattle.std.proofs.lemmas.List.Elements.{recursion_from_All, All-from_recursion}
+use Rattle.tree_machine.specs.Canonical.{parts_by, renamed_part}
+use Rattle.tree_machine.specs.Graphs.{numbers_from}
+use Rattle.tree_machine.specs.Parts.{Part, Parts, ArePartsInRange, part_at}
+use Rattle.tree_machine.specs.Laws.CellLists.{numbers_all}
+use Rattle.tree_machine.specs.Laws.Fronts.{own_parts_code}
+use Rattle.tree_machine.specs.Laws.OwnParts.{own_held, own_nodes, own_records}
+use Rattle.tree_machine.specs.Flat.{all_front, behind_code, cell_code, flat, number_code, part_codes, part_content}
+use Rattle.tree_machine.specs.Flat.{graph_code, left_code, parts_code}
+use Rattle.tree_machine.specs.Written.{Written, renamed_by, with_bytes, with_part}
+use Rattle.tree_machine.proofs.Lists.{take_whole}
+
+-- the elements from one place to another, and one more
+pub taken_more : {X : Type 0} (xs : List X) (start place : ℕ) (x : X) → start ≤ place → slice_get xs place ≡ Some x
+    → take (place + 1 - start) (drop start xs) ≡ take (place - start) (drop start xs) ++ x ∷ []
+taken_more {X} xs start place x l e =
+    let more : place + 1 - start ≡ suc (place - start) = omega arith in
+    let is : start + (place - start) ≡ place = omega arith in
+    ap (λ k. take k (drop start xs)) more
+    ∙ one_more (drop start xs) (place - start) (dropped xs start (place - start) (ap (slice_get xs) is ∙ e))
+  where
+    one_more : (ys : List X) (n : ℕ) → slice_get ys n ≡ Some x → take (suc n) ys ≡ take n ys ++ x ∷ []
+    one_more [] n e = cc
+    one_more (y ∷ ys) zero e = let same : y ≡ x = cc in ap (λ z. z ∷ []) same
+    one_more (y ∷ ys) (suc n) e = ap (λ l. y ∷ l) (one_more ys n e)
+
+    dropped : (ys : List X) (n m : ℕ) → slice_get ys (n + m) ≡ Some x → slice_get (drop n ys) m ≡ Some x
+    dropped [] n m e = cc
+    dropped (y ∷ ys) zero m e = let same : 0 + m ≡ m = omega arith in ap (slice_get (y ∷ ys)) (sym same) ∙ e
+    dropped (y ∷ ys) (suc n) m e =
+        let same : suc n + m ≡ suc (n + m) = omega arith in
+        dropped ys n m (sym (ap (slice_get (y ∷ ys)) same) ∙ e)
+
+-- no elements yet
+pub taken_none : {X : Type 0} (xs : List X) (start : ℕ) → take (start - start) (drop start xs) ≡ []
+taken_none xs start =
+    let none : start - start ≡ 0 = omega arith in ap (λ k. take k (drop start xs)) none ∙ go (drop start xs)
+  where
+    go : {X : Type 0} (ys : List X) → take 0 ys ≡ []
+    go [] = refl
+    go (y ∷ ys) = refl
+
+-- what stands before a place of a list has what all before it have
+pub taken_has : (P : ℕ → Type 0) (xs : List ℕ) (count i x : ℕ) → All P (take count xs) → i < count
+    → slice_get xs i ≡ Some x → P x
+taken_has P xs count i x h l e = go xs count i (recursion_from_All P (take count xs) h) l e
+  where
+    go : (ys : List ℕ) (count i : ℕ) → AllByRecursion P (take count ys) → i < count → slice_get ys i ≡ Some x → P x
+    go [] count i h l e = cc
+    go (y ∷ ys) zero i h l e = absurd (omega arith)
+    go (y ∷ ys) (suc count) zero h l e = let same : y ≡ x = cc in rw (sym same) h.0
+    go (y ∷ ys) (suc count) (suc i) h l e = go ys count i h.1 (omega arith) e
+
+-- one part more of a list
+pub part_next : (ps : List Part) (n : ℕ) → n < length ps → take (n + 1) ps ≡ take n ps ++ part_at ps n ∷ []
+part_next ps n l = ap (λ k. take k ps) (add-one n) ∙ go ps n l
+  where
+    go : (ps : List Part) (n : ℕ) → n < length ps → take (suc n) ps ≡ take n ps ++ part_at ps n ∷ []
+    go [] n l = absurd (omega arith)
+    go (p ∷ ps) zero l = refl
+    go (p ∷ ps) (suc n) l = ap (λ qs. p ∷ qs) (go ps n (omega arith))
+
+pub codes_append : (ps qs : List Part) → part_codes (ps ++ qs) ≡ part_codes ps ++ part_codes qs
+codes_append ps qs =
+    ap flat (map-append part_content ps qs)
+    ∙ flat_map-append cell_code (map part_content ps) (map part_content qs)
+
+-- one part more is written
+pub part_more : {X : Type 0} (start now next : Written) (f : X → Part) (xs ys : List X) (x : X)
+    → now ≡ with_bytes start (part_codes (map (λ x. renamed_by start (f x)) xs)) → ys ≡ xs ++ x ∷ []
+    → next ≡ with_part now (f x)
+    → next ≡ with_bytes start (part_codes (map (λ x. renamed_by start (f x)) ys))
+part_more {X} start now next f xs ys x is more put =
+    let g : X → Part = λ x. renamed_by start (f x) in
+    let codes : part_codes (map g ys) ≡ part_codes (map g xs) ++ cell_code (part_content (g x)) =
+    ap (λ l. part_codes (map g l)) more ∙ ap part_codes (map-append g xs (x ∷ []))
+    ∙ codes_append (map g xs) (g x ∷ [])
+    ∙ ap (λ l. part_codes (map g xs) ++ l)
+    (flat_map-cons cell_code (part_content (g x)) [] ∙ append-nil (cell_code (part_content (g x)))) in
+    put ∙ ap (λ (w : Written). with_part w (f x)) is
+    ∙ ap (λ b. record start { bytes = b })
+    (append_assoc start.bytes (part_codes (map g xs)) (cell_code (part_content (g x)))
+    ∙ ap (λ l. start.bytes ++ l) (sym codes))
+
+-- counts, nodes and records, one behind the other
+pub graph_written : (old w1 w2 w3 w4 : Written) (a b n m k l : ℕ) (f g : ℕ → Part)
+    → a ≡ length (take m (drop n old.node_order)) → b ≡ length (take l (drop k old.record_order))
+    → w1 ≡ with_bytes old (number_code a) → w2 ≡ with_bytes w1 (number_code b)
+    → w3 ≡ with_bytes w2 (part_codes (map (λ x. renamed_by w2 (f x)) (take m (drop n w2.node_order))))
+    → w4 ≡ with_bytes w3 (part_codes (map (λ x. renamed_by w3 (g x)) (take l (drop k w3.record_order))))
+    → w4 ≡ with_bytes old (graph_code (map (λ x. renamed_by old (f x)) (take m (drop n old.node_order)))
+    (map (λ x. renamed_by old (g x)) (take l (drop k old.record_order))))
+graph_written old w1 w2 w3 w4 a b n m k l f g ea eb h1 h2 h3 h4 =
+    let nodes = map (λ x. renamed_by old (f x)) (take m (drop n old.node_order)) in
+    let records = map (λ x. renamed_by old (g x)) (take l (drop k old.record_order)) in
+    let A = number_code a in
+    let B = number_code b in
+    let C = part_codes nodes in
+    let D = part_codes records in
+    let e2 : w2 ≡ record old { bytes = (old.bytes ++ A) ++ B } = h2 ∙ ap (λ (w : Written). with_bytes w B) h1 in
+    let e3 : w3 ≡ record old { bytes = ((old.bytes ++ A) ++ B) ++ C } =
+    h3 ∙ ap (λ (w : Written). with_bytes w (part_codes (map (λ x. renamed_by w (f x)) (take m (drop n w.node_order))))) e2 in
+    let e4 : w4 ≡ record old { bytes = (((old.bytes ++ A) ++ B) ++ C) ++ D } =
+    h4 ∙ ap (λ (w : Written). with_bytes w (part_codes (map (λ x. renamed_by w (g x)) (take l (drop k w.record_order))))) e3 in
+    let count : a ≡ length nodes = ea ∙ sym (length-map (take m (drop n old.node_order)) (λ x. renamed_by old (f x))) in
+    let more : b ≡ length records =
+    eb ∙ sym (length-map (take l (drop k old.record_order)) (λ x. renamed_by old (g x))) in
+    e4 ∙ ap (λ z. record old { bytes = z })
+    (append_assoc ((old.bytes ++ A) ++ B) C D ∙ append_assoc (old.bytes ++ A) B (C ++ D)
+    ∙ append_assoc old.bytes A (B ++ (C ++ D))
+    ∙ ap (λ z. old.bytes ++ (A ++ (B ++ z))) (sym (codes_append nodes records))
+    ∙ (λ i. old.bytes ++ (number_code (count i) ++ (number_code (more i) ++ part_codes (nodes ++ records)))))
+
+-- ---- what is left behind a front
+
+pub drop_map : {X Y : Type 0} (f : X → Y) (n : ℕ) (xs : List X) → drop n (map f xs) ≡ map f (drop n xs)
+drop_map f zero [] = refl
+drop_map f zero (x ∷ xs) = refl
+drop_map f (suc n) [] = refl
+drop_map f (suc n) (x ∷ xs) = drop_map f n xs
+
+pub take_map : {X Y : Type 0} (f : X → Y) (n : ℕ) (xs : List X) → take n (map f xs) ≡ map f (take n xs)
+take_map f zero [] = refl
+take_map f zero (x ∷ xs) = refl
+take_map f (suc n) [] = refl
+take_map f (suc n) (x ∷ xs) = ap (λ l. f x ∷ l) (take_map f n xs)
+
+pub length_drop : {X : Type 0} (n : ℕ) (xs : List X) → length (drop n xs) ≡ length xs - n
+length_drop zero [] = omega arith
+length_drop zero (x ∷ xs) = omega arith
+length_drop (suc n) [] = omega arith
+length_drop (suc n) (x ∷ xs) = length_drop n xs ∙ omega arith
+
+pub length_take_drop : {X : Type 0} (n m : ℕ) (xs : List X) → n ≤ m → m ≤ length xs
+    → m - n ≡ length (take (m - n) (drop n xs))
+length_take_drop n m xs l k = omega (arith, length_take (m - n) (drop n xs), length_drop n xs)
+  where
+    length_take : {X : Type 0} (k : ℕ) (ys : List X) → k ≤ length ys → length (take k ys) ≡ k
+    length_take zero [] h = refl
+    length_take zero (y ∷ ys) h = refl
+    length_take (suc k) [] h = absurd (omega arith)
+    length_take (suc k) (y ∷ ys) h = ap suc (length_take k ys (omega arith))
+
+left_some : (ns rs : List Part) → 0 < length ns + length rs → left_code ns rs ≡ graph_code ns rs
+left_some [] [] l = absurd (omega arith)
+left_some [] (r ∷ rs) l = refl
+left_some (n ∷ ns) rs l = refl
+
+left_none : (ns rs : List Part) → length ns + length rs ≡ 0 → left_code ns rs ≡ []
+left_none [] [] l = refl
+left_none [] (r ∷ rs) l = absurd (omega arith)
+left_none (n ∷ ns) rs l = absurd (omega arith)
+
+module _ (old w1 : Written) (held : List Part) (fn fr : ℕ) (f g : ℕ → Part)
+    (put : w1 ≡ with_bytes old (part_codes held)) where
+  nodes : List Part
+  nodes = drop fn (map (λ x. renamed_by old (f x)) old.node_order)
+
+  records : List Part
+  records = drop fr (map (λ x. renamed_by old (g x)) old.record_order)
+
+  nodes_long : length nodes ≡ length old.node_order - fn
+  unfolding nodes
+  nodes_long =
+      length_drop fn (map (λ x. renamed_by old (f x)) old.node_order)
+      ∙ ap (λ n. n - fn) (length-map old.node_order (λ x. renamed_by old (f x)))
+
+  records_long : length records ≡ length old.record_order - fr
+  unfolding records
+  records_long =
+      length_drop fr (map (λ x. renamed_by old (g x)) old.record_order)
+      ∙ ap (λ n. n - fr) (length-map old.record_order (λ x. renamed_by old (g x)))
+
+  -- what is left behind a front is written
+  pub left_written : (w2 : Written) (n r : ℕ) → n ≡ length w1.node_order → r ≡ length w1.record_order
+      → 0 < n - fn + (r - fr)
+      → w2 ≡ with_bytes w1 (graph_code (map (λ x. renamed_by w1 (f x)) (take (n - fn) (drop fn w1.node_order)))
+      (map (λ x. renamed_by w1 (g x)) (take (r - fr) (drop fr w1.record_order))))
+      → w2 ≡ with_bytes old (part_codes held
+      ++ left_code (drop fn (map (λ x. renamed_by old (f x)) old.node_order))
+      (drop fr (map (λ x. renamed_by old (g x)) old.record_order)))
+  unfolding nodes records
+  left_written w2 n r en er some h =
+      let en2 : n ≡ length old.node_order = en ∙ ap (λ (w : Written). length w.node_order) put in
+      let er2 : r ≡ length old.record_order = er ∙ ap (λ (w : Written). length w.record_order) put in
+      let all_nodes : map (λ x. renamed_by old (f x)) (take (n - fn) (drop fn old.node_order))
+      ≡ drop fn (map (λ x. renamed_by old (f x)) old.node_order) =
+      ap (map (λ x. renamed_by old (f x)))
+      (take_whole (drop fn old.node_order) (n - fn) (omega (arith, length_drop fn old.node_order, en2)))
+      ∙ sym (drop_map (λ x. renamed_by old (f x)) fn old.node_order) in
+      let all_records : map (λ x. renamed_by old (g x)) (take (r - fr) (drop fr old.record_order))
+      ≡ drop fr (map (λ x. renamed_by old (g x)) old.record_order) =
+      ap (map (λ x. renamed_by old (g x)))
+      (take_whole (drop fr old.record_order) (r - fr) (omega (arith, length_drop fr old.record_order, er2)))
+      ∙ sym (drop_map (λ x. renamed_by old (g x)) fr old.record_order) in
+      let left = left_some nodes records (omega (arith, nodes_long, records_long, en2, er2, some)) in
+      h ∙ ap (λ (w : Written). with_bytes w (graph_code
+      (map (λ x. renamed_by w (f x)) (take (n - fn) (drop fn w.node_order)))
+      (map (λ x. renamed_by w (g x)) (take (r - fr) (drop fr w.record_order))))) put
+      ∙ ap (λ b. record old { bytes = b })
+      (append_assoc old.bytes (part_codes held)
+      (graph_code (map (λ x. renamed_by old (f x)) (take (n - fn) (drop fn old.node_order)))
+      (map (λ x. renamed_by old (g x)) (take (r - fr) (drop fr old.record_order)))))
+      ∙ (λ i. with_bytes old (part_codes held ++ graph_code (all_nodes i) (all_records i)))
+      ∙ ap (λ l. with_bytes old (part_codes held ++ l)) (sym left)
+
+  -- where none is left, nothing is
+  pub none_written : (n r : ℕ) → n ≡ length w1.node_order → r ≡ length w1.record_order → n ≤ fn → r ≤ fr
+      → w1 ≡ with_bytes old (part_codes held
+      ++ left_code (drop fn (map (λ x. renamed_by old (f x)) old.node_order))
+      (drop fr (map (λ x. renamed_by old (g x)) old.record_order)))
+  unfolding nodes records
+  none_written n r en er few less =
+      let en2 : n ≡ length old.node_order = en ∙ ap (λ (w : Written). length w.node_order) put in
+      let er2 : r ≡ length old.record_order = er ∙ ap (λ (w : Written). length w.record_order) put in
+      let left = left_none nodes records (omega (arith, nodes_long, records_long, en2, er2, few, less)) in
+      put ∙ ap (λ l. with_bytes old l) (sym (append-nil (part_codes held)) ∙ ap (λ l. part_codes held ++ l) (sym left))
+
+-- ---- whole codes
+
+from_none : {X Y : Type 0} (f : X → Y) (n : ℕ) (xs : List X) → map f (take (n - 0) (drop 0 xs)) ≡ take n (map f xs)
+from_none f n xs =
+    let same : n - 0 ≡ n = omega arith in
+    (λ i. map f (take (same i) (none xs i))) ∙ sym (take_map f n xs)
+  where
+    none : {X : Type 0} (xs : List X) → drop 0 xs ≡ xs
+    none [] = refl
+    none (x ∷ xs) = refl
+
+-- a front, and what stands behind it
+pub whole_written : (n r fn fr : ℕ) (node_order record_order b after : List ℕ) (s : Parts) (w0 w1 w2 : Written)
+    → w0 ≡ record { nodes = n; records = r; node_order = node_order; record_order = record_order; bytes = b }
+    → w1 ≡ with_bytes w0 (graph_code
+    (map (λ x. renamed_by w0 (part_at s.nodes x)) (take (fn - 0) (drop 0 w0.node_order)))
+    (map (λ y. renamed_by w0 (part_at s.records y)) (take (fr - 0) (drop 0 w0.record_order))))
+    → w2 ≡ with_bytes w1 (part_codes (parts_by w1.node_order w1.record_order s).held
+    ++ left_code (drop fn (parts_by w1.node_order w1.record_order s).nodes)
+    (drop fr (parts_by w1.node_order w1.record_order s).records))
+    → after ≡ w2.bytes
+    → after ≡ b ++ parts_code (record { nodes = fn; records = fr }) (parts_by node_order record_order s)
+whole_written n r fn fr node_order record_order b after s w0 w1 w2 h0 h1 h2 done =
+    let P = parts_by node_order record_order s in
+    let start : Written =
+    record { nodes = n; records = r; node_order = node_order; record_order = record_order; bytes = b } in
+    let F = graph_code (map (λ x. renamed_by start (part_at s.nodes x)) (take (fn - 0) (drop 0 node_order)))
+    (map (λ y. renamed_by start (part_at s.records y)) (take (fr - 0) (drop 0 record_order))) in
+    let e1 : w1 ≡ with_bytes start F =
+    h1 ∙ ap (λ (w : Written). with_bytes w (graph_code
+    (map (λ x. renamed_by w (part_at s.nodes x)) (take (fn - 0) (drop 0 w.node_order)))
+    (map (λ y. renamed_by w (part_at s.records y)) (take (fr - 0) (drop 0 w.record_order))))) h0 in
+    let B = part_codes P.held ++ left_code (drop fn P.nodes) (drop fr P.records) in
+    let e2 : w2 ≡ with_bytes (with_bytes start F) B =
+    h2 ∙ ap (λ (w : Written). with_bytes w (part_codes (parts_by w.node_order w.record_order s).held
+    ++ left_code (drop fn (parts_by w.node_order w.record_order s).nodes)
+    (drop fr (parts_by w.node_order w.record_order s).records))) e1 in
+    done ∙ ap (λ (w : Written). w.bytes) e2 ∙ append_assoc b F B
+    ∙ (λ i. b ++ (graph_code
+    (from_none (λ x. renamed_by start (part_at s.nodes x)) fn node_order i)
+    (from_none (λ y. renamed_by start (part_at s.records y)) fr record_order i) ++ B))
+
+-- what stands behind a front
+pub behind_written : (n r fn fr : ℕ) (node_order record_order b after : List ℕ) (s : Parts) (w0 w2 : Written)
+    → w0 ≡ record { nodes = n; records = r; node_order = node_order; record_order = record_order; bytes = b }
+    → w2 ≡ with_bytes w0 (part_codes (parts_by w0.node_order w0.record_order s).held
+    ++ left_code (drop fn (parts_by w0.node_order w0.record_order s).nodes)
+    (drop fr (parts_by w0.node_order w0.record_order s).records))
+    → after ≡ w2.bytes
+    → after ≡ b ++ behind_code (record { nodes = fn; records = fr }) (parts_by node_order record_order s)
+behind_written n r fn fr node_order record_order b after s w0 w2 h0 h2 done =
+    done ∙ ap (λ (w : Written). w.bytes)
+    (h2 ∙ ap (λ (w : Written). with_bytes w (part_codes (parts_by w.node_order w.record_order s).held
+    ++ left_code (drop fn (parts_by w.node_order w.record_order s).nodes)
+    (drop fr (parts_by w.node_order w.record_order s).records))) h0)
+
+-- all by own numbers
+module _ (k fixed : ℕ) (s : Parts) (range : ArePartsInRange fixed s) (nodes_few : length s.nodes ≤ k)
+    (records_few : length s.records ≤ k) (order : List ℕ) (own : order ≡ numbers_from 0 k) where
+  pub own_held_written : (n r : ℕ) (b after : List ℕ) (w0 w2 : Written)
+      → w0 ≡ record { nodes = n; records = r; node_order = order; record_order = order; bytes = b }
+      → w2 ≡ with_bytes w0 (part_codes (map (renamed_by w0) s.held)) → after ≡ w2.bytes
+      → after ≡ b ++ part_codes s.held
+  own_held_written n r b after w0 w2 h0 h2 done =
+      done ∙ ap (λ (w : Written). w.bytes)
+      (h2 ∙ ap (λ (w : Written). with_bytes w (part_codes (map (renamed_by w) s.held))) h0)
+      ∙ ap (λ o. b ++ part_codes (map (renamed_part o o) s.held)) own
+      ∙ ap (λ l. b ++ part_codes l) (own_held k s fixed range nodes_few records_few)
+
+  pub own_written : (n r : ℕ) (b after : List ℕ) (w0 w1 w2 : Written) → n ≡ length s.nodes → r ≡ length s.records
+      → w0 ≡ record { nodes = n; records = r; node_order = order; record_order = order; bytes = b }
+      → w1 ≡ with_bytes w0 (graph_code
+      (map (λ x. renamed_by w0 (part_at s.nodes x)) (take (n - 0) (drop 0 w0.node_order)))
+      (map (λ y. renamed_by w0 (part_at s.records y)) (take (r - 0) (drop 0 w0.record_order))))
+      → w2 ≡ with_bytes w1 (part_codes (map (renamed_by w1) s.held)) → after ≡ w2.bytes
+      → after ≡ b ++ parts_code (all_front s) s
+  own_written n r b after w0 w1 w2 en er h0 h1 h2 done =
+      let start : Written =
+      record { nodes = n; records = r; node_order = order; record_order = order; bytes = b } in
+      let F = graph_code (map (λ x. renamed_by start (part_at s.nodes x)) (take (n - 0) (drop 0 order)))
+      (map (λ y. renamed_by start (part_at s.records y)) (take (r - 0) (drop 0 order))) in
+      let e1 : w1 ≡ with_bytes start F =
+      h1 ∙ ap (λ (w : Written). with_bytes w (graph_code
+      (map (λ x. renamed_by w (part_at s.nodes x)) (take (n - 0) (drop 0 w.node_order)))
+      (map (λ y. renamed_by w (part_at s.records y)) (take (r - 0) (drop 0 w.record_order))))) h0 in
+      let nodes : map (λ x. renamed_by start (part_at s.nodes x)) (take (n - 0) (drop 0 order)) ≡ s.nodes =
+      from_none (λ x. renamed_by start (part_at s.nodes x)) n order
+      ∙ (λ i. take (en i) (map (λ x. renamed_part (own i) (own i) (part_at s.nodes x)) (own i)))
+      ∙ own_nodes k s fixed range nodes_few records_few in
+      let records : map (λ y. renamed_by start (part_at s.records y)) (take (r - 0) (drop 0 order)) ≡ s.records =
+      from_none (λ y. renamed_by start (part_at s.records y)) r order
+      ∙ (λ i. take (er i) (map (λ y. renamed_part (own i) (own i) (part_at s.records y)) (own i)))
+      ∙ own_records k s fixed range nodes_few records_few in
+      let held : map (renamed_part order order) s.held ≡ s.held =
+      ap (λ o. map (renamed_part o o) s.held) own ∙ own_held k s fixed range nodes_few records_few in
+      done ∙ ap (λ (w : Written). w.bytes)
+      (h2 ∙ ap (λ (w : Written). with_bytes w (part_codes (map (renamed_by w) s.held))) e1)
+      ∙ append_assoc b F (part_codes (map (renamed_part order order) s.held))
+      ∙ (λ i. b ++ (graph_code (nodes i) (records i) ++ part_codes (held i)))
+      ∙ ap (λ l. b ++ l) (sym (own_parts_code s))
+
+pub taken_all : (P : ℕ → Type 0) (n : ℕ) (xs : List ℕ) → AllByRecursion P xs → All P (take n xs)
+taken_all P n xs h = All-from_recursion P (take n xs) (go n xs h)
+  where
+    go : (n : ℕ) (xs : List ℕ) → AllByRecursion P xs → AllByRecursion P (take n xs)
+    go zero [] h = tt
+    go zero (x ∷ xs) h = tt
+    go (suc n) [] h = tt
+    go (suc n) (x ∷ xs) h = (h.0, go n xs h.1)
+
+pub own_taken : (n k : ℕ) → n ≤ k → All (λ x. x < n) (take n (numbers_from 0 k))
+own_taken n k l =
+    subst (All (λ x. x < n)) (sym (go 0 n k l)) (numbers_all (λ x. x < n) 0 n (λ x g h. omega arith))
+  where
+    go : (a n k : ℕ) → n ≤ k → take n (numbers_from a k) ≡ numbers_from a n
+    go a zero zero l = refl
+    go a zero (suc k) l = refl
+    go a (suc n) zero l = absurd (omega arith)
+    go a (suc n) (suc k) l = ap (λ xs. a ∷ xs) (go (suc a) n k (omega arith))

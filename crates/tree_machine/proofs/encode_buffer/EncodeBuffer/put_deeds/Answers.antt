@@ -1,0 +1,13 @@
+-- What the call put behind the bytes within is put behind what stood there.
+use Rattle.std.proofs.Common.{ap, ◌++◌, ◌∙◌}
+use Rattle.std.proofs.lemmas.Result.{on_ok_weaker}
+use Rattle.tree_machine.specs.Alike.{notes_of, replies_of}
+use Rattle.tree_machine.specs.FormCode.{deeds_code}
+use Rattle.tree_machine.proofs.encode_buffer.EncodeBuffer.put_deeds.Goals as goal
+
+pub returns : goal.returns
+returns g c =
+    on_ok_weaker c.put_deeds.result
+    (λ put. put ∙ ap (λ l. l ++ deeds_code (replies_of c.args.threads.now) (notes_of c.args.threads.now) c.args.astray)
+    c.self.view_is)
+    c.put_deeds.ensures

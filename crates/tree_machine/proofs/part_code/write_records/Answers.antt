@@ -1,0 +1,35 @@
+use Rattle.std.proofs.Common.{length, ap, sym, ◌∙◌, arith}
+use Rattle.std.specs.Prelude.{slice_get}
+use Rattle.tree_machine.specs.Parts.{part_at}
+use Rattle.tree_machine.specs.Written.{Written}
+use Rattle.tree_machine.proofs.VisitedParts.{part_below}
+use Rattle.tree_machine.proofs.PartsWritten.{part_more, taken_more}
+use Rattle.tree_machine.proofs.Walks.{past_none}
+use Rattle.tree_machine.proofs.part_code.write_records.Goals as goal
+
+pub visit_record-requires : goal.visit_record-requires
+visit_record-requires g c =
+    let s = g.P.Parts.parts c.args.parts.now in
+    part_below (length s.nodes) (length s.records) c.loop-place.writer.nodes c.loop-place.writer.records s.records
+    c.in-Some.record (ap (λ (w : Written). w.nodes) c.loop-place.invariant ∙ c.requires.nodes)
+    (ap (λ (w : Written). w.records) c.loop-place.invariant ∙ c.requires.records) c.requires.in_range.1.records
+
+pub loop-place-preserved : goal.loop-place-preserved
+loop-place-preserved g c =
+    let s = g.P.Parts.parts c.args.parts.now in
+    part_more c.args.writer.now c.loop-place.writer c.visit_record.new.visitor (part_at s.records) _ _ c.in-Some.record
+    c.loop-place.invariant
+    (taken_more c.args.writer.now.record_order c.args.start c.loop-place.place c.in-Some.record (omega arith)
+    (ap (λ (w : Written). slice_get w.record_order c.loop-place.place) (sym c.loop-place.invariant)
+    ∙ sym c.in-Some.ensures))
+    c.in_ok-visit_record-in-Some.ensures
+
+pub returns-in-None : goal.returns-in-None
+returns-in-None g c =
+    absurd (omega (
+      arith,
+      past_none c.loop-place.writer.record_order c.loop-place.place (sym c.in-None.ensures),
+      ap (λ (w : Written). length w.record_order) c.loop-place.invariant,
+      c.loop-place-test.true,
+      c.requires.within,
+    ))

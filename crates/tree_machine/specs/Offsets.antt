@@ -1,0 +1,35 @@
+-- Where in the code of a state its parts begin.
+use Rattle.std.specs.Prelude.{◌≡◌, ℕ, ◌+◌, List, length, Option}
+use Rattle.tree_machine.specs.Alike.{notes_of, replies_of}
+use Rattle.tree_machine.specs.Flat.{number_code}
+use Rattle.tree_machine.specs.FormCode.{cut_code, deeds_code, state_code}
+use Rattle.tree_machine.specs.Rules.{ArePlacesInRange, Rules}
+use Rattle.tree_machine.specs.declared.code_offsets.CodeOffsets.{CodeOffsets}
+use Rattle.tree_machine.specs.declared.front.Front.{Front}
+use Rattle.tree_machine.specs.declared.state.State.{State}
+
+-- what the threads did, and who went astray, in bytes
+abbrev pub deeds_of : {Machine Memory Place Form : Type 0} → State Machine Memory Place Form → List ℕ
+deeds_of state = deeds_code (replies_of state.threads) (notes_of state.threads) state.astray
+
+-- The bytes are the code of the state, cut at the front. The number of steps takes as many of them as stand before what the
+-- threads did, what these did takes as many as stand from there to the memory, and what stands in front of what the
+-- threads hold takes as many as stand from there to that.
+pub record AreOffsetsOf {Machine Memory Place Form : Type 0} (front_code : Front → Memory → List ℕ)
+    (behind_code : Front → Memory → List (Option Place) → List ℕ) (bytes : List ℕ) (offsets : CodeOffsets)
+    (state : State Machine Memory Place Form) : Type 0 where
+  pub written : bytes ≡ state_code (cut_code front_code behind_code offsets.front) state
+  pub op_log : offsets.op_log ≡ length (number_code state.steps)
+  pub memory : offsets.memory ≡ offsets.op_log + length (deeds_of state)
+  pub held : offsets.held ≡ offsets.memory + length (front_code offsets.front state.memory)
+
+-- a memory that was read from such a code of another one with the places that threads hold
+pub record IsReadFrom {Memory Place : Type 0} (rules : Rules Memory Place) (code : Memory → List (Option Place) → List ℕ)
+    (cut : Memory → List (Option Place) → List ℕ) (memory : Memory) : Type 0 where
+  pub other : Memory
+  pub held : List (Option Place)
+  pub twins : List (Option Place)
+  pub in_range : rules.IsInRange other
+  pub places_in_range : ArePlacesInRange rules other held
+  pub many : length held ≡ length twins
+  pub same : cut memory twins ≡ code other held
