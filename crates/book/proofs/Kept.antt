@@ -19,6 +19,7 @@ module _ {S : Type 0} (m : StepMachine S) (same : S → S → Bool) (right : S �
     (machine : IsMachine m) (merges : Merges m same) where
   step_of_same : (a b c d : S) (t : ℕ) → b ≡ a → d ≡ c → m.step a t ≡ Some c → m.step b t ≡ Some d
   step_of_same a b c d t p q h = cc
+
   right_of_same : (a b : S) (x y : Finding) → b ≡ a → y ≡ x → right a x → right b y
   right_of_same a b x y p q h = subst (λ (v : S). right v y) (sym p) (subst (λ (v : Finding). right a v) (sym q) h)
 
@@ -30,8 +31,7 @@ module _ {S : Type 0} (m : StepMachine S) (same : S → S → Bool) (right : S �
       (next : IsNext m.steps es i e) where
     stands_taken : (s : S) → StandsFor m (AreOneBy same) es s → StandsFor m (AreOneBy same) (with_mark es i Taken) s
     stands_taken s h =
-        let w = with_mark-at es i Taken h.0 h.1 h.2 in
-        (h.0, w.0, w.1, rw w.2.state h.3, rw w.2.state h.4)
+        let w = with_mark-at es i Taken h.0 h.1 h.2 in (h.0, w.0, w.1, rw w.2.state h.3, rw w.2.state h.4)
 
     -- an entry that is expanded afterwards was so before
     was_expanded : (j : ℕ) (d f : Entry S) → ((i ≡ j) × (f.mark ≡ Taken)) ⊎ ((i ≢ j) × (f ≡ d)) → f.mark ≡ Expanded

@@ -88,7 +88,7 @@ module _ (P R : ℕ → ℕ → Type 0) (fixed : ℕ) (s t : Parts) (h : ArePart
   split_pairs : (xs ys : List ℕ) → AllZip (Paired P R s t) xs ys
       → AllZip P (nodes_met (length s.nodes) xs) (nodes_met (length t.nodes) ys)
       × AllZip R (records_met (length s.nodes) (length s.records) xs)
-          (records_met (length t.nodes) (length t.records) ys)
+      (records_met (length t.nodes) (length t.records) ys)
   split_pairs xs ys z = (
     zip_weaker _ _ nodes_kept _ _ (filter_zip (Paired P R s t) _ _ node_tests xs ys z),
     map_zip R (λ x. x - length s.nodes) (λ y. y - length t.nodes) _ _

@@ -89,7 +89,7 @@ is_left (n ∷ ns) rs = inr refl
 graph_is_some : (ns rs : List Part) → [] ≡ graph_code ns rs → ⊥
 graph_is_some ns rs e =
     let long : 0 ≡ length (replicate (length ns / 255) 255
-        ++ (length ns % 255) ∷ (number_code (length rs) ++ part_codes (ns ++ rs))) =
+    ++ (length ns % 255) ∷ (number_code (length rs) ++ part_codes (ns ++ rs))) =
     ap length (e ∙ number_before (length ns) (number_code (length rs) ++ part_codes (ns ++ rs))) in
     omega (
       arith,

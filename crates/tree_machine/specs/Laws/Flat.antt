@@ -183,7 +183,7 @@ flat_split [] (d ∷ others) xs ys l e = absurd (omega arith)
 flat_split (c ∷ cells) [] xs ys l e = absurd (omega arith)
 flat_split (c ∷ cells) (d ∷ others) xs ys l e =
     let split =
-    cell_split c d (flat cells ++ xs) (flat others ++ ys) 
+    cell_split c d (flat cells ++ xs) (flat others ++ ys)
     (sym (flat_before c cells xs) ∙ (e ∙ flat_before d others ys)) in
     let rest = flat_split cells others xs ys (omega arith) split.1 in
     (ap (λ x. x ∷ cells) split.0 ∙ ap (λ xs. d ∷ xs) rest.0, rest.1)

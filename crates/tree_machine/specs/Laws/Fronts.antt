@@ -262,10 +262,10 @@ module _ (fixed : ℕ) (front : Front) (t : Parts) (h : ArePartsInRange fixed t)
         ap length records_first.is
         ∙ length-append (numbers_from 0 front.records) records_first.rest in
         let long = length-map (met_nodes fixed t)
-            (λ x. renamed_part (met_nodes fixed t) (met_records fixed t) (part_at t.nodes x)) in
+        (λ x. renamed_part (met_nodes fixed t) (met_records fixed t) (part_at t.nodes x)) in
         let long_records =
         length-map (met_records fixed t)
-            (λ y. renamed_part (met_nodes fixed t) (met_records fixed t) (part_at t.records y)) in
+        (λ y. renamed_part (met_nodes fixed t) (met_records fixed t) (part_at t.records y)) in
         let nodes =
         whole (canonical_parts fixed t).nodes t.nodes front.nodes all_nodes
         (omega (arith, few, many, long, length-numbers_from 0 front.nodes)) front_nodes_own in

@@ -147,7 +147,7 @@ by_same P R fixed s t nodes records others targets h z w =
     λ i. record { facts = facts i; nodes = first i; records = then i } in
     let first =
     map_paired P (λ x. renamed_part nodes records (part_at s.nodes x))
-        (λ y. renamed_part others targets (part_at t.nodes y))
+    (λ y. renamed_part others targets (part_at t.nodes y))
     (λ x y p. same _ _ (h.nodes_paired x y p)) nodes others z in
     let then =
     map_paired R (λ x. renamed_part nodes records (part_at s.records x))
