@@ -91,10 +91,9 @@ python_files() {
         echo "${#files[@]} files"
 }
 
-# The types of all that stands on scripts/common.py, and of its tests.
 types() {
     local files
-    mapfile -t files < <(git grep -l 'from common import\|import script_runs\|from script_runs import' -- '*.py')
+    mapfile -t files < <(git ls-files '*.py')
     MYPYPATH=scripts:scripts/tests:bench mypy --strict --cache-dir "$work/mypy" "${files[@]}"
 }
 

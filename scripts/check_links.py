@@ -17,7 +17,7 @@ from dataclasses import dataclass
 from pathlib import Path
 from urllib.parse import unquote
 
-from common import RIGHT, TOP, WRONG, end, page_text, pages_of, words_of
+from common import RIGHT, TOP, WRONG, end, pages_of, text_of, words_of
 
 FENCE = re.compile(r" {0,3}(`{3,}|~{3,})(.*)")
 CODE_SPAN = re.compile(r"(?<!`)(`+)(?!`)(.+?)(?<!`)\1(?!`)")
@@ -91,14 +91,14 @@ def reason_of(page: Path, target: str, top: Path) -> str | None:
         return "outside the repository"
     if not path.exists():
         return "no such file"
-    if anchor and path.suffix == ".md" and unquote(anchor) not in anchors_of(page_text(path)):
+    if anchor and path.suffix == ".md" and unquote(anchor) not in anchors_of(text_of(path)):
         return "no such heading"
     return None
 
 
 def check(page: Path, top: Path) -> tuple[int, list[str]]:
     """How many relative links a page has, and a line for each that is broken."""
-    links = [link for link in links_of(page_text(page)) if not SCHEME.match(link.target)]
+    links = [link for link in links_of(text_of(page)) if not SCHEME.match(link.target)]
     broken: list[str] = []
     for link in links:
         if reason := reason_of(page, link.target, top):

@@ -37,7 +37,7 @@ from collections.abc import Iterator
 from dataclasses import dataclass, field
 from pathlib import Path
 
-from common import PROGRAM, RIGHT, TOP, WRONG, Unusable, end, page_text, pages_of, runnable, words_of
+from common import PROGRAM, RIGHT, TOP, WRONG, Unusable, end, pages_of, runnable, text_of, words_of
 
 FENCE, KIND, INDENT, PROMPT, FURTHER = "```", "console", "    ", "$ ", "..."
 SKIPPED = "<!-- not run -->"
@@ -111,7 +111,7 @@ def indented_end(lines: list[str], start: int) -> int:
 
 def blocks_of(page: Path) -> Iterator[Block]:
     """The blocks of a page that may have examples."""
-    lines = page_text(page).split("\n")
+    lines = text_of(page).split("\n")
     place, is_skipped = 0, False
     while place < len(lines):
         line = lines[place]

@@ -1,4 +1,4 @@
-"""What the scripts share: the program that they run, what it answers and refuses, the pages, and how a script ends.
+"""What the scripts share: the program that they run, what it answers and refuses, files, and how a script ends.
 
 A script's `main` returns its status. `end` runs it, and prints whatever the user can mend as one line.
 """
@@ -86,14 +86,20 @@ def pages_of(top: Path = TOP) -> list[Path]:
     return [page for pattern in PAGES for page in sorted(top.glob(pattern))]
 
 
-def page_text(page: Path) -> str:
-    """The text of a page."""
+def bytes_of(file: Path) -> bytes:
+    """What stands in a file."""
     try:
-        return page.read_text(encoding="utf-8")
+        return file.read_bytes()
     except OSError as fault:
-        raise Unusable(f"can't read {page}: {fault.strerror}") from None
+        raise Unusable(f"can't read {file}: {fault.strerror}") from None
+
+
+def text_of(file: Path) -> str:
+    """The text of a file."""
+    try:
+        return bytes_of(file).decode()
     except UnicodeDecodeError:
-        raise Unusable(f"can't read {page}: it is not UTF-8") from None
+        raise Unusable(f"can't read {file}: it is not UTF-8") from None
 
 
 def runnable(program: Path) -> Path:

@@ -26,7 +26,7 @@ from difflib import get_close_matches
 from pathlib import Path
 from typing import Any
 
-from common import RIGHT, UNUSABLE, WRONG, Unusable, end, words_of
+from common import RIGHT, UNUSABLE, WRONG, Unusable, end, text_of, words_of
 from programs import MOST_IN_ALL, MOST_INITIAL, MOST_KEY, MOST_OPERATIONS, MOST_THREADS, TREES, WORDS, Operation
 
 PROGRAM_MEMBERS = ["version", "tree", "initial", "threads", "$schema"]
@@ -183,14 +183,13 @@ def warnings_of(text: str) -> list[str]:
     return [*ignored_members(value), *operation_warnings(value["initial"], threads_of(value))]
 
 
-def text_of(file: Path) -> str:
-    """What stands in a file."""
+def warnings_in(file: Path) -> list[str]:
+    """The warnings of a file."""
+    text = text_of(file)
     try:
-        return file.read_text(encoding="utf-8")
-    except OSError as fault:
-        raise Unusable(f"can't be read: {fault.strerror}") from None
-    except UnicodeDecodeError:
-        raise Unusable("no program: it is not UTF-8") from None
+        return warnings_of(text)
+    except Unusable as fault:
+        raise Unusable(f"{file} is {fault}") from None
 
 
 def main() -> int:
@@ -201,9 +200,9 @@ def main() -> int:
     count = unusable = 0
     for file in files:
         try:
-            warnings = warnings_of(text_of(file))
+            warnings = warnings_in(file)
         except Unusable as fault:
-            print(f"lint_program: {file}: {fault}", file=sys.stderr)
+            print(f"lint_program: {fault}", file=sys.stderr)
             unusable += 1
             continue
         for warning in warnings:

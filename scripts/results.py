@@ -7,7 +7,7 @@ import subprocess
 from dataclasses import asdict, dataclass
 from pathlib import Path
 
-from common import TOP, Unusable
+from common import TOP, Unusable, bytes_of
 from programs import NamedProgram, read_name
 
 VERDICTS = ["every", "holds", "stopped", "astray", "order", "history"]
@@ -88,14 +88,6 @@ def names_in(file: Path) -> set[str]:
             raise Unusable(f"{file} is no file of results: its last line is not ended, and begins as no line does")
         os.truncate(file, len(whole))
     return {result.program for result in results}
-
-
-def bytes_of(file: Path) -> bytes:
-    """What stands in a file."""
-    try:
-        return file.read_bytes()
-    except OSError as fault:
-        raise Unusable(f"can't read {file}: {fault.strerror}") from None
 
 
 def parsed(file: Path, data: bytes) -> list[Result]:

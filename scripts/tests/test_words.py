@@ -63,6 +63,11 @@ def draw(source: random.Random) -> list[str]:
     return words
 
 
+def run_in(folder: str, words: list[str]) -> subprocess.CompletedProcess[str]:
+    """One run of a command in a folder."""
+    return subprocess.run(words, cwd=folder, capture_output=True, text=True, check=False)
+
+
 @unittest.skipUnless(os.access(PROGRAM, os.X_OK), "no program is built")
 class Words(unittest.TestCase):
     """The script refuses what the program refuses, and nothing else."""
@@ -73,9 +78,8 @@ class Words(unittest.TestCase):
         with tempfile.TemporaryDirectory() as folder:
             for _ in range(CASES):
                 words = draw(source)
-                how = {"cwd": folder, "capture_output": True, "text": True, "check": False}
-                ended = subprocess.run([PROGRAM, *words], **how)
-                read = subprocess.run(["bash", "-c", READER, "bash", *words], **how)
+                ended = run_in(folder, [str(PROGRAM), *words])
+                read = run_in(folder, ["bash", "-c", READER, "bash", *words])
                 self.assertEqual((read.returncode, read.stderr), (0, ""), words)
                 status, _, refusal = read.stdout.removesuffix("\n").partition(" ")
                 self.assertEqual(int(status), ended.returncode, words)

@@ -107,10 +107,12 @@ class Builds(StubCheckout):
         self.assertEqual(self.taken_calls(), TOP_BUILD)
 
     def test_second_run_at_once_waits(self) -> None:
-        command = [self.checkout / "treesched", *EXPLORE]
+        command = [str(self.checkout / "treesched"), *EXPLORE]
         env = {**self.env, "STUB_SECONDS": "1"}
-        how = {"cwd": self.folder, "env": env, "stdout": subprocess.PIPE, "stderr": subprocess.PIPE, "text": True}
-        runs = [subprocess.Popen(command, **how) for _ in range(2)]
+        pipe = subprocess.PIPE
+        runs = [
+            subprocess.Popen(command, cwd=self.folder, env=env, stdout=pipe, stderr=pipe, text=True) for _ in range(2)
+        ]
         said = [it.communicate() for it in runs]
         self.assertEqual([out for out, _ in said], ["answer explore f.json --steps 2\n"] * 2)
         self.assertEqual(sorted(err.count("this one waits for it") for _, err in said), [0, 1])

@@ -6,7 +6,8 @@ from __future__ import annotations
 
 from collections.abc import Iterator
 
-from viewer.replays import MOST_STEPS, Refusal, Source
+from common import MOST_STEPS
+from viewer.replays import Refusal, Source
 from viewer.steps import Walk, key_states, marks, verdict, walk
 
 
