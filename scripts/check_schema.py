@@ -10,8 +10,8 @@ Without PROGRAM the script `treesched` at the top is meant. Needed is the Python
 Both judge: the files of examples/, which both accept; texts at the limits, which both accept; texts with one
 fault each, which both refuse, the program by the name that stands here; texts whose fault only the program
 sees; and each text that comes of one program of each version by leaving out one part of it or putting another
-value in its place, on which both agree. The strict schema, for editors, accepts those programs of which
-scripts/lint_program.py finds no member that is ignored.
+value in its place, on which both agree. The strict schema, for editors, accepts those programs in which
+scripts/lint_program.py finds no ignored member.
 
 Each text on which they answer something else than stands here is shown, and at the end comes 'N texts, M
 wrong'. The status is 0 if none is wrong, 1 if one is, and 2 where jsonschema is missing or PROGRAM doesn't
@@ -123,7 +123,7 @@ LAWFUL += [
     ignoring(0, "[3, 1]"),
 ]
 
-# Texts with one fault, by the name that the program tells.
+# Texts with one fault, by the name that the program prints.
 SEEN: dict[str, list[str]] = {
     "P2 NotObject": ["[]", "null", "true", "1", '"version"', f"[{START}{THREADS}]"],
     "P3 Version": [
@@ -174,7 +174,7 @@ SEEN: dict[str, list[str]] = {
 for name in ("P4 Tree", "P5 Initial", "P6 InitialTwice", "P7 Threads", "P8 Ops", "P9 Op", "P10 Key"):
     SEEN[name] += [of_version_2(text) for text in SEEN[name] if '"version": 1' in text]
 
-# Texts whose fault JSON Schema can't see, by the name that the program tells.
+# Texts whose fault JSON Schema can't see, by the name that the program prints.
 UNSEEN: dict[str, list[str]] = {
     "P1 NotJson": [with_member(text) for text in ("1e999", '"\\ud800"', "[" * 127 + "]" * 127)],
     "P3 Version": [with_version(text) for text in ("1.0", "1e0", "2.0", "2e0")],

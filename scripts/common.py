@@ -40,7 +40,7 @@ class Refused(Exception):
 
 @dataclass(frozen=True)
 class Answer:
-    """What `explore` printed. Where every schedule holds it tells no steps."""
+    """What `explore` printed. Where every schedule holds it has no steps."""
 
     verdict: str
     states: int
@@ -131,7 +131,7 @@ def words_of(usage: str | None) -> argparse.ArgumentParser:
 
     class Parser(argparse.ArgumentParser):
         def error(self, message: str) -> NoReturn:
-            raise Unusable(f"{message} (--help tells the use)")
+            raise Unusable(f"{message} (--help shows the use)")
 
     return Parser(
         description=usage,

@@ -21,7 +21,7 @@ static int refuses(_Atomic unsigned long* made, const char* name) {
 
 static void* next(const char* name) { return dlsym(RTLD_NEXT, name); }
 
-static void tell(void) {
+static void print_counts(void) {
   const char* text = getenv("REFUSE");
   if (text && !strcmp(text, "0")) dprintf(2, "requests %lu threads %lu\n", requests, threads);
 }
@@ -55,10 +55,10 @@ int pthread_create(pthread_t* thread, const pthread_attr_t* how, void* (*start)(
 }
 
 // A program with threads ends by _exit, which runs no destructor.
-__attribute__((destructor)) static void at_exit(void) { tell(); }
+__attribute__((destructor)) static void at_exit(void) { print_counts(); }
 
 void _exit(int status) {
-  tell();
+  print_counts();
   syscall(SYS_exit_group, status);
   __builtin_unreachable();
 }

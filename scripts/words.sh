@@ -15,7 +15,7 @@ usage_of() {
 }
 
 # The help where no program is there to give its own.
-tell_help() {
+print_help() {
     cat <<'END'
 Explores the schedules of concurrent tree programs
 
@@ -39,8 +39,8 @@ docs/FORMATS.md has all words, and docs/REFUSALS.md all that is printed.
 END
 }
 
-# Tells why words are refused, in the form of the program's own lines.
-tell_refusal() {
+# Says why words are refused, in the form of the program's own lines.
+print_refusal() {
     echo "$refusal" >&2
     if [[ $refusal == error:* ]]; then
         printf '\n%s\n\n%s\n' "$(usage_of "${1-}")" "For more information, try '--help'." >&2

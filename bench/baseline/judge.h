@@ -16,7 +16,7 @@ inline int count_of(Counts counts, int thread) { return counts >> 4 * thread & 1
 // Whether each thread has at least as many in `more` as in `fewer`: the free bits, when set, get lost where it has not.
 inline bool covers(Counts more, Counts fewer) { return (((more | 0x8888) - fewer) & 0x8888) == 0x8888; }
 
-// What threads were told. Those of a thread begin in their order, so that numbers tell which began and finished.
+// The replies of threads. The operations of a thread begin in order, so that numbers say which began and finished.
 struct History {
   Counts begun = 0, finished = 0;
   uint8_t replies[max_threads] = {};               // a bit for each finished operation
@@ -34,7 +34,7 @@ struct History {
     finished += one_of(thread);
   }
 
-  // Writes the history behind `out`, and tells the end; `read` does the reverse.
+  // Writes the history behind `out`, and returns its end; `read` does the reverse.
   uint8_t* write(int threads, uint8_t* out) const {
     std::memcpy(out, &begun, 2);
     std::memcpy(out + 2, &finished, 2);
@@ -74,7 +74,7 @@ class Judge {
   const History& history;
 
   // Whether the listed operations, which left these keys, are the beginning of a linearization. Those of a thread end
-  // one before the next begins, so that numbers tell which are listed, and each thread has one that may be next.
+  // one before the next begins, so that numbers say which are listed, and each thread has one that may be next.
   bool can_complete(Counts listed, Keys keys) const {
     if (covers(listed, history.finished)) return true;
     for (int thread = 0; thread < (int)program.threads.size(); ++thread) {

@@ -120,7 +120,7 @@ class NatMit {
   const Program& program;
   bool has_tag;
 
-  // Whether a place has this local; what it does not have tells no two states apart.
+  // Whether a place has this local. One that it does not have distinguishes no two states.
   static bool holds(Where where, int local) {
     static constexpr uint8_t held[] = {0b10000, 0b11111, 0b01111, 0b01111, 0b01111, 0b10111, 0b10111, 0b10111, 0b11011};
     return held[where] >> local & 1;
@@ -195,7 +195,7 @@ class NatMit {
     Number ancestor, successor, parent;
   };
 
-  // A search has read the word that leads on; tells the reply if it ends the operation.
+  // A search has read the word that leads on. Returns the reply if it ends the operation.
   static Reply arrive(const State& state, Place& place, Operation operation, Way way, Word word) {
     Number at = word & number_bits, owned = place[owner];
     place = {down, (word & tag) != 0, {way.ancestor, way.successor, way.parent, at, owned}};

@@ -18,7 +18,7 @@ struct Operation {
   uint8_t key;
 };
 
-// Keys are told by their ranks among those of the program, which are at most 24, so that a set of them is a mask.
+// Keys stand as their ranks among those of the program, at most 24, so that a set of them is a mask.
 struct Program {
   std::string tree;
   std::vector<uint8_t> initial;

@@ -27,7 +27,7 @@ class States {
   States& operator=(const States&) = delete;
   ~States() { std::free(arena); }
 
-  // Keeps a state unless it is known, and tells whether it was not.
+  // Keeps a state unless it is known. Returns whether it was new.
   bool add(const uint8_t* bytes, size_t size, Place parent, int thread) {
     if (number * 4 >= slots.size() * 3) grow_slots();
     uint32_t hash = hash_of(bytes, size);
