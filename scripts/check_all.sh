@@ -3,10 +3,11 @@
 #
 # usage: scripts/check_all.sh [PROGRAM]
 #
-# Without PROGRAM the script `treesched` at the top is meant. A line has the seconds, the name of the check, and the last
-# line of its output; of a check that fails all output follows. The status is 0 if none fails, 1 if one does, and 2 where
-# PROGRAM does not run. Not here, as they take longer or measure: scripts/refuse_allocations.sh, bench/run.py on all
-# programs, and the sweeps of docs/RESULTS.md.
+# Without PROGRAM the script `treesched` at the top is meant. A line has the seconds, the name of the
+# check, and the last line of its output; of a check that fails all output follows. The status is 0
+# if none fails, 1 if one does, and 2 where PROGRAM does not run. Not here, as they take longer,
+# measure or need a browser: scripts/refuse_allocations.sh, scripts/check_viewer.py, bench/run.py on
+# all programs, and the sweeps of docs/RESULTS.md.
 set -u
 top=$(cd "$(dirname "${BASH_SOURCE[0]}")/.." && pwd)
 program=$(realpath "${1:-$top/treesched}")

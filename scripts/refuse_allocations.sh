@@ -5,10 +5,11 @@
 # usage: scripts/refuse_allocations.sh program      the built program, on programs of examples/ and on faulty words
 #        scripts/refuse_allocations.sh tests CRATE  the built tests of a crate, each for itself
 #
-# `rt ci` builds both. Refused are each of the first 2,000 requests for memory, each multiple of 997 after them, and each
-# start of a thread. The program has to end with status 5, one line on standard error and nothing on standard output, or
-# as it does when nothing is refused; of several workers, the schedule and the ledger may be others. A test has to
-# pass: what it is refused once it asks for once more.
+# `rt ci` builds both. Refused are each of the first 2,000 requests for memory, each multiple of 997
+# after them, and each start of a thread. The program has to end with status 5, one line on standard
+# error and nothing on standard output, or as it does when nothing is refused; of several workers,
+# the schedule and the ledger may be others. A test has to pass: what it is refused once it asks for
+# once more.
 set -u
 top=$(cd "$(dirname "$0")/.." && pwd)
 work=$(mktemp -d)
@@ -79,8 +80,8 @@ common() {
 }
 
 is_answered() {
-  if [ "$1" -eq 5 ] && [ ! -s "$work/refused.out" ] && [ "$(cat "$work/refused.err")" = 'treesched: out of memory' ]; then
-    return 0
+  if [ "$1" -eq 5 ] && [ ! -s "$work/refused.out" ]; then
+    [ "$(cat "$work/refused.err")" != 'treesched: out of memory' ] || return 0
   fi
   [ "$1" -eq "$status" ] && cmp -s "$work/refused.err" "$work/ample.err" &&
     [ "$(common "$work/refused.out")" = "$(common "$work/ample.out")" ]
@@ -115,7 +116,7 @@ cc -shared -fPIC -O1 -o "$work/refuse.so" "$top/scripts/refuse.c" -ldl || exit 2
 case "${1:-}" in
   program) refuse_program ;;
   tests) refuse_tests "${2:?a crate}" ;;
-  *) sed -n '2,11p' "$0" && exit 2 ;;
+  *) sed -n '2,12p' "$0" && exit 2 ;;
 esac
 echo "$runs runs, $failed failed"
 [ "$failed" -eq 0 ] && [ "$runs" -gt 0 ]

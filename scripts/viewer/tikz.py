@@ -2,7 +2,7 @@
 from __future__ import annotations
 
 from viewer.clash import Run
-from viewer.lanes import blocks, label_rows, labelled, legend, points
+from viewer.lanes import Labelled, blocks, label_rows, labelled, legend, points
 
 CELL, BAR, LABEL, GAP = 0.42, 0.42, 0.36, 0.24
 LETTER = 0.15
@@ -15,6 +15,24 @@ def tex(text: str) -> str:
     """A text for TeX, in which what stands between backticks is set as code."""
     parts = ["".join(SPECIAL.get(sign, sign) for sign in part) for part in text.split("`")]
     return "".join(rf"\texttt{{{part}}}" if index % 2 else part for index, part in enumerate(parts))
+
+
+def bar_lines(run: Run, each: Labelled, row: int, low: int, high: int, top: float) -> list[str]:
+    """The bar of an operation in a row of steps, with its label and a dot for each step."""
+    operation, last = each.operation, min(run.end(each.operation), high)
+    left, right = CELL * (each.first - 1 - low) + 0.03, CELL * (last - low) - 0.03
+    looks = ["rounded corners=1.5pt", "fill=black!8"]
+    looks += ["dashed"] if operation.last is None else []
+    looks += ["line width=1.2pt"] if operation in run.clash else []
+    lines = []
+    if row:
+        lines.append(rf"  \draw[black!40] ({left:.2f},{top + LABEL * (row + 0.2):.2f}) -- ({left:.2f},{top:.2f});")
+    lines.append(rf"  \draw[{', '.join(looks)}] ({left:.2f},{top:.2f}) rectangle ({right:.2f},{top - BAR:.2f});")
+    name = rf"{{{tex(each.text)}}}"
+    lines.append(rf"  \node[anchor=west, inner sep=0pt] at ({left:.2f},{top + LABEL * (row + 0.5):.2f}) {name};")
+    steps = [step for step in range(each.first, last + 1) if run.schedule[step - 1] == operation.thread]
+    lines += [rf"  \fill ({CELL * (step - 0.5 - low):.2f},{top - 0.14:.2f}) circle[radius=1.3pt];" for step in steps]
+    return lines
 
 
 def block_lines(run: Run, low: int, high: int, y: float) -> tuple[list[str], float]:
@@ -33,27 +51,7 @@ def block_lines(run: Run, low: int, high: int, y: float) -> tuple[list[str], flo
         tops[thread] = top
         lines.append(rf"  \node[anchor=east] at (-0.2,{top - BAR / 2:.2f}) {{thread {thread}}};")
         for each, row in zip(lane, rows):
-            operation, last = each.operation, min(run.end(each.operation), high)
-            left, right = CELL * (each.first - 1 - low) + 0.03, CELL * (last - low) - 0.03
-            looks = ["rounded corners=1.5pt", "fill=black!8"]
-            looks += ["dashed"] if operation.last is None else []
-            looks += ["line width=1.2pt"] if operation in run.clash else []
-            if row:
-                lines.append(
-                    rf"  \draw[black!40] ({left:.2f},{top + LABEL * (row + 0.2):.2f}) -- ({left:.2f},{top:.2f});"
-                )
-            lines.append(
-                rf"  \draw[{', '.join(looks)}] ({left:.2f},{top:.2f}) rectangle ({right:.2f},{top - BAR:.2f});"
-            )
-            name = rf"{{{tex(each.text)}}}"
-            lines.append(
-                rf"  \node[anchor=west, inner sep=0pt] at ({left:.2f},{top + LABEL * (row + 0.5):.2f}) {name};"
-            )
-            for step in range(each.first, last + 1):
-                if run.schedule[step - 1] == operation.thread:
-                    lines.append(
-                        rf"  \fill ({CELL * (step - 0.5 - low):.2f},{top - 0.14:.2f}) circle[radius=1.3pt];"
-                    )
+            lines += bar_lines(run, each, row, low, high, top)
         y = top - BAR - GAP
     for operation, place in points(run):
         if low < place <= high:
