@@ -31,11 +31,12 @@ import sys
 import tempfile
 from pathlib import Path
 
+from common import Unusable
 from viewer.clash import Run, examine
 from viewer.lanes import svg_picture
 from viewer.nearest import nearest
 from viewer.page import Shown, html_page, still_picture
-from viewer.replays import Asker, Refusal, Source, read_schedule, read_source, schedule_in, show_list
+from viewer.replays import Asker, Source, read_schedule, read_source, schedule_in, show_list
 from viewer.replays import read_file, write_file
 from viewer.steps import compare, walk
 from viewer.text import text_picture
@@ -108,7 +109,7 @@ def draw(words: argparse.Namespace, file: str, text: bytes, schedules: list[list
     if file != words.file:
         name = "standard input" if words.file == "-" else "the program"
     if words.still and int(words.still[0]) > len(schedules[0]):
-        raise Refusal(
+        raise Unusable(
             f"the schedule has {len(schedules[0])} steps, so there is no tree after step {words.still[0]}"
         )
     asker = Asker(words.program, file, name)
@@ -137,7 +138,7 @@ def show(text: str) -> None:
     except OSError as fault:
         # Python would try at its end to write once more what could not be written
         sys.stdout = None  # type: ignore[assignment]
-        raise Refusal(f"can't write standard output: {fault.strerror}") from fault
+        raise Unusable(f"can't write standard output: {fault.strerror}") from fault
 
 
 def main() -> int:
@@ -154,7 +155,7 @@ def main() -> int:
                 copy.flush()
             run = draw(words, words.file if is_plain else copy.name, text, schedules)
         show(text_picture(run, shutil.get_terminal_size((80, 24)).columns))
-    except (Refusal, OSError) as fault:
+    except (Unusable, OSError) as fault:
         print(f"show_schedule: {fault}", file=sys.stderr)
         return 1
     return 0

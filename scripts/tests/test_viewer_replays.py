@@ -9,8 +9,9 @@ from unittest import mock
 
 from viewer_cases import FAULTS, STUB, example, run_of
 
+from common import Unusable
 from viewer.clash import is_explained, smallest_clash
-from viewer.replays import Asker, Operation, Refusal, read_replay, read_schedule, schedule_in
+from viewer.replays import Asker, Operation, read_replay, read_schedule, schedule_in
 
 
 class Reading(unittest.TestCase):
@@ -20,28 +21,28 @@ class Reading(unittest.TestCase):
         self.assertEqual((answer.order, answer.fault), (None, "history"))
         self.assertEqual(read_replay("order -\nno fault\n", "it").order, [])
         for text in ("", "order -\n", "0.0 delete ten true\norder -\nno fault\n", "fault history\nmore\n"):
-            with self.assertRaises(Refusal):
+            with self.assertRaises(Unusable):
                 read_replay(text, "it")
 
     def test_schedules(self) -> None:
         self.assertEqual(read_schedule(""), [])
         self.assertEqual(read_schedule("0,1,0"), [0, 1, 0])
         for text in ("0,,1", "0 1", "x", "10", ",", "٣", ",".join("0" * 401)):
-            with self.assertRaises(Refusal, msg=text):
+            with self.assertRaises(Unusable, msg=text):
                 read_schedule(text)
 
     def test_schedule_in_what_explore_printed(self) -> None:
         self.assertEqual(schedule_in("fault order after 2 steps\nschedule 0,1\nstates 3\n"), "0,1")
         self.assertEqual(schedule_in("0,1\n"), "0,1")
         for text in ("", "\n", "holds to 3 steps\nstates 4\n"):
-            with self.assertRaises(Refusal, msg=text):
+            with self.assertRaises(Unusable, msg=text):
                 schedule_in(text)
 
 
 class Asking(unittest.TestCase):
     def ask(self, mood: str, program: str = STUB) -> str:
         """The text of the refusal."""
-        with mock.patch.dict(os.environ, STUB=mood), self.assertRaises(Refusal) as caught:
+        with mock.patch.dict(os.environ, STUB=mood), self.assertRaises(Unusable) as caught:
             Asker(program, str(example("nm")), "nm.json").replay([0])
         return str(caught.exception)
 
@@ -54,7 +55,7 @@ class Asking(unittest.TestCase):
         self.assertIn("can't run /no/such/program", self.ask("", "/no/such/program"))
 
     def test_a_step_that_nobody_has(self) -> None:
-        with self.assertRaisesRegex(Refusal, "can't be run to its end: step 1"):
+        with self.assertRaisesRegex(Unusable, "can't be run to its end: step 1"):
             Asker(STUB, str(example("nm")), "nm.json").replay([3])
 
     def test_what_the_program_has_to_say_is_handed_on(self) -> None:

@@ -7,10 +7,11 @@ from unittest import mock
 
 from viewer_cases import FAULTS, STUB, TREES, by_chance, example, made, source_of
 
+from common import Unusable
 from place_tables import Atomic
 from viewer.accesses import access_of, key_text, place_text, record_words
 from viewer.nearest import nearest
-from viewer.replays import Asker, Refusal
+from viewer.replays import Asker
 from viewer.steps import children, compare, finds, key_states, marks, operations_at, reached, verdict, walk
 
 SEEDS = range(10)
@@ -119,15 +120,15 @@ class Comparison(unittest.TestCase):
         self.compare("")
 
     def test_other_replies_are_refused(self) -> None:
-        with self.assertRaisesRegex(Refusal, "differ in the replies after 9 steps"):
+        with self.assertRaisesRegex(Unusable, "differ in the replies after 9 steps"):
             self.compare("reply")
 
     def test_another_verdict_is_refused(self) -> None:
-        with self.assertRaisesRegex(Refusal, "differ after 0 steps: no fault and order"):
+        with self.assertRaisesRegex(Unusable, "differ after 0 steps: no fault and order"):
             self.compare("verdict")
 
     def test_a_step_that_nobody_has(self) -> None:
-        with self.assertRaisesRegex(Refusal, "thread 1 has no step 1"):
+        with self.assertRaisesRegex(Unusable, "thread 1 has no step 1"):
             walk(made("nm", [], "i5"), [1])
 
     def test_operations_as_they_were_then(self) -> None:
@@ -152,7 +153,7 @@ class Nearest(unittest.TestCase):
             self.assertTrue(all(each.reply is not None for each in operations_at(walked, len(found))), name)
 
     def test_without_a_fault_there_is_none(self) -> None:
-        with self.assertRaisesRegex(Refusal, "has no fault"):
+        with self.assertRaisesRegex(Unusable, "has no fault"):
             nearest(source_of("nm"), [0, 1])
 
 

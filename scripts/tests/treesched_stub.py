@@ -15,7 +15,8 @@ from pathlib import Path
 
 sys.path.insert(0, str(Path(__file__).resolve().parents[1]))
 
-from viewer.replays import Refusal, read_schedule, read_source  # noqa: E402
+from common import Unusable  # noqa: E402
+from viewer.replays import read_schedule, read_source  # noqa: E402
 from viewer.steps import operations_at, verdict, walk  # noqa: E402
 
 
@@ -56,7 +57,7 @@ def main() -> int:
         print("treesched: crate 1 of 1: proving", file=sys.stderr)
     try:
         text = replay(sys.argv[2], sys.argv[4], mood)
-    except Refusal:
+    except Unusable:
         print("treesched: step 1: thread 9 has no step", file=sys.stderr)
         return 4
     sys.stdout.write(text)

@@ -5,7 +5,8 @@ from dataclasses import dataclass, replace
 from itertools import combinations
 from pathlib import Path
 
-from viewer.replays import Asker, Operation, Refusal, Source, trace
+from common import Unusable
+from viewer.replays import Asker, Operation, Source, trace
 
 
 def is_explained(operations: list[Operation], initial: frozenset[int]) -> bool:
@@ -50,7 +51,7 @@ def smallest_clash(operations: list[Operation], initial: frozenset[int]) -> list
             chosen = list(combination)
             if not is_explained(only_known(operations, chosen), initial):
                 return chosen
-    raise Refusal("the program found no order of the operations, but there is one")
+    raise Unusable("the program found no order of the operations, but there is one")
 
 
 def reply_clause(operation: Operation, clash: list[Operation]) -> str:

@@ -6,8 +6,8 @@ from __future__ import annotations
 
 from collections.abc import Iterator
 
-from common import MOST_STEPS
-from viewer.replays import Refusal, Source
+from common import MOST_STEPS, Unusable
+from viewer.replays import Source
 from viewer.steps import Walk, key_states, marks, verdict, walk
 
 
@@ -39,7 +39,7 @@ def continuations(walked: Walk, cut: int, other: int) -> Iterator[list[int]]:
 def nearest(source: Source, schedule: list[int]) -> list[int]:
     walked = walk(source, schedule)
     if verdict(walked, len(schedule)) is None:
-        raise Refusal("the schedule has no fault, so there is no nearest schedule without one")
+        raise Unusable("the schedule has no fault, so there is no nearest schedule without one")
     second: list[int] | None = None
     for cut in range(len(schedule) - 1, -1, -1):
         for other in range(len(source.threads)):
@@ -54,5 +54,5 @@ def nearest(source: Source, schedule: list[int]) -> list[int]:
                 # no operation noticed it, but the tree lost a key: taken only where there is nothing better
                 second = second or candidate
     if second is None:
-        raise Refusal("no schedule without a fault was found: give one")
+        raise Unusable("no schedule without a fault was found: give one")
     return second

@@ -8,11 +8,7 @@ import sys
 from dataclasses import dataclass, replace
 from pathlib import Path
 
-from common import MOST_STEPS
-
-
-class Refusal(Exception):
-    """Nothing can be drawn. Its text is the line that says why."""
+from common import MOST_STEPS, Unusable, bytes_of
 
 
 @dataclass(frozen=True)
@@ -100,7 +96,7 @@ MEANINGS = {
 def read_replay(text: str, program: str) -> Replay:
     found = REPLAY_TEXT.fullmatch(text)
     if not found:
-        raise Refusal(f"{program} is not treesched: what it printed is no replay")
+        raise Unusable(f"{program} is not treesched: what it printed is no replay")
     listed = [
         Operation(name, word, int(key), REPLY_OF[reply])
         for name, word, key, reply in re.findall(OPERATION_LINE, found["listed"])
@@ -112,10 +108,10 @@ def read_replay(text: str, program: str) -> Replay:
 def read_schedule(text: str) -> list[int]:
     """The steps of a schedule that stands on the command line."""
     if text and not re.fullmatch(r"\d(,\d)*", text, re.ASCII):
-        raise Refusal("the schedule is no list of thread numbers, single digits joined by commas without spaces")
+        raise Unusable("the schedule is no list of thread numbers, single digits joined by commas without spaces")
     steps = [int(digit) for digit in text.split(",")] if text else []
     if len(steps) > MOST_STEPS:
-        raise Refusal(f"the schedule has {len(steps)} steps, and a replay has at most {MOST_STEPS}")
+        raise Unusable(f"the schedule has {len(steps)} steps, and a replay has at most {MOST_STEPS}")
     return steps
 
 
@@ -125,11 +121,11 @@ def schedule_in(output: str) -> str:
     if found:
         return found[1].strip()
     if not output.strip():
-        raise Refusal("standard input has no schedule: it is empty")
+        raise Unusable("standard input has no schedule: it is empty")
     lines = output.split("\n")
     if re.fullmatch(r"[\d,]*", lines[0], re.ASCII) and not any(lines[1:]):
         return lines[0]
-    raise Refusal(f"standard input has no schedule: its first line is {lines[0][:60]!r}")
+    raise Unusable(f"standard input has no schedule: its first line is {lines[0][:60]!r}")
 
 
 def show_list(steps: list[int]) -> str:
@@ -159,22 +155,22 @@ class Asker:
             with subprocess.Popen(
                 words, stdin=subprocess.DEVNULL, stdout=subprocess.PIPE, stderr=subprocess.PIPE
             ) as run:
-                refused = self.told_apart(run)
+                refused = self.pass_on(run)
                 assert run.stdout is not None
                 output = run.stdout.read().decode("utf-8", "replace")
         except OSError as fault:
-            raise Refusal(f"can't run {self.program}: {fault.strerror}") from fault
+            raise Unusable(f"can't run {self.program}: {fault.strerror}") from fault
         if run.returncode < 0:
-            raise Refusal(f"{self.program} was ended by signal {-run.returncode}")
+            raise Unusable(f"{self.program} was ended by signal {-run.returncode}")
         if refused:
-            raise Refusal(self.refusal(refused))
+            raise Unusable(self.refusal(refused))
         if run.returncode not in (0, 1):
-            raise Refusal(f"{self.program} ended with status {run.returncode}")
+            raise Unusable(f"{self.program} ended with status {run.returncode}")
         return read_replay(output, self.program)
 
-    def told_apart(self, run: subprocess.Popen[bytes]) -> str:
-        """Hands on at once what the program has to say, but for the line by which it refuses, which is the
-        answer."""
+    def pass_on(self, run: subprocess.Popen[bytes]) -> str:
+        """Passes on at once what the program says on standard error, but for the line by which it refuses.
+        Returns that line."""
         refused = ""
         assert run.stderr is not None
         for line in run.stderr:
@@ -203,7 +199,7 @@ def read_source(text: bytes, name: str) -> Source:
         threads = [[(operation["op"], operation["key"]) for operation in thread] for thread in value["threads"]]
         return Source(text, value["tree"], frozenset(value["initial"]), threads)
     except (ValueError, LookupError, TypeError, RecursionError) as fault:
-        raise Refusal(f"can't read {name} as a program") from fault
+        raise Unusable(f"can't read {name} as a program") from fault
 
 
 def trace(asker: Asker, steps: list[int]) -> tuple[list[Operation], Replay]:
@@ -227,11 +223,8 @@ def write_file(path: str, text: str) -> None:
     try:
         Path(path).write_text(text, encoding="utf-8")
     except OSError as fault:
-        raise Refusal(f"can't write {path}: {fault.strerror}") from fault
+        raise Unusable(f"can't write {path}: {fault.strerror}") from fault
 
 
 def read_file(path: str) -> bytes:
-    try:
-        return sys.stdin.buffer.read() if path == "-" else Path(path).read_bytes()
-    except OSError as fault:
-        raise Refusal(f"can't read {path}: {fault.strerror}") from fault
+    return sys.stdin.buffer.read() if path == "-" else bytes_of(Path(path))

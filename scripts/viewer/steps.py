@@ -6,10 +6,11 @@ from functools import lru_cache
 from typing import Any
 
 from book_judge import Program, State
+from common import Unusable
 from place_tables import Astray, Atomic, Node, Tree
 from viewer.accesses import Access, access_of
 from viewer.clash import is_explained
-from viewer.replays import Asker, Operation, Refusal, Source
+from viewer.replays import Asker, Operation, Source
 
 Name = tuple[int, int]
 
@@ -55,7 +56,7 @@ def walk(source: Source, schedule: list[int]) -> Walk:
     for number, thread in enumerate(schedule, start=1):
         after = program.step(state, thread)
         if after is None:
-            raise Refusal(f"by the place tables in Python, thread {thread} has no step {number}")
+            raise Unusable(f"by the place tables in Python, thread {thread} has no step {number}")
         index = state.finished(thread)
         word, key = source.threads[thread][index]
         place = state.places[thread]
@@ -98,16 +99,16 @@ def compare(walked: Walk, asker: Asker) -> None:
         answer = asker.replay(schedule[:count])
         shown = [(each.name, each.word, each.key, each.reply) for each in operations_at(walked, count)]
         if shown != [(each.name, each.word, each.key, each.reply) for each in answer.listed]:
-            raise Refusal(
+            raise Unusable(
                 f"the place tables in Python and {asker.program} differ in the replies after {count} steps"
             )
         fault = verdict(walked, count)
         if fault != answer.fault:
             words = f"{fault or 'no fault'} and {answer.fault or 'no fault'}"
-            raise Refusal(f"the place tables in Python and {asker.program} differ after {count} steps: {words}")
+            raise Unusable(f"the place tables in Python and {asker.program} differ after {count} steps: {words}")
         order = [(int(name[0]), int(name[2])) for name in answer.order or []]
         if fault is None and not walked.program.explains(walked.states[count], order):
-            raise Refusal(f"after {count} steps the order of {asker.program} is none by the place tables in Python")
+            raise Unusable(f"after {count} steps the order of {asker.program} is none by the place tables in Python")
 
 
 def finds(machine: Any, memory: Any, key: int) -> bool:
