@@ -8,15 +8,15 @@ use Rattle.std.proofs.lemmas.List.Concat.{flat_map-append}
 use Rattle.atomic_table.proofs.Lists.{set_here, set_else, set_again}
 use Rattle.std.proofs.lemmas.List.Elements.{All-set, All-push, All-get_or, All-head, All-tail, All-nil, All-cons}
 use Rattle.std.proofs.lemmas.List.Sums.{sum_by-set, sum_by_push, sum_by-cons, get_or-le-sum_by}
-use Rattle.std.proofs.lemmas.List.Sorted.{IsPermutation-refl, IsPermutation-sym, IsPermutation-trans}
-use Rattle.std.proofs.lemmas.List.Sorted.{IsPermutation-append_right, IsPermutation-append_left}
-use Rattle.std.proofs.lemmas.List.Sorted.{IsPermutation-append_comm, length_permutation, All-permutation}
+use Rattle.std.proofs.lemmas.List.Sorted.{IsPermutation-sym, IsPermutation-trans, IsPermutation-append_right}
+use Rattle.std.proofs.lemmas.List.Sorted.{IsPermutation-append_left, IsPermutation-append_comm, length_permutation}
+use Rattle.std.proofs.lemmas.List.Sorted.{All-permutation}
 use Rattle.std.proofs.lemmas.List.FromFn.{length-range_with_len}
 use mathlib.Core.Option.{some, none, some-injective, some-ne-none}
 use native.Mathlib.Decide.{dec_lt}
 use lib.ListN.{get_elem?}
 use Rattle.atomic_table.specs.Table.{State, Act, keeps, Allows, step, stepped, Valid, carried_after, Splits, Joins}
-use Rattle.atomic_table.specs.Table.{opening, Seen}
+use Rattle.atomic_table.specs.Table.{Seen}
 use Rattle.claims.specs.declared.view.Draws.{Draws}
 use Rattle.claims.specs.declared.view.Size.{Size}
 use Rattle.claims.specs.Rule.{places_of, spent_of, seats_of, below, FitsCounter, ClaimsHold, TableHolds, draws}
@@ -357,20 +357,6 @@ alone size (u ∷ us) (suc id) v h at all =
     let rest = alone size us id v (All-tail (FitsCounter size) u us h) at (omega arith) in (
       ap (λ (l : List ℕ). l ++ places_of us) (here.idle (omega arith)) ∙ rest.0,
       omega (arith, sum_by-cons (λ (x : Draws). x.spent) u us, rest.1, here.told),
-    )
-
-pub begins : (size : Size) → TableHolds size (opening (0 ∷ []) [] (fresh size.seats size))
-begins size =
-    let v : Draws = fresh size.seats size in (
-      refl,
-      record {
-        drawn = (let e : 0 ≡ min 0 size.len = omega arith in
-            subst (λ (k : ℕ). IsPermutation (below k) []) e (IsPermutation-refl []));
-        counted = refl;
-        seats = omega (arith, sum_by-cons (λ (x : Draws). x.seats) v []);
-        fits = All-cons (FitsCounter size) v [] (record { told = omega arith; idle = λ _. refl; knows = λ _. refl })
-            (All-nil (FitsCounter size));
-      },
     )
 
 -- what the last state says of the seat that is every seat

@@ -1,25 +1,15 @@
 -- Nodes, records and what the threads hold, read from their code.
-use Rattle.std.proofs.Common.{◌≡◌, ℕ, ◌-◌, ◌≤◌, List, [], ◌∷◌, ◌++◌, length, map, take, drop, refl, sym, ◌∙◌, ap}
-use Rattle.std.proofs.Common.{arith, length-append}
-use Rattle.std.proofs.Math.Seq.{take-append_seam}
+use Rattle.std.proofs.Common.{◌≡◌, ℕ, ◌≤◌, List, ◌++◌, length, map, take, drop, sym, ◌∙◌, ap}
 use Rattle.std.specs.List.{flat_map}
 use Rattle.tree_machine.specs.Alike.{places_of}
 use Rattle.tree_machine.specs.Flat.{cell_code, graph_code, left_code, part_codes, part_content}
-use Rattle.tree_machine.specs.Laws.ReadParts.{drop_front, take_front, take_read}
+use Rattle.tree_machine.specs.Laws.ReadParts.{drop_front, places_coded, take_front, take_read}
 use Rattle.tree_machine.specs.declared.front.Front.{Front}
 use Rattle.tree_machine.specs.declared.state.Thread.{Thread}
 use Rattle.ellen.specs.declared.memory.Node.{Node}
 use Rattle.ellen.specs.declared.memory.Record.{Record}
 use Rattle.ellen.specs.declared.place.EllenLoc.{EllenLoc}
 use Rattle.ellen.specs.Parts.{ellen_behind_code, ellen_front_code, held_part, node_part, record_part}
-
--- what the threads hold
-places_coded : (threads : List (Thread EllenLoc))
-    → flat_map (λ thread. cell_code (part_content (held_part thread.place))) threads
-    ≡ part_codes (map held_part (places_of threads))
-places_coded [] = refl
-places_coded (thread ∷ threads) =
-    ap (λ l. cell_code (part_content (held_part thread.place)) ++ l) (places_coded threads)
 
 module _ (front : Front) (old more nodes : List Node) (kept others records : List Record)
     (few : front.nodes ≤ length old) (less : front.records ≤ length kept) (e : nodes ≡ take front.nodes old ++ more)
@@ -30,7 +20,7 @@ module _ (front : Front) (old more nodes : List Node) (kept others records : Lis
       → rest ≡ left_code (map node_part more) (map record_part others)
       → bytes ≡ ellen_behind_code front (record { nodes = nodes; records = records }) (places_of threads)
   behind_read threads bytes rest b r =
-      b ∙ (λ i. places_coded threads i ++ r i)
+      b ∙ (λ i. places_coded held_part threads i ++ r i)
       ∙ (λ i. part_codes (map held_part (places_of threads))
       ++ left_code
       (sym (ap (λ ns. drop front.nodes (map node_part ns)) e ∙ drop_front node_part front.nodes old more few) i)
@@ -52,10 +42,3 @@ pub graph_read : (more nodes : List Node) (others records : List Record) (count 
 graph_read more nodes others records count many e f l k =
     λ i. graph_code ((sym (ap (λ ns. take count (map node_part ns)) e ∙ take_read node_part more count l)) i)
     ((sym (ap (λ ns. take many (map record_part ns)) f ∙ take_read record_part others many k)) i)
-
--- as many bytes as stand before the last ones
-pub front_taken : (bytes front rest : List ℕ) → bytes ≡ front ++ rest → take (length bytes - length rest) bytes ≡ front
-front_taken bytes front rest e =
-    let lengths = ap length e ∙ length-append front rest in
-    let count : length bytes - length rest ≡ length front = omega (arith, lengths) in
-    ap (λ n. take n bytes) count ∙ ap (λ l. take (length front) l) e ∙ take-append_seam front rest

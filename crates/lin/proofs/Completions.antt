@@ -4,9 +4,10 @@ use Rattle.std.proofs.Common.{◌∷◌, length, get_or, take, drop, Some, IsSom
 use Rattle.std.proofs.Common.{refl, sym, ◌∙◌, ap, arith, subst, subst₂, ◌↔◌}
 use mathlib.Core.Path.{fun_ext}
 use Rattle.std.proofs.lemmas.Bool.{or_cases, or_parts, or_from, or_left, or_right, false_from_ne_true}
-use Rattle.std.proofs.lemmas.List.Elements.{All-head, All-tail, All-cons}
+use Rattle.std.proofs.lemmas.List.Elements.{All-head, All-tail, All-cons, Contains-get_or}
 use Rattle.std.proofs.lemmas.List.{drop_more, take_all, drop_all}
 use Rattle.std.proofs.lemmas.List.Folds.{list_any_more}
+use Rattle.std.proofs.lemmas.List.Kept.{AllPairs-cons}
 use Rattle.sched_program.specs.declared.operation.OpId.{OpId}
 use Rattle.sched_program.specs.declared.operation.Op.{Op}
 use Rattle.sched_program.specs.Program.{Program}
@@ -20,7 +21,6 @@ use Rattle.lin.specs.Completion.{Listed, listed_in, with_name, StandsNext, Compl
 use Rattle.lin.proofs.Names.{same_name_self, same_name-is}
 use Rattle.lin.proofs.Lists.{IsSomeAnd-value, IsSomeAnd-of, Contains-head, Contains-tail, Contains-cases}
 use Rattle.lin.proofs.Lists.{not-Contains-nil, slice_get-Contains, Contains-slice_get, AllPairs-tail, AllPairs-first}
-use Rattle.lin.proofs.Lists.{AllPairs-cons}
 
 -- the facts of a linearization, of a list that follows a set of operations
 pub record IsLinearizationAfter (program : Program) (history : History) (listed : Listed) (keys : Keys)
@@ -122,7 +122,8 @@ module _ (program : Program) (history : History) where
           → IsLinearizationAfter program history listed keys (x ∷ xs)
       first_of_rest listed keys next x xs s l = record {
         begun = All-cons (IsBegun history) x xs s.begun l.begun;
-        distinct = AllPairs-cons (λ a b. a ≢ b) x xs different l.distinct;
+        distinct = AllPairs-cons (λ a b. a ≢ b) x xs
+            (λ k d below. different (get_or xs k d) (Contains-get_or xs k d below)) l.distinct;
         new = λ a among. elim (Contains-cases x xs a among) [
           | inl same ↦ subst (λ b. listed b ≡ false) same s.new
           | inr later ↦ (or_parts (listed a) (same_name x a) (l.new a later)).0

@@ -75,7 +75,7 @@ module _ (program : Program) (a : OpId) where
   later keys rest b =
       option_and_then (λ o. reply_in program (keys_after o keys) rest a) (op_at program b.thread b.index)
 
-  at_head : (keys : Keys) (b : OpId) (rest : List OpId) → same_name b a ≡ true
+  pub at_head : (keys : Keys) (b : OpId) (rest : List OpId) → same_name b a ≡ true
       → reply_in program keys (b ∷ rest) a ≡ here keys
   at_head keys b rest same = ap (λ s. cond s (here keys) (later keys rest b)) same
 

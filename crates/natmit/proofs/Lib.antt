@@ -1,4 +1,3 @@
 pub mod PlaceBytes
 pub mod Present
-pub mod ReadBytes
 pub mod ReadParts

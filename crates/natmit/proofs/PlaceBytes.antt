@@ -2,9 +2,9 @@
 use Rattle.std.proofs.Common.{◌≡◌, ℕ, ◌<◌, ◌≤◌, ◌-◌, List, [], ◌∷◌, ◌++◌, length, take, drop, refl, sym, ◌∙◌, ap}
 use Rattle.std.proofs.Common.{arith}
 use Rattle.std.specs.Prelude.{zero, suc, nat_eq, Option, Some, slice_index_or}
-use Rattle.std.proofs.lemmas.List.{take_all}
 use Rattle.tree_machine.specs.Flat.{number_code, reference_number, cell_code}
 use Rattle.tree_machine.specs.Flat.{part_content}
+use Rattle.tree_machine.specs.Laws.FirstBytes.{first_five, first_six, first_seven}
 use Rattle.natmit.specs.declared.place.Mode.{Mode}
 use Rattle.natmit.specs.declared.place.NatMitLoc.{NatMitLoc}
 use Rattle.natmit.specs.declared.place.NatMitLoc.TheVariants.{Down}
@@ -13,27 +13,6 @@ use Rattle.natmit.specs.Parts.{bit, owned, part_of, place_part}
 -- what stands behind the first bytes
 abbrev behind : ℕ → List ℕ → List ℕ
 behind n bytes = take (length bytes - n) (drop n bytes)
-
--- the first bytes one by one, and those behind them
-five_first : (bytes : List ℕ) → 5 ≤ length bytes
-    → bytes ≡ slice_index_or bytes 0 0 ∷ slice_index_or bytes 1 0 ∷ slice_index_or bytes 2 0 ∷ slice_index_or bytes 3 0
-    ∷ slice_index_or bytes 4 0 ∷ behind 5 bytes
-five_first (a ∷ b ∷ c ∷ d ∷ e ∷ rest) h = ap (λ l. a ∷ b ∷ c ∷ d ∷ e ∷ l) (sym (take_all _ rest (omega arith)))
-five_first _ h = absurd (omega arith)
-
-six_first : (bytes : List ℕ) → 6 ≤ length bytes
-    → bytes ≡ slice_index_or bytes 0 0 ∷ slice_index_or bytes 1 0 ∷ slice_index_or bytes 2 0 ∷ slice_index_or bytes 3 0
-    ∷ slice_index_or bytes 4 0 ∷ slice_index_or bytes 5 0 ∷ behind 6 bytes
-six_first (a ∷ b ∷ c ∷ d ∷ e ∷ f ∷ rest) h =
-    ap (λ l. a ∷ b ∷ c ∷ d ∷ e ∷ f ∷ l) (sym (take_all _ rest (omega arith)))
-six_first _ h = absurd (omega arith)
-
-seven_first : (bytes : List ℕ) → 7 ≤ length bytes
-    → bytes ≡ slice_index_or bytes 0 0 ∷ slice_index_or bytes 1 0 ∷ slice_index_or bytes 2 0 ∷ slice_index_or bytes 3 0
-    ∷ slice_index_or bytes 4 0 ∷ slice_index_or bytes 5 0 ∷ slice_index_or bytes 6 0 ∷ behind 7 bytes
-seven_first (a ∷ b ∷ c ∷ d ∷ e ∷ f ∷ g ∷ rest) h =
-    ap (λ l. a ∷ b ∷ c ∷ d ∷ e ∷ f ∷ g ∷ l) (sym (take_all _ rest (omega arith)))
-seven_first _ h = absurd (omega arith)
 
 -- a number below two is a truth as a number
 bit_coded : (told : ℕ) → told < 2 → number_code (bit (nat_eq told 1)) ≡ told ∷ []
@@ -55,7 +34,7 @@ four_read place kind a s p last bytes part enough e0 e1 e2 e3 e4 =
     ≡ 141 ∷ slice_index_or bytes 0 0 ∷ slice_index_or bytes 1 0 ∷ slice_index_or bytes 2 0 ∷ slice_index_or bytes 3 0
     ∷ slice_index_or bytes 4 0 ∷ [] =
     λ i. 141 ∷ ((e0 i ++ []) ++ (e1 i ++ (e2 i ++ (e3 i ++ (e4 i ++ []))))) in
-    ap (λ l. 141 ∷ l) (five_first bytes enough)
+    ap (λ l. 141 ∷ l) (first_five bytes enough)
     ∙ ap (λ l. l ++ behind 5 bytes) (sym coded)
     ∙ ap (λ q. cell_code (part_content q) ++ behind 5 bytes) (sym part)
 
@@ -74,7 +53,7 @@ told_read place kind fact a s x last bytes part enough e0 e1 e2 e3 e4 e5 =
     ≡ 142 ∷ slice_index_or bytes 0 0 ∷ slice_index_or bytes 1 0 ∷ slice_index_or bytes 2 0 ∷ slice_index_or bytes 3 0
     ∷ slice_index_or bytes 4 0 ∷ slice_index_or bytes 5 0 ∷ [] =
     λ i. 142 ∷ ((e0 i ++ (e1 i ++ [])) ++ (e2 i ++ (e3 i ++ (e4 i ++ (e5 i ++ []))))) in
-    ap (λ l. 142 ∷ l) (six_first bytes enough)
+    ap (λ l. 142 ∷ l) (first_six bytes enough)
     ∙ ap (λ l. l ++ behind 6 bytes) (sym coded)
     ∙ ap (λ q. cell_code (part_content q) ++ behind 6 bytes) (sym part)
 
@@ -95,4 +74,4 @@ down_read a s p l mode bytes enough kind told e2 e3 e4 e5 e6 =
     ≡ 177 ∷ slice_index_or bytes 0 0 ∷ slice_index_or bytes 1 0 ∷ slice_index_or bytes 2 0 ∷ slice_index_or bytes 3 0
     ∷ slice_index_or bytes 4 0 ∷ slice_index_or bytes 5 0 ∷ slice_index_or bytes 6 0 ∷ [] =
     λ i. 177 ∷ kind i ∷ ((e1 i ++ []) ++ (e2 i ++ (e3 i ++ (e4 i ++ (e5 i ++ (e6 i ++ [])))))) in
-    ap (λ l. 177 ∷ l) (seven_first bytes enough) ∙ ap (λ l. l ++ behind 7 bytes) (sym coded)
+    ap (λ l. 177 ∷ l) (first_seven bytes enough) ∙ ap (λ l. l ++ behind 7 bytes) (sym coded)

@@ -15,7 +15,8 @@ use Rattle.tree_machine.specs.declared.machine.Outcome.{Outcome}
 use Rattle.tree_machine.specs.declared.machine.Outcome.TheVariants.{Goes, Replies, Astray}
 use Rattle.tree_machine.specs.declared.state.Thread.{Thread}
 use Rattle.tree_machine.specs.declared.state.State.{State}
-use Rattle.tree_machine.proofs.Pairs.{held_weaker, zip_weaker, zip_set, zip_get, if_paired, held_some, held_some_and}
+use Rattle.tree_machine.specs.Laws.Cells.{AllZip-weaker}
+use Rattle.tree_machine.proofs.Pairs.{held_weaker, zip_set, zip_get, if_paired, held_some, held_some_and}
 use Rattle.tree_machine.proofs.Pairs.{held_same, held_are_some, then_paired, map_paired}
 
 cons_same : {A : Type 0} (x y : A) (xs ys : List A) → x ∷ xs ≡ y ∷ ys → (x ≡ y) × (xs ≡ ys)
@@ -105,7 +106,7 @@ module _ {Machine Memory Place Form : Type 0} (rules : Rules Memory Place) where
     after_alike p t thread other memory changed (Goes goal) (Goes next) extend h z k both =
         from_threads both.then memory changed _ _ _ _ None both.memories_paired
         (zip_set _ state.threads twin.threads t _ _
-        (zip_weaker _ _ (threads_weaker _ _ (λ x y. extend both.then x y both.extends)) state.threads twin.threads
+        (AllZip-weaker _ _ (threads_weaker _ _ (λ x y. extend both.then x y both.extends)) state.threads twin.threads
         z)
         (record { place = both.outcomes_paired; replies = k.replies; notes = k.notes }))
     after_alike p t thread other memory changed (Replies reply) (Replies answer) extend h z k both =
@@ -113,7 +114,7 @@ module _ {Machine Memory Place Form : Type 0} (rules : Rules Memory Place) where
         let replies = k.replies in
         from_threads both.then memory changed _ _ _ _ None both.memories_paired
         (zip_set _ state.threads twin.threads t _ _
-        (zip_weaker _ _ (threads_weaker _ _ (λ x y. extend both.then x y both.extends)) state.threads twin.threads
+        (AllZip-weaker _ _ (threads_weaker _ _ (λ x y. extend both.then x y both.extends)) state.threads twin.threads
         z)
         (record { place = tt; replies = λ i. replies i ++ same i ∷ []; notes = k.notes }))
     after_alike p t thread other memory changed Astray Astray extend h z k both =

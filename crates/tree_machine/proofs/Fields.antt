@@ -1,10 +1,9 @@
 -- A field of each of several values in bytes.
 use Rattle.std.proofs.Common.{◌≡◌, ◌≤◌, ℕ, List, [], ◌∷◌, ◌++◌, length, map, take, refl, sym, ◌∙◌, ap}
 use Rattle.std.specs.List.{flat_map}
-use Rattle.std.proofs.lemmas.List.{length-map}
+use Rattle.std.proofs.lemmas.List.{length-map, take_all}
 use Rattle.std.proofs.lemmas.List.Concat.{flat_map-cons}
 use Rattle.tree_machine.specs.FormCode.{list_code}
-use Rattle.tree_machine.proofs.Lists.{take_whole}
 
 module _ {A B : Type 0} (code : B → List ℕ) (of : A → B) where
   flat_map-map : (xs : List A) → flat_map code (map of xs) ≡ flat_map (λ x. code (of x)) xs
@@ -18,6 +17,6 @@ module _ {A B : Type 0} (code : B → List ℕ) (of : A → B) where
       → after ≡ before ++ length xs ∷ flat_map (λ x. code (of x)) (take i xs)
       → after ≡ before ++ list_code code (map of xs)
   fields_coded xs i before after within put =
-      put ∙ (ap (λ ys. before ++ length xs ∷ flat_map (λ x. code (of x)) ys) (take_whole xs i within)
+      put ∙ (ap (λ ys. before ++ length xs ∷ flat_map (λ x. code (of x)) ys) (take_all i xs within)
       ∙ (ap (λ n. before ++ n ∷ flat_map (λ x. code (of x)) xs) (sym (length-map xs of))
       ∙ ap (λ l. before ++ length (map of xs) ∷ l) (sym (flat_map-map xs))))

@@ -7,6 +7,7 @@ use Rattle.std.specs.Option.{option_map}
 use Rattle.std.proofs.lemmas.List.{length-map}
 use Rattle.tree_machine.specs.Cells.{met, place_in, HasPlaces}
 use Rattle.tree_machine.specs.Numbered.{referred_to, HasNumbers}
+use Rattle.tree_machine.specs.declared.numbering.Numbering.{Numbering}
 use Rattle.std.proofs.lemmas.List.Elements.{All-append, All-from_recursion, recursion_from_All}
 use Rattle.tree_machine.specs.Laws.CellOrder.{IsOrder, all_has, met_order, length-order}
 use Rattle.tree_machine.proofs.Numbers.{met_new, met_present, place_seen, places_push}
@@ -61,25 +62,6 @@ number_seen order numbers x r h l e some =
     place_seen order (map referred_to numbers) x (r - 1) (referred_to r) h (within numbers x l)
     (ap referred_to e ∙ sym (get_map numbers x r)) (referred_some r some)
 
--- a cell without a number has no place
-pub unmet : (order numbers : List ℕ) (x : ℕ) → HasNumbers order numbers → x < length numbers
-    → slice_get numbers x ≡ Some 0 → place_in order x ≡ None
-unmet order numbers x h l e =
-    let at : slice_get (map referred_to numbers) x ≡ Some (place_in order x) = h x (within numbers x l) in
-    let none : slice_get (map referred_to numbers) x ≡ Some None =
-    slice_get_map numbers x ∙ ap (option_map referred_to) e in
-    cc
-
--- a cell that is met for the first time gets a number
-pub first_met : (order after numbers : List ℕ) (x n : ℕ) → HasNumbers order numbers → x < length numbers
-    → place_in order x ≡ None → n ≡ length order → after ≡ order ++ x ∷ [] → HasNumbers after (set numbers x (n + 1))
-first_met order after numbers x n h l e is_length is_after =
-    let next : suc (length order) ≡ n + 1 = omega (arith, is_length) in
-    subst (λ o. HasNumbers o (set numbers x (n + 1))) (sym is_after)
-    (subst (λ m. HasNumbers (order ++ x ∷ []) (set numbers x m)) next
-    (subst (HasPlaces (order ++ x ∷ [])) (sym (set_map numbers x (suc (length order))))
-    (places_push order (map referred_to numbers) x h (within numbers x l) e)))
-
 abbrev zeros : ℕ → List ℕ
 zeros n = replicate n 0
 
@@ -122,35 +104,58 @@ pub number_few : (order numbers : List ℕ) (x r : ℕ) → HasNumbers order num
 number_few order numbers x zero h l e few = omega arith
 number_few order numbers x (suc r) h l e few = number_small order numbers x (suc r) h l e (omega arith) few
 
--- ---- cells met for the first time, where there is room for all of them
+-- ---- a numbering, and a cell that it meets for the first time
 
-is_order : (order : List ℕ) (n : ℕ) → IsDistinct nat_eq order → All (λ y. y < n) order → IsOrder n order
-is_order order n d b =
-    record { distinct = d; below = all_has (λ y. y < n) order (recursion_from_All _ order b) }
+module _ (n : Numbering) where
+  is_order : IsOrder (length n.numbers.items) n.order.items
+  is_order = record {
+    distinct = n.distinct;
+    below = all_has (λ x. x < length n.numbers.items) n.order.items (recursion_from_All _ n.order.items n.known);
+  }
 
-pub order_short : (order : List ℕ) (n : ℕ) → IsDistinct nat_eq order → All (λ y. y < n) order → length order ≤ n
-order_short order n d b = length-order n order (is_order order n d b)
+  -- a byte is enough for the number of each
+  pub order_few : length n.order.items < 255
+  order_few = omega (arith, length-order (length n.numbers.items) n.order.items is_order, n.few)
 
--- one more cell is met
-next_order : (order after : List ℕ) (n x : ℕ) → IsDistinct nat_eq order → All (λ y. y < n) order → x < n
-    → place_in order x ≡ None → after ≡ order ++ x ∷ [] → IsOrder n after
-next_order order after n x d b l e is =
-    subst (IsOrder n) (sym (is ∙ met_new order x e)) (met_order n order x l (is_order order n d b))
+  module _ (x : ℕ) (known : x < length n.numbers.items) (absent : slice_get n.numbers.items x ≡ Some 0) where
+    -- a cell without a number has no place
+    pub unmet : place_in n.order.items x ≡ None
+    unmet =
+        let at : slice_get (map referred_to n.numbers.items) x ≡ Some (place_in n.order.items x) =
+        n.has_numbers x (within n.numbers.items x known) in
+        let none : slice_get (map referred_to n.numbers.items) x ≡ Some None =
+        slice_get_map n.numbers.items x ∙ ap (option_map referred_to) absent in
+        cc
 
-pub next_distinct : (order after : List ℕ) (n x : ℕ) → IsDistinct nat_eq order → All (λ y. y < n) order → x < n
-    → place_in order x ≡ None → after ≡ order ++ x ∷ [] → IsDistinct nat_eq after
-next_distinct order after n x d b l e is = (next_order order after n x d b l e is).distinct
+    module _ (after : List ℕ) (is : after ≡ n.order.items ++ x ∷ []) where
+      next_order : IsOrder (length n.numbers.items) after
+      next_order =
+          subst (IsOrder (length n.numbers.items)) (sym (is ∙ met_new n.order.items x unmet))
+          (met_order (length n.numbers.items) n.order.items x known is_order)
 
-pub next_below : (order after : List ℕ) (n m x : ℕ) → All (λ y. y < n) order → x < n → m ≡ n
-    → after ≡ order ++ x ∷ [] → All (λ y. y < m) after
-next_below order after n m x b l same is =
-    subst (λ k. All (λ y. y < k) after) (sym same)
-    (subst (All (λ y. y < n)) (sym is)
-    (All-append (λ y. y < n) order (x ∷ []) b (All-from_recursion (λ y. y < n) (x ∷ []) (l, tt))))
+      pub next_distinct : IsDistinct nat_eq after
+      next_distinct = next_order.distinct
 
--- a cell that is not met is one more than those that are
-pub order_room : (order : List ℕ) (n x : ℕ) → IsDistinct nat_eq order → All (λ y. y < n) order → x < n
-    → place_in order x ≡ None → length order < n
-order_room order n x d b l e =
-    let short = length-order n (order ++ x ∷ []) (next_order order (order ++ x ∷ []) n x d b l e refl) in
-    omega (arith, length-append order (x ∷ []), short)
+      pub next_known : (m : ℕ) → m ≡ length n.numbers.items → All (λ y. y < m) after
+      next_known m same =
+          subst (λ k. All (λ y. y < k) after) (sym same)
+          (subst (All (λ y. y < length n.numbers.items)) (sym is)
+          (All-append (λ y. y < length n.numbers.items) n.order.items (x ∷ []) n.known
+          (All-from_recursion (λ y. y < length n.numbers.items) (x ∷ []) (known, tt))))
+
+      -- it gets a number
+      pub next_numbers : (place : ℕ) → place ≡ length n.order.items → HasNumbers after (set n.numbers.items x (place + 1))
+      next_numbers place is_length =
+          let next : suc (length n.order.items) ≡ place + 1 = omega (arith, is_length) in
+          subst (λ o. HasNumbers o (set n.numbers.items x (place + 1))) (sym is)
+          (subst (λ m. HasNumbers (n.order.items ++ x ∷ []) (set n.numbers.items x m)) next
+          (subst (HasPlaces (n.order.items ++ x ∷ [])) (sym (set_map n.numbers.items x (suc (length n.order.items))))
+          (places_push n.order.items (map referred_to n.numbers.items) x n.has_numbers
+          (within n.numbers.items x known) unmet)))
+
+    -- it is one more than those that are met
+    pub order_room : length n.order.items < length n.numbers.items
+    order_room =
+        let after = n.order.items ++ x ∷ [] in
+        let short = length-order (length n.numbers.items) after (next_order after refl) in
+        omega (arith, length-append n.order.items (x ∷ []), short)

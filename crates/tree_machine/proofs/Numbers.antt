@@ -1,6 +1,6 @@
 -- Each cell's place as its number.
-use Rattle.std.proofs.Common.{◌≡◌, ℕ, zero, suc, ◌+◌, ◌<◌, ◌⊎◌, Bool, true, false, cond, List, [], ◌∷◌, ◌++◌, map}
-use Rattle.std.proofs.Common.{length, refl, sym, ◌∙◌, ap, subst, inl, inr, arith, get_or, set, take, length-set}
+use Rattle.std.proofs.Common.{◌≡◌, ℕ, suc, ◌+◌, ◌<◌, ◌⊎◌, Bool, true, false, cond, List, [], ◌∷◌, ◌++◌, map, length}
+use Rattle.std.proofs.Common.{refl, sym, ◌∙◌, ap, subst, inl, inr, get_or, set, take, length-set}
 use Rattle.std.specs.Prelude.{slice_get, Option, Some, None, nat_eq, IfSome}
 use Rattle.std.specs.List.{All, list_any}
 use Rattle.std.specs.Option.{option_map, option_and_then}
@@ -10,6 +10,7 @@ use Rattle.std.proofs.lemmas.List.{map_more}
 use Rattle.tree_machine.specs.Cells.{met, place_in, HasPlaces}
 use Rattle.tree_machine.specs.Laws.CellOrder.{has_itself}
 use Rattle.tree_machine.specs.Laws.CellPlaces.{place_from_has, get_place, has_at}
+use Rattle.tree_machine.proofs.Lists.{get-set_same, get-set_other}
 
 -- the number of a cell is its place
 pub number_is : (order : List ℕ) (numbers : List (Option ℕ)) (x : ℕ) (r : Option ℕ) → HasPlaces order numbers
@@ -54,18 +55,6 @@ place_push (z ∷ order) x y e =
     go rest (inr a) (inr b) (inl c) None h = rw (b.0, rest h, c.0) refl
     go rest (inr a) (inr b) (inr c) None h = rw (b.0, rest h, c.0) refl
 
-get_set_same : {X : Type 0} (xs : List X) (i : ℕ) (v : X) → i < length xs → slice_get (set xs i v) i ≡ Some v
-get_set_same [] i v l = absurd (omega arith)
-get_set_same (x ∷ xs) zero v l = refl
-get_set_same (x ∷ xs) (suc i) v l = get_set_same xs i v (omega arith)
-
-get_set_other : {X : Type 0} (xs : List X) (i k : ℕ) (v : X) → (k ≡ i → ⊥) → slice_get (set xs i v) k ≡ slice_get xs k
-get_set_other [] i k v l = refl
-get_set_other (x ∷ xs) zero zero v l = absurd (l refl)
-get_set_other (x ∷ xs) zero (suc k) v l = refl
-get_set_other (x ∷ xs) (suc i) zero v l = refl
-get_set_other (x ∷ xs) (suc i) (suc k) v l = get_set_other xs i k v (λ e. l (ap suc e))
-
 -- a cell at the end gets its place as its number
 pub places_push : (order : List ℕ) (numbers : List (Option ℕ)) (x : ℕ) → HasPlaces order numbers → x < length numbers
     → place_in order x ≡ None → HasPlaces (order ++ x ∷ []) (set numbers x (Some (length order)))
@@ -75,9 +64,9 @@ places_push order numbers x h l e k m = go (eqb_tells k x)
         → slice_get (set numbers x (Some (length order))) k ≡ Some (place_in (order ++ x ∷ []) k)
     go (inl t) =
         subst (λ j. slice_get (set numbers x (Some (length order))) j ≡ Some (Some (length order))) (sym t.1)
-        (get_set_same numbers x (Some (length order)) l)
+        (get-set_same numbers x (Some (length order)) l)
         ∙ ap Some (sym (place_push order x k e ∙ ap (λ b. cond b (Some (length order)) (place_in order k)) t.0))
-    go (inr t) = get_set_other numbers x k (Some (length order)) t.1
+    go (inr t) = get-set_other numbers x k (Some (length order)) t.1
         ∙ (h k (subst (λ n. k < n) (length-set numbers x (Some (length order))) m)
         ∙ ap Some (sym (place_push order x k e ∙ ap (λ b. cond b (Some (length order)) (place_in order k)) t.0)))
 

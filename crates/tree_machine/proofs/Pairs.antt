@@ -14,13 +14,6 @@ module _ {A : Type 0} where
   held_weaker P Q h (Some x) None k = absurd k
   held_weaker P Q h (Some x) (Some y) k = h x y k
 
-  pub zip_weaker : (P Q : A → A → Type 0) → ((x y : A) → P x y → Q x y) → (xs ys : List A) → AllZip P xs ys
-      → AllZip Q xs ys
-  zip_weaker P Q h [] [] z = tt
-  zip_weaker P Q h [] (y ∷ ys) z = absurd z
-  zip_weaker P Q h (x ∷ xs) [] z = absurd z
-  zip_weaker P Q h (x ∷ xs) (y ∷ ys) z = (h x y z.0, zip_weaker P Q h xs ys z.1)
-
   pub zip_set : (P : A → A → Type 0) (xs ys : List A) (t : ℕ) (a b : A) → AllZip P xs ys → P a b
       → AllZip P (slice_set xs t a) (slice_set ys t b)
   zip_set P [] [] t a b z p = tt

@@ -1,12 +1,12 @@
 -- Parts that are written one behind the other.
 use Rattle.std.proofs.Common.{◌≡◌, ℕ, zero, suc, ◌+◌, ◌-◌, ◌<◌, ◌≤◌, List, [], ◌∷◌, ◌++◌, map, length, take, drop}
-use Rattle.std.proofs.Common.{refl, sym, ◌∙◌, ap, subst, arith, append_assoc, append-nil, add-one}
+use Rattle.std.proofs.Common.{refl, sym, ◌∙◌, ap, subst, arith, append_assoc, append-nil, add-one, length-take}
+use Rattle.std.proofs.Common.{length-drop}
 use Rattle.std.specs.Prelude.{slice_get, Some}
-use Rattle.std.specs.List.{All, AllByRecursion}
+use Rattle.std.specs.List.{All}
 use Rattle.std.proofs.lemmas.Grind.{flat_map-append}
-use Rattle.std.proofs.lemmas.List.{map-append, length-map}
+use Rattle.std.proofs.lemmas.List.{map-append, length-map, drop-map, take-map, take_all}
 use Rattle.std.proofs.lemmas.List.Concat.{flat_map-cons}
-use Rattle.std.proofs.lemmas.List.Elements.{recursion_from_All, All-from_recursion}
 use Rattle.tree_machine.specs.Canonical.{parts_by, renamed_part}
 use Rattle.tree_machine.specs.Graphs.{numbers_from}
 use Rattle.tree_machine.specs.Parts.{Part, Parts, ArePartsInRange, part_at}
@@ -16,7 +16,7 @@ use Rattle.tree_machine.specs.Laws.OwnParts.{own_held, own_nodes, own_records}
 use Rattle.tree_machine.specs.Flat.{all_front, behind_code, cell_code, flat, number_code, part_codes, part_content}
 use Rattle.tree_machine.specs.Flat.{graph_code, left_code, parts_code}
 use Rattle.tree_machine.specs.Written.{Written, renamed_by, with_bytes, with_part}
-use Rattle.tree_machine.proofs.Lists.{take_whole}
+use Rattle.tree_machine.proofs.Lists.{take_at}
 
 -- the elements from one place to another, and one more
 pub taken_more : {X : Type 0} (xs : List X) (start place : ℕ) (x : X) → start ≤ place → slice_get xs place ≡ Some x
@@ -25,39 +25,14 @@ taken_more {X} xs start place x l e =
     let more : place + 1 - start ≡ suc (place - start) = omega arith in
     let is : start + (place - start) ≡ place = omega arith in
     ap (λ k. take k (drop start xs)) more
-    ∙ one_more (drop start xs) (place - start) (dropped xs start (place - start) (ap (slice_get xs) is ∙ e))
+    ∙ take_at (drop start xs) (place - start) x (dropped xs start (place - start) (ap (slice_get xs) is ∙ e))
   where
-    one_more : (ys : List X) (n : ℕ) → slice_get ys n ≡ Some x → take (suc n) ys ≡ take n ys ++ x ∷ []
-    one_more [] n e = cc
-    one_more (y ∷ ys) zero e = let same : y ≡ x = cc in ap (λ z. z ∷ []) same
-    one_more (y ∷ ys) (suc n) e = ap (λ l. y ∷ l) (one_more ys n e)
-
     dropped : (ys : List X) (n m : ℕ) → slice_get ys (n + m) ≡ Some x → slice_get (drop n ys) m ≡ Some x
     dropped [] n m e = cc
     dropped (y ∷ ys) zero m e = let same : 0 + m ≡ m = omega arith in ap (slice_get (y ∷ ys)) (sym same) ∙ e
     dropped (y ∷ ys) (suc n) m e =
         let same : suc n + m ≡ suc (n + m) = omega arith in
         dropped ys n m (sym (ap (slice_get (y ∷ ys)) same) ∙ e)
-
--- no elements yet
-pub taken_none : {X : Type 0} (xs : List X) (start : ℕ) → take (start - start) (drop start xs) ≡ []
-taken_none xs start =
-    let none : start - start ≡ 0 = omega arith in ap (λ k. take k (drop start xs)) none ∙ go (drop start xs)
-  where
-    go : {X : Type 0} (ys : List X) → take 0 ys ≡ []
-    go [] = refl
-    go (y ∷ ys) = refl
-
--- what stands before a place of a list has what all before it have
-pub taken_has : (P : ℕ → Type 0) (xs : List ℕ) (count i x : ℕ) → All P (take count xs) → i < count
-    → slice_get xs i ≡ Some x → P x
-taken_has P xs count i x h l e = go xs count i (recursion_from_All P (take count xs) h) l e
-  where
-    go : (ys : List ℕ) (count i : ℕ) → AllByRecursion P (take count ys) → i < count → slice_get ys i ≡ Some x → P x
-    go [] count i h l e = cc
-    go (y ∷ ys) zero i h l e = absurd (omega arith)
-    go (y ∷ ys) (suc count) zero h l e = let same : y ≡ x = cc in rw (sym same) h.0
-    go (y ∷ ys) (suc count) (suc i) h l e = go ys count i h.1 (omega arith) e
 
 -- one part more of a list
 pub part_next : (ps : List Part) (n : ℕ) → n < length ps → take (n + 1) ps ≡ take n ps ++ part_at ps n ∷ []
@@ -121,43 +96,14 @@ graph_written old w1 w2 w3 w4 a b n m k l f g ea eb h1 h2 h3 h4 =
 
 -- ---- what is left behind a front
 
-pub drop_map : {X Y : Type 0} (f : X → Y) (n : ℕ) (xs : List X) → drop n (map f xs) ≡ map f (drop n xs)
-drop_map f zero [] = refl
-drop_map f zero (x ∷ xs) = refl
-drop_map f (suc n) [] = refl
-drop_map f (suc n) (x ∷ xs) = drop_map f n xs
-
-pub take_map : {X Y : Type 0} (f : X → Y) (n : ℕ) (xs : List X) → take n (map f xs) ≡ map f (take n xs)
-take_map f zero [] = refl
-take_map f zero (x ∷ xs) = refl
-take_map f (suc n) [] = refl
-take_map f (suc n) (x ∷ xs) = ap (λ l. f x ∷ l) (take_map f n xs)
-
-pub length_drop : {X : Type 0} (n : ℕ) (xs : List X) → length (drop n xs) ≡ length xs - n
-length_drop zero [] = omega arith
-length_drop zero (x ∷ xs) = omega arith
-length_drop (suc n) [] = omega arith
-length_drop (suc n) (x ∷ xs) = length_drop n xs ∙ omega arith
-
 pub length_take_drop : {X : Type 0} (n m : ℕ) (xs : List X) → n ≤ m → m ≤ length xs
     → m - n ≡ length (take (m - n) (drop n xs))
-length_take_drop n m xs l k = omega (arith, length_take (m - n) (drop n xs), length_drop n xs)
-  where
-    length_take : {X : Type 0} (k : ℕ) (ys : List X) → k ≤ length ys → length (take k ys) ≡ k
-    length_take zero [] h = refl
-    length_take zero (y ∷ ys) h = refl
-    length_take (suc k) [] h = absurd (omega arith)
-    length_take (suc k) (y ∷ ys) h = ap suc (length_take k ys (omega arith))
+length_take_drop n m xs l k = omega (arith, length-take (m - n) (drop n xs), length-drop n xs)
 
 left_some : (ns rs : List Part) → 0 < length ns + length rs → left_code ns rs ≡ graph_code ns rs
 left_some [] [] l = absurd (omega arith)
 left_some [] (r ∷ rs) l = refl
 left_some (n ∷ ns) rs l = refl
-
-left_none : (ns rs : List Part) → length ns + length rs ≡ 0 → left_code ns rs ≡ []
-left_none [] [] l = refl
-left_none [] (r ∷ rs) l = absurd (omega arith)
-left_none (n ∷ ns) rs l = absurd (omega arith)
 
 module _ (old w1 : Written) (held : List Part) (fn fr : ℕ) (f g : ℕ → Part)
     (put : w1 ≡ with_bytes old (part_codes held)) where
@@ -170,13 +116,13 @@ module _ (old w1 : Written) (held : List Part) (fn fr : ℕ) (f g : ℕ → Part
   nodes_long : length nodes ≡ length old.node_order - fn
   unfolding nodes
   nodes_long =
-      length_drop fn (map (λ x. renamed_by old (f x)) old.node_order)
+      length-drop fn (map (λ x. renamed_by old (f x)) old.node_order)
       ∙ ap (λ n. n - fn) (length-map old.node_order (λ x. renamed_by old (f x)))
 
   records_long : length records ≡ length old.record_order - fr
   unfolding records
   records_long =
-      length_drop fr (map (λ x. renamed_by old (g x)) old.record_order)
+      length-drop fr (map (λ x. renamed_by old (g x)) old.record_order)
       ∙ ap (λ n. n - fr) (length-map old.record_order (λ x. renamed_by old (g x)))
 
   -- what is left behind a front is written
@@ -194,13 +140,13 @@ module _ (old w1 : Written) (held : List Part) (fn fr : ℕ) (f g : ℕ → Part
       let all_nodes : map (λ x. renamed_by old (f x)) (take (n - fn) (drop fn old.node_order))
       ≡ drop fn (map (λ x. renamed_by old (f x)) old.node_order) =
       ap (map (λ x. renamed_by old (f x)))
-      (take_whole (drop fn old.node_order) (n - fn) (omega (arith, length_drop fn old.node_order, en2)))
-      ∙ sym (drop_map (λ x. renamed_by old (f x)) fn old.node_order) in
+      (take_all (n - fn) (drop fn old.node_order) (omega (arith, length-drop fn old.node_order, en2)))
+      ∙ sym (drop-map (λ x. renamed_by old (f x)) fn old.node_order) in
       let all_records : map (λ x. renamed_by old (g x)) (take (r - fr) (drop fr old.record_order))
       ≡ drop fr (map (λ x. renamed_by old (g x)) old.record_order) =
       ap (map (λ x. renamed_by old (g x)))
-      (take_whole (drop fr old.record_order) (r - fr) (omega (arith, length_drop fr old.record_order, er2)))
-      ∙ sym (drop_map (λ x. renamed_by old (g x)) fr old.record_order) in
+      (take_all (r - fr) (drop fr old.record_order) (omega (arith, length-drop fr old.record_order, er2)))
+      ∙ sym (drop-map (λ x. renamed_by old (g x)) fr old.record_order) in
       let left = left_some nodes records (omega (arith, nodes_long, records_long, en2, er2, some)) in
       h ∙ ap (λ (w : Written). with_bytes w (graph_code
       (map (λ x. renamed_by w (f x)) (take (n - fn) (drop fn w.node_order)))
@@ -212,24 +158,12 @@ module _ (old w1 : Written) (held : List Part) (fn fr : ℕ) (f g : ℕ → Part
       ∙ (λ i. with_bytes old (part_codes held ++ graph_code (all_nodes i) (all_records i)))
       ∙ ap (λ l. with_bytes old (part_codes held ++ l)) (sym left)
 
-  -- where none is left, nothing is
-  pub none_written : (n r : ℕ) → n ≡ length w1.node_order → r ≡ length w1.record_order → n ≤ fn → r ≤ fr
-      → w1 ≡ with_bytes old (part_codes held
-      ++ left_code (drop fn (map (λ x. renamed_by old (f x)) old.node_order))
-      (drop fr (map (λ x. renamed_by old (g x)) old.record_order)))
-  unfolding nodes records
-  none_written n r en er few less =
-      let en2 : n ≡ length old.node_order = en ∙ ap (λ (w : Written). length w.node_order) put in
-      let er2 : r ≡ length old.record_order = er ∙ ap (λ (w : Written). length w.record_order) put in
-      let left = left_none nodes records (omega (arith, nodes_long, records_long, en2, er2, few, less)) in
-      put ∙ ap (λ l. with_bytes old l) (sym (append-nil (part_codes held)) ∙ ap (λ l. part_codes held ++ l) (sym left))
-
 -- ---- whole codes
 
 from_none : {X Y : Type 0} (f : X → Y) (n : ℕ) (xs : List X) → map f (take (n - 0) (drop 0 xs)) ≡ take n (map f xs)
 from_none f n xs =
     let same : n - 0 ≡ n = omega arith in
-    (λ i. map f (take (same i) (none xs i))) ∙ sym (take_map f n xs)
+    (λ i. map f (take (same i) (none xs i))) ∙ sym (take-map f n xs)
   where
     none : {X : Type 0} (xs : List X) → drop 0 xs ≡ xs
     none [] = refl
@@ -324,15 +258,6 @@ module _ (k fixed : ℕ) (s : Parts) (range : ArePartsInRange fixed s) (nodes_fe
       ∙ append_assoc b F (part_codes (map (renamed_part order order) s.held))
       ∙ (λ i. b ++ (graph_code (nodes i) (records i) ++ part_codes (held i)))
       ∙ ap (λ l. b ++ l) (sym (own_parts_code s))
-
-pub taken_all : (P : ℕ → Type 0) (n : ℕ) (xs : List ℕ) → AllByRecursion P xs → All P (take n xs)
-taken_all P n xs h = All-from_recursion P (take n xs) (go n xs h)
-  where
-    go : (n : ℕ) (xs : List ℕ) → AllByRecursion P xs → AllByRecursion P (take n xs)
-    go zero [] h = tt
-    go zero (x ∷ xs) h = tt
-    go (suc n) [] h = tt
-    go (suc n) (x ∷ xs) h = (h.0, go n xs h.1)
 
 pub own_taken : (n k : ℕ) → n ≤ k → All (λ x. x < n) (take n (numbers_from 0 k))
 own_taken n k l =

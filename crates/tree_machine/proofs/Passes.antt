@@ -20,8 +20,9 @@ use Rattle.tree_machine.specs.Laws.CellLists.{numbers_all}
 use Rattle.tree_machine.specs.Flat.{number_code, reference_number, facts_code, cell_code, part_content}
 use Rattle.tree_machine.specs.Written.{name_code}
 use Rattle.tree_machine.specs.Laws.CellSteps.{same_tests}
-use Rattle.tree_machine.proofs.AllCells.{is_other}
-use Rattle.tree_machine.proofs.Ranked.{is_false, not_before, take_at}
+use Rattle.tree_machine.specs.Laws.CellSteps.{is_other}
+use Rattle.tree_machine.proofs.Ranked.{is_false, not_before}
+use Rattle.tree_machine.proofs.Lists.{take_at}
 use Rattle.std.proofs.lemmas.List.Folds.{list_any-append}
 use Rattle.std.proofs.lemmas.Option.{slice_get-get_or}
 

@@ -12,11 +12,7 @@ use Rattle.tree_machine.specs.Canonical.{nodes_met, records_met}
 use Rattle.tree_machine.specs.Laws.CellOrder.{Has, Extends, get_extends}
 use Rattle.tree_machine.specs.Laws.CellPlaces.{place_at, place_from_has, get_place}
 use Rattle.tree_machine.specs.Laws.MetLists.{record_has}
-
-pub take_at : (xs : List ℕ) (n x : ℕ) → slice_get xs n ≡ Some x → take (suc n) xs ≡ take n xs ++ x ∷ []
-take_at [] n x e = cc
-take_at (y ∷ xs) zero x e = let same : y ≡ x = cc in ap (λ z. z ∷ []) same
-take_at (y ∷ xs) (suc n) x e = ap (λ l. y ∷ l) (take_at xs n x e)
+use Rattle.tree_machine.proofs.Lists.{take_at}
 
 front : (n : ℕ) (xs : List ℕ) → Extends (take n xs) xs
 front zero [] = record { rest = []; is = refl }
@@ -84,12 +80,6 @@ module _ (low count : ℕ) (xs : List ℕ) (distinct : IsDistinct nat_eq xs) whe
       ∙ sym (filter-append p (take n xs) (x ∷ [])))
       ∙ ap (records_met low count) (sym (take_at xs n x at))
       ∙ ap (λ k. records_met low count (take k xs)) (sym (add-one n))
-
-pub below_range : (low count x : ℕ) → x < low → (nat_le low x && nat_lt x (low + count)) ≡ false
-below_range low count x l = grind (arith, nat_tests)
-
-pub above_range : (low count x : ℕ) → low + count ≤ x → (nat_le low x && nat_lt x (low + count)) ≡ false
-above_range low count x l = grind (arith, nat_tests)
 
 -- the nodes stand in the range from 0 on
 pub nodes_ranked : (n : ℕ) (order : List ℕ) → records_met 0 n order ≡ nodes_met n order

@@ -1,46 +1,26 @@
--- What each clause of a step asks, where the thread has no step and where it has one; and what an access makes.
+-- The step of a thread, what an access makes, and the next operation of a thread.
 use Rattle.std.proofs.Common.{◌≡◌, ℕ, ◌+◌, List, Option, Some, None, true, false, is_some, sym}
 use Rattle.std.proofs.Common.{ap, ◌∙◌, refl, slice_set, slice_get, length, if◌then◌else◌}
 use Rattle.std.specs.Option.{option_map, option_map_or, option_and_then}
-use Rattle.std.specs.Prelude.{IsErrOf, ◌↔◌, Ok, nat_le}
+use Rattle.std.specs.Prelude.{nat_le}
 use Rattle.sched_program.specs.Program.{Program, op_at, after_at}
 use Rattle.sched_program.specs.declared.operation.Op.{Op}
 use Rattle.tree_machine.specs.Rules.{Rules}
-use Rattle.tree_machine.specs.Step.{ready, step, stepped, after_access, IsEnabled, is_met, is_due, next_op}
-use Rattle.tree_machine.specs.Step.{finished_counts, place_or, notes_at_step, after_outcome, astray_by}
+use Rattle.tree_machine.specs.Step.{ready, step, stepped, after_access, is_met, is_due, next_op}
+use Rattle.tree_machine.specs.Step.{finished_counts, place_or, notes_at_step, after_outcome, astray_by, with_note}
 use Rattle.tree_machine.specs.declared.machine.Outcome.{Outcome}
 use Rattle.tree_machine.specs.declared.machine.Outcome.TheVariants.{Goes, Replies, Astray}
 use Rattle.tree_machine.specs.declared.state.Thread.{Thread}
 use Rattle.tree_machine.specs.declared.state.State.{State}
 use Rattle.tree_machine.proofs.Lists.{map-get}
 
-module _ {Machine Memory Place Form : Type 0} (rules : Rules Memory Place) (program : Program)
-    (state : State Machine Memory Place Form) (t : ℕ) where
-  module _ (none : ready program state t ≡ None) where
-    pub none_enabled : IsEnabled program state t → ⊥
-    none_enabled enabled = let e : false ≡ true = sym (ap is_some none) ∙ enabled in cc
-
-    pub none_stepped : step rules program state t ≡ None
-    none_stepped = ap (λ r. option_map (λ (thread, op). stepped rules state t op thread) r) none
-
-  module _ (thread : Thread Place) (op : Op) (is : ready program state t ≡ Some (thread, op)) where
-    pub one_enabled : IsEnabled program state t
-    one_enabled = ap is_some is
-
-    pub one_stepped : (next : State Machine Memory Place Form) → next ≡ stepped rules state t op thread
-        → step rules program state t ≡ Some next
-    one_stepped next made =
-        ap (λ r. option_map (λ (thread, op). stepped rules state t op thread) r) is ∙ ap Some (sym made)
-
-    -- where there is a step, it is not refused
-    pub one_not_refused : {R E : Type 0} (next : R) (fault : E)
-        → IsErrOf (Ok next) fault ↔ ¬ IsEnabled program state t
-    one_not_refused next fault = ((λ h _. cc), (λ no. absurd (no one_enabled)))
-
-    pub one_not_none : {R E : Type 0} (next : R) (fault : E)
-        → IsErrOf (Ok next) fault ↔ (step rules program state t ≡ None)
-    one_not_none next fault =
-        ((λ h. absurd cc), (λ none. let e = one_stepped (stepped rules state t op thread) refl in absurd cc))
+-- the step that a ready thread makes
+pub one_stepped : {Machine Memory Place Form : Type 0} (rules : Rules Memory Place) (program : Program)
+    (state : State Machine Memory Place Form) (t : ℕ) (thread : Thread Place) (op : Op)
+    → ready program state t ≡ Some (thread, op) → (next : State Machine Memory Place Form)
+    → next ≡ stepped rules state t op thread → step rules program state t ≡ Some next
+one_stepped rules program state t thread op is next made =
+    ap (λ r. option_map (λ (thread, op). stepped rules state t op thread) r) is ∙ ap Some (sym made)
 
 module _ {Machine Memory Place Form : Type 0} (state : State Machine Memory Place Form) (t : ℕ) where
   -- the state that an access makes, by what comes of it
@@ -63,22 +43,35 @@ module _ {Machine Memory Place Form : Type 0} (state : State Machine Memory Plac
         astray = Some t;
       }
 
-  -- what an access leaves, with the thread moved on by its outcome, is the state one step on
-  pub step_made : (rules : Rules Memory Place) (op : Op) (thread after : Thread Place) (place : Place) (memory : Memory)
-      (outcome : Outcome Place) (threads : List (Thread Place)) (astray : Option ℕ)
-      → place ≡ place_or thread.place (rules.first op) → rules.act op place state.memory ≡ (memory, outcome)
+  -- what an access leaves, with the thread moved on in a copy of the threads, is the state one step on
+  pub step_made : {after found : Thread Place} {threads copies counted : List (Thread Place)} {from : ℕ} {astray : Option ℕ}
+      (rules : Rules Memory Place) (op : Op) (thread : Thread Place) (place : Place) (memory : Memory)
+      (outcome : Outcome Place) (note : Option (List ℕ)) → place ≡ place_or thread.place (rules.first op)
+      → rules.act op place state.memory ≡ (memory, outcome)
       → ((rules.act op place state.memory).1 ≡ Astray → (rules.act op place state.memory).0 ≡ state.memory)
       → after ≡ after_outcome (record {
-        replies = thread.replies;
+        replies = found.replies;
         place = Some place;
-        notes = notes_at_step thread.place thread.notes (finished_counts state.threads);
+        notes = with_note found.notes note;
       }) outcome
-      → threads ≡ slice_set state.threads t after → astray ≡ astray_by t outcome
+      → found ≡ thread
+      → with_note thread.notes note ≡ notes_at_step thread.place thread.notes (finished_counts counted)
+      → counted ≡ state.threads → threads ≡ slice_set copies from after → copies ≡ state.threads → from ≡ t
+      → astray ≡ astray_by t outcome
       → ◌≡◌ {A = State Machine Memory Place Form}
       (record { memory = memory; threads = threads; steps = state.steps + 1; astray = astray })
       (stepped rules state t op thread)
-  step_made rules op thread after place memory outcome threads astray is acted unchanged a ts s =
+  step_made {after} {threads = threads} {astray = astray} rules op thread place memory outcome note is acted unchanged moved
+      found noted counted set copied from s =
       let notes = notes_at_step thread.place thread.notes (finished_counts state.threads) in
+      let a : after ≡ after_outcome (record { replies = thread.replies; place = Some place; notes = notes }) outcome =
+      moved ∙ (λ i. after_outcome (record {
+        replies = (found i).replies;
+        place = Some place;
+        notes = with_note (found i).notes note;
+      }) outcome) ∙ ap (λ n. after_outcome (record { replies = thread.replies; place = Some place; notes = n }) outcome)
+      (noted ∙ ap (λ ts. notes_at_step thread.place thread.notes (finished_counts ts)) counted) in
+      let ts = set ∙ (λ i. slice_set (copied i) (from i) after) in
       let at : Place → Thread Place = λ p. record { replies = thread.replies; place = Some p; notes = notes } in
       let told : ◌≡◌ {A = State Machine Memory Place Form}
       (record { memory = memory; threads = threads; steps = state.steps + 1; astray = astray })

@@ -30,9 +30,9 @@ stack_all P Q refs stack f h =
     ahead (r ∷ refs) h = ahead refs h.1
 
 -- each part names nodes and records that there are
-pub part_below : (n m i j : ℕ) (parts : List Part) (x : ℕ) → i ≡ n → j ≡ m → All (IsPartBelow n m) parts
+pub part_below : {n m i j : ℕ} (parts : List Part) (x : ℕ) → i ≡ n → j ≡ m → All (IsPartBelow n m) parts
     → IsPartBelow i j (part_at parts x)
-part_below n m i j parts x e f h =
+part_below {n} {m} {i} {j} parts x e f h =
     subst (λ a. IsPartBelow a j (part_at parts x)) (sym e)
     (subst (λ b. IsPartBelow n b (part_at parts x)) (sym f) (go parts x (recursion_from_All _ parts h)))
   where

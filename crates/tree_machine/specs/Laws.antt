@@ -12,6 +12,8 @@ pub mod CellSteps
 pub mod CellWalks
 pub mod Cells
 pub mod Codes
+pub mod FieldsExact
+pub mod FirstBytes
 pub mod Flat
 pub mod Decoded
 pub mod FormCode
@@ -21,7 +23,6 @@ pub mod InitialKeys
 pub mod MetLists
 pub mod OwnParts
 pub mod Packed
-pub mod PairLists
 pub mod PartCells
 pub mod PartsBy
 pub mod ReadParts

@@ -75,8 +75,7 @@ impl<M: Encode> State<M> {
 
     /// The label of a state of a program: by own numbers its whole code, and else that of its form, in the layout of
     /// the code of a whole state of no steps. It is written in a buffer that is used again for each state, and copied
-    /// into
-    /// `spare`. If `spare` is too short, it allocates no more than the length of the label.
+    /// into `spare`. If `spare` is too short, it allocates no more than the length of the label.
     pub fn label(
         &self,
         alloc: Global,

@@ -3,6 +3,7 @@ use Rattle.std.specs.Prelude.{◌≡◌, refl}
 use Rattle.std.proofs.Common.{ap}
 use Rattle.sched_program.specs.Exact.{IsExact}
 use Rattle.sched_program.specs.Laws.Exact.{nat_exact, bool_exact, list_exact, option_exact, both}
+use Rattle.tree_machine.specs.Laws.FieldsExact.{two_fields, three_fields, four_fields}
 use Rattle.tree_machine.specs.Laws.SideExact.{side_exact}
 use Rattle.ellen.specs.contracts.machine.EllenPartialEq.TheImpl.{eq-value as machine_eq}
 use Rattle.ellen.specs.contracts.memory.UpdateWordPartialEq.TheImpl.{eq-value as word_eq}
@@ -44,14 +45,7 @@ word_exact a b h = cc
 pub node_exact : IsExact node_eq.it
 node_exact (Leaf k) (Leaf j) h = ap Leaf (nat_exact k j h)
 node_exact (Internal k u l r) (Internal j v x y) h =
-    let t = both _ _ h in
-    let s = both _ _ t.1 in
-    let q = both _ _ s.1 in
-    let key : k ≡ j = nat_exact k j t.0 in
-    let update : u ≡ v = word_exact u v s.0 in
-    let left : l ≡ x = nat_exact l x q.0 in
-    let right : r ≡ y = nat_exact r y q.1 in
-    λ i. Internal (key i) (update i) (left i) (right i)
+    four_fields nat_exact word_exact nat_exact nat_exact Internal k j u v l x r y h
 node_exact a b h = cc
 
 pub insert_exact : IsExact insert_eq.it
@@ -107,39 +101,13 @@ resume_exact a b h =
     λ i. record { stack = stack i; base = base i }
 
 pub search_exact : IsExact search_eq.it
-search_exact (Update a p) (Update b q) h =
-    let t = both _ _ h in
-    let above : a ≡ b = option_exact above_exact a b t.0 in
-    let parent : p ≡ q = nat_exact p q t.1 in
-    λ i. Update (above i) (parent i)
+search_exact (Update a p) (Update b q) h = two_fields (option_exact above_exact) nat_exact Update a b p q h
 search_exact (Child a p u) (Child b q v) h =
-    let t = both _ _ h in
-    let s = both _ _ t.1 in
-    let above : a ≡ b = option_exact above_exact a b t.0 in
-    let parent : p ≡ q = nat_exact p q s.0 in
-    let update : u ≡ v = word_exact u v s.1 in
-    λ i. Child (above i) (parent i) (update i)
-search_exact (IFlag p u l) (IFlag q v k) h =
-    let t = both _ _ h in
-    let s = both _ _ t.1 in
-    let parent : p ≡ q = nat_exact p q t.0 in
-    let update : u ≡ v = word_exact u v s.0 in
-    let leaf : l ≡ k = nat_exact l k s.1 in
-    λ i. IFlag (parent i) (update i) (leaf i)
-search_exact (InsOnly p l) (InsOnly q k) h =
-    let t = both _ _ h in
-    let parent : p ≡ q = nat_exact p q t.0 in
-    let leaf : l ≡ k = nat_exact l k t.1 in
-    λ i. InsOnly (parent i) (leaf i)
+    three_fields (option_exact above_exact) nat_exact word_exact Child a b p q u v h
+search_exact (IFlag p u l) (IFlag q v k) h = three_fields nat_exact word_exact nat_exact IFlag p q u v l k h
+search_exact (InsOnly p l) (InsOnly q k) h = two_fields nat_exact nat_exact InsOnly p q l k h
 search_exact (DFlag a p u l) (DFlag b q v k) h =
-    let t = both _ _ h in
-    let s = both _ _ t.1 in
-    let r = both _ _ s.1 in
-    let above : a ≡ b = above_exact a b t.0 in
-    let parent : p ≡ q = nat_exact p q s.0 in
-    let update : u ≡ v = word_exact u v r.0 in
-    let leaf : l ≡ k = nat_exact l k r.1 in
-    λ i. DFlag (above i) (parent i) (update i) (leaf i)
+    four_fields above_exact nat_exact word_exact nat_exact DFlag a b p q u v l k h
 search_exact a b h = cc
 
 pub help_exact : IsExact help_eq.it
@@ -147,25 +115,13 @@ help_exact (InsChild r) (InsChild s) h = ap InsChild (nat_exact r s h)
 help_exact (InsClean r) (InsClean s) h = ap InsClean (nat_exact r s h)
 help_exact (Mark r) (Mark s) h = ap Mark (nat_exact r s h)
 help_exact (Right r) (Right s) h = ap Right (nat_exact r s h)
-help_exact (Other r d) (Other s e) h =
-    let t = both _ _ h in
-    let number : r ≡ s = nat_exact r s t.0 in
-    let side : d ≡ e = side_exact d e t.1 in
-    λ i. Other (number i) (side i)
-help_exact (Splice r c) (Splice s d) h =
-    let t = both _ _ h in
-    let number : r ≡ s = nat_exact r s t.0 in
-    let other : c ≡ d = nat_exact c d t.1 in
-    λ i. Splice (number i) (other i)
+help_exact (Other r d) (Other s e) h = two_fields nat_exact side_exact Other r s d e h
+help_exact (Splice r c) (Splice s d) h = two_fields nat_exact nat_exact Splice r s c d h
 help_exact (DelClean r) (DelClean s) h = ap DelClean (nat_exact r s h)
 help_exact (Back r) (Back s) h = ap Back (nat_exact r s h)
 help_exact a b h = cc
 
 pub place_exact : IsExact place_eq.it
 place_exact (Search a) (Search b) h = ap Search (search_exact a b h)
-place_exact (Help a r) (Help b s) h =
-    let t = both _ _ h in
-    let at : a ≡ b = help_exact a b t.0 in
-    let resume : r ≡ s = resume_exact r s t.1 in
-    λ i. Help (at i) (resume i)
+place_exact (Help a r) (Help b s) h = two_fields help_exact resume_exact Help a b r s h
 place_exact a b h = cc

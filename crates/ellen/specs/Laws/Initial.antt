@@ -1,13 +1,16 @@
 -- The initial memory has its numbers in range and keeps search order.
-use Rattle.std.specs.Prelude.{◌≡◌, ◌≢◌, ℕ, zero, suc, ◌+◌, ◌<◌, ◌≤◌, min, max, Bool, true, false, if◌then◌else◌, nat_lt}
-use Rattle.std.specs.Prelude.{List, [], ◌∷◌, ◌++◌, length, fold, refl, Option, Some, None, unwrap_or, slice_get}
-use Rattle.std.specs.Prelude.{slice_set, All}
+use Rattle.std.specs.Prelude.{◌≡◌, ◌≢◌, ℕ, zero, suc, ◌+◌, ◌<◌, ◌≤◌, min, max, Bool, true, false, if◌then◌else◌}
+use Rattle.std.specs.Prelude.{nat_lt, List, [], ◌∷◌, ◌++◌, length, fold, refl, Option, Some, None, unwrap_or}
+use Rattle.std.specs.Prelude.{slice_get, All}
 use Rattle.std.specs.Option.{option_map}
 use Rattle.std.proofs.Common.{arith, sym, ◌∙◌, ap, ◌⊎◌, inl, inr}
 use Rattle.std.proofs.lemmas.List.{length-set}
 use Rattle.std.proofs.lemmas.Bool.Decides.{leb_tells}
 use Rattle.std.proofs.lemmas.List.Elements.{All-nil, All-cons}
+use Rattle.std.proofs.lemmas.Option.{slice_get_within}
 use Rattle.sched_program.specs.Program.{IsUserKey, AreInitialKeys}
+use Rattle.tree_machine.proofs.Lists.{slice_get-set, get-set_same, get-set_other, get-append_left, get-append_right}
+use Rattle.tree_machine.proofs.Lists.{get-append_cases}
 use Rattle.tree_machine.specs.declared.search_order.End.{End}
 use Rattle.tree_machine.specs.declared.search_order.Shape.{Shape}
 use Rattle.tree_machine.specs.declared.search_order.Shape.TheVariants as shape
@@ -56,50 +59,6 @@ empty_in_range =
 
 pub initial_in_range : (keys : List ℕ) → IsInRange (initial_memory keys)
 initial_in_range keys = fold_in_range keys empty_tree empty_in_range
-
--- ---- lists
-
-get_other : {A : Type 0} (xs : List A) (p x : ℕ) (v : A) → (x ≡ p → ⊥) → slice_get (slice_set xs p v) x ≡ slice_get xs x
-get_other [] p x v differ = refl
-get_other (a ∷ xs) zero zero v differ = absurd (differ refl)
-get_other (a ∷ xs) zero (suc x) v differ = refl
-get_other (a ∷ xs) (suc p) zero v differ = refl
-get_other (a ∷ xs) (suc p) (suc x) v differ = get_other xs p x v (λ e. differ (ap suc e))
-
-get_same : {A : Type 0} (xs : List A) (p : ℕ) (v a : A) → slice_get xs p ≡ Some a
-    → slice_get (slice_set xs p v) p ≡ Some v
-get_same [] p v a e = cc
-get_same (b ∷ xs) zero v a e = refl
-get_same (b ∷ xs) (suc p) v a e = get_same xs p v a e
-
-get_set : {A : Type 0} (xs : List A) (p x : ℕ) (v a : A) → slice_get (slice_set xs p v) x ≡ Some a
-    → (v ≡ a) ⊎ (slice_get xs x ≡ Some a)
-get_set [] p x v a e = inr e
-get_set (b ∷ xs) zero zero v a e = inl cc
-get_set (b ∷ xs) zero (suc x) v a e = inr e
-get_set (b ∷ xs) (suc p) zero v a e = inr e
-get_set (b ∷ xs) (suc p) (suc x) v a e = get_set xs p x v a e
-
-get_old : {A : Type 0} (xs ys : List A) (x : ℕ) (a : A) → slice_get xs x ≡ Some a → slice_get (xs ++ ys) x ≡ Some a
-get_old [] ys x a e = cc
-get_old (b ∷ xs) ys zero a e = e
-get_old (b ∷ xs) ys (suc x) a e = get_old xs ys x a e
-
-get_new : {A : Type 0} (xs ys : List A) (i x : ℕ) → x ≡ length xs + i → slice_get (xs ++ ys) x ≡ slice_get ys i
-get_new [] ys i x e = let same : x ≡ i = omega arith in ap (slice_get ys) same
-get_new (b ∷ xs) ys i zero e = absurd (omega arith)
-get_new (b ∷ xs) ys i (suc x) e = get_new xs ys i x (omega arith)
-
-get_append : {A : Type 0} (xs ys : List A) (x : ℕ) (a : A) → slice_get (xs ++ ys) x ≡ Some a → (slice_get xs x ≡ Some a)
-    ⊎ ((i : ℕ) × (slice_get ys i ≡ Some a))
-get_append [] ys x a e = inr (x, e)
-get_append (b ∷ xs) ys zero a e = inl e
-get_append (b ∷ xs) ys (suc x) a e = get_append xs ys x a e
-
-within : {A : Type 0} (xs : List A) (x : ℕ) (a : A) → slice_get xs x ≡ Some a → x < length xs
-within [] x a e = cc
-within (b ∷ xs) zero a e = omega arith
-within (b ∷ xs) (suc x) a e = let rest = within xs x a e in omega arith
 
 -- ---- nodes by what a search sees of them
 
@@ -152,14 +111,14 @@ module _ (memory : EllenMem) (k : ℕ) (end : End) where
   kept : (x : ℕ) (s : Shape) → (x ≡ end.parent → ⊥) → shapes memory x ≡ Some s → shapes put x ≡ Some s
   kept x s differ e =
       let t = seen (slice_get memory.nodes x) s e in
-      let old = get_old memory.nodes more x t.0 t.1 in
-      ap (option_map shape_in) (get_other appended.nodes end.parent x parent differ ∙ old) ∙ ap Some t.2
+      let old = get-append_left memory.nodes more x t.0 t.1 in
+      ap (option_map shape_in) (get-set_other appended.nodes end.parent x parent differ ∙ old) ∙ ap Some t.2
 
   -- the parent then, from the parent before
   parent_is : (m l r : ℕ) (u : UpdateWord) → slice_get memory.nodes end.parent ≡ Some (Internal m u l r)
       → parent ≡ with_child (side_of k m) (new_internal memory) (Internal m u l r)
   parent_is m l r u e =
-      let old = get_old memory.nodes more end.parent (Internal m u l r) e in
+      let old = get-append_left memory.nodes more end.parent (Internal m u l r) e in
       let before = found_node memory end.parent (Internal m u l r) e in
       let now = found_node appended end.parent (Internal m u l r) old in
       ap (λ node. with_child (side_of k (key_in node)) (new_internal memory) (node_at appended end.parent)) before
@@ -168,8 +127,9 @@ module _ (memory : EllenMem) (k : ℕ) (end : End) where
   parent_at : (m l r : ℕ) (u : UpdateWord) → slice_get memory.nodes end.parent ≡ Some (Internal m u l r)
       → slice_get put.nodes end.parent ≡ Some (with_child (side_of k m) (new_internal memory) (Internal m u l r))
   parent_at m l r u e =
-      get_same appended.nodes end.parent parent (Internal m u l r)
-      (get_old memory.nodes more end.parent (Internal m u l r) e) ∙ ap Some (parent_is m l r u e)
+      get-set_same appended.nodes end.parent parent
+      (slice_get_within appended.nodes end.parent (Internal m u l r)
+      (get-append_left memory.nodes more end.parent (Internal m u l r) e)) ∙ ap Some (parent_is m l r u e)
 
   left : (m l r : ℕ) → shapes memory end.parent ≡ Some (shape.Internal m l r) → k < m
       → shapes put end.parent ≡ Some (shape.Internal m (new_internal memory) r)
@@ -201,8 +161,8 @@ module _ (memory : EllenMem) (k : ℕ) (end : End) where
   fresh : (i x : ℕ) (node : Node) → x ≡ length memory.nodes + i → (x ≡ end.parent → ⊥) → slice_get more i ≡ Some node
       → shapes put x ≡ Some (shape_in node)
   fresh i x node e differ is =
-      ap (option_map shape_in) (get_other appended.nodes end.parent x parent differ
-      ∙ (get_new memory.nodes more i x e ∙ is))
+      ap (option_map shape_in) (get-set_other appended.nodes end.parent x parent differ
+      ∙ (ap (slice_get (memory.nodes ++ more)) e ∙ get-append_right memory.nodes more i node is))
 
   over : (m l r j low high : ℕ) → shapes memory end.parent ≡ Some (shape.Internal m l r)
       → shapes memory end.leaf ≡ Some (shape.Leaf j) → k ≢ j → low ≤ k → k < high → low ≤ j → j < high
@@ -210,7 +170,7 @@ module _ (memory : EllenMem) (k : ℕ) (end : End) where
   over m l r j low high e at differ a b c d =
       let n = length memory.nodes in
       let t = sees_internal memory end.parent m l r e in
-      let below = within memory.nodes end.parent (Internal m t.0 l r) t.1 in
+      let below = slice_get_within memory.nodes end.parent (Internal m t.0 l r) t.1 in
       let j_is : key_at memory end.leaf ≡ j =
       ap key_in (found_node memory end.leaf (Leaf j) (sees_leaf memory end.leaf j at)) in
       let first : shapes put n ≡ Some (shape.Leaf k) =
@@ -269,11 +229,11 @@ module _ (memory : EllenMem) (k : ℕ) (end : End) where
       let t = sees_internal memory end.parent m l r e in
       let j_is : key_at memory end.leaf ≡ j =
       ap key_in (found_node memory end.leaf (Leaf j) (sees_leaf memory end.leaf j at)) in
-      elim (get_set appended.nodes end.parent x parent (Leaf i) (sees_leaf put x i is)) [
-        | inl v ↦ absurd (no_leaf (nat_lt k m) m t.0 l r i (sym (parent_is m l r t.0 t.1) ∙ v))
-        | inr old ↦ elim (get_append memory.nodes more x (Leaf i) old) [
+      elim (slice_get-set appended.nodes end.parent parent x (Leaf i) (sees_leaf put x i is)) [
+        | inl v ↦ absurd (no_leaf (nat_lt k m) m t.0 l r i (sym (parent_is m l r t.0 t.1) ∙ sym v.1))
+        | inr old ↦ elim (get-append_cases memory.nodes more x (Leaf i) old) [
           | inl before ↦ inr (x, ap (option_map shape_in) before)
-          | inr new ↦ elim (new_leaves i new.0 new.1) [
+          | inr new ↦ elim (new_leaves i new.0 new.2) [
             | inl same ↦ inl same
             | inr same ↦ inr (end.leaf, at ∙ ap (λ c. Some (shape.Leaf c)) (sym (same ∙ j_is)))
           ]

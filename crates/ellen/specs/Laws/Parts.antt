@@ -1,12 +1,13 @@
 -- Parts are paired exactly where what they are of is paired.
-use Rattle.std.specs.Prelude.{◌≡◌, ◌↔◌, ℕ, zero, suc, ◌<◌, List, [], ◌∷◌, map, length, slice_get, Option, Some, None}
-use Rattle.std.specs.Prelude.{unwrap_or, refl}
+use Rattle.std.specs.Prelude.{◌≡◌, ◌↔◌, ℕ, suc, ◌<◌, List, [], ◌∷◌, map, length, Option, Some, None, unwrap_or, refl}
 use Rattle.std.specs.List.{AllZip}
 use Rattle.std.proofs.Common.{arith, ap, sym, subst, ◌∙◌}
 use Rattle.std.proofs.lemmas.List.{length-map}
+use Rattle.tree_machine.proofs.Lists.{get_at}
 use Rattle.tree_machine.specs.Pairing.{IsAmong, AreHeldPaired, AreAlike}
 use Rattle.tree_machine.specs.Cells.{IsPairedOrNone}
 use Rattle.tree_machine.specs.Parts.{Part, part_at, ArePartsPaired, IsPartsPairing, CanPartsBePaired}
+use Rattle.tree_machine.specs.Laws.PartsBy.{part_map_at}
 use Rattle.tree_machine.specs.declared.search_order.Side.{Side}
 use Rattle.tree_machine.specs.declared.search_order.Side.TheVariants as side
 use Rattle.ellen.specs.declared.memory.UpdateWord.{UpdateWord}
@@ -237,23 +238,12 @@ module _ (P R : ℕ → ℕ → Type 0) where
 
 -- ---- memories
 
-module _ {A : Type 0} where
-  there : (xs : List A) (x : ℕ) → x < length xs → (a : A) × (slice_get xs x ≡ Some a)
-  there [] x below = absurd (omega arith)
-  there (a ∷ xs) zero below = (a, refl)
-  there (a ∷ xs) (suc x) below = there xs x (omega arith)
-
-  part_there : (f : A → Part) (xs : List A) (x : ℕ) (a : A) → slice_get xs x ≡ Some a → part_at (map f xs) x ≡ f a
-  part_there f [] x a e = cc
-  part_there f (b ∷ xs) zero a e = ap f (cc)
-  part_there f (b ∷ xs) (suc x) a e = part_there f xs x a e
-
 -- parts of the nodes and the records in range
 part_of_node : (memory : EllenMem) (x : ℕ) → x < length memory.nodes
     → part_at (map node_part memory.nodes) x ≡ node_part (node_at memory x)
 part_of_node memory x below =
-    let t = there memory.nodes x below in
-    part_there node_part memory.nodes x t.0 t.1 ∙ ap (λ o. node_part (unwrap_or o (Leaf 0))) (sym t.1)
+    let t = get_at memory.nodes x below in
+    part_map_at node_part memory.nodes x t.0 t.1 ∙ ap (λ o. node_part (unwrap_or o (Leaf 0))) (sym t.1)
 
 module _ (P R : ℕ → ℕ → Type 0) (memory other : EllenMem) (held others : List (Option EllenLoc)) where
   pairing_to : AreMemoriesPaired P R memory other → AllZip (AreHeldPaired (ArePlacesPaired P R)) held others
@@ -279,11 +269,11 @@ module _ (P R : ℕ → ℕ → Type 0) (memory other : EllenMem) (held others :
         (node_to P R _ _ (h.nodes x y p)));
     records_paired = λ x y p.
         let r = h.records_in_range x y p in
-        let s = there memory.records x r.0 in
-        let t = there other.records y r.1 in
+        let s = get_at memory.records x r.0 in
+        let t = get_at other.records y r.1 in
         subst (λ c. ArePartsPaired P R c (part_at (map record_part other.records) y))
-        (sym (part_there record_part memory.records x s.0 s.1))
-        (subst (λ c. ArePartsPaired P R (record_part s.0) c) (sym (part_there record_part other.records y t.0 t.1))
+        (sym (part_map_at record_part memory.records x s.0 s.1))
+        (subst (λ c. ArePartsPaired P R (record_part s.0) c) (sym (part_map_at record_part other.records y t.0 t.1))
         (record_to P R s.0 t.0
         (subst (λ c. AreBoth (AreRecordsPaired P R) (Some s.0) c) t.1
         (subst (λ c. AreBoth (AreRecordsPaired P R) c (record_at other y)) s.1 (h.records x y p)))));
@@ -317,14 +307,14 @@ module _ (P R : ℕ → ℕ → Type 0) (memory other : EllenMem) (held others :
             (h.nodes_paired x y p)));
         records = λ x y p.
             let r = records_below x y p in
-            let s = there memory.records x r.0 in
-            let t = there other.records y r.1 in
+            let s = get_at memory.records x r.0 in
+            let t = get_at other.records y r.1 in
             subst (λ c. AreBoth (AreRecordsPaired P R) c (record_at other y)) (sym s.1)
             (subst (λ c. AreBoth (AreRecordsPaired P R) (Some s.0) c) (sym t.1)
             (record_from P R s.0 t.0
-            (subst (λ c. ArePartsPaired P R c (record_part t.0)) (part_there record_part memory.records x s.0 s.1)
+            (subst (λ c. ArePartsPaired P R c (record_part t.0)) (part_map_at record_part memory.records x s.0 s.1)
             (subst (λ c. ArePartsPaired P R (part_at (map record_part memory.records) x) c)
-            (part_there record_part other.records y t.0 t.1) (h.records_paired x y p)))));
+            (part_map_at record_part other.records y t.0 t.1) (h.records_paired x y p)))));
       }
 
 -- some pairing pairs the parts exactly if one pairs the memories and what the threads hold

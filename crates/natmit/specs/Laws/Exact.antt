@@ -3,6 +3,7 @@ use Rattle.std.specs.Prelude.{◌≡◌, refl}
 use Rattle.std.proofs.Common.{ap}
 use Rattle.sched_program.specs.Exact.{IsExact}
 use Rattle.sched_program.specs.Laws.Exact.{nat_exact, bool_exact, list_exact, both}
+use Rattle.tree_machine.specs.Laws.FieldsExact.{three_fields, four_fields, five_fields}
 use Rattle.tree_machine.specs.Laws.SideExact.{side_exact}
 use Rattle.natmit.specs.contracts.memory.WordPartialEq.TheImpl.{eq-value as word_eq}
 use Rattle.natmit.specs.contracts.memory.NodePartialEq.TheImpl.{eq-value as node_eq}
@@ -26,15 +27,8 @@ word_exact a b h =
 
 pub node_exact : IsExact node_eq.it
 node_exact (Leaf k) (Leaf j) h = ap Leaf (nat_exact k j h)
-node_exact (Leaf k) (Internal j m s) h = cc
-node_exact (Internal k l r) (Leaf j) h = cc
-node_exact (Internal k l r) (Internal j m s) h =
-    let first = both _ _ h in
-    let second = both _ _ first.1 in
-    let key : k ≡ j = nat_exact k j first.0 in
-    let left : l ≡ m = word_exact l m second.0 in
-    let right : r ≡ s = word_exact r s second.1 in
-    cc
+node_exact (Internal k l r) (Internal j m s) h = three_fields nat_exact word_exact word_exact Internal k j l m r s h
+node_exact a b h = cc
 
 pub memory_exact : IsExact memory_eq.it
 memory_exact a b h = let nodes : a.nodes ≡ b.nodes = list_exact node_exact a.nodes b.nodes h in
@@ -53,84 +47,17 @@ pub place_exact : IsExact place_eq.it
 place_exact (Begin m) (Begin o) h = ap Begin (mode_exact m o h)
 place_exact (Down a s p l f m) (Down b t q k g o) h =
     let first = both _ _ h in
-    let second = both _ _ first.1 in
-    let third = both _ _ second.1 in
-    let fourth = both _ _ third.1 in
-    let fifth = both _ _ fourth.1 in
-    let e0 : a ≡ b = nat_exact a b first.0 in
-    let e1 : s ≡ t = nat_exact s t second.0 in
-    let e2 : p ≡ q = nat_exact p q third.0 in
-    let e3 : l ≡ k = nat_exact l k fourth.0 in
-    let e4 : f ≡ g = bool_exact f g fifth.0 in
-    let e5 : m ≡ o = mode_exact m o fifth.1 in
-    λ i. Down (e0 i) (e1 i) (e2 i) (e3 i) (e4 i) (e5 i)
-place_exact (Put a s p l) (Put b t q m) h =
-    let first = both _ _ h in
-    let second = both _ _ first.1 in
-    let third = both _ _ second.1 in
-    let e0 : a ≡ b = nat_exact a b first.0 in
-    let e1 : s ≡ t = nat_exact s t second.0 in
-    let e2 : p ≡ q = nat_exact p q third.0 in
-    let e3 : l ≡ m = nat_exact l m third.1 in
-    λ i. Put (e0 i) (e1 i) (e2 i) (e3 i)
-place_exact (Flag a s p l) (Flag b t q m) h =
-    let first = both _ _ h in
-    let second = both _ _ first.1 in
-    let third = both _ _ second.1 in
-    let e0 : a ≡ b = nat_exact a b first.0 in
-    let e1 : s ≡ t = nat_exact s t second.0 in
-    let e2 : p ≡ q = nat_exact p q third.0 in
-    let e3 : l ≡ m = nat_exact l m third.1 in
-    λ i. Flag (e0 i) (e1 i) (e2 i) (e3 i)
-place_exact (Look a s p l) (Look b t q m) h =
-    let first = both _ _ h in
-    let second = both _ _ first.1 in
-    let third = both _ _ second.1 in
-    let e0 : a ≡ b = nat_exact a b first.0 in
-    let e1 : s ≡ t = nat_exact s t second.0 in
-    let e2 : p ≡ q = nat_exact p q third.0 in
-    let e3 : l ≡ m = nat_exact l m third.1 in
-    λ i. Look (e0 i) (e1 i) (e2 i) (e3 i)
+    let access = nat_exact a b first.0 in
+    λ i. five_fields nat_exact nat_exact nat_exact bool_exact mode_exact (Down (access i)) s t p q l k f g m o first.1 i
+place_exact (Put a s p l) (Put b t q m) h = four_fields nat_exact nat_exact nat_exact nat_exact Put a b s t p q l m h
+place_exact (Flag a s p l) (Flag b t q m) h = four_fields nat_exact nat_exact nat_exact nat_exact Flag a b s t p q l m h
+place_exact (Look a s p l) (Look b t q m) h = four_fields nat_exact nat_exact nat_exact nat_exact Look a b s t p q l m h
 place_exact (CleanRead a s p m) (CleanRead b t q o) h =
-    let first = both _ _ h in
-    let second = both _ _ first.1 in
-    let third = both _ _ second.1 in
-    let e0 : a ≡ b = nat_exact a b first.0 in
-    let e1 : s ≡ t = nat_exact s t second.0 in
-    let e2 : p ≡ q = nat_exact p q third.0 in
-    let e3 : m ≡ o = mode_exact m o third.1 in
-    λ i. CleanRead (e0 i) (e1 i) (e2 i) (e3 i)
+    four_fields nat_exact nat_exact nat_exact mode_exact CleanRead a b s t p q m o h
 place_exact (Tag a s p d m) (Tag b t q c o) h =
-    let first = both _ _ h in
-    let second = both _ _ first.1 in
-    let third = both _ _ second.1 in
-    let fourth = both _ _ third.1 in
-    let e0 : a ≡ b = nat_exact a b first.0 in
-    let e1 : s ≡ t = nat_exact s t second.0 in
-    let e2 : p ≡ q = nat_exact p q third.0 in
-    let e3 : d ≡ c = side_exact d c fourth.0 in
-    let e4 : m ≡ o = mode_exact m o fourth.1 in
-    λ i. Tag (e0 i) (e1 i) (e2 i) (e3 i) (e4 i)
+    five_fields nat_exact nat_exact nat_exact side_exact mode_exact Tag a b s t p q d c m o h
 place_exact (Sibling a s p d m) (Sibling b t q c o) h =
-    let first = both _ _ h in
-    let second = both _ _ first.1 in
-    let third = both _ _ second.1 in
-    let fourth = both _ _ third.1 in
-    let e0 : a ≡ b = nat_exact a b first.0 in
-    let e1 : s ≡ t = nat_exact s t second.0 in
-    let e2 : p ≡ q = nat_exact p q third.0 in
-    let e3 : d ≡ c = side_exact d c fourth.0 in
-    let e4 : m ≡ o = mode_exact m o fourth.1 in
-    λ i. Sibling (e0 i) (e1 i) (e2 i) (e3 i) (e4 i)
+    five_fields nat_exact nat_exact nat_exact side_exact mode_exact Sibling a b s t p q d c m o h
 place_exact (Swing a s f n m) (Swing b t g k o) h =
-    let first = both _ _ h in
-    let second = both _ _ first.1 in
-    let third = both _ _ second.1 in
-    let fourth = both _ _ third.1 in
-    let e0 : a ≡ b = nat_exact a b first.0 in
-    let e1 : s ≡ t = nat_exact s t second.0 in
-    let e2 : f ≡ g = bool_exact f g third.0 in
-    let e3 : n ≡ k = nat_exact n k fourth.0 in
-    let e4 : m ≡ o = mode_exact m o fourth.1 in
-    λ i. Swing (e0 i) (e1 i) (e2 i) (e3 i) (e4 i)
+    five_fields nat_exact nat_exact bool_exact nat_exact mode_exact Swing a b s t f g n k m o h
 place_exact a b h = cc

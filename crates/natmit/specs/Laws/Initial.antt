@@ -1,6 +1,6 @@
 -- The initial memory has its numbers in range, and keeps search order.
-use Rattle.std.specs.Prelude.{◌≡◌, ◌≢◌, ℕ, zero, suc, ◌+◌, ◌<◌, ◌≤◌, true, false, min, max, nat_lt, if◌then◌else◌, List}
-use Rattle.std.specs.Prelude.{[], ◌∷◌, length, fold, refl, Option, Some, None, unwrap_or, slice_get, slice_set}
+use Rattle.std.specs.Prelude.{◌≡◌, ◌≢◌, ℕ, zero, suc, ◌+◌, ◌<◌, ◌≤◌, true, false, min, max, nat_lt, if◌then◌else◌}
+use Rattle.std.specs.Prelude.{List, [], ◌∷◌, length, fold, refl, Option, Some, None, unwrap_or, slice_get}
 use Rattle.std.specs.Option.{option_map}
 use Rattle.std.proofs.Common.{arith, sym, ◌∙◌, ap, subst, ◌⊎◌, inl, inr}
 use Rattle.std.proofs.lemmas.Bool.Decides.{leb_tells, eqb_tells}
@@ -9,6 +9,7 @@ use Rattle.std.proofs.lemmas.List.Elements.{All-nil, All-cons, All-weaker}
 use Rattle.std.proofs.lemmas.Option.{slice_get_within, same_Some}
 use Rattle.sched_program.specs.Program.{IsUserKey, AreInitialKeys}
 use Rattle.tree_machine.proofs.Lists.{slice_get-set, get_at, get-append_left, get-append_right, get-append_cases}
+use Rattle.tree_machine.proofs.Lists.{get-set_same, get-set_other}
 use Rattle.tree_machine.specs.declared.search_order.Side.{Side}
 use Rattle.tree_machine.specs.declared.search_order.Side.TheVariants.{Left, Right}
 use Rattle.tree_machine.specs.declared.search_order.Shape.{Shape}
@@ -27,19 +28,6 @@ use Rattle.natmit.specs.Range.{IsNodeIn, IsInRange}
 use Rattle.natmit.specs.Laws.Range.{node_in, set_word_in, two_more, with_internal_in}
 
 -- ---- lists
-
-pub get-set_other : {X : Type 0} (xs : List X) (i x : ℕ) (v : X) → (x ≡ i → ⊥)
-    → slice_get (slice_set xs i v) x ≡ slice_get xs x
-get-set_other [] i x v h = refl
-get-set_other (y ∷ xs) zero zero v h = absurd (h refl)
-get-set_other (y ∷ xs) zero (suc x) v h = refl
-get-set_other (y ∷ xs) (suc i) zero v h = refl
-get-set_other (y ∷ xs) (suc i) (suc x) v h = get-set_other xs i x v (λ e. h (ap suc e))
-
-pub get-set_same : {X : Type 0} (xs : List X) (i : ℕ) (v : X) → i < length xs → slice_get (slice_set xs i v) i ≡ Some v
-get-set_same [] i v h = absurd (omega arith)
-get-set_same (y ∷ xs) zero v h = refl
-get-set_same (y ∷ xs) (suc i) v h = get-set_same xs i v (omega arith)
 
 -- what was mapped
 mapped : {X Y : Type 0} (f : X → Y) (o : Option X) (y : Y) → option_map f o ≡ Some y → (x : X) × (o ≡ Some x)

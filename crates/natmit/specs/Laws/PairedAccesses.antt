@@ -18,7 +18,7 @@ use Rattle.tree_machine.specs.declared.machine.Outcome.{Outcome}
 use Rattle.tree_machine.specs.declared.machine.Outcome.TheVariants.{Astray}
 use Rattle.natmit.specs.declared.place.NatMitLoc.{NatMitLoc}
 use Rattle.natmit.specs.Table.{After, found, after_read, after_exchange, after_tag}
-use Rattle.natmit.specs.Laws.Initial.{get-set_same, get-set_other}
+use Rattle.tree_machine.proofs.Lists.{get-set_same, get-set_other}
 
 -- ---- what is read of paired nodes
 

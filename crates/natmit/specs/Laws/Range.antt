@@ -1,11 +1,12 @@
 -- Each kind of access keeps the numbers of nodes in range.
-use Rattle.std.specs.Prelude.{◌≡◌, ℕ, zero, suc, ◌+◌, ◌<◌, ◌≤◌, Bool, true, false, if◌then◌else◌, nat_eq, nat_lt, List}
-use Rattle.std.specs.Prelude.{[], ◌∷◌, length, refl, Option, Some, None, unwrap_or, slice_get, slice_set, All}
+use Rattle.std.specs.Prelude.{◌≡◌, ℕ, ◌+◌, ◌<◌, ◌≤◌, Bool, true, false, if◌then◌else◌, nat_eq, nat_lt, [], ◌∷◌}
+use Rattle.std.specs.Prelude.{length, refl, Option, Some, None, slice_set, All}
 use Rattle.std.proofs.Common.{arith, sym, subst, length-append}
 use Rattle.std.proofs.lemmas.List.{length-set}
-use Rattle.std.proofs.lemmas.List.Elements.{All-nil, All-cons, All-head, All-tail, All-append, All-set, All-weaker}
+use Rattle.std.proofs.lemmas.List.Elements.{All-nil, All-cons, All-append, All-set, All-weaker}
 use Rattle.sched_program.specs.declared.operation.Op.{Op}
 use Rattle.sched_program.specs.declared.operation.Op.TheVariants.{Insert, Delete, Find}
+use Rattle.tree_machine.proofs.Lists.{at_all}
 use Rattle.tree_machine.specs.declared.machine.Outcome.{Outcome}
 use Rattle.tree_machine.specs.declared.machine.Outcome.TheVariants.{Goes, Replies, Astray}
 use Rattle.tree_machine.specs.declared.search_order.Side.{Side}
@@ -95,11 +96,6 @@ module _ (n : ℕ) where
       ]
 
 -- ---- what is read of a memory
-
-at_all : {A : Type 0} (P : A → Type 0) (xs : List A) (x : ℕ) (d : A) → All P xs → P d → P (unwrap_or (slice_get xs x) d)
-at_all P [] x d h p = p
-at_all P (a ∷ xs) zero d h p = All-head P a xs h
-at_all P (a ∷ xs) (suc x) d h p = at_all P xs x d (All-tail P a xs h) p
 
 pub node_in : (memory : NatMitMem) (x : ℕ) → IsInRange memory → IsNodeIn (length memory.nodes) (node_at memory x)
 node_in memory x h = at_all (IsNodeIn (length memory.nodes)) memory.nodes x (Leaf 0) h.nodes tt

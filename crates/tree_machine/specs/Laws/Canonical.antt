@@ -1,5 +1,5 @@
 -- Canonical parts: they can be paired with the parts that they come from, and are equal exactly where parts can be.
-use Rattle.std.proofs.Common.{◌≡◌, ℕ, suc, ◌+◌, ◌-◌, ◌<◌, ◌≤◌, false, ◌||◌, List}
+use Rattle.std.proofs.Common.{◌≡◌, ℕ, suc, ◌+◌, ◌<◌, ◌≤◌, false, ◌||◌, List}
 use Rattle.std.proofs.Common.{[], ◌∷◌, ◌++◌, map, length, sym, ◌∙◌, ap, subst, arith, append_assoc}
 use Rattle.std.proofs.Common.{length-append, append-nil}
 use Rattle.std.specs.Prelude.{Option, Some, None, nat_eq}
@@ -9,6 +9,7 @@ use Rattle.std.proofs.lemmas.List.{length-map, nil_from_length}
 use Rattle.std.proofs.lemmas.List.Elements.{recursion_from_All, All-from_recursion, All-append, All-map}
 use Rattle.std.proofs.lemmas.List.Elements.{All-weaker}
 use Rattle.std.proofs.lemmas.List.Folds.{list_any-append}
+use Rattle.std.proofs.Math.Bool.{or-true}
 use Rattle.tree_machine.specs.Cells.{content_at, IsRooted, order_of}
 use Rattle.tree_machine.specs.Pairing.{IsAmong}
 use Rattle.tree_machine.specs.Graphs.{numbers_from}
@@ -19,7 +20,7 @@ use Rattle.tree_machine.specs.Canonical.{order_behind, met_nodes, met_records, c
 use Rattle.tree_machine.specs.Laws.CellLists.{numbers_all, numbers_distinct, apart_above}
 use Rattle.tree_machine.specs.Laws.CellLists.{distinct_join, raised_distinct, rec_weaker}
 use Rattle.tree_machine.specs.Laws.CellOrder.{Has, HasAll, RefsBelow, Extends, extends_more, has_extends}
-use Rattle.tree_machine.specs.Laws.CellOrder.{or_true, met_in_order, met_in_extends, order_closed}
+use Rattle.tree_machine.specs.Laws.CellOrder.{met_in_order, met_in_extends, order_closed}
 use Rattle.tree_machine.specs.Laws.CellOrder.{all_has, length-order}
 use Rattle.tree_machine.specs.Laws.CellPlaces.{place_from_has, get_place, has_at}
 use Rattle.tree_machine.specs.Laws.CellWalks.{order_front}
@@ -251,7 +252,7 @@ module _ (fixed : ℕ) (s : Parts) (h : ArePartsInRange fixed s) where
         has_extends roots_first (m + i)
         (list_any-append (nat_eq (m + i)) cells held
         ∙ (ap (λ t. list_any (nat_eq (m + i)) cells || t)
-        (has_at held i (m + i) (number_at m (length (parts_held s)) i l)) ∙ or_true _))
+        (has_at held i (m + i) (number_at m (length (parts_held s)) i l)) ∙ or-true _))
 
     pub held_met : AllByRecursion
         (IsPartMet (nodes_met (length s.nodes) (order_behind nodes records s))

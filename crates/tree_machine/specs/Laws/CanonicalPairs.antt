@@ -14,7 +14,7 @@ use Rattle.tree_machine.specs.Canonical.{nodes_met, records_met, front_order, fr
 use Rattle.tree_machine.specs.Canonical.{parts_order, met_nodes, met_records, canonical_parts}
 use Rattle.tree_machine.specs.Laws.Cells.{orders_paired}
 use Rattle.tree_machine.specs.Laws.CellLists.{numbers_zip, zip_join}
-use Rattle.tree_machine.specs.Laws.PairLists.{zip_weaker}
+use Rattle.tree_machine.specs.Laws.Cells.{AllZip-weaker}
 use Rattle.tree_machine.specs.Laws.PartCells.{length-parts_graph}
 use Rattle.tree_machine.specs.Laws.PartCells.{Paired, held_long, cells_pairing}
 use Rattle.tree_machine.specs.Laws.MetLists.{filter_zip, map_zip, test_node, node_test, test_other}
@@ -90,9 +90,9 @@ module _ (P R : ℕ → ℕ → Type 0) (fixed : ℕ) (s t : Parts) (h : ArePart
       × AllZip R (records_met (length s.nodes) (length s.records) xs)
       (records_met (length t.nodes) (length t.records) ys)
   split_pairs xs ys z = (
-    zip_weaker _ _ nodes_kept _ _ (filter_zip (Paired P R s t) _ _ node_tests xs ys z),
+    AllZip-weaker _ _ nodes_kept _ _ (filter_zip (Paired P R s t) _ _ node_tests xs ys z),
     map_zip R (λ x. x - length s.nodes) (λ y. y - length t.nodes) _ _
-        (zip_weaker _ _ records_kept _ _ (filter_zip (Paired P R s t) _ _ record_tests xs ys z)),
+        (AllZip-weaker _ _ records_kept _ _ (filter_zip (Paired P R s t) _ _ record_tests xs ys z)),
   )
 
   -- what stands in front is paired, like by like
@@ -122,9 +122,9 @@ module _ (P R : ℕ → ℕ → Type 0) (fixed : ℕ) (s t : Parts) (h : ArePart
       ∙ (held_long P R s t fixed p ∙ sym (length-map t.held (part_cell (length t.nodes)))) in
       zip_join Q _ _ _ _
       (zip_join Q (front_nodes fixed s) (front_nodes fixed t) _ _
-      (zip_weaker P Q (λ x y q. inl q) _ _ front.0)
+      (AllZip-weaker P Q (λ x y q. inl q) _ _ front.0)
       (map_zip Q (λ y. length s.nodes + y) (λ y. length t.nodes + y) _ _
-      (zip_weaker R (λ x y. Q (length s.nodes + x) (length t.nodes + y)) (λ x y q. inr (inl (x, y, q, refl, refl))) _ _
+      (AllZip-weaker R (λ x y. Q (length s.nodes + x) (length t.nodes + y)) (λ x y q. inr (inl (x, y, q, refl, refl))) _ _
       front.1)))
       (subst (λ k. AllZip Q (numbers_from (length (parts_graph s)) (length (parts_held s)))
       (numbers_from (length (parts_graph t)) k)) long

@@ -1,6 +1,6 @@
 -- Lists of cells and of numbers, end to end.
 use Rattle.std.proofs.Common.{◌≡◌, ℕ, zero, suc, ◌+◌, ◌<◌, ◌≤◌, ◌⊎◌, true, false, List, [], ◌∷◌, ◌++◌, map, length}
-use Rattle.std.proofs.Common.{refl, sym, ◌∙◌, ap, subst, inl, inr, arith, zero-add, add-zero}
+use Rattle.std.proofs.Common.{refl, ◌∙◌, ap, subst, inl, inr, arith, zero-add, add-zero}
 use Rattle.std.specs.Prelude.{nat_eq}
 use Rattle.std.specs.List.{AllZip, All, AllByRecursion, IsDistinct}
 use Rattle.std.proofs.lemmas.Bool.Decides.{eqb_tells}
@@ -30,22 +30,6 @@ zip_join P [] [] us vs z w = w
 zip_join P [] (y ∷ ys) us vs z w = absurd z
 zip_join P (x ∷ xs) [] us vs z w = absurd z
 zip_join P (x ∷ xs) (y ∷ ys) us vs z w = (z.0, zip_join P xs ys us vs z.1 w)
-
-pub zip_split : (P : ℕ → ℕ → Type 0) (a f : ℕ) (us vs : List ℕ)
-    → AllZip P (numbers_from a f ++ us) (numbers_from a f ++ vs)
-    → AllZip P (numbers_from a f) (numbers_from a f) × AllZip P us vs
-zip_split P a zero us vs z = (tt, z)
-zip_split P a (suc f) us vs z = let r = zip_split P (suc a) f us vs z.1 in ((z.0, r.0), r.1)
-
-pub numbers_at : (P : ℕ → ℕ → Type 0) (a b n : ℕ) → AllZip P (numbers_from a n) (numbers_from b n) → (i : ℕ) → i < n
-    → P (a + i) (b + i)
-numbers_at P a b zero z i l = absurd (omega arith)
-numbers_at P a b (suc n) z zero l =
-    subst (λ x. P x (b + 0)) (sym (add-zero a)) (subst (λ y. P a y) (sym (add-zero b)) z.0)
-numbers_at P a b (suc n) z (suc i) l =
-    let e : suc a + i ≡ a + suc i = omega arith in
-    let f : suc b + i ≡ b + suc i = omega arith in
-    subst (λ x. P x (b + suc i)) e (subst (λ y. P (suc a + i) y) f (numbers_at P (suc a) (suc b) n z.1 i (omega arith)))
 
 pub numbers_zip : (P : ℕ → ℕ → Type 0) (a b n : ℕ) → ((i : ℕ) → i < n → P (a + i) (b + i))
     → AllZip P (numbers_from a n) (numbers_from b n)

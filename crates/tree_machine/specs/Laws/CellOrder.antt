@@ -1,16 +1,17 @@
 -- The cells that a walk meets, in their order: distinct, in range, and closed.
-use Rattle.std.proofs.Common.{◌≡◌, ℕ, zero, suc, ◌+◌, ◌<◌, ◌≤◌, ◌⊎◌, Bool, true, false, cond, ◌||◌, List, [], ◌∷◌, ◌++◌}
-use Rattle.std.proofs.Common.{length, refl, sym, ◌∙◌, ap, subst, inl, inr, arith, append_assoc, add-suc, add-zero}
-use Rattle.std.proofs.Common.{get_or}
+use Rattle.std.proofs.Common.{◌≡◌, ℕ, zero, suc, ◌+◌, ◌<◌, ◌≤◌, ◌⊎◌, Bool, true, false, cond, ◌||◌, List, [], ◌∷◌}
+use Rattle.std.proofs.Common.{◌++◌, length, refl, sym, ◌∙◌, ap, subst, inl, inr, arith, append_assoc, add-suc}
+use Rattle.std.proofs.Common.{add-zero, get_or, append-nil}
 use Rattle.std.specs.Prelude.{slice_get, Option, Some, None, nat_eq, ⊤, IfSome}
 use Rattle.std.specs.Cmp.{IsEquivalence}
 use Rattle.std.specs.List.{list_any, All, AllByRecursion, IsDistinct}
-use Rattle.std.proofs.lemmas.Bool.{eq-eqb, eqb-true}
+use Rattle.std.proofs.lemmas.Bool.{eq-eqb, eqb-true, or_cases}
 use Rattle.std.proofs.lemmas.List.Elements.{recursion_from_All, All-nil}
 use Rattle.std.proofs.lemmas.List.Folds.{list_any-append}
 use Rattle.std.proofs.lemmas.Map.Keys.{IsDistinct-push}
 use Rattle.std.proofs.lemmas.Map.Steps.{length-le_from_distinct_below}
 use Rattle.std.proofs.lemmas.Option.{slice_get_past, slice_get_within, slice_get-get_or}
+use Rattle.std.proofs.Math.Bool.{or-true}
 use Rattle.tree_machine.specs.Cells.{Content, met, met_all, visited, met_in, content_at, order_of, IsRooted}
 use Rattle.tree_machine.specs.Laws.CellSteps.{same_tests}
 
@@ -29,24 +30,12 @@ pub record Extends (xs ys : List ℕ) : Type 0 where
   pub rest : List ℕ
   pub is : ys ≡ xs ++ rest
 
-append_nil : (xs : List ℕ) → xs ++ [] ≡ xs
-append_nil [] = refl
-append_nil (x ∷ xs) = ap (λ ys. x ∷ ys) (append_nil xs)
-
 pub extends_itself : (xs : List ℕ) → Extends xs xs
-extends_itself xs = record { rest = []; is = sym (append_nil xs) }
+extends_itself xs = record { rest = []; is = sym (append-nil xs) }
 
 pub extends_more : {xs ys zs : List ℕ} → Extends xs ys → Extends ys zs → Extends xs zs
 extends_more {xs} e f =
     record { rest = e.rest ++ f.rest; is = f.is ∙ (ap (λ l. l ++ f.rest) e.is ∙ append_assoc xs e.rest f.rest) }
-
-pub or_true : (b : Bool) → (b || true) ≡ true
-or_true true = refl
-or_true false = refl
-
-pub or_cases : (a b : Bool) → (a || b) ≡ true → (a ≡ true) ⊎ (b ≡ true)
-or_cases true b h = inl refl
-or_cases false b h = inr h
 
 pub has_itself : (x : ℕ) → nat_eq x x ≡ true
 has_itself x = eq-eqb x x refl
@@ -89,7 +78,7 @@ met_has_by : (order : List ℕ) (x : ℕ) (t : Bool) → list_any (nat_eq x) ord
 met_has_by order x true h = h
 met_has_by order x false h =
     list_any-append (nat_eq x) order (x ∷ [])
-    ∙ (ap (λ b. list_any (nat_eq x) order || (b || false)) (has_itself x) ∙ or_true _)
+    ∙ (ap (λ b. list_any (nat_eq x) order || (b || false)) (has_itself x) ∙ or-true _)
 
 pub met_has : (order : List ℕ) (x : ℕ) → Has (met order x) x
 met_has order x = met_has_by order x (list_any (nat_eq x) order) refl

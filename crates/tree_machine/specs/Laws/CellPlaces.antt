@@ -7,10 +7,11 @@ use Rattle.std.specs.Option.{option_map, option_and_then}
 use Rattle.std.proofs.lemmas.Bool.{eq-eqb}
 use Rattle.std.proofs.lemmas.Bool.Decides.{eqb_tells}
 use Rattle.std.proofs.lemmas.Map.Keys.{IsDistinct-head, IsDistinct-tail}
+use Rattle.std.proofs.Math.Bool.{or-true}
 use Rattle.tree_machine.specs.Cells.{IsPairedOrNone, place_in}
 use Rattle.tree_machine.specs.Pairing.{IsOneToOne, IsAmong}
 use Rattle.tree_machine.specs.Laws.CellSteps.{same_tests}
-use Rattle.tree_machine.specs.Laws.CellOrder.{Has, or_true, all_has, has_itself}
+use Rattle.tree_machine.specs.Laws.CellOrder.{Has, all_has, has_itself}
 
 -- paired elements have the same place
 pub place_paired : (P : ℕ → ℕ → Type 0) → IsOneToOne P → (xs ys : List ℕ) (a b : ℕ) → AllZip P xs ys → P a b
@@ -73,7 +74,7 @@ pub has_at : (xs : List ℕ) (k x : ℕ) → slice_get xs k ≡ Some x → Has x
 has_at [] k x h = cc
 has_at (y ∷ xs) zero x h = let same : y ≡ x = cc in
     ap (λ z. nat_eq x z || list_any (nat_eq x) xs) same ∙ ap (λ t. t || list_any (nat_eq x) xs) (has_itself x)
-has_at (y ∷ xs) (suc k) x h = ap (λ t. nat_eq x y || t) (has_at xs k x h) ∙ or_true (nat_eq x y)
+has_at (y ∷ xs) (suc k) x h = ap (λ t. nat_eq x y || t) (has_at xs k x h) ∙ or-true (nat_eq x y)
 
 -- ---- two lists side by side, as pairs
 

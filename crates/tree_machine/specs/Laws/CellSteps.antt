@@ -19,6 +19,10 @@ same_tests x y a b h = go (eqb_tells x a) (eqb_tells y b)
     go (inr p) (inl q) = absurd (p.1 (h.1 q.1))
     go (inr p) (inr q) = p.0 ∙ sym q.0
 
+-- a number is not another one
+pub is_other : (x y : ℕ) → (x ≡ y → ⊥) → nat_eq x y ≡ false
+is_other x y h = elim (eqb_tells x y) [ inl e ↦ absurd (h e.1) | inr e ↦ e.0 ]
+
 -- pairs are met together
 pub has_paired : (P : ℕ → ℕ → Type 0) → IsOneToOne P → (xs ys : List ℕ) (a b : ℕ) → AllZip P xs ys → P a b
     → list_any (nat_eq a) xs ≡ list_any (nat_eq b) ys

@@ -10,7 +10,7 @@ use Rattle.tree_machine.specs.Laws.Flat.{number_before, number_split, flat_split
 use Rattle.tree_machine.specs.declared.front.Front.{Front}
 use Rattle.tree_machine.specs.Alike.{FormContent, places_of, replies_of, notes_of}
 use Rattle.tree_machine.specs.FormCode.{IsInjective, TellsWholly, content_code, cut_code, state_code}
-use Rattle.tree_machine.specs.Laws.FormCode.{content_readable}
+use Rattle.tree_machine.specs.Laws.FormCode.{content_readable, halves}
 use Rattle.tree_machine.specs.declared.state.Thread.{Thread}
 use Rattle.tree_machine.specs.declared.state.State.{State}
 
@@ -25,17 +25,6 @@ map_tells f tells (x ∷ xs) (y ∷ ys) e =
     let rest = map_tells f tells xs ys others in
     cc
 map_tells f tells _ _ e = cc
-
--- equal lists that are cut at one place have equal pieces
-halves : {A : Type 0} (xs us ys vs : List A) → length xs ≡ length us → xs ++ ys ≡ us ++ vs → (xs ≡ us) × (ys ≡ vs)
-halves [] [] ys vs l e = (refl, e)
-halves [] (u ∷ us) ys vs l e = absurd (omega arith)
-halves (x ∷ xs) [] ys vs l e = absurd (omega arith)
-halves (x ∷ xs) (u ∷ us) ys vs l e =
-    let first : x ≡ u = cc in
-    let behind : xs ++ ys ≡ us ++ vs = cc in
-    let rest = halves xs us ys vs (omega arith) behind in
-    (ap (λ z. z ∷ xs) first ∙ ap (λ l. u ∷ l) rest.0, rest.1)
 
 -- ---- parts
 

@@ -59,15 +59,16 @@ replies_readable a b xs ys e =
     let parts = number_split (replies_number a) (replies_number b) xs ys e in
     (replies_injective a b parts.0, parts.1)
 
-counts_readable : (cs ds xs ys : List ℕ) → length cs ≡ length ds → cs ++ xs ≡ ds ++ ys → (cs ≡ ds) × (xs ≡ ys)
-counts_readable [] [] xs ys l e = (refl, e)
-counts_readable [] (d ∷ ds) xs ys l e = absurd (omega arith)
-counts_readable (c ∷ cs) [] xs ys l e = absurd (omega arith)
-counts_readable (c ∷ cs) (d ∷ ds) xs ys l e =
-    let first : c ≡ d = cc in
-    let behind : cs ++ xs ≡ ds ++ ys = cc in
-    let rest = counts_readable cs ds xs ys (omega arith) behind in
-    (ap (λ k. k ∷ cs) first ∙ ap (λ ks. d ∷ ks) rest.0, rest.1)
+-- equal lists that are cut at one place have equal pieces
+pub halves : {A : Type 0} (xs us ys vs : List A) → length xs ≡ length us → xs ++ ys ≡ us ++ vs → (xs ≡ us) × (ys ≡ vs)
+halves [] [] ys vs l e = (refl, e)
+halves [] (u ∷ us) ys vs l e = absurd (omega arith)
+halves (x ∷ xs) [] ys vs l e = absurd (omega arith)
+halves (x ∷ xs) (u ∷ us) ys vs l e =
+    let first : x ≡ u = cc in
+    let behind : xs ++ ys ≡ us ++ vs = cc in
+    let rest = halves xs us ys vs (omega arith) behind in
+    (ap (λ z. z ∷ xs) first ∙ ap (λ l. u ∷ l) rest.0, rest.1)
 
 -- a short note and one that is not begin with different bytes
 note_readable : IsReadable note_code
@@ -103,7 +104,7 @@ note_readable cs ds xs ys e = go (is_short cs) (is_short ds) refl refl e
         ap (λ b. code b cs ++ xs) (sym c) ∙ (e ∙ ap (λ b. code b ds ++ ys) d) in
         let lengths : length cs ≡ length ds = cc in
         let rest : cs ++ xs ≡ ds ++ ys = cc in
-        counts_readable cs ds xs ys lengths rest
+        halves cs ds xs ys lengths rest
 
 astray_readable : IsReadable astray_code
 astray_readable None None xs ys e = (refl, let rest : xs ≡ ys = cc in rest)

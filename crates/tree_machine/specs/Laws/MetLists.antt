@@ -4,19 +4,20 @@ use Rattle.std.proofs.Common.{List, [], ◌∷◌, ◌++◌, map, length, refl, 
 use Rattle.std.specs.Prelude.{slice_get, Option, Some, None, nat_eq, nat_lt, nat_le}
 use Rattle.std.specs.List.{AllZip, AllByRecursion, filter, list_any, zip, IsDistinct}
 use Rattle.std.specs.Option.{option_and_then}
-use Rattle.std.proofs.lemmas.Bool.{eqb-true}
+use Rattle.std.proofs.lemmas.Bool.{eqb-true, or_cases}
 use Rattle.std.proofs.lemmas.Bool.Decides.{nat_tests, eqb_tells}
 use Rattle.std.proofs.lemmas.List.Elements.{All-filter, All-map, All-weaker, All-from_recursion, recursion_from_All}
 use Rattle.std.proofs.lemmas.List.Elements.{filter_passes, filter-append}
 use Rattle.std.proofs.lemmas.List.{map-append}
 use Rattle.std.proofs.lemmas.Map.Keys.{IsDistinct-cons, IsDistinct-head, IsDistinct-tail}
 use Rattle.std.proofs.lemmas.Option.{slice_get_within}
+use Rattle.std.proofs.Math.Bool.{or-true}
 use Rattle.tree_machine.specs.Cells.{IsPairedOrNone, place_in}
 use Rattle.tree_machine.specs.Pairing.{IsOneToOne, IsAmong}
 use Rattle.tree_machine.specs.Graphs.{numbers_from}
 use Rattle.tree_machine.specs.Canonical.{nodes_met, records_met, as_cells}
 use Rattle.tree_machine.specs.Laws.CellLists.{distinct_none, rec_weaker}
-use Rattle.tree_machine.specs.Laws.CellOrder.{Has, HasAll, has_itself, or_cases, or_true}
+use Rattle.tree_machine.specs.Laws.CellOrder.{Has, HasAll, has_itself}
 use Rattle.tree_machine.specs.Laws.CellPlaces.{among_at, at_among, place_at, place_from_has, get_place}
 
 -- ---- each number with its place
@@ -92,8 +93,8 @@ filter_has p (y ∷ xs) x h = go (p y) refl h (λ g. filter_has p xs x g)
       where
         go2 : (nat_eq x y ≡ true) ⊎ Has (filter p xs) x → Has (y ∷ xs) x × (p x ≡ true)
         go2 (inl f) = (ap (λ t. t || list_any (nat_eq x) xs) f, ap p (eqb-true x y f) ∙ e)
-        go2 (inr f) = let r = rest f in (ap (λ t. nat_eq x y || t) r.0 ∙ or_true (nat_eq x y), r.1)
-    go false e g rest = let r = rest g in (ap (λ t. nat_eq x y || t) r.0 ∙ or_true (nat_eq x y), r.1)
+        go2 (inr f) = let r = rest f in (ap (λ t. nat_eq x y || t) r.0 ∙ or-true (nat_eq x y), r.1)
+    go false e g rest = let r = rest g in (ap (λ t. nat_eq x y || t) r.0 ∙ or-true (nat_eq x y), r.1)
 
 pub has_filter : (p : ℕ → Bool) (xs : List ℕ) (x : ℕ) → Has xs x → p x ≡ true → Has (filter p xs) x
 has_filter p [] x h t = h
@@ -103,7 +104,7 @@ has_filter p (y ∷ xs) x h t =
     go : (b : Bool) → p y ≡ b → (nat_eq x y ≡ true) ⊎ Has xs x → (Has xs x → Has (filter p xs) x)
         → Has (cond b (y ∷ filter p xs) (filter p xs)) x
     go true e (inl f) rest = ap (λ t. t || list_any (nat_eq x) (filter p xs)) f
-    go true e (inr f) rest = ap (λ t. nat_eq x y || t) (rest f) ∙ or_true (nat_eq x y)
+    go true e (inr f) rest = ap (λ t. nat_eq x y || t) (rest f) ∙ or-true (nat_eq x y)
     go false e (inl f) rest = let same : x ≡ y = eqb-true x y f in let here : p x ≡ false = ap p same ∙ e in cc
     go false e (inr f) rest = rest f
 
@@ -205,7 +206,7 @@ lowered_has n (x ∷ xs) y a h =
         let f : y ≡ x - n = eqb-true y (x - n) e in
         let same : x ≡ n + y = omega arith in
         ap (λ t. t || list_any (nat_eq (n + y)) xs) (ap (nat_eq (n + y)) same ∙ has_itself (n + y))
-    go (inr e) rest = ap (λ t. nat_eq (n + y) x || t) (rest e) ∙ or_true (nat_eq (n + y) x)
+    go (inr e) rest = ap (λ t. nat_eq (n + y) x || t) (rest e) ∙ or-true (nat_eq (n + y) x)
 
 has_lowered : (n : ℕ) (xs : List ℕ) (y : ℕ) → Has xs (n + y) → Has (map (λ x. x - n) xs) y
 has_lowered n [] y h = h
@@ -218,7 +219,7 @@ has_lowered n (x ∷ xs) y h =
         let f : n + y ≡ x = eqb-true (n + y) x e in
         let same : x - n ≡ y = omega arith in
         ap (λ t. t || list_any (nat_eq y) (map (λ x. x - n) xs)) (ap (nat_eq y) same ∙ has_itself y)
-    go (inr e) rest = ap (λ t. nat_eq y (x - n) || t) (rest e) ∙ or_true (nat_eq y (x - n))
+    go (inr e) rest = ap (λ t. nat_eq y (x - n) || t) (rest e) ∙ or-true (nat_eq y (x - n))
 
 -- ---- the nodes and the records that are met
 

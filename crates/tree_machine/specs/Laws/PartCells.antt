@@ -10,7 +10,6 @@ use Rattle.tree_machine.specs.Cells.{Content, content_at, IsPairedOrNone, IsPair
 use Rattle.tree_machine.specs.Pairing.{IsOneToOne}
 use Rattle.tree_machine.specs.Parts.{Part, Parts, part_at, ArePartsPaired, IsPartsPairing, IsPartBelow, ArePartsInRange}
 use Rattle.tree_machine.specs.Parts.{part_cell, parts_graph, parts_held}
-use Rattle.tree_machine.specs.Laws.PairLists.{or_none_weaker}
 use Rattle.tree_machine.specs.Laws.CellLists.{content_front, content_back}
 
 -- ---- the cells of all parts
@@ -155,6 +154,13 @@ module _ (fixed : ℕ) (s : Parts) (h : ArePartsInRange fixed s) where
 pub record AreCellsPaired (P : ℕ → ℕ → Type 0) (c d : Content) : Type 0 where
   pub facts : c.facts ≡ d.facts
   pub refs : AllZip (IsPairedOrNone P) c.refs d.refs
+
+or_none_weaker : (P Q : ℕ → ℕ → Type 0) → ((x y : ℕ) → P x y → Q x y) → (r s : Option ℕ) → IsPairedOrNone P r s
+    → IsPairedOrNone Q r s
+or_none_weaker P Q h None None p = tt
+or_none_weaker P Q h None (Some y) p = absurd p
+or_none_weaker P Q h (Some x) None p = absurd p
+or_none_weaker P Q h (Some x) (Some y) p = h x y p
 
 refs_join : (P R Q : ℕ → ℕ → Type 0) (n m : ℕ) → ((x y : ℕ) → P x y → Q x y) → ((x y : ℕ) → R x y → Q (n + x) (m + y))
     → (ns ms rs ss : List (Option ℕ)) → AllZip (IsPairedOrNone P) ns ms → AllZip (IsPairedOrNone R) rs ss →

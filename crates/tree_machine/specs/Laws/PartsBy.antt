@@ -33,7 +33,8 @@ pub record AreMet (fixed : ℕ) (s : Parts) (nodes records : List ℕ) : Type 0 
   pub nodes_closed : (x : ℕ) → Has nodes x → IsPartMet nodes records (part_at s.nodes x)
   pub records_closed : (y : ℕ) → Has records y → IsPartMet nodes records (part_at s.records y)
 
-part_map_at : (f : ℕ → Part) (xs : List ℕ) (k x : ℕ) → slice_get xs k ≡ Some x → part_at (map f xs) k ≡ f x
+pub part_map_at : {A : Type 0} (f : A → Part) (xs : List A) (k : ℕ) (x : A) → slice_get xs k ≡ Some x
+    → part_at (map f xs) k ≡ f x
 part_map_at f [] k x h = cc
 part_map_at f (y ∷ xs) zero x h = let same : y ≡ x = cc in ap f same
 part_map_at f (y ∷ xs) (suc k) x h = part_map_at f xs k x h

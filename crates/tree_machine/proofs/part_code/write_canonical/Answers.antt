@@ -1,15 +1,16 @@
-use Rattle.std.proofs.Common.{◌<◌, ◌++◌, ◌∙◌, ap, arith, length, take, subst, sym}
+use Rattle.std.proofs.Common.{◌<◌, ◌++◌, ◌∙◌, ap, arith, length, rules, take, subst, sym}
 use Rattle.std.specs.List.{All}
+use Rattle.std.proofs.lemmas.List.Elements.{All-from_recursion, All-take}
 use Rattle.tree_machine.specs.Canonical.{parts_by}
 use Rattle.tree_machine.specs.Flat.{parts_code}
 use Rattle.tree_machine.specs.Written.{Written}
 use Rattle.tree_machine.specs.Laws.Canonical.{front_nodes_few, front_records_few, walk_met}
-use Rattle.tree_machine.proofs.Numbered.{order_short}
-use Rattle.tree_machine.proofs.PartsWritten.{taken_all, whole_written}
+use Rattle.tree_machine.proofs.Numbered.{order_few}
+use Rattle.tree_machine.proofs.PartsWritten.{whole_written}
 use Rattle.tree_machine.proofs.part_code.write_canonical.Goals as goal
 
-pub write_graph-requires-clause-nodes_within : goal.write_graph-requires-clause-nodes_within
-write_graph-requires-clause-nodes_within g c =
+pub write_graph-requires : goal.write_graph-requires
+write_graph-requires g c =
     let s = g.P.Parts.parts c.args.parts.now in
     let order = ap (λ (w : Written). w.node_order) c.behind-writer.ensures ∙ c.in_ok-met-2.ensures.nodes in
     let others = ap (λ (w : Written). w.record_order) c.behind-writer.ensures ∙ c.in_ok-met-2.ensures.records in
@@ -17,132 +18,61 @@ write_graph-requires-clause-nodes_within g c =
     let records = c.len-front_records.ensures ∙ ap length c.in_ok-met.ensures.records in
     let few = front_nodes_few c.args.fixed s c.requires in
     let less = front_records_few c.args.fixed s c.requires in
-    let short = order_short c.in_ok-met-2.names.nodes.order.items (length c.in_ok-met-2.names.nodes.numbers.items)
-    c.in_ok-met-2.names.nodes.distinct c.in_ok-met-2.names.nodes.known in
-    let thin = order_short c.in_ok-met-2.names.records.order.items (length c.in_ok-met-2.names.records.numbers.items)
-    c.in_ok-met-2.names.records.distinct c.in_ok-met-2.names.records.known in
-    omega (arith, nodes, ap length order, few)
+    record {
+      in_range = search rules;
+      nodes = search rules;
+      records = search rules;
+      node_order = search rules;
+      record_order = search rules;
+      nodes_within = omega (arith, nodes, ap length order, few);
+      records_within = omega (arith, records, ap length others, less);
+      few_nodes = omega (
+        arith,
+        nodes,
+        few,
+        ap length c.in_ok-met-2.ensures.nodes,
+        order_few c.in_ok-met-2.names.nodes,
+      );
+      few_records = omega (
+        arith,
+        records,
+        less,
+        ap length c.in_ok-met-2.ensures.records,
+        order_few c.in_ok-met-2.names.records,
+      );
+      known =
+          subst (λ o. All (λ x. x < length s.nodes) (take c.len-front_nodes.result o)) (sym order)
+          (All-take (λ x. x < length s.nodes) c.len-front_nodes.result _
+          (All-from_recursion (λ x. x < length s.nodes) _ (walk_met c.args.fixed s c.requires).nodes_below));
+    }
 
-pub write_graph-requires-clause-records_within : goal.write_graph-requires-clause-records_within
-write_graph-requires-clause-records_within g c =
+pub write_behind_front-requires : goal.write_behind_front-requires
+write_behind_front-requires g c =
     let s = g.P.Parts.parts c.args.parts.now in
-    let order = ap (λ (w : Written). w.node_order) c.behind-writer.ensures ∙ c.in_ok-met-2.ensures.nodes in
-    let others = ap (λ (w : Written). w.record_order) c.behind-writer.ensures ∙ c.in_ok-met-2.ensures.records in
-    let nodes = c.len-front_nodes.ensures ∙ ap length c.in_ok-met.ensures.nodes in
-    let records = c.len-front_records.ensures ∙ ap length c.in_ok-met.ensures.records in
-    let few = front_nodes_few c.args.fixed s c.requires in
-    let less = front_records_few c.args.fixed s c.requires in
-    let short = order_short c.in_ok-met-2.names.nodes.order.items (length c.in_ok-met-2.names.nodes.numbers.items)
-    c.in_ok-met-2.names.nodes.distinct c.in_ok-met-2.names.nodes.known in
-    let thin = order_short c.in_ok-met-2.names.records.order.items (length c.in_ok-met-2.names.records.numbers.items)
-    c.in_ok-met-2.names.records.distinct c.in_ok-met-2.names.records.known in
-    omega (arith, records, ap length others, less)
-
-pub write_graph-requires-clause-few_nodes : goal.write_graph-requires-clause-few_nodes
-write_graph-requires-clause-few_nodes g c =
-    let s = g.P.Parts.parts c.args.parts.now in
-    let order = ap (λ (w : Written). w.node_order) c.behind-writer.ensures ∙ c.in_ok-met-2.ensures.nodes in
-    let others = ap (λ (w : Written). w.record_order) c.behind-writer.ensures ∙ c.in_ok-met-2.ensures.records in
-    let nodes = c.len-front_nodes.ensures ∙ ap length c.in_ok-met.ensures.nodes in
-    let records = c.len-front_records.ensures ∙ ap length c.in_ok-met.ensures.records in
-    let few = front_nodes_few c.args.fixed s c.requires in
-    let less = front_records_few c.args.fixed s c.requires in
-    let short = order_short c.in_ok-met-2.names.nodes.order.items (length c.in_ok-met-2.names.nodes.numbers.items)
-    c.in_ok-met-2.names.nodes.distinct c.in_ok-met-2.names.nodes.known in
-    let thin = order_short c.in_ok-met-2.names.records.order.items (length c.in_ok-met-2.names.records.numbers.items)
-    c.in_ok-met-2.names.records.distinct c.in_ok-met-2.names.records.known in
-    omega (arith, nodes, few, ap length c.in_ok-met-2.ensures.nodes, short, c.in_ok-met-2.names.nodes.few)
-
-pub write_graph-requires-clause-few_records : goal.write_graph-requires-clause-few_records
-write_graph-requires-clause-few_records g c =
-    let s = g.P.Parts.parts c.args.parts.now in
-    let order = ap (λ (w : Written). w.node_order) c.behind-writer.ensures ∙ c.in_ok-met-2.ensures.nodes in
-    let others = ap (λ (w : Written). w.record_order) c.behind-writer.ensures ∙ c.in_ok-met-2.ensures.records in
-    let nodes = c.len-front_nodes.ensures ∙ ap length c.in_ok-met.ensures.nodes in
-    let records = c.len-front_records.ensures ∙ ap length c.in_ok-met.ensures.records in
-    let few = front_nodes_few c.args.fixed s c.requires in
-    let less = front_records_few c.args.fixed s c.requires in
-    let short = order_short c.in_ok-met-2.names.nodes.order.items (length c.in_ok-met-2.names.nodes.numbers.items)
-    c.in_ok-met-2.names.nodes.distinct c.in_ok-met-2.names.nodes.known in
-    let thin = order_short c.in_ok-met-2.names.records.order.items (length c.in_ok-met-2.names.records.numbers.items)
-    c.in_ok-met-2.names.records.distinct c.in_ok-met-2.names.records.known in
-    omega (arith, records, less, ap length c.in_ok-met-2.ensures.records, thin, c.in_ok-met-2.names.records.few)
-
-pub write_graph-requires-clause-known : goal.write_graph-requires-clause-known
-write_graph-requires-clause-known g c =
-    let s = g.P.Parts.parts c.args.parts.now in
-    let order = ap (λ (w : Written). w.node_order) c.behind-writer.ensures ∙ c.in_ok-met-2.ensures.nodes in
-    let others = ap (λ (w : Written). w.record_order) c.behind-writer.ensures ∙ c.in_ok-met-2.ensures.records in
-    let nodes = c.len-front_nodes.ensures ∙ ap length c.in_ok-met.ensures.nodes in
-    let records = c.len-front_records.ensures ∙ ap length c.in_ok-met.ensures.records in
-    let few = front_nodes_few c.args.fixed s c.requires in
-    let less = front_records_few c.args.fixed s c.requires in
-    let short = order_short c.in_ok-met-2.names.nodes.order.items (length c.in_ok-met-2.names.nodes.numbers.items)
-    c.in_ok-met-2.names.nodes.distinct c.in_ok-met-2.names.nodes.known in
-    let thin = order_short c.in_ok-met-2.names.records.order.items (length c.in_ok-met-2.names.records.numbers.items)
-    c.in_ok-met-2.names.records.distinct c.in_ok-met-2.names.records.known in
-    subst (λ o. All (λ x. x < length s.nodes) (take c.len-front_nodes.result o)) (sym order)
-    (taken_all (λ x. x < length s.nodes) c.len-front_nodes.result _ (walk_met c.args.fixed s c.requires).nodes_below)
-
-pub write_behind_front-requires-clause-front_nodes : goal.write_behind_front-requires-clause-front_nodes
-write_behind_front-requires-clause-front_nodes g c =
-    let s = g.P.Parts.parts c.args.parts.now in
-    let order = ap (λ (w : Written). w.node_order) c.behind-writer.ensures ∙ c.in_ok-met-2.ensures.nodes in
-    let others = ap (λ (w : Written). w.record_order) c.behind-writer.ensures ∙ c.in_ok-met-2.ensures.records in
-    let nodes = c.len-front_nodes.ensures ∙ ap length c.in_ok-met.ensures.nodes in
-    let records = c.len-front_records.ensures ∙ ap length c.in_ok-met.ensures.records in
-    let few = front_nodes_few c.args.fixed s c.requires in
-    let less = front_records_few c.args.fixed s c.requires in
-    let short = order_short c.in_ok-met-2.names.nodes.order.items (length c.in_ok-met-2.names.nodes.numbers.items)
-    c.in_ok-met-2.names.nodes.distinct c.in_ok-met-2.names.nodes.known in
-    let thin = order_short c.in_ok-met-2.names.records.order.items (length c.in_ok-met-2.names.records.numbers.items)
-    c.in_ok-met-2.names.records.distinct c.in_ok-met-2.names.records.known in
-    omega (arith, nodes, ap length order, few, ap (λ (w : Written). length w.node_order) c.in_ok-write_graph.ensures)
-
-pub write_behind_front-requires-clause-front_records : goal.write_behind_front-requires-clause-front_records
-write_behind_front-requires-clause-front_records g c =
-    let s = g.P.Parts.parts c.args.parts.now in
-    let order = ap (λ (w : Written). w.node_order) c.behind-writer.ensures ∙ c.in_ok-met-2.ensures.nodes in
-    let others = ap (λ (w : Written). w.record_order) c.behind-writer.ensures ∙ c.in_ok-met-2.ensures.records in
-    let nodes = c.len-front_nodes.ensures ∙ ap length c.in_ok-met.ensures.nodes in
-    let records = c.len-front_records.ensures ∙ ap length c.in_ok-met.ensures.records in
-    let few = front_nodes_few c.args.fixed s c.requires in
-    let less = front_records_few c.args.fixed s c.requires in
-    let short = order_short c.in_ok-met-2.names.nodes.order.items (length c.in_ok-met-2.names.nodes.numbers.items)
-    c.in_ok-met-2.names.nodes.distinct c.in_ok-met-2.names.nodes.known in
-    let thin = order_short c.in_ok-met-2.names.records.order.items (length c.in_ok-met-2.names.records.numbers.items)
-    c.in_ok-met-2.names.records.distinct c.in_ok-met-2.names.records.known in
-    omega (arith, records, ap length others, less, ap (λ (w : Written). length w.record_order) c.in_ok-write_graph.ensures)
-
-pub write_behind_front-requires-clause-few_nodes : goal.write_behind_front-requires-clause-few_nodes
-write_behind_front-requires-clause-few_nodes g c =
-    let s = g.P.Parts.parts c.args.parts.now in
-    let order = ap (λ (w : Written). w.node_order) c.behind-writer.ensures ∙ c.in_ok-met-2.ensures.nodes in
-    let others = ap (λ (w : Written). w.record_order) c.behind-writer.ensures ∙ c.in_ok-met-2.ensures.records in
-    let nodes = c.len-front_nodes.ensures ∙ ap length c.in_ok-met.ensures.nodes in
-    let records = c.len-front_records.ensures ∙ ap length c.in_ok-met.ensures.records in
-    let few = front_nodes_few c.args.fixed s c.requires in
-    let less = front_records_few c.args.fixed s c.requires in
-    let short = order_short c.in_ok-met-2.names.nodes.order.items (length c.in_ok-met-2.names.nodes.numbers.items)
-    c.in_ok-met-2.names.nodes.distinct c.in_ok-met-2.names.nodes.known in
-    let thin = order_short c.in_ok-met-2.names.records.order.items (length c.in_ok-met-2.names.records.numbers.items)
-    c.in_ok-met-2.names.records.distinct c.in_ok-met-2.names.records.known in
-    omega (arith, ap length order, ap length c.in_ok-met-2.ensures.nodes, short, c.in_ok-met-2.names.nodes.few, ap (λ (w : Written). length w.node_order) c.in_ok-write_graph.ensures)
-
-pub write_behind_front-requires-clause-few_records : goal.write_behind_front-requires-clause-few_records
-write_behind_front-requires-clause-few_records g c =
-    let s = g.P.Parts.parts c.args.parts.now in
-    let order = ap (λ (w : Written). w.node_order) c.behind-writer.ensures ∙ c.in_ok-met-2.ensures.nodes in
-    let others = ap (λ (w : Written). w.record_order) c.behind-writer.ensures ∙ c.in_ok-met-2.ensures.records in
-    let nodes = c.len-front_nodes.ensures ∙ ap length c.in_ok-met.ensures.nodes in
-    let records = c.len-front_records.ensures ∙ ap length c.in_ok-met.ensures.records in
-    let few = front_nodes_few c.args.fixed s c.requires in
-    let less = front_records_few c.args.fixed s c.requires in
-    let short = order_short c.in_ok-met-2.names.nodes.order.items (length c.in_ok-met-2.names.nodes.numbers.items)
-    c.in_ok-met-2.names.nodes.distinct c.in_ok-met-2.names.nodes.known in
-    let thin = order_short c.in_ok-met-2.names.records.order.items (length c.in_ok-met-2.names.records.numbers.items)
-    c.in_ok-met-2.names.records.distinct c.in_ok-met-2.names.records.known in
-    omega (arith, ap length others, ap length c.in_ok-met-2.ensures.records, thin, c.in_ok-met-2.names.records.few, ap (λ (w : Written). length w.record_order) c.in_ok-write_graph.ensures)
+    let order = ap (λ (w : Written). length w.node_order) c.in_ok-write_graph.ensures
+    ∙ ap (λ (w : Written). length w.node_order) c.behind-writer.ensures in
+    let others = ap (λ (w : Written). length w.record_order) c.in_ok-write_graph.ensures
+    ∙ ap (λ (w : Written). length w.record_order) c.behind-writer.ensures in
+    record {
+      in_range = search rules;
+      nodes = search rules;
+      records = search rules;
+      front_nodes = omega (
+        arith,
+        c.len-front_nodes.ensures ∙ ap length c.in_ok-met.ensures.nodes,
+        order ∙ ap length c.in_ok-met-2.ensures.nodes,
+        front_nodes_few c.args.fixed s c.requires,
+      );
+      front_records = omega (
+        arith,
+        c.len-front_records.ensures ∙ ap length c.in_ok-met.ensures.records,
+        others ∙ ap length c.in_ok-met-2.ensures.records,
+        front_records_few c.args.fixed s c.requires,
+      );
+      few_nodes = omega (arith, order, order_few c.in_ok-met-2.names.nodes);
+      few_records = omega (arith, others, order_few c.in_ok-met-2.names.records);
+      known = search rules;
+    }
 
 pub returns : goal.returns
 returns g c =

@@ -1,4 +1,4 @@
-use Rattle.std.proofs.Common.{length, ap, ◌∙◌, arith}
+use Rattle.std.proofs.Common.{ap, ◌∙◌, arith}
 use Rattle.tree_machine.specs.Written.{Written}
 use Rattle.tree_machine.proofs.VisitedParts.{part_below}
 use Rattle.tree_machine.proofs.PartsWritten.{part_more, part_next}
@@ -6,9 +6,8 @@ use Rattle.tree_machine.proofs.part_code.write_held.Goals as goal
 
 pub visit_held-requires-clause-named : goal.visit_held-requires-clause-named
 visit_held-requires-clause-named g c =
-    let s = g.P.Parts.parts c.args.parts.now in
-    part_below (length s.nodes) (length s.records) c.loop-index.writer.nodes c.loop-index.writer.records s.held
-    c.loop-index.index (ap (λ (w : Written). w.nodes) c.loop-index.invariant ∙ c.requires.nodes)
+    part_below (g.P.Parts.parts c.args.parts.now).held c.loop-index.index
+    (ap (λ (w : Written). w.nodes) c.loop-index.invariant ∙ c.requires.nodes)
     (ap (λ (w : Written). w.records) c.loop-index.invariant ∙ c.requires.records) c.requires.in_range.1.held
 
 pub loop-index-preserved : goal.loop-index-preserved

@@ -9,9 +9,8 @@ use Rattle.tree_machine.proofs.part_code.write_nodes.Goals as goal
 
 pub visit_node-requires-clause-named : goal.visit_node-requires-clause-named
 visit_node-requires-clause-named g c =
-    let s = g.P.Parts.parts c.args.parts.now in
-    part_below (length s.nodes) (length s.records) c.loop-place.writer.nodes c.loop-place.writer.records s.nodes
-    c.in-Some.node (ap (λ (w : Written). w.nodes) c.loop-place.invariant ∙ c.requires.nodes)
+    part_below (g.P.Parts.parts c.args.parts.now).nodes c.in-Some.node
+    (ap (λ (w : Written). w.nodes) c.loop-place.invariant ∙ c.requires.nodes)
     (ap (λ (w : Written). w.records) c.loop-place.invariant ∙ c.requires.records) c.requires.in_range.1.nodes
 
 pub loop-place-preserved : goal.loop-place-preserved
@@ -30,6 +29,4 @@ returns-in-None g c =
       arith,
       past_none c.loop-place.writer.node_order c.loop-place.place (sym c.in-None.ensures),
       ap (λ (w : Written). length w.node_order) c.loop-place.invariant,
-      c.loop-place-test.true,
-      c.requires.within,
     ))

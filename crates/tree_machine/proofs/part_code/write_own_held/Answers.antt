@@ -1,4 +1,4 @@
-use Rattle.std.proofs.Common.{◌≤◌, ◌++◌, ◌∙◌, ap, arith, length}
+use Rattle.std.proofs.Common.{◌++◌, ◌∙◌, ap, arith, length}
 use Rattle.tree_machine.specs.Flat.{part_codes}
 use Rattle.tree_machine.proofs.PartsWritten.{own_held_written}
 use Rattle.tree_machine.proofs.part_code.write_own_held.Goals as goal
@@ -6,12 +6,8 @@ use Rattle.tree_machine.proofs.part_code.write_own_held.Goals as goal
 pub returns : goal.returns
 returns g c =
     let s = g.P.Parts.parts c.args.parts.now in
-    let k = length c.numbering-names.result.now.numbers.items in
-    let enough : (length s.nodes ≤ k) × (length s.records ≤ k) = (
-      omega (arith, c.node_count-nodes.ensures, c.most.ensures.0, c.in_ok-own.ensures, c.numbering-names.ensures.cells),
-      omega (arith, c.record_count-records.ensures, c.most.ensures.1, c.in_ok-own.ensures, c.numbering-names.ensures.cells),
-    ) in
-    own_held_written k c.requires.0 s c.requires.1 enough.0 enough.1 c.numbering-names.result.now.order.items
+    own_held_written (length c.numbering-names.result.now.numbers.items) c.requires.0 s c.requires.1 (omega arith)
+    (omega arith) c.numbering-names.result.now.order.items
     c.numbering-names.ensures.own c.node_count-nodes.result c.record_count-records.result c.replace-bytes.result.items
     c.into_bytes.result.items c.behind-writer.result c.write_held.new.writer c.behind-writer.ensures
     c.in_ok-write_held.ensures c.into_bytes.ensures

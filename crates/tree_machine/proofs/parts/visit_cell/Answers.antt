@@ -1,4 +1,4 @@
-use Rattle.std.proofs.Common.{length, arith, ◌-◌}
+use Rattle.std.proofs.Common.{arith, ◌-◌}
 use Rattle.std.proofs.lemmas.Result.{on_ok_weaker}
 use Rattle.tree_machine.specs.Parts.{part_at}
 use Rattle.tree_machine.proofs.VisitedParts.{part_below, node_cell_at, record_cell_at, held_cell_at}
@@ -6,25 +6,19 @@ use Rattle.tree_machine.proofs.parts.visit_cell.Goals as goal
 
 pub visit_node-requires-clause-named : goal.visit_node-requires-clause-named
 visit_node-requires-clause-named g c =
-    let s = g.P.Parts.parts c.args.parts.now in
-    part_below (length s.nodes) (length s.records) (g.V.PartVisitor.nodes_below c.args.visitor.now)
-    (g.V.PartVisitor.records_below c.args.visitor.now) s.nodes c.args.cell c.requires.nodes c.requires.records
+    part_below (g.P.Parts.parts c.args.parts.now).nodes c.args.cell c.requires.nodes c.requires.records
     c.requires.parts_in_range.1.nodes
 
 pub visit_record-requires : goal.visit_record-requires
 visit_record-requires g c =
-    let s = g.P.Parts.parts c.args.parts.now in
-    part_below (length s.nodes) (length s.records) (g.V.PartVisitor.nodes_below c.args.visitor.now)
-    (g.V.PartVisitor.records_below c.args.visitor.now) s.records (c.args.cell - c.node_count-nodes.result)
-    c.requires.nodes c.requires.records c.requires.parts_in_range.1.records
+    part_below (g.P.Parts.parts c.args.parts.now).records (c.args.cell - c.node_count-nodes.result) c.requires.nodes
+    c.requires.records c.requires.parts_in_range.1.records
 
 pub visit_held-requires-clause-named : goal.visit_held-requires-clause-named
 visit_held-requires-clause-named g c =
-    let s = g.P.Parts.parts c.args.parts.now in
-    part_below (length s.nodes) (length s.records) (g.V.PartVisitor.nodes_below c.args.visitor.now)
-    (g.V.PartVisitor.records_below c.args.visitor.now) s.held
-    (c.args.cell - c.node_count-nodes.result - c.record_count-records.result)
-    c.requires.nodes c.requires.records c.requires.parts_in_range.1.held
+    part_below (g.P.Parts.parts c.args.parts.now).held
+    (c.args.cell - c.node_count-nodes.result - c.record_count-records.result) c.requires.nodes c.requires.records
+    c.requires.parts_in_range.1.held
 
 pub returns-then-cell-nodes : goal.returns-then-cell-nodes
 returns-then-cell-nodes g c =

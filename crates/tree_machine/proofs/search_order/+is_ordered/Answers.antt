@@ -1,23 +1,17 @@
-use Rattle.std.proofs.Common.{rules, ◌≡◌}
-use Rattle.std.specs.Prelude.{Some}
+use Rattle.std.proofs.Common.{rules}
 use Rattle.tree_machine.specs.Laws.SearchOrder.{internal_is_ordered}
-use Rattle.tree_machine.specs.declared.search_order.Shape.TheVariants.{Internal}
 use Rattle.tree_machine.proofs.search_order.+is_ordered.Goals as goal
 
 pub returns-then-is_ordered : goal.returns-then-is_ordered
 returns-then-is_ordered g t c =
-    let is : g.S.Shapes.shapes c.args.memory.now c.args.x
-    ≡ Some (Internal c.in-Some-Internal.key c.in-Some-Internal.left c.in-Some-Internal.right) = search rules in
     let both =
     internal_is_ordered (g.S.Shapes.shapes c.args.memory.now) c.args.low c.args.high c.args.x c.in-Some-Internal.key
-    c.in-Some-Internal.left c.in-Some-Internal.right is in
+    c.in-Some-Internal.left c.in-Some-Internal.right (search rules) in
     search (rules, both)
 
 pub returns-else-is_ordered : goal.returns-else-is_ordered
 returns-else-is_ordered g t c =
-    let is : g.S.Shapes.shapes c.args.memory.now c.args.x
-    ≡ Some (Internal c.in-Some-Internal.key c.in-Some-Internal.left c.in-Some-Internal.right) = search rules in
     let both =
     internal_is_ordered (g.S.Shapes.shapes c.args.memory.now) c.args.low c.args.high c.args.x c.in-Some-Internal.key
-    c.in-Some-Internal.left c.in-Some-Internal.right is in
+    c.in-Some-Internal.left c.in-Some-Internal.right (search rules) in
     search (rules, both)

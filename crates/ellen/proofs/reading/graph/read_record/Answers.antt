@@ -2,10 +2,11 @@
 use Rattle.std.proofs.Common.{◌≡◌, ◌+◌, ◌-◌, ◌<◌, ◌≤◌, ℕ, List, ◌++◌, length, take, drop, get_or, refl, ◌∙◌, arith}
 use Rattle.tree_machine.specs.Flat.{reference_number, cell_code}
 use Rattle.tree_machine.specs.Flat.{part_content}
+use Rattle.tree_machine.specs.Laws.FirstBytes.{first_six}
 use Rattle.ellen.specs.declared.memory.DeleteRecord.{DeleteRecord}
 use Rattle.ellen.specs.declared.memory.Record.TheVariants.{Del}
 use Rattle.ellen.specs.Parts.{word_number, word_record, record_part}
-use Rattle.ellen.proofs.ReadBytes.{first_six, byte_is, name_is, word_is}
+use Rattle.ellen.proofs.ReadBytes.{byte_is, name_is, word_is}
 use Rattle.ellen.proofs.reading.graph.read_record.Goals as goal
 
 delete_read : (bytes : List ℕ) (delete : DeleteRecord) → 6 ≤ length bytes → get_or bytes 0 0 ≡ 136

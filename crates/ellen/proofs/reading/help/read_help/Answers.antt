@@ -3,6 +3,7 @@ use Rattle.std.proofs.Common.{refl, ◌∙◌, All}
 use Rattle.tree_machine.specs.Flat.{reference_number, cell_code}
 use Rattle.tree_machine.specs.Flat.{part_content}
 use Rattle.tree_machine.specs.declared.search_order.Side.TheVariants as side
+use Rattle.tree_machine.specs.Laws.FirstBytes.{first_five}
 use Rattle.ellen.specs.declared.place.Base.{Base}
 use Rattle.ellen.specs.declared.place.Base.TheVariants.{Again, Insert, Delete}
 use Rattle.ellen.specs.declared.place.HelpLoc.{HelpLoc}
@@ -12,7 +13,7 @@ use Rattle.ellen.specs.declared.place.Resume.{Resume}
 use Rattle.ellen.specs.declared.place.EllenLoc.TheVariants.{Help}
 use Rattle.ellen.specs.Parts.{help_number, help_side, help_record, help_node, base_number, place_part}
 use Rattle.ellen.proofs.HeldBytes.{help_coded}
-use Rattle.ellen.proofs.ReadBytes.{first_five, byte_is}
+use Rattle.ellen.proofs.ReadBytes.{byte_is}
 use Rattle.ellen.proofs.reading.help.read_help.Goals as goal
 
 help_small : (at : HelpLoc) → (help_number at < 255) × (help_side at < 255)

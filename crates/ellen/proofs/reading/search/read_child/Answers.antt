@@ -4,11 +4,12 @@ use Rattle.std.proofs.Common.{arith}
 use Rattle.std.specs.Prelude.{Option}
 use Rattle.tree_machine.specs.Flat.{reference_number, cell_code}
 use Rattle.tree_machine.specs.Flat.{part_content}
+use Rattle.tree_machine.specs.Laws.FirstBytes.{first_six}
 use Rattle.ellen.specs.declared.memory.UpdateWord.{UpdateWord}
 use Rattle.ellen.specs.declared.place.Above.{Above}
 use Rattle.ellen.specs.declared.place.SearchLoc.TheVariants.{Child}
 use Rattle.ellen.specs.Parts.{word_number, word_record, above_number, above_node, above_record, search_part}
-use Rattle.ellen.proofs.ReadBytes.{first_six, byte_is, name_is, word_is, above_is}
+use Rattle.ellen.proofs.ReadBytes.{byte_is, name_is, word_is, above_is}
 use Rattle.ellen.proofs.reading.search.read_child.Goals as goal
 
 child_read : (bytes : List ℕ) (above : Option Above) (update : UpdateWord) (parent : ℕ) → 6 ≤ length bytes

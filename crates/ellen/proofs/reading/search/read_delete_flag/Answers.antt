@@ -3,11 +3,12 @@ use Rattle.std.proofs.Common.{◌≡◌, ◌+◌, ◌-◌, ◌<◌, ◌≤◌, �
 use Rattle.std.proofs.Common.{arith}
 use Rattle.tree_machine.specs.Flat.{reference_number, cell_code}
 use Rattle.tree_machine.specs.Flat.{part_content}
+use Rattle.tree_machine.specs.Laws.FirstBytes.{first_seven}
 use Rattle.ellen.specs.declared.memory.UpdateWord.{UpdateWord}
 use Rattle.ellen.specs.declared.place.Above.{Above}
 use Rattle.ellen.specs.declared.place.SearchLoc.TheVariants.{DFlag}
 use Rattle.ellen.specs.Parts.{word_number, word_record, search_part}
-use Rattle.ellen.proofs.ReadBytes.{first_seven, byte_is, name_is, word_is}
+use Rattle.ellen.proofs.ReadBytes.{byte_is, name_is, word_is}
 use Rattle.ellen.proofs.reading.search.read_delete_flag.Goals as goal
 
 delete_flag_read : (bytes : List ℕ) (above : Above) (update : UpdateWord) (parent leaf : ℕ) → 7 ≤ length bytes

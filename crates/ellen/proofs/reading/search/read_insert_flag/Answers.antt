@@ -3,10 +3,11 @@ use Rattle.std.proofs.Common.{◌≡◌, ◌+◌, ◌-◌, ◌<◌, ◌≤◌, �
 use Rattle.std.proofs.Common.{arith}
 use Rattle.tree_machine.specs.Flat.{reference_number, cell_code}
 use Rattle.tree_machine.specs.Flat.{part_content}
+use Rattle.tree_machine.specs.Laws.FirstBytes.{first_four}
 use Rattle.ellen.specs.declared.memory.UpdateWord.{UpdateWord}
 use Rattle.ellen.specs.declared.place.SearchLoc.TheVariants.{IFlag}
 use Rattle.ellen.specs.Parts.{word_number, word_record, search_part}
-use Rattle.ellen.proofs.ReadBytes.{first_four, byte_is, name_is, word_is}
+use Rattle.ellen.proofs.ReadBytes.{byte_is, name_is, word_is}
 use Rattle.ellen.proofs.reading.search.read_insert_flag.Goals as goal
 
 insert_flag_read : (bytes : List ℕ) (update : UpdateWord) (parent leaf : ℕ) → 4 ≤ length bytes

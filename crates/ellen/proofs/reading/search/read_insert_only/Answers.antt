@@ -3,9 +3,10 @@ use Rattle.std.proofs.Common.{◌≡◌, ◌+◌, ◌-◌, ◌<◌, ◌≤◌, �
 use Rattle.std.proofs.Common.{arith}
 use Rattle.tree_machine.specs.Flat.{cell_code}
 use Rattle.tree_machine.specs.Flat.{part_content}
+use Rattle.tree_machine.specs.Laws.FirstBytes.{first_two}
 use Rattle.ellen.specs.declared.place.SearchLoc.TheVariants.{InsOnly}
 use Rattle.ellen.specs.Parts.{search_part}
-use Rattle.ellen.proofs.ReadBytes.{first_two, name_is}
+use Rattle.ellen.proofs.ReadBytes.{name_is}
 use Rattle.ellen.proofs.reading.search.read_insert_only.Goals as goal
 
 insert_only_read : (bytes : List ℕ) (parent leaf : ℕ) → 2 ≤ length bytes

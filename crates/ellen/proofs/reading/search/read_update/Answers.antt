@@ -4,10 +4,11 @@ use Rattle.std.proofs.Common.{arith}
 use Rattle.std.specs.Prelude.{Option}
 use Rattle.tree_machine.specs.Flat.{reference_number, cell_code}
 use Rattle.tree_machine.specs.Flat.{part_content}
+use Rattle.tree_machine.specs.Laws.FirstBytes.{first_four}
 use Rattle.ellen.specs.declared.place.Above.{Above}
 use Rattle.ellen.specs.declared.place.SearchLoc.TheVariants.{Update}
 use Rattle.ellen.specs.Parts.{above_number, above_node, above_record, search_part}
-use Rattle.ellen.proofs.ReadBytes.{first_four, byte_is, name_is, above_is}
+use Rattle.ellen.proofs.ReadBytes.{byte_is, name_is, above_is}
 use Rattle.ellen.proofs.reading.search.read_update.Goals as goal
 
 update_read : (bytes : List ℕ) (above : Option Above) (parent : ℕ) → 4 ≤ length bytes

@@ -1,8 +1,8 @@
 use Rattle.std.proofs.Common.{refl, ◌∙◌, arith}
 use Rattle.tree_machine.specs.Flat.{cell_code}
 use Rattle.tree_machine.specs.Flat.{part_content}
+use Rattle.tree_machine.specs.Laws.ReadParts.{one_more_read, kept_at}
 use Rattle.natmit.specs.Parts.{held_part}
-use Rattle.natmit.proofs.ReadBytes.{one_more_read, kept_at}
 use Rattle.natmit.proofs.reading.place.read_places.Goals as goal
 
 pub loop-thread-preserved : goal.loop-thread-preserved

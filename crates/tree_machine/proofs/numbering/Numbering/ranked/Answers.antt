@@ -2,7 +2,8 @@ use Rattle.std.proofs.Common.{◌≡◌, ◌≤◌, ◌<◌, ◌+◌, ◌-◌, �
 use Rattle.std.specs.Prelude.{nat_le, nat_lt}
 use Rattle.tree_machine.specs.Cells.{met}
 use Rattle.tree_machine.specs.declared.numbering.Numbering.{Numbering}
-use Rattle.tree_machine.proofs.Ranked.{cell_ranked, cell_passed, below_range, above_range}
+use Rattle.tree_machine.specs.Laws.MetLists.{test_before, test_behind}
+use Rattle.tree_machine.proofs.Ranked.{cell_ranked, cell_passed}
 use Rattle.tree_machine.proofs.numbering.Numbering.ranked.Goals as goal
 use Rattle.tree_machine.proofs.numbering.Numbering.ranked.Goals.{then-low-cell+then-cell-low, else-low-cell, else-low-cell-via-then-low-cell+else-cell-low, else-low-cell-via-else-low-cell}
 
@@ -31,10 +32,10 @@ loop-place-preserved c =
           (let fails : (nat_le low cell && nat_lt cell (low + count)) ≡ false =
           elim w.else-low-cell.branch [
             | else-low-cell-via-then-low-cell+else-cell-low v ↦
-                above_range low count cell
+                test_behind low count cell
                 (omega (arith, v.if-low-cell.true, v.if-cell-low.false, c.from-cell.ensures))
             | else-low-cell-via-else-low-cell v ↦
-                below_range low count cell (omega (arith, v.if-low-cell.false, c.from-cell.ensures))
+                test_before low count cell (omega (arith, v.if-low-cell.false, c.from-cell.ensures))
           ] in
           record {
             order = ap (λ (n : Numbering). n.order.items) w.ranked-is

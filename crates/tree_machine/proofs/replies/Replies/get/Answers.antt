@@ -1,9 +1,9 @@
 use Rattle.std.proofs.Common.{◌<◌, length, sym, ◌∙◌, ap, subst, arith}
 use Rattle.std.specs.Prelude.{slice_get, Some, nat_eq}
 use Rattle.std.proofs.lemmas.Nat.Bits.{shr_and_one}
+use Rattle.std.proofs.lemmas.Option.{slice_get_past}
 use Rattle.tree_machine.specs.Laws.Packed.{reply_at}
 use Rattle.tree_machine.specs.Packed.{replies_in}
-use Rattle.tree_machine.proofs.Behind.{get_behind}
 use Rattle.tree_machine.proofs.replies.Replies.get.Goals as goal
 
 pub returns-then-index-len : goal.returns-then-index-len
@@ -15,4 +15,4 @@ returns-then-index-len c =
 
 pub returns-else-index-len : goal.returns-else-index-len
 returns-else-index-len c =
-    sym (get_behind c.args.self.now c.args.index (omega (arith, c.if-index-len.false, c.len.ensures.value)))
+    sym (slice_get_past c.args.self.now c.args.index (omega (arith, c.if-index-len.false, c.len.ensures.value)))

@@ -1,9 +1,9 @@
 -- The thread is moved on where it stands, by what came of the access.
-use Rattle.std.proofs.Common.{◌≡◌, ◌<◌, length, ◌∙◌, ap, sym, arith, rules, subst, Some, slice_set}
-use Rattle.std.proofs.lemmas.Option.{slice_get_within, IfSome_then}
-use Rattle.tree_machine.specs.Step.{place_or, notes_at_step, after_outcome, finished_counts, with_note}
+use Rattle.std.proofs.Common.{◌<◌, length, ◌∙◌, ap, sym, rules, subst}
+use Rattle.std.proofs.lemmas.Option.{IfSome_then}
+use Rattle.tree_machine.specs.Step.{place_or}
 use Rattle.tree_machine.proofs.Lists.{put_back}
-use Rattle.tree_machine.proofs.States.{ready_pieces, thread_read, next_place_in_range, reply_room, note_room}
+use Rattle.tree_machine.proofs.States.{ready_pieces, thread_read, thread_within, next_place_in_range, reply_room, note_room}
 use Rattle.tree_machine.proofs.Steps.{step_made}
 use Rattle.tree_machine.proofs.state.State.access_here.Goals as goal
 
@@ -19,45 +19,44 @@ act-requires-clause-place_in_range g c =
 
 pub bounds-as_mut_slice-from : goal.bounds-as_mut_slice-from
 bounds-as_mut_slice-from g c =
-    let pieces =
-    ready_pieces c.requires.ready.0 c.args.self.now c.args.t c.args.thread.now c.args.op c.requires.ready.1.1.1 in
-    let within = slice_get_within c.args.self.now.threads c.args.t c.args.thread.now pieces.0 in
-    let same = ap length (c.as_mut_slice.ensures.value ∙ (c.into_vec-threads.ensures ∙ c.replace.ensures.value)) in
-    omega (arith, within, same, c.from.ensures)
+    thread_within c.requires.ready.0 c.args.self.now c.args.t c.args.thread.now c.args.op c.requires.ready.1.1.1 _ _
+    (c.as_mut_slice.ensures.value ∙ c.into_vec-threads.ensures ∙ c.replace.ensures.value) c.from.ensures
 
 pub offset_bounds-as_mut_slice-from : goal.offset_bounds-as_mut_slice-from
 offset_bounds-as_mut_slice-from g c =
-    let pieces =
-    ready_pieces c.requires.ready.0 c.args.self.now c.args.t c.args.thread.now c.args.op c.requires.ready.1.1.1 in
-    let within = slice_get_within c.args.self.now.threads c.args.t c.args.thread.now pieces.0 in
-    let same = ap length (c.as_mut_slice.ensures.value ∙ (c.into_vec-threads.ensures ∙ c.replace.ensures.value)) in
-    let below : c.from.result < length c.as_mut_slice.result.now = omega (arith, within, same, c.from.ensures) in
+    let below : c.from.result < length c.as_mut_slice.result.now =
+    thread_within c.requires.ready.0 c.args.self.now c.args.t c.args.thread.now c.args.op c.requires.ready.1.1.1 _ _
+    (c.as_mut_slice.ensures.value ∙ c.into_vec-threads.ensures ∙ c.replace.ensures.value) c.from.ensures in
     search rules
 
 pub advance-requires-clause-reply_room : goal.advance-requires-clause-reply_room
 advance-requires-clause-reply_room g c κs within =
     let program = c.requires.ready.0 in
-    let thread = c.args.thread.now in
+    let fits = c.requires.ready.1.1.0 in
     let ready = c.requires.ready.1.1.1 in
-    let pieces = ready_pieces program c.args.self.now c.args.t thread c.args.op ready in
-    let there = thread_read program c.args.self.now c.args.t thread c.args.op ready c.as_mut_slice.result.now
-    c.from.result c.index-as_mut_slice-from.result
-    (c.as_mut_slice.ensures.value ∙ (c.into_vec-threads.ensures ∙ c.replace.ensures.value)) c.from.ensures in
-    subst (λ x. length x.replies < 6) (sym there) (reply_room (g.M.Machine.rules c.args.machine) program c.args.self.now
-    c.requires.ready.1.1.0 c.requires.ready.1.0 c.args.t c.args.op thread pieces.1)
+    let state = c.args.self.now in
+    let thread = c.args.thread.now in
+    let pieces = ready_pieces program state c.args.t thread c.args.op ready in
+    let there = thread_read program state c.args.t thread c.args.op ready c.as_mut_slice.result.now c.from.result
+    c.index-as_mut_slice-from.result (c.as_mut_slice.ensures.value ∙ c.into_vec-threads.ensures ∙ c.replace.ensures.value) c.from.ensures in
+    subst (λ x. length x.replies < 6) (sym there)
+    (reply_room (g.M.Machine.rules c.args.machine) program state fits c.requires.ready.1.0 c.args.t c.args.op thread
+    pieces.1)
 
 pub advance-requires-clause-note_room : goal.advance-requires-clause-note_room
 advance-requires-clause-note_room g c κs within =
     let program = c.requires.ready.0 in
-    let thread = c.args.thread.now in
+    let fits = c.requires.ready.1.1.0 in
     let ready = c.requires.ready.1.1.1 in
-    let pieces = ready_pieces program c.args.self.now c.args.t thread c.args.op ready in
-    let there = thread_read program c.args.self.now c.args.t thread c.args.op ready c.as_mut_slice.result.now
-    c.from.result c.index-as_mut_slice-from.result
-    (c.as_mut_slice.ensures.value ∙ (c.into_vec-threads.ensures ∙ c.replace.ensures.value)) c.from.ensures in
+    let state = c.args.self.now in
+    let thread = c.args.thread.now in
+    let pieces = ready_pieces program state c.args.t thread c.args.op ready in
+    let there = thread_read program state c.args.t thread c.args.op ready c.as_mut_slice.result.now c.from.result
+    c.index-as_mut_slice-from.result (c.as_mut_slice.ensures.value ∙ c.into_vec-threads.ensures ∙ c.replace.ensures.value) c.from.ensures in
     IfSome_then c.note_at_step-note.result c.note_at_step-note.ensures.begun (λ _ begins.
-    subst (λ x. length x.notes < 6) (sym there) (note_room (g.M.Machine.rules c.args.machine) program
-    c.args.self.now c.requires.ready.1.1.0 c.requires.ready.1.0 c.args.t c.args.op thread pieces.0 pieces.1 begins))
+    subst (λ x. length x.notes < 6) (sym there)
+    (note_room (g.M.Machine.rules c.args.machine) program state fits c.requires.ready.1.0 c.args.t c.args.op thread
+    pieces.0 pieces.1 begins))
 
 pub returns : goal.returns
 returns g c =
@@ -66,29 +65,15 @@ returns g c =
     let state = c.args.self.now in
     let thread = c.args.thread.now in
     let place = c.place_or-place.result.now in
-    let outcome = c.in_ok-outcome.outcome in
-    let after = c.advance.new.thread in
-    let note = c.note_at_step-note.result in
-    let items = c.into_vec-threads.ensures ∙ c.replace.ensures.value in
-    let same = c.as_mut_slice.ensures.value ∙ items in
-    let there = thread_read c.requires.ready.0 state c.args.t thread c.args.op c.requires.ready.1.1.1
-    c.as_mut_slice.result.now c.from.result c.index-as_mut_slice-from.result same c.from.ensures in
-    let counts = c.as_slice.ensures.value ∙ items in
-    let set : c.from_vec.result ≡ slice_set c.as_mut_slice.result.now c.from.result after =
-    c.from_vec.ensures
-    ∙ put_back c.as_mut_slice.result.now c.into_vec-threads.result.items c.into_vec-threads.result.len c.from.result after
-    c.as_mut_slice.ensures.len in
-    step_made state c.args.t rules c.args.op thread after place c.act.new.mem outcome c.from_vec.result
-    c.in_ok-self.field-0 (c.place_or-place.ensures ∙ ap (place_or thread.place) c.begin-first.ensures)
-    c.in_ok-outcome.ensures.ok ((bound.lawful c.args.machine).astray_unchanged c.args.op place state.memory)
-    (c.in_ok-self.ensures.thread ∙ (λ i. after_outcome (record {
-      replies = (there i).replies;
-      place = Some place;
-      notes = with_note (there i).notes note;
-    }) outcome) ∙ (λ i. after_outcome (record {
-      replies = thread.replies;
-      place = Some place;
-      notes = (c.note_at_step-note.ensures.note thread.notes
-          ∙ ap (λ threads. notes_at_step thread.place thread.notes (finished_counts threads)) counts) i;
-    }) outcome))
-    (set ∙ (λ i. slice_set (same i) (c.from.ensures i) after)) c.in_ok-self.ensures.astray
+    let same = c.as_mut_slice.ensures.value ∙ c.into_vec-threads.ensures ∙ c.replace.ensures.value in
+    step_made state c.args.t rules c.args.op thread place c.act.new.mem c.in_ok-outcome.outcome
+    c.note_at_step-note.result (c.place_or-place.ensures ∙ ap (place_or thread.place) c.begin-first.ensures)
+    c.in_ok-outcome.ensures.ok
+    ((bound.lawful c.args.machine).astray_unchanged c.args.op place state.memory) c.in_ok-self.ensures.thread
+    (thread_read c.requires.ready.0 state c.args.t thread c.args.op c.requires.ready.1.1.1
+    c.as_mut_slice.result.now c.from.result c.index-as_mut_slice-from.result same c.from.ensures)
+    (c.note_at_step-note.ensures.note thread.notes) (c.as_slice.ensures.value ∙ c.into_vec-threads.ensures ∙ c.replace.ensures.value)
+    (c.from_vec.ensures
+    ∙ put_back c.as_mut_slice.result.now c.into_vec-threads.result.items c.into_vec-threads.result.len c.from.result
+    c.advance.new.thread c.as_mut_slice.ensures.len)
+    same c.from.ensures c.in_ok-self.ensures.astray

@@ -10,8 +10,7 @@ pub put_piece-requires : goal.put_piece-requires
 put_piece-requires g c =
     let origin = c.args.origin.now in
     let order =
-    cuts_in_order g.M.Encode.front_code g.M.Encode.behind_code origin.label.now origin.offsets origin.state.now.value
-    c.requires.offsets origin.undo.now.reads c.end-end.result
+    cuts_in_order _ _ _ _ _ c.requires.offsets origin.undo.now.reads c.end-end.result
     (c.end-end.ensures ∙ ap (λ b. if b then origin.offsets.held else origin.offsets.memory) c.reads.ensures) in
     record { order = order.0; within = order.2 }
 
@@ -19,8 +18,7 @@ pub put_piece-requires-2 : goal.put_piece-requires-2
 put_piece-requires-2 g c =
     let origin = c.args.origin.now in
     let order =
-    cuts_in_order g.M.Encode.front_code g.M.Encode.behind_code origin.label.now origin.offsets origin.state.now.value
-    c.requires.offsets origin.undo.now.reads c.end-end.result
+    cuts_in_order _ _ _ _ _ c.requires.offsets origin.undo.now.reads c.end-end.result
     (c.end-end.ensures ∙ ap (λ b. if b then origin.offsets.held else origin.offsets.memory) c.reads.ensures) in
     record { order = order.1; within = order.2 }
 
@@ -30,8 +28,7 @@ returns-then-did_no_more g c =
     let mem = c.args.self.now.memory in
     let front = if origin.undo.now.reads then g.M.Encode.front_code origin.offsets.front mem else [] in
     let told =
-    deeds_told g.M.Encode.front_code g.M.Encode.behind_code origin.label.now origin.offsets origin.state.now.value
-    c.requires.offsets mem origin.undo.now.reads c.end-end.result c.requires.back.same
+    deeds_told _ _ _ _ _ c.requires.offsets mem origin.undo.now.reads c.end-end.result c.requires.back.same
     (c.end-end.ensures ∙ ap (λ b. if b then origin.offsets.held else origin.offsets.memory) c.reads.ensures) in
     on_ok_weaker c.put_piece.result
     (λ put. put ∙ ap (λ l. c.args.buffer.now ++ l)
@@ -43,8 +40,7 @@ returns g c =
     let mem = c.args.self.now.memory in
     let threads = c.as_slice.ensures in
     let told =
-    memory_told g.M.Encode.front_code g.M.Encode.behind_code origin.label.now origin.offsets origin.state.now.value
-    c.requires.offsets mem origin.undo.now.reads c.end-end.result c.requires.back.same
+    memory_told _ _ _ _ _ c.requires.offsets mem origin.undo.now.reads c.end-end.result c.requires.back.same
     (c.end-end.ensures ∙ ap (λ b. if b then origin.offsets.held else origin.offsets.memory) c.reads.ensures) in
     on_ok_weaker c.put_piece-2.result
     (λ put. front_put _ _ _ _ _ _ _ c.in_ok-put_deeds.ensures put

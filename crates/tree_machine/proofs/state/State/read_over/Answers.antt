@@ -1,21 +1,11 @@
 -- What was read tells where the parts begin.
-use Rattle.std.proofs.Common.{◌≡◌, ◌≤◌, ◌+◌, ◌-◌, length, ap, ◌∙◌, rules}
+use Rattle.std.proofs.Common.{◌≤◌, ◌+◌, ◌-◌, length, ap, ◌∙◌, rules}
 use Rattle.tree_machine.proofs.Lists.{given_back}
 use Rattle.tree_machine.proofs.OffsetPieces.{cuts_read, cuts_fit}
 use Rattle.tree_machine.proofs.state.State.read_over.Goals as goal
 
 pub overflow_add-held : goal.overflow_add-held
 overflow_add-held g c =
-    let same =
-    c.from_vec.ensures
-    ∙ given_back c.read_body-read.new.threads c.make_count.new.threads.items c.make_count.new.threads.len
-    (c.read_body-read.ensures.length ∙ c.as_mut_slice-lent.ensures.len) in
-    let many : length c.read_body-read.new.threads ≡ c.in-Some.count =
-    c.read_body-read.ensures.length ∙ (ap length c.as_mut_slice-lent.ensures.value
-    ∙ (c.in_ok-make_count.ensures ∙ c.from.ensures)) in
-    let read = rw c.in-Some-2.is at c.in_ok-read.ensures.read in
-    let behind = rw c.in-Some-2.is at c.in_ok-read.ensures.behind in
-    let front = rw c.in-Some-2.is at c.in_ok-read.ensures.front in
     let fits : length c.args.bytes.now - c.in-Some-2.read.behind + c.in-Some-2.read.end ≤ length c.args.bytes.now =
     cuts_fit g.M.Encode.front_code g.M.Encode.behind_code {Machine = g.row.M.Denot}
     {Form = g.row.M-Form.Denot}
@@ -25,24 +15,23 @@ overflow_add-held g c =
       steps = c.in-Some.steps;
       astray = c.read_body-read.new.astray;
     })
-    c.read_body-read.new.threads c.args.bytes.now c.in-Some.rest.now c.in-Some.count c.in-Some-2.read.behind c.in-Some-2.read.end
-    c.in-Some-2.read.front
-    same c.in-Some.ensures.read read many behind front in
+    c.read_body-read.new.threads c.args.bytes.now c.in-Some.rest.now c.in-Some.count c.in-Some-2.read.behind
+    c.in-Some-2.read.end c.in-Some-2.read.front
+    (c.from_vec.ensures
+    ∙ given_back _ c.make_count.new.threads.items c.make_count.new.threads.len
+    (c.read_body-read.ensures.length ∙ c.as_mut_slice-lent.ensures.len))
+    c.in-Some.ensures.read (rw c.in-Some-2.is at c.in_ok-read.ensures.read)
+    (c.read_body-read.ensures.length ∙ ap length c.as_mut_slice-lent.ensures.value ∙ c.in_ok-make_count.ensures ∙ c.from.ensures)
+    (rw c.in-Some-2.is at c.in_ok-read.ensures.behind) (rw c.in-Some-2.is at c.in_ok-read.ensures.front) in
     search (rules, fits)
 
 pub returns-in-Some-2 : goal.returns-in-Some-2
 returns-in-Some-2 g c =
-    let same =
-    c.from_vec.ensures
-    ∙ given_back c.read_body-read.new.threads c.make_count.new.threads.items c.make_count.new.threads.len
-    (c.read_body-read.ensures.length ∙ c.as_mut_slice-lent.ensures.len) in
-    let many : length c.read_body-read.new.threads ≡ c.in-Some.count =
-    c.read_body-read.ensures.length ∙ (ap length c.as_mut_slice-lent.ensures.value
-    ∙ (c.in_ok-make_count.ensures ∙ c.from.ensures)) in
-    let read = rw c.in-Some-2.is at c.in_ok-read.ensures.read in
-    let behind = rw c.in-Some-2.is at c.in_ok-read.ensures.behind in
-    let front = rw c.in-Some-2.is at c.in_ok-read.ensures.front in
-    cuts_read g.M.Encode.front_code g.M.Encode.behind_code _
-    c.read_body-read.new.threads c.args.bytes.now c.in-Some.rest.now c.in-Some.count c.in-Some-2.read.behind c.in-Some-2.read.end
-    c.in-Some-2.read.front
-    same c.in-Some.ensures.read read many behind front
+    cuts_read g.M.Encode.front_code g.M.Encode.behind_code _ c.read_body-read.new.threads c.args.bytes.now
+    c.in-Some.rest.now c.in-Some.count c.in-Some-2.read.behind c.in-Some-2.read.end c.in-Some-2.read.front
+    (c.from_vec.ensures
+    ∙ given_back _ c.make_count.new.threads.items c.make_count.new.threads.len
+    (c.read_body-read.ensures.length ∙ c.as_mut_slice-lent.ensures.len))
+    c.in-Some.ensures.read (rw c.in-Some-2.is at c.in_ok-read.ensures.read)
+    (c.read_body-read.ensures.length ∙ ap length c.as_mut_slice-lent.ensures.value ∙ c.in_ok-make_count.ensures ∙ c.from.ensures)
+    (rw c.in-Some-2.is at c.in_ok-read.ensures.behind) (rw c.in-Some-2.is at c.in_ok-read.ensures.front)

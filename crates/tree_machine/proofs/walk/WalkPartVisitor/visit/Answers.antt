@@ -1,6 +1,4 @@
-use Rattle.std.proofs.Common.{◌≡◌, ◌+◌, ◌<◌, ◌++◌, length, map, Some, ap, sym, ◌∙◌, subst, arith}
-use Rattle.std.specs.Prelude.{IfSome}
-use Rattle.std.specs.List.{All}
+use Rattle.std.proofs.Common.{◌≡◌, ◌+◌, ◌<◌, ◌++◌, length, map, Some, ap, sym, ◌∙◌, arith}
 use Rattle.tree_machine.specs.Parts.{Part}
 use Rattle.tree_machine.specs.Walked.{Walked}
 use Rattle.tree_machine.proofs.VisitedParts.{stack_all, is_visited}
@@ -9,14 +7,11 @@ use Rattle.tree_machine.proofs.walk.WalkPartVisitor.visit.Goals as goal
 
 pub meet_stack-requires : goal.meet_stack-requires
 meet_stack-requires c =
-    let records = c.self.inside.records in
-    let same : c.args.self.now.records ≡ records = sym (ap (λ (w : Walked). w.records) c.self.view_is) in
-    let below =
-    subst (λ b. All (λ x. IfSome x (λ y. y < b)) (c.args.records.now ++ map Some c.args.stack.now)) same
-    c.requires.records in
-    stack_all (λ x. x < records) (λ x. c.self.inside.nodes + x < length c.meet_names-2.new.met.numbers.items)
-    c.args.records.now c.args.stack.now
-    (λ x l. omega (arith, c.self.inside.room, c.meet_names.ensures.cells, c.meet_names-2.ensures.cells)) below
+    let same : c.args.self.now.records ≡ c.self.inside.records = sym (ap (λ (w : Walked). w.records) c.self.view_is) in
+    stack_all (λ x. x < c.args.self.now.records)
+    (λ x. c.self.inside.nodes + x < length c.meet_names-2.new.met.numbers.items) c.args.records.now c.args.stack.now
+    (λ x l. omega (arith, same, c.self.inside.room, c.meet_names.ensures.cells, c.meet_names-2.ensures.cells))
+    c.requires.records
 
 pub returns : goal.returns
 returns c =

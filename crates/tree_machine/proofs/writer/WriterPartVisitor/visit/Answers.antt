@@ -1,8 +1,6 @@
-use Rattle.std.proofs.Common.{◌≡◌, ◌+◌, ◌<◌, ◌++◌, length, map, take, Some, ap, sym, ◌∙◌, subst, arith}
-use Rattle.std.specs.Prelude.{IfSome}
+use Rattle.std.proofs.Common.{◌≡◌, ◌+◌, ◌<◌, ◌++◌, length, map, take, Some, ap, sym, ◌∙◌, arith}
 use Rattle.std.specs.Vec.{with_items}
 use Rattle.std.proofs.lemmas.List.{with_items_is}
-use Rattle.std.specs.List.{All}
 use Rattle.tree_machine.specs.Parts.{Part}
 use Rattle.tree_machine.specs.Written.{Written}
 use Rattle.tree_machine.proofs.VisitedParts.{stack_all, is_written}
@@ -11,13 +9,9 @@ use Rattle.tree_machine.proofs.writer.WriterPartVisitor.visit.Goals as goal
 
 pub put_stack-self-inside-requires-clause-known : goal.put_stack-self-inside-requires-clause-known
 put_stack-self-inside-requires-clause-known c =
-    let records = c.self.inside.records in
-    let same : c.args.self.now.records ≡ records = sym (ap (λ (w : Written). w.records) c.self.view_is) in
-    let below =
-    subst (λ b. All (λ x. IfSome x (λ y. y < b)) (c.args.records.now ++ map Some c.args.stack.now)) same
-    c.requires.records in
-    stack_all (λ x. x < records) (λ x. x < length c.self.inside.record_names.now.numbers.items) c.args.records.now
-    c.args.stack.now (λ x l. omega (arith, c.self.inside.all_records)) below
+    let same : c.args.self.now.records ≡ c.self.inside.records = sym (ap (λ (w : Written). w.records) c.self.view_is) in
+    stack_all (λ x. x < c.args.self.now.records) (λ x. x < length c.self.inside.record_names.now.numbers.items)
+    c.args.records.now c.args.stack.now (λ x l. omega (arith, same, c.self.inside.all_records)) c.requires.records
 
 pub returns : goal.returns
 returns c =
