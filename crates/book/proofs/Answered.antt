@@ -1,18 +1,18 @@
 -- An order that a state lends to a step that ended an operation.
-use Rattle.std.proofs.Common.{◌≡◌, ◌≢◌, ℕ, zero, suc, ◌+◌, ◌<◌, ◌≤◌, Bool, true, false, cond, Option}
+use Rattle.std.proofs.Common.{◌≡◌, ◌≢◌, ℕ, zero, suc, ◌+◌, ◌<◌, ◌≤◌, Bool, true, false, Option}
 use Rattle.std.proofs.Common.{Some, None, IsSome, All, List, [], ◌∷◌, ◌++◌, length, map, refl, sym, ap, ap₂}
 use Rattle.std.proofs.Common.{◌∙◌, arith, slice_get, slice_set, subst, ◌==◌, eqb-true, eq-eqb}
 use Rattle.std.specs.Prelude.{IsSomeAnd, option_and_then, slice_index}
 use Rattle.std.proofs.lemmas.Option.{get_or_from_slice_get, slice_get_within}
-use Rattle.std.proofs.lemmas.Bool.{true≢false, false_from_ne_true}
+use Rattle.std.proofs.lemmas.Bool.{true≢false}
 use Rattle.std.proofs.lemmas.List.{length_push}
 use Rattle.sched_program.specs.Program.{Program}
-use Rattle.sched_program.specs.Name.{same_name, value_at}
+use Rattle.sched_program.specs.Name.{value_at}
 use Rattle.sched_program.specs.History.{IsBegun, EndedBefore, reply}
 use Rattle.sched_program.specs.declared.operation.OpId.{OpId}
 use Rattle.lin.specs.Reply.{HasReplied}
 use Rattle.tree_machine.specs.Rules.{Rules}
-use Rattle.tree_machine.specs.History.{named, all_named, history_of}
+use Rattle.tree_machine.specs.History.{all_named, history_of}
 use Rattle.tree_machine.specs.Step.{step, stepped, after_access, at_step, finished_counts, place_or}
 use Rattle.tree_machine.specs.Step.{Fits, ThreadFits}
 use Rattle.tree_machine.specs.declared.machine.Outcome.{Outcome}
@@ -20,67 +20,9 @@ use Rattle.tree_machine.specs.declared.machine.Outcome.TheVariants.{Goes, Replie
 use Rattle.tree_machine.specs.declared.state.Thread.{Thread}
 use Rattle.tree_machine.specs.declared.state.State.{State}
 use Rattle.tree_machine.proofs.States.{step_parts}
-use Rattle.tree_machine.proofs.Lists.{get_at}
+use Rattle.tree_machine.proofs.Lists.{get_at, map-get}
 use Rattle.book.proofs.EntryLemmas.{get_within}
-use Rattle.book.proofs.Loans.{value_at-left, value_at-right, named_thread, all_named_from, grown_value, map-set}
-use Rattle.book.proofs.Loans.{get_set, get_map, more_notes, pushed_there}
-
--- ---- the value beside a name is that of its thread's list at its index
-abbrev told_at : {V : Type 0} → List (List V) → ℕ → ℕ → Option V
-told_at all t i = option_and_then (λ xs. slice_get xs i) (slice_get all t)
-
-abbrev name : ℕ → ℕ → OpId
-name t i = record { thread = t; index = i }
-
-module _ {V : Type 0} where
-  value_named : (t i k : ℕ) (xs : List V) → value_at (named t i xs) (name t (i + k)) ≡ slice_get xs k
-  value_named t i k [] = refl
-  value_named t i zero (x ∷ xs) =
-      let same : i ≡ i + 0 = omega arith in
-      let here : same_name (name t i) (name t (i + 0)) ≡ true = rw (eq-eqb t t refl, eq-eqb i (i + 0) same) refl in
-      ap (λ b. cond b (Some x) (value_at (named t (i + 1) xs) (name t (i + 0)))) here
-  value_named t i (suc k) (x ∷ xs) =
-      let apart : (i == i + suc k) ≡ false =
-      false_from_ne_true (i == i + suc k) (λ e. let q : i ≡ i + suc k = eqb-true i (i + suc k) e in omega arith) in
-      let other : same_name (name t i) (name t (i + suc k)) ≡ false = rw (eq-eqb t t refl, apart) refl in
-      let next : i + 1 + k ≡ i + suc k = omega arith in
-      ap (λ b. cond b (Some x) (value_at (named t (i + 1) xs) (name t (i + suc k)))) other
-      ∙ subst (λ j. value_at (named t (i + 1) xs) (name t j) ≡ slice_get xs k) next (value_named t (i + 1) k xs)
-
-  none_or : (o : Option V) → ((v : V) → o ≡ Some v → ⊥) → o ≡ None
-  none_or None never = refl
-  none_or (Some v) never = absurd (never v refl)
-
-  value_all : (t u i : ℕ) (all : List (List V)) → value_at (all_named t all) (name (t + u) i) ≡ told_at all u i
-  value_all t u i [] = refl
-  value_all t zero i (xs ∷ all) =
-      let same : t ≡ t + 0 = omega arith in
-      subst (λ s. value_at (named t 0 xs ++ all_named (t + 1) all) (name s i) ≡ slice_get xs i) same
-      (by (slice_get xs i) refl)
-    where
-      mine : value_at (named t 0 xs) (name t i) ≡ slice_get xs i
-      mine = subst (λ j. value_at (named t 0 xs) (name t j) ≡ slice_get xs i) (let e : 0 + i ≡ i = omega arith in e)
-          (value_named t 0 i xs)
-
-      by : (o : Option V) → slice_get xs i ≡ o
-          → value_at (named t 0 xs ++ all_named (t + 1) all) (name t i) ≡ slice_get xs i
-      by (Some v) e = value_at-left (named t 0 xs) (all_named (t + 1) all) (name t i) v (mine ∙ e) ∙ sym e
-      by None e =
-          value_at-right (named t 0 xs) (all_named (t + 1) all) (name t i) (mine ∙ e)
-          ∙ none_or (value_at (all_named (t + 1) all) (name t i))
-          (λ v h. let past : t + 1 ≤ t = all_named_from (t + 1) all (name t i) v h in omega arith)
-          ∙ sym e
-  value_all t (suc u) i (xs ∷ all) =
-      let next : t + 1 + u ≡ t + suc u = omega arith in
-      value_at-right (named t 0 xs) (all_named (t + 1) all) (name (t + suc u) i)
-      (none_or (value_at (named t 0 xs) (name (t + suc u) i))
-      (λ v h. let own : t + suc u ≡ t = named_thread t 0 xs (name (t + suc u) i) v h in omega arith))
-      ∙ subst (λ s. value_at (all_named (t + 1) all) (name s i) ≡ told_at all u i) next (value_all (t + 1) u i all)
-
-  value_from_start : (u i : ℕ) (all : List (List V)) → value_at (all_named 0 all) (name u i) ≡ told_at all u i
-  value_from_start u i all =
-      subst (λ t. value_at (all_named 0 all) (name t i) ≡ told_at all u i) (let e : 0 + u ≡ u = omega arith in e)
-      (value_all 0 u i all)
+use Rattle.book.proofs.Loans.{told_at, name, value_from_start, grown_value, map-set, get_set, more_notes, pushed_there}
 
 -- ---- lists
 pushed_elsewhere : {X : Type 0} (xs : List X) (x : X) (i : ℕ) → i ≢ length xs
@@ -216,7 +158,7 @@ module _ {Machine Memory Place Form : Type 0} (rules : Rules Memory Place) (prog
       let own : told_at (map (λ (x : Thread Place). x.notes) next.threads) t (length thread.replies)
       ≡ slice_get answered.now.notes (length thread.replies) =
       ap (option_and_then (λ (ns : List (List ℕ)). slice_get ns (length thread.replies)))
-      (get_map (λ (x : Thread Place). x.notes) next.threads t answered.now now_there) in
+      (map-get (λ (x : Thread Place). x.notes) next.threads t answered.now now_there) in
       subst IsSome
       (sym (value_from_start t (length thread.replies) (map (λ (x : Thread Place). x.notes) next.threads) ∙ own))
       (some_below answered.now.notes (length thread.replies) note_there)
@@ -255,7 +197,7 @@ module _ {Machine Memory Place Form : Type 0} (rules : Rules Memory Place) (prog
 
   has_replied : HasReplied (history_of state) (history_of next) ended r
   has_replied =
-      let own = get_map (λ (x : Thread Place). x.replies) state.threads t thread there in
+      let own = map-get (λ (x : Thread Place). x.replies) state.threads t thread there in
       record {
         began = ended_began;
         replied = value_from_start t (length thread.replies) (map (λ (x : Thread Place). x.replies) next.threads)
@@ -269,8 +211,8 @@ module _ {Machine Memory Place Form : Type 0} (rules : Rules Memory Place) (prog
             ∙ sym (value_from_start b.thread b.index (map (λ (x : Thread Place). x.replies) state.threads));
         begun = λ b note h.
             ap (λ (all : List (List (List ℕ))). value_at (all_named 0 all) b) notes_now
-            ∙ grown_value 0 (map (λ (x : Thread Place). x.notes) state.threads) t thread.notes answered.more b note
-            (get_map (λ (x : Thread Place). x.notes) state.threads t thread there) h;
+            ∙ grown_value (map (λ (x : Thread Place). x.notes) state.threads) t thread.notes answered.more b note
+            (map-get (λ (x : Thread Place). x.notes) state.threads t thread there) h;
         last = none_after;
       }
 

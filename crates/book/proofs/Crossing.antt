@@ -18,7 +18,6 @@ use Rattle.book.specs.contracts.label.Label as Label
 use Rattle.book.specs.contracts.recycled.Recycled as Recycled
 use Rattle.book.specs.contracts.decoding.Decoded as Decoded
 use Rattle.book.specs.contracts.scratch.Scratch as Scratch
-use Rattle.book.specs.contracts.successor.Successor as Successor
 use Rattle.book.specs.contracts.table.Table as Table
 use Rattle.book.proofs.ShownSent.{shown_send, shown_sync}
 
@@ -27,9 +26,6 @@ label_send = search (sendable, crosses) depth 30
 
 label_sync : IsSync Label.the_row
 label_sync = search (sendable, crosses) depth 30
-
-steps_send : IsSend (Successor.the_row Label.the_row)
-steps_send = search (label_send, sendable, crosses) depth 30
 
 recycled_send : IsSend Recycled.the_field.row
 recycled_send = search (label_send, sendable, crosses) depth 30
@@ -78,22 +74,8 @@ module _ (M Mem Loc Form : RattleType) (e : encode.Ghosts M.Denot Mem.Denot Loc.
   scratch_from =
       let T = Scratch.the_type M Mem Loc Form e g mp ap ah lp lh fp fh in
       recorded_send _ _ _ T.to_one
-      (struct_send (shape T) (
-        buffer_send,
-        (
-          undo,
-          (
-            search (decoded, sendable, crosses) depth 30,
-            (
-              search (sendable, crosses) depth 30,
-              (
-                search (steps_send, sendable, crosses) depth 30,
-                (recycled_send, tt),
-              ),
-            ),
-          ),
-        ),
-      ))
+      (struct_send (shape T)
+      (buffer_send, (undo, (search (decoded, sendable, crosses) depth 30, (recycled_send, tt)))))
 
 module _ (M Mem Loc Form : RattleType) (e : encode.Ghosts M.Denot Mem.Denot Loc.Denot Form.Denot)
     (g : machine.Ghosts M.Denot Mem.Denot Loc.Denot Form.Denot)

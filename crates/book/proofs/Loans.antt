@@ -1,11 +1,11 @@
 -- An order that a state lends to a step that ended no operation.
-use Rattle.std.proofs.Common.{◌≡◌, ℕ, zero, suc, ◌+◌, ◌<◌, ◌≤◌, ◌⊎◌, inl, inr, Bool, true, false, cond, Option, Some}
+use Rattle.std.proofs.Common.{◌≡◌, ℕ, zero, suc, ◌+◌, ◌<◌, ◌≢◌, Bool, true, false, cond, Option, Some}
 use Rattle.std.proofs.Common.{None, IsSome, List, [], ◌∷◌, ◌++◌, length, map, refl, sym, ap, ◌∙◌, arith, slice_get}
-use Rattle.std.proofs.Common.{slice_set, get_or, subst, append-nil, ◌==◌}
-use Rattle.std.specs.Prelude.{IfSome, IsSomeAnd, slice_index}
+use Rattle.std.proofs.Common.{slice_set, get_or, subst, append-nil, ap₂, ◌==◌, ◌&&◌, eqb-true, eq-eqb}
+use Rattle.std.specs.Prelude.{IfSome, IsSomeAnd, option_and_then, slice_index}
+use Rattle.std.specs.Option.{option_or}
 use Rattle.std.proofs.lemmas.Option.{get_or_from_slice_get}
-use Rattle.std.proofs.lemmas.Bool.{true≢false, and_parts, eqb-true}
-use Rattle.std.proofs.lemmas.List.{length_push}
+use Rattle.std.proofs.lemmas.Bool.{true≢false, false_from_ne_true}
 use Rattle.sched_program.specs.Program.{Program, op_at}
 use Rattle.sched_program.specs.Name.{same_name, value_at}
 use Rattle.sched_program.specs.History.{History, IsBegun, reply}
@@ -15,103 +15,100 @@ use Rattle.lin.specs.Linearization.{IsLinearization, GivesReplies}
 use Rattle.lin.proofs.Lists.{IsSomeAnd-value, IsSomeAnd-of}
 use Rattle.tree_machine.specs.Rules.{Rules}
 use Rattle.tree_machine.specs.History.{named, all_named, history_of}
-use Rattle.tree_machine.specs.Step.{step, stepped, after_access, at_step, notes_at_step, finished_counts, place_or}
+use Rattle.tree_machine.specs.Step.{step, after_access, at_step, notes_at_step, finished_counts, place_or}
 use Rattle.tree_machine.specs.declared.machine.Outcome.{Outcome}
 use Rattle.tree_machine.specs.declared.machine.Outcome.TheVariants.{Goes, Replies, Astray}
 use Rattle.tree_machine.specs.declared.state.Thread.{Thread}
 use Rattle.tree_machine.specs.declared.state.State.{State}
+use Rattle.tree_machine.proofs.Lists.{get-append_left, map-get}
 use Rattle.tree_machine.proofs.States.{step_parts}
 use Rattle.book.proofs.EntryLemmas.{get_within}
 
 -- ---- values beside names
+abbrev pub told_at : {V : Type 0} → List (List V) → ℕ → ℕ → Option V
+told_at all t i = option_and_then (λ xs. slice_get xs i) (slice_get all t)
+
+abbrev pub name : ℕ → ℕ → OpId
+name t i = record { thread = t; index = i }
+
+or_none : {V : Type 0} (o : Option V) → option_or o None ≡ o
+or_none None = refl
+or_none (Some v) = refl
+
 module _ {V : Type 0} where
-  pub value_at-left : (xs ys : List (OpId × V)) (a : OpId) (v : V) → value_at xs a ≡ Some v
-      → value_at (xs ++ ys) a ≡ Some v
-  value_at-left [] ys a v h = absurd (let q : None ≡ Some v = h in cc)
-  value_at-left (x ∷ xs) ys a v h = by (same_name x.0 a) h (value_at-left xs ys a v)
+  value_at-append : (xs ys : List (OpId × V)) (a : OpId)
+      → value_at (xs ++ ys) a ≡ option_or (value_at xs a) (value_at ys a)
+  value_at-append [] ys a = refl
+  value_at-append (x ∷ xs) ys a = by (same_name x.0 a) (value_at-append xs ys a)
     where
-      by : (b : Bool) → cond b (Some x.1) (value_at xs a) ≡ Some v
-          → (value_at xs a ≡ Some v → value_at (xs ++ ys) a ≡ Some v)
-          → cond b (Some x.1) (value_at (xs ++ ys) a) ≡ Some v
-      by true e again = e
-      by false e again = again e
+      by : (b : Bool) → value_at (xs ++ ys) a ≡ option_or (value_at xs a) (value_at ys a)
+          → cond b (Some x.1) (value_at (xs ++ ys) a) ≡ option_or (cond b (Some x.1) (value_at xs a)) (value_at ys a)
+      by true again = refl
+      by false again = again
 
-  pub value_at-right : (xs ys : List (OpId × V)) (a : OpId) → value_at xs a ≡ None
-      → value_at (xs ++ ys) a ≡ value_at ys a
-  value_at-right [] ys a h = refl
-  value_at-right (x ∷ xs) ys a h = by (same_name x.0 a) h (value_at-right xs ys a)
-    where
-      by : (b : Bool) → cond b (Some x.1) (value_at xs a) ≡ None
-          → (value_at xs a ≡ None → value_at (xs ++ ys) a ≡ value_at ys a)
-          → cond b (Some x.1) (value_at (xs ++ ys) a) ≡ value_at ys a
-      by true e again = absurd (let q : Some x.1 ≡ None = e in cc)
-      by false e again = again e
+  -- the names of a thread's operations are no other thread's
+  named_apart : (t i : ℕ) (xs : List V) (u j : ℕ) → u ≢ t → value_at (named t i xs) (name u j) ≡ None
+  named_apart t i [] u j apart = refl
+  named_apart t i (x ∷ xs) u j apart =
+      let other : (t == u) ≡ false = false_from_ne_true (t == u) (λ e. apart (sym (eqb-true t u e))) in
+      ap (λ b. cond (b && i == j) (Some x) (value_at (named t (i + 1) xs) (name u j))) other
+      ∙ named_apart t (i + 1) xs u j apart
 
-  -- a value is that of the one list or of the other
-  value_at-cases : (xs ys : List (OpId × V)) (a : OpId) (v : V) → value_at (xs ++ ys) a ≡ Some v
-      → (value_at xs a ≡ Some v) ⊎ ((value_at xs a ≡ None) × (value_at ys a ≡ Some v))
-  value_at-cases xs ys a v h = by (value_at xs a) refl
-    where
-      by : (o : Option V) → value_at xs a ≡ o → (value_at xs a ≡ Some v)
-          ⊎ ((value_at xs a ≡ None) × (value_at ys a ≡ Some v))
-      by None e = inr (e, sym (value_at-right xs ys a e) ∙ h)
-      by (Some w) e = inl (e ∙ sym (value_at-left xs ys a w e) ∙ h)
+  all_apart : (t : ℕ) (all : List (List V)) (u j : ℕ) → u < t → value_at (all_named t all) (name u j) ≡ None
+  all_apart t [] u j below = refl
+  all_apart t (xs ∷ all) u j below =
+      value_at-append (named t 0 xs) (all_named (t + 1) all) (name u j)
+      ∙ ap (λ o. option_or o (value_at (all_named (t + 1) all) (name u j)))
+      (named_apart t 0 xs u j (λ (e : u ≡ t). omega arith))
+      ∙ all_apart (t + 1) all u j (omega arith)
 
-  -- the names of a thread's operations are the thread's
-  pub named_thread : (t i : ℕ) (xs : List V) (a : OpId) (v : V) → value_at (named t i xs) a ≡ Some v → a.thread ≡ t
-  named_thread t i [] a v h = absurd (let q : None ≡ Some v = h in cc)
-  named_thread t i (x ∷ xs) a v h =
-      by (same_name (record { thread = t; index = i }) a) refl h (named_thread t (i + 1) xs a v)
-    where
-      by : (b : Bool) → same_name (record { thread = t; index = i }) a ≡ b
-          → cond b (Some x) (value_at (named t (i + 1) xs) a) ≡ Some v
-          → (value_at (named t (i + 1) xs) a ≡ Some v → a.thread ≡ t) → a.thread ≡ t
-      by true e h again = sym (eqb-true t a.thread (and_parts (t == a.thread) (i == a.index) e).0)
-      by false e h again = again h
+  -- the value beside a name is that of its thread's list at its index
+  value_named : (t i k j : ℕ) (xs : List V) → j ≡ i + k → value_at (named t i xs) (name t j) ≡ slice_get xs k
+  value_named t i k j [] is = refl
+  value_named t i zero j (x ∷ xs) is =
+      let here : same_name (name t i) (name t j) ≡ true = rw (eq-eqb t t refl, eq-eqb i j (omega arith)) refl in
+      ap (λ b. cond b (Some x) (value_at (named t (i + 1) xs) (name t j))) here
+  value_named t i (suc k) j (x ∷ xs) is =
+      let apart : (i == j) ≡ false =
+      false_from_ne_true (i == j) (λ e. let q : i ≡ j = eqb-true i j e in omega arith) in
+      let other : same_name (name t i) (name t j) ≡ false = rw (eq-eqb t t refl, apart) refl in
+      ap (λ b. cond b (Some x) (value_at (named t (i + 1) xs) (name t j))) other
+      ∙ value_named t (i + 1) k j xs (omega arith)
 
-  -- the names of the operations of the threads from one on are theirs
-  pub all_named_from : (t : ℕ) (all : List (List V)) (a : OpId) (v : V) → value_at (all_named t all) a ≡ Some v
-      → t ≤ a.thread
-  all_named_from t [] a v h = absurd (let q : None ≡ Some v = h in cc)
-  all_named_from t (xs ∷ all) a v h =
-      elim (value_at-cases (named t 0 xs) (all_named (t + 1) all) a v h) [
-        | inl l ↦ (let e : a.thread ≡ t = named_thread t 0 xs a v l in omega arith)
-        | inr r ↦ (let le : t + 1 ≤ a.thread = all_named_from (t + 1) all a v r.1 in omega arith)
-      ]
+  value_all : (t u s i : ℕ) (all : List (List V)) → s ≡ t + u
+      → value_at (all_named t all) (name s i) ≡ told_at all u i
+  value_all t u s i [] is = refl
+  value_all t zero s i (xs ∷ all) is =
+      let same : t ≡ s = omega arith in
+      value_at-append (named t 0 xs) (all_named (t + 1) all) (name s i)
+      ∙ ap₂ option_or
+      (subst (λ n. value_at (named t 0 xs) (name n i) ≡ slice_get xs i) same (value_named t 0 i i xs (omega arith)))
+      (all_apart (t + 1) all s i (omega arith))
+      ∙ or_none (slice_get xs i)
+  value_all t (suc u) s i (xs ∷ all) is =
+      value_at-append (named t 0 xs) (all_named (t + 1) all) (name s i)
+      ∙ ap (λ o. option_or o (value_at (all_named (t + 1) all) (name s i)))
+      (named_apart t 0 xs s i (λ (e : s ≡ t). omega arith))
+      ∙ value_all (t + 1) u s i all (omega arith)
 
-  named_append : (t i : ℕ) (xs ys : List V) → named t i (xs ++ ys) ≡ named t i xs ++ named t (i + length xs) ys
-  named_append t i [] ys = let e : i + 0 ≡ i = omega arith in ap (λ k. named t k ys) (sym e)
-  named_append t i (x ∷ xs) ys =
-      let e : i + 1 + length xs ≡ i + suc (length xs) = omega arith in
-      ap (λ zs. (record { thread = t; index = i }, x) ∷ zs)
-      (named_append t (i + 1) xs ys ∙ ap (λ k. named t (i + 1) xs ++ named t k ys) e)
+  pub value_from_start : (u i : ℕ) (all : List (List V)) → value_at (all_named 0 all) (name u i) ≡ told_at all u i
+  value_from_start u i all = value_all 0 u u i all (omega arith)
 
   -- what has a value still has it once one thread's list is longer
-  pub grown_value : (t : ℕ) (all : List (List V)) (u : ℕ) (xs more : List V) (a : OpId) (v : V)
-      → slice_get all u ≡ Some xs
-      → value_at (all_named t all) a ≡ Some v → value_at (all_named t (slice_set all u (xs ++ more))) a ≡ Some v
-  grown_value t [] u xs more a v at h = absurd (let q : None ≡ Some xs = at in cc)
-  grown_value t (ys ∷ all) zero xs more a v at h =
-      let same : ys ≡ xs = cc in
-      elim (value_at-cases (named t 0 ys) (all_named (t + 1) all) a v h) [
-        | inl l ↦ value_at-left (named t 0 (xs ++ more)) (all_named (t + 1) all) a v
-            (rw (named_append t 0 xs more)
-            (value_at-left (named t 0 xs) (named t (0 + length xs) more) a v
-            (subst (λ zs. value_at (named t 0 zs) a ≡ Some v) same l)))
-        | inr r ↦ value_at-right (named t 0 (xs ++ more)) (all_named (t + 1) all) a
-            (none (value_at (named t 0 (xs ++ more)) a) refl (all_named_from (t + 1) all a v r.1)) ∙ r.1
-      ]
-    where
-      none : (o : Option V) → value_at (named t 0 (xs ++ more)) a ≡ o → t + 1 ≤ a.thread
-          → value_at (named t 0 (xs ++ more)) a ≡ None
-      none None e le = e
-      none (Some w) e le = absurd (let q : a.thread ≡ t = named_thread t 0 (xs ++ more) a w e in omega arith)
-  grown_value t (ys ∷ all) (suc u) xs more a v at h =
-      elim (value_at-cases (named t 0 ys) (all_named (t + 1) all) a v h) [
-        | inl l ↦ value_at-left (named t 0 ys) (all_named (t + 1) (slice_set all u (xs ++ more))) a v l
-        | inr r ↦ value_at-right (named t 0 ys) (all_named (t + 1) (slice_set all u (xs ++ more))) a r.0
-            ∙ grown_value (t + 1) all u xs more a v at r.1
-      ]
+  grown_told : (all : List (List V)) (u i j : ℕ) (xs more : List V) (v : V) → slice_get all u ≡ Some xs
+      → told_at all i j ≡ Some v → told_at (slice_set all u (xs ++ more)) i j ≡ Some v
+  grown_told [] u i j xs more v at h = absurd (let q : None ≡ Some xs = at in cc)
+  grown_told (ys ∷ all) zero zero j xs more v at h =
+      let same : ys ≡ xs = cc in get-append_left xs more j v (subst (λ zs. slice_get zs j ≡ Some v) same h)
+  grown_told (ys ∷ all) zero (suc i) j xs more v at h = h
+  grown_told (ys ∷ all) (suc u) zero j xs more v at h = h
+  grown_told (ys ∷ all) (suc u) (suc i) j xs more v at h = grown_told all u i j xs more v at h
+
+  pub grown_value : (all : List (List V)) (u : ℕ) (xs more : List V) (a : OpId) (v : V) → slice_get all u ≡ Some xs
+      → value_at (all_named 0 all) a ≡ Some v → value_at (all_named 0 (slice_set all u (xs ++ more))) a ≡ Some v
+  grown_value all u xs more a v at h =
+      value_from_start a.thread a.index (slice_set all u (xs ++ more))
+      ∙ grown_told all u a.thread a.index xs more v at (sym (value_from_start a.thread a.index all) ∙ h)
 
 pub map-set : {X Y : Type 0} (f : X → Y) (xs : List X) (i : ℕ) (x : X)
     → map f (slice_set xs i x) ≡ slice_set (map f xs) i (f x)
@@ -129,12 +126,6 @@ pub get_set : {X : Type 0} (xs : List X) (i : ℕ) (x y : X) → slice_get xs i 
 get_set [] i x y h = absurd (let q : None ≡ Some y = h in cc)
 get_set (z ∷ xs) zero x y h = refl
 get_set (z ∷ xs) (suc i) x y h = get_set xs i x y h
-
-pub get_map : {X Y : Type 0} (f : X → Y) (xs : List X) (i : ℕ) (x : X) → slice_get xs i ≡ Some x
-    → slice_get (map f xs) i ≡ Some (f x)
-get_map f [] i x h = absurd (let q : None ≡ Some x = h in cc)
-get_map f (y ∷ xs) zero x h = let e : y ≡ x = cc in ap (λ z. Some (f z)) e
-get_map f (y ∷ xs) (suc i) x h = get_map f xs i x h
 
 pub pushed_there : {X : Type 0} (xs : List X) (x : X) → slice_get (xs ++ x ∷ []) (length xs) ≡ Some x
 pushed_there [] x = refl
@@ -194,10 +185,11 @@ record HasGone {Place : Type 0} (old : List (Thread Place)) (t : ℕ) (thread : 
 module _ {Machine Memory Place Form : Type 0} (state : State Machine Memory Place Form) (t : ℕ)
     (thread begun : Thread Place) (there : slice_get state.threads t ≡ Some thread)
     (replies : begun.replies ≡ thread.replies) (more : List (List ℕ)) (notes : begun.notes ≡ thread.notes ++ more) where
-  has_gone : (acted : Memory × Outcome Place) (b : Thread Place)
-      → slice_get (after_access state t begun acted).threads t ≡ Some b → length b.replies ≡ length thread.replies
+  has_gone : (acted : Memory × Outcome Place)
+      → ((b : Thread Place) → slice_get (after_access state t begun acted).threads t ≡ Some b
+      → slice_get b.replies (length thread.replies) ≡ None)
       → HasGone state.threads t thread (after_access state t begun acted).threads
-  has_gone (memory, Goes place) b at same =
+  has_gone (memory, Goes place) none =
       record {
         now = record begun { place = Some place };
         threads = refl;
@@ -205,37 +197,13 @@ module _ {Machine Memory Place Form : Type 0} (state : State Machine Memory Plac
         more = more;
         notes = notes;
       }
-  has_gone (memory, Replies reply) b at same =
-      absurd (
+  has_gone (memory, Replies reply) none =
       let now : Thread Place = record begun { replies = begun.replies ++ reply ∷ []; place = None } in
-      let own : slice_get (slice_set state.threads t now) t ≡ Some now = get_set state.threads t now thread there in
-      let is : now ≡ b = (let q : slice_get (slice_set state.threads t now) t ≡ Some b = at in cc) in
-      let l : length (begun.replies ++ reply ∷ []) ≡ length begun.replies + 1 = length_push begun.replies reply in
-      let m : length (begun.replies ++ reply ∷ []) ≡ length b.replies =
-      ap (λ (x : Thread Place). length x.replies) is in
-      let n : length begun.replies ≡ length thread.replies = ap length replies in
-      omega arith)
-  has_gone (memory, Astray) b at same =
+      absurd (let q : Some reply ≡ None = sym (pushed_there begun.replies reply)
+      ∙ ap (λ n. slice_get (begun.replies ++ reply ∷ []) n) (ap length replies)
+      ∙ none now (get_set state.threads t now thread there) in cc)
+  has_gone (memory, Astray) none =
       record { now = begun; threads = refl; replies = replies; more = more; notes = notes }
-
--- the thread after its access, which has as many replies as before where there is none at the place of the next one
-after_there : {Machine Memory Place Form : Type 0} (state : State Machine Memory Place Form) (t : ℕ)
-    (thread begun : Thread Place) → slice_get state.threads t ≡ Some thread → begun.replies ≡ thread.replies
-    → (acted : Memory × Outcome Place) → (b : Thread Place)
-    × (slice_get (after_access state t begun acted).threads t ≡ Some b)
-    × (slice_get b.replies (length thread.replies) ≡ None → length b.replies ≡ length thread.replies)
-after_there {Place = Place} state t thread begun there replies (memory, Goes place) =
-    let now : Thread Place = record begun { place = Some place } in
-    (now, get_set state.threads t now thread there, λ _. ap length replies)
-after_there {Place = Place} state t thread begun there replies (memory, Replies reply) =
-    let now : Thread Place = record begun { replies = begun.replies ++ reply ∷ []; place = None } in (
-      now,
-      get_set state.threads t now thread there,
-      λ none. absurd (let q : Some reply ≡ None = sym (pushed_there begun.replies reply)
-          ∙ ap (λ n. slice_get (begun.replies ++ reply ∷ []) n) (ap length replies) ∙ none in cc),
-    )
-after_there state t thread begun there replies (memory, Astray) =
-    (begun, get_set state.threads t begun thread there, λ _. ap length replies)
 
 pub more_notes : {Place : Type 0} (place : Option Place) (notes : List (List ℕ)) (counts : List ℕ)
     → (more : List (List ℕ)) × (notes_at_step place notes counts ≡ notes ++ more)
@@ -254,13 +222,13 @@ module _ {Machine Memory Place Form : Type 0} (program : Program) (state next : 
       ∙ map-set (λ (x : Thread Place). x.replies) state.threads t gone.now
       ∙ ap (slice_set (map (λ (x : Thread Place). x.replies) state.threads) t) gone.replies
       ∙ set_same (map (λ (x : Thread Place). x.replies) state.threads) t thread.replies
-      (get_map (λ (x : Thread Place). x.replies) state.threads t thread there)))
+      (map-get (λ (x : Thread Place). x.replies) state.threads t thread there)))
       (λ a note h.
       let grown : value_at
       (all_named 0 (slice_set (map (λ (x : Thread Place). x.notes) state.threads) t (thread.notes ++ gone.more))) a
       ≡ Some note =
-      grown_value 0 (map (λ (x : Thread Place). x.notes) state.threads) t thread.notes gone.more a note
-      (get_map (λ (x : Thread Place). x.notes) state.threads t thread there) h in
+      grown_value (map (λ (x : Thread Place). x.notes) state.threads) t thread.notes gone.more a note
+      (map-get (λ (x : Thread Place). x.notes) state.threads t thread there) h in
       let is_now : map (λ (x : Thread Place). x.notes) next.threads
       ≡ slice_set (map (λ (x : Thread Place). x.notes) state.threads) t (thread.notes ++ gone.more) =
       ap (map (λ (x : Thread Place). x.notes)) gone.threads
@@ -269,39 +237,20 @@ module _ {Machine Memory Place Form : Type 0} (program : Program) (state next : 
       ap (λ (all : List (List (List ℕ))). value_at (all_named 0 all) a) is_now ∙ grown)
       order is
 
-module _ {Machine Memory Place Form : Type 0} (rules : Rules Memory Place) (program : Program) where
-  -- a linearization before a step that ended no operation is one after it
-  pub step_lends : (state next : State Machine Memory Place Form) (t : ℕ) → step rules program state t ≡ Some next
-      → (a b : Thread Place) → slice_get state.threads t ≡ Some a
-      → slice_get next.threads t ≡ Some b → length b.replies ≡ length a.replies → (order : List OpId)
-      → IsLinearization program (history_of state) order → IsLinearization program (history_of next) order
-  step_lends state next t leads a b at_a at_b same order is =
-      step_parts rules program (IsLinearization program (history_of next) order) state next t leads
-      (λ thread there op op_is made.
-      let own : thread ≡ a = cc in
-      let place = rules.first op in
-      let more = more_notes thread.place thread.notes (finished_counts state.threads) in
-      let at_made : slice_get (stepped rules state t op thread).threads t ≡ Some b =
-      ap (λ (s : State Machine Memory Place Form). slice_get s.threads t) (sym made) ∙ at_b in
-      let len : length b.replies ≡ length thread.replies =
-      same ∙ ap (λ (x : Thread Place). length x.replies) (sym own) in
-      gone_lends program state next t thread there
-      (subst (λ (s : State Machine Memory Place Form). HasGone state.threads t thread s.threads) (sym made)
-      (has_gone state t thread (at_step rules state op thread) there refl more.0 more.1
-      (rules.act op (place_or thread.place place) state.memory) b at_made len))
-      order is)
-
-  -- the same, where there is no reply at the place of the next one
-  pub step_silent : (state next : State Machine Memory Place Form) (t : ℕ) → step rules program state t ≡ Some next
-      → ((a b : Thread Place) → slice_get state.threads t ≡ Some a → slice_get next.threads t ≡ Some b
-      → slice_get b.replies (length a.replies) ≡ None)
-      → (order : List OpId) → IsLinearization program (history_of state) order
-      → IsLinearization program (history_of next) order
-  step_silent state next t leads none order is =
-      step_parts rules program (IsLinearization program (history_of next) order) state next t leads
-      (λ thread there op op_is made.
-      let acted = rules.act op (place_or thread.place (rules.first op)) state.memory in
-      let now = after_there state t thread (at_step rules state op thread) there refl acted in
-      let at_next : slice_get next.threads t ≡ Some now.0 =
-      ap (λ (s : State Machine Memory Place Form). slice_get s.threads t) made ∙ now.1 in
-      step_lends state next t leads thread now.0 there at_next (now.2 (none thread now.0 there at_next)) order is)
+-- a linearization before a step that ended no operation is one after it
+pub step_silent : {Machine Memory Place Form : Type 0} (rules : Rules Memory Place) (program : Program)
+    (state next : State Machine Memory Place Form) (t : ℕ) → step rules program state t ≡ Some next
+    → ((a b : Thread Place) → slice_get state.threads t ≡ Some a → slice_get next.threads t ≡ Some b
+    → slice_get b.replies (length a.replies) ≡ None)
+    → (order : List OpId) → IsLinearization program (history_of state) order
+    → IsLinearization program (history_of next) order
+step_silent {Machine} {Memory} {Place} {Form} rules program state next t leads none order is =
+    step_parts rules program (IsLinearization program (history_of next) order) state next t leads
+    (λ thread there op op_is made.
+    let more = more_notes thread.place thread.notes (finished_counts state.threads) in
+    gone_lends program state next t thread there
+    (subst (λ (s : State Machine Memory Place Form). HasGone state.threads t thread s.threads) (sym made)
+    (has_gone state t thread (at_step rules state op thread) there refl more.0 more.1
+    (rules.act op (place_or thread.place (rules.first op)) state.memory)
+    (λ b at. none thread b there (ap (λ (s : State Machine Memory Place Form). slice_get s.threads t) made ∙ at))))
+    order is)

@@ -1,7 +1,7 @@
 -- The steps of a state are taken thread by thread.
 use Rattle.std.specs.Prelude.{unwrap_or}
 use Rattle.std.proofs.Common.{◌≡◌, ℕ, zero, suc, ◌+◌, inl, inr, cond, Option, Some, None, is_some, List, [], ◌∷◌, ◌++◌}
-use Rattle.std.proofs.Common.{map, filter, refl, sym, ap, ◌∙◌, arith, slice_get, subst, append-nil}
+use Rattle.std.proofs.Common.{map, filter, refl, sym, ap, ap₂, ◌∙◌, arith, slice_get, subst, append-nil}
 use Rattle.std.specs.List.{range_with_len}
 use Rattle.std.proofs.lemmas.List.{map_push}
 use Rattle.std.proofs.lemmas.List.Elements.{filter-append}
@@ -51,7 +51,7 @@ module _ {S : Type 0} (m : StepMachine S) (right : S → Finding → Type 0) (s 
       ∙ filter-append (λ t. is_some (m.step s t)) (range_with_len 0 n) (n ∷ [])
 
   -- a thread that is not enabled adds none
-  pub front_same : (n : ℕ) (xs : List (Successor S)) → IsFront m right s n xs → m.step s n ≡ None
+  front_same : (n : ℕ) (xs : List (Successor S)) → IsFront m right s n xs → m.step s n ≡ None
       → IsFront m right s (n + 1) xs
   front_same n xs front none = record {
     threads =
@@ -65,40 +65,26 @@ module _ {S : Type 0} (m : StepMachine S) (right : S → Finding → Type 0) (s 
   }
 
   -- one that is enabled adds its step
-  pub front_more : (n : ℕ) (xs : List (Successor S)) (r : S) (f : Finding) → IsFront m right s n xs
-      → m.step s n ≡ Some r → right r f → m.Fits r
-      → IsFront m right s (n + 1) (xs ++ record { thread = n; state = r; finding = f } ∷ [])
-  front_more n xs r f front leads is fits =
-      let x : Successor S = record { thread = n; state = r; finding = f } in
-      record {
-        threads = map_push (λ (y : Successor S). y.thread) xs x ∙ ap (λ ys. ys ++ n ∷ []) front.threads
-            ∙ sym (filter_more n
-            ∙ ap (λ o. filter (λ t. is_some (m.step s t)) (range_with_len 0 n) ++ cond (is_some o) (n ∷ []) [])
-            leads);
-        steps = (λ k y h. elim (get-append_cases xs (x ∷ []) k y h) [
-          | inl l ↦ front.steps k y l
-          | inr o ↦ (let e : x ≡ y = get-single x o.0 y o.2 in
-              let a : x.thread ≡ y.thread = ap (λ (v : Successor S). v.thread) e in
-              let b : r ≡ y.state = ap (λ (v : Successor S). v.state) e in cc)
-        ]);
-        findings = (λ k y h. elim (get-append_cases xs (x ∷ []) k y h) [
-          | inl l ↦ front.findings k y l
-          | inr o ↦ (let e : x ≡ y = get-single x o.0 y o.2 in
-              subst (λ (v : Successor S). right v.state v.finding) e is)
-        ]);
-        fit = (λ k y h. elim (get-append_cases xs (x ∷ []) k y h) [
-          | inl l ↦ front.fit k y l
-          | inr o ↦ (let e : x ≡ y = get-single x o.0 y o.2 in subst (λ (v : Successor S). m.Fits v.state) e fits)
-        ]);
-      }
-
-  -- the same, by what the calls of one turn answer
-  pub front_turn : (n : ℕ) (xs ys : List (Successor S)) (x : Successor S) → IsFront m right s n xs → x.thread ≡ n
-      → m.step s n ≡ Some x.state
-      → right x.state x.finding → m.Fits x.state → ys ≡ xs ++ x ∷ [] → IsFront m right s (n + 1) ys
-  front_turn n xs ys x front is_thread leads is fits pushed =
-      rw (pushed, ← is_thread)
-      (front_more x.thread xs x.state x.finding (rw is_thread front) (rw is_thread leads) is fits)
+  front_more : (n : ℕ) (xs ys : List (Successor S)) (x : Successor S) → IsFront m right s n xs → x.thread ≡ n
+      → m.step s n ≡ Some x.state → right x.state x.finding → m.Fits x.state → ys ≡ xs ++ x ∷ []
+      → IsFront m right s (n + 1) ys
+  front_more n xs ys x front is_thread leads is fits pushed = rw pushed (record {
+    threads =
+        map_push (λ (y : Successor S). y.thread) xs x
+        ∙ ap₂ (λ (us : List ℕ) (t : ℕ). us ++ t ∷ []) front.threads is_thread
+        ∙ sym (filter_more n
+        ∙ ap (λ o. filter (λ t. is_some (m.step s t)) (range_with_len 0 n) ++ cond (is_some o) (n ∷ []) []) leads);
+    steps = each (λ y. m.step s y.thread ≡ Some y.state) front.steps (ap (m.step s) is_thread ∙ leads);
+    findings = each (λ y. right y.state y.finding) front.findings is;
+    fit = each (λ y. m.Fits y.state) front.fit fits;
+  })
+    where
+      each : (P : Successor S → Type 0) → ((k : ℕ) (y : Successor S) → slice_get xs k ≡ Some y → P y) → P x
+          → (k : ℕ) (y : Successor S) → slice_get (xs ++ x ∷ []) k ≡ Some y → P y
+      each P old own k y h = elim (get-append_cases xs (x ∷ []) k y h) [
+        | inl l ↦ old k y l
+        | inr o ↦ subst P (get-single x o.0 y o.2) own
+      ]
 
   -- what is put of a step, where the thread has one
   pub puts_next : {T : Type 0} (put_as : S → T) (t : ℕ) (old new : List (Successor T)) (x : Successor T) (next : S)
@@ -112,7 +98,7 @@ module _ {S : Type 0} (m : StepMachine S) (right : S → Finding → Type 0) (s 
       → Puts m right (λ r. r) n old new o → IsFront m right s (n + 1) new
   front_puts n old new None none front same = rw same (front_same n old front none)
   front_puts n old new (Some next) leads front (x, pushed, is_thread, is_state, is, fits) =
-      front_turn n old new x front is_thread (leads ∙ ap Some (sym is_state))
+      front_more n old new x front is_thread (leads ∙ ap Some (sym is_state))
       (subst (λ r. right r x.finding) (sym is_state) is) (subst m.Fits (sym is_state) fits) pushed
 
   pub front_put : (n : ℕ) (old new : List (Successor S)) → IsFront m right s n old
@@ -143,7 +129,7 @@ module _ {S : Type 0} (m : StepMachine S) (right : S → Finding → Type 0) (s 
       ap (λ (l : List ℕ). record { thread = x.thread; state = l; finding = x.finding })
       (is_label ∙ ap label_of (sym same)) in
       record {
-        front = front_turn n (steps_of m.step s old) (steps_of m.step s new) (one x) by.front is_thread
+        front = front_more n (steps_of m.step s old) (steps_of m.step s new) (one x) by.front is_thread
             (leads ∙ ap Some (sym same)) (subst (λ r. right r x.finding) (sym same) is) (subst m.Fits (sym same) fits)
             more;
         labels = pushed ∙ ap (λ ys. ys ++ x ∷ []) by.labels

@@ -30,6 +30,10 @@ pub record Key (X : Type 0) : Type 0 where
   pub merge : Merge
   pub label : List ℕ
 
+-- an entry of a book of this machine and program
+abbrev pub IsOf : {X : Type 0} → X → Program → Key X → Type 0
+IsOf machine program key = (key.machine ≡ machine) × (key.program ≡ program)
+
 -- what a taken entry shows: the entry, and what was found of its state
 pub record TakenView (X : Type 0) : Type 0 where
   pub key : Key X

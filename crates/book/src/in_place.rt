@@ -1,7 +1,5 @@
 //! All enabled steps of a sound state, each made in one place and taken back.
 ghost use Rattle.std.specs.Prelude.{◌≡◌, ◌+◌, ◌≤◌, ◌<◌, IfOk, OnOk, Some, vec_len, vec_capacity};
-ghost use Rattle.tree_machine.specs.Step.{Fits, step};
-ghost use Rattle.tree_machine.specs.Undoing.{TakesBack};
 ghost use Rattle.tree_machine.specs.declared.state.State.{State};
 ghost use Rattle.book.specs.Decoding.{IsSource};
 ghost use Rattle.book.specs.Expanding.{PutsStep};
@@ -12,14 +10,14 @@ ghost use Rattle.book.specs.Labels.{HoldsOfLabel, label_by};
 use crate::book::Merge;
 use crate::finding::Finding;
 use crate::label::Label;
-use crate::lending::{StepInPlace, find_here};
+use crate::lending::find_here;
 use crate::scratch::Scratch;
 use crate::successor::Successor;
 use lin::Order;
 use sched_program::{OutOfMemory, Program};
 use std::alloc::Global;
 use std::snapshot::Snapshot;
-use tree_machine::{CodeOffsets, Encode, EncodeBuffer, State, StepFault, StepOrigin};
+use tree_machine::{CodeOffsets, Encode, State, StepFault, StepOrigin};
 
 /// A sound state that was decoded from a label, with a linearization of its history.
 #[derive(Clone, Copy)]
@@ -31,42 +29,6 @@ pub(crate) struct Source<'a, 's, M: Encode> {
     /// Where the parts of the label begin.
     pub(crate) offsets: CodeOffsets,
     pub(crate) order: &'s Order,
-}
-
-/// The label of a step, for a book that merges as that of the source.
-#[inline(always)]
-fn label_here<M: Encode>(
-    alloc: Global,
-    from: &Source<'_, '_, M>,
-    here: &StepInPlace<'_, M>,
-    buffer: &mut EncodeBuffer,
-    spare: Vec<u8>,
-) -> Result<Label, OutOfMemory>
-    requires source { IsSource M.front_code M.behind_code M.whole_code M.form_code (M.form_of from.now.machine)
-        (M.rules from.now.machine) from.now.program.now from.now.merge from.now.label.now from.now.offsets
-        from.now.order.now here.now.source.now.value }
-    requires fits { Fits (M.rules from.now.machine) from.now.program.now here.now.next.now }
-    requires step { step (M.rules from.now.machine) from.now.program.now here.now.source.now.value here.now.thread
-        ≡ Some here.now.next.now }
-    requires back { TakesBack here.now.source.now.value here.now.thread here.now.undo.now.thread
-        here.now.undo.now.reads here.now.undo.now.memory here.now.next.now }
-    ensures { IfOk result (λ label. label ≡ label_by M.whole_code M.form_code (M.form_of from.now.machine)
-        from.now.merge here.now.next.now) }
-{
-    // Whoever reads a program knows that it meets the limits.
-    let _ = from.program.initial();
-    let naming = from.merge.naming();
-    let origin = StepOrigin {
-        label: from.label,
-        offsets: from.offsets,
-        state: here.source,
-        thread: here.thread,
-        undo: here.undo,
-    };
-    let bytes = here
-        .next
-        .label_after(alloc, from.machine, naming, &origin, buffer, spare)?;
-    Ok(Label::new(bytes))
 }
 
 /// Puts the step of a thread, if it is enabled, behind those in a list, with its finding and its
@@ -103,19 +65,35 @@ fn put_step_here<M: Encode>(
         Err(StepFault::NotEnabled) => return Ok(()),
         Err(StepFault::OutOfMemory) => return Err(OutOfMemory),
     }
-    let spare = scratch.spare_label(alloc);
-    let here = StepInPlace {
-        source: &source,
-        next: &*state,
+    let spare = scratch.spare.label(alloc);
+    let origin = StepOrigin {
+        label: from.label,
+        offsets: from.offsets,
+        state: &source,
         thread,
         undo: &scratch.undo,
     };
-    let found = find_here(alloc, from.machine, from.program, &here, from.order)?;
-    let label = label_here(alloc, from, &here, &mut scratch.buffer, spare)?;
+    let found = find_here(
+        alloc,
+        from.machine,
+        from.program,
+        &origin,
+        &*state,
+        from.order,
+    )?;
+    let naming = from.merge.naming();
+    let label = state.label_after(
+        alloc,
+        from.machine,
+        naming,
+        &origin,
+        &mut scratch.buffer,
+        spare,
+    )?;
     state.take_back(alloc, &source, thread, &mut scratch.undo);
     steps.push_reserved(Successor {
         thread,
-        state: label,
+        state: Label::new(label),
         finding: found.unwrap_or(Finding::Sound(*from.order)),
     });
     Ok(())
@@ -142,7 +120,7 @@ pub(crate) fn steps_here<M: Encode>(
         (label_by M.whole_code M.form_code (M.form_of from.now.machine) from.now.merge) of steps.items)) }
 {
     let threads = from.program.threads().len();
-    let mut steps = scratch.list(alloc, threads)?;
+    let mut steps = scratch.spare.list(alloc, threads)?;
     for thread in 0..threads as u8 {
         put_step_here(alloc, from, state, thread, scratch, &mut steps)?;
     }

@@ -2,8 +2,6 @@
 ghost use Rattle.std.specs.Prelude.{◌≡◌, ◌≤◌, ◌↔◌, All, IsTrue, length, IfOk, IfSome, IfNone, MatchOption, Some};
 ghost use Rattle.std.specs.Prelude.{None, slice_get, slice_index};
 ghost use Rattle.sched_program.specs.Program.{Program};
-ghost use Rattle.lin.specs.Linearization.{IsLinearization};
-ghost use Rattle.tree_machine.specs.History.{history_of};
 ghost use Rattle.tree_machine.specs.Step.{Fits, step};
 ghost use Rattle.tree_machine.specs.Undoing.{TakesBack};
 ghost use Rattle.tree_machine.specs.declared.state.State.{State};
@@ -15,20 +13,7 @@ use crate::finding::{Finding, fault_in, judged};
 use lin::{Order, order_with_reply};
 use sched_program::{OpId, OutOfMemory, Program};
 use std::alloc::Global;
-use std::snapshot::Snapshot;
-use tree_machine::{Encode, ShortNote, State, Thread, Undo};
-
-/// A step that was made in the place of its source.
-#[derive(Drop)]
-pub(crate) struct StepInPlace<'a, M: Encode> {
-    /// The source as it was, for proofs alone.
-    pub(crate) source: &'a Snapshot<State<M>>,
-    /// Where the step leads.
-    pub(crate) next: &'a State<M>,
-    pub(crate) thread: u8,
-    /// What takes the step back.
-    pub(crate) undo: &'a Undo<M>,
-}
+use tree_machine::{Encode, ShortNote, State, StepOrigin, Thread};
 
 /// The operation that a thread has ended since it stood so, with its reply, if it ended one.
 fn reply_since<M: Encode>(was: &Thread<M::Loc>, next: &State<M>, thread: u8) -> Option<(OpId, bool)>
@@ -74,38 +59,6 @@ fn is_last<M: Encode>(state: &State<M>, name: OpId) -> bool
     true
 }
 
-/// The finding of a step that ended this operation with this reply, and shows no fault without its
-/// history. It takes the order that is lent with that operation, if the operation replied what it
-/// replies there. Only where it did not does it make the history and judge that anew.
-fn finding_by_reply<M: Encode>(
-    alloc: Global,
-    machine: M,
-    program: &Program,
-    here: &StepInPlace<'_, M>,
-    name: OpId,
-    reply: bool,
-    order: &Order,
-) -> Result<Finding, OutOfMemory>
-    requires fits { Fits (M.rules machine) program.now here.now.next.now }
-    requires step { step (M.rules machine) program.now here.now.source.now.value here.now.thread
-        ≡ Some here.now.next.now }
-    requires shown { (here.now.next.now.astray ≡ None) × (M.rules machine).IsOrdered here.now.next.now.memory }
-    requires replied { (a b : Standing M.Loc)
-        × (slice_get here.now.source.now.value.threads here.now.thread ≡ Some a)
-        × (slice_get here.now.next.now.threads here.now.thread ≡ Some b)
-        × (name.thread ≡ here.now.thread) × (name.index ≡ length a.replies)
-        × (slice_get b.replies (length a.replies) ≡ Some reply) }
-    requires order { IsLinearization program.now (history_of here.now.source.now.value) order.now }
-    ensures { IfOk result (IsFindingOf (M.rules machine) program.now here.now.next.now) }
-{
-    if is_last(here.next, name)
-        && let Some(longer) = order_with_reply(program, order, name, reply)
-    {
-        return Ok(Finding::Sound(longer));
-    }
-    judged(alloc, machine, program, here.next)
-}
-
 /// The fault that a step shows without its history, if it shows one. Where it left the memory as it
 /// was, that keeps search order as before.
 fn fault_here<M: Encode>(machine: M, next: &State<M>, reads: bool) -> Option<Finding>
@@ -125,32 +78,38 @@ fn fault_here<M: Encode>(machine: M, next: &State<M>, reads: bool) -> Option<Fin
 }
 
 /// The finding of a step that was made in the place of a sound source, whose order is lent. None
-/// where the order stands as it is, since the step ended no operation.
+/// where the order stands as it is, since the step ended no operation. If it ended one, that order
+/// with the operation behind it serves, where the operation replied what it replies there. Only
+/// where it did not is the history made and judged anew.
 #[inline(always)]
 pub(crate) fn find_here<M: Encode>(
     alloc: Global,
     machine: M,
     program: &Program,
-    here: &StepInPlace<'_, M>,
+    from: &StepOrigin<'_, M>,
+    next: &State<M>,
     order: &Order,
 ) -> Result<Option<Finding>, OutOfMemory>
-    requires fits { Fits (M.rules machine) program.now here.now.next.now }
-    requires step { step (M.rules machine) program.now here.now.source.now.value here.now.thread
-        ≡ Some here.now.next.now }
-    requires back { TakesBack here.now.source.now.value here.now.thread here.now.undo.now.thread
-        here.now.undo.now.reads here.now.undo.now.memory here.now.next.now }
-    requires sound { IsFindingOf (M.rules machine) program.now here.now.source.now.value (Sound order.now) }
-    ensures some { IfOk result
-        (λ found. IfSome found (IsFindingOf (M.rules machine) program.now here.now.next.now)) }
+    requires fits { Fits (M.rules machine) program.now next.now }
+    requires step { step (M.rules machine) program.now from.now.state.now.value from.now.thread ≡ Some next.now }
+    requires back { TakesBack from.now.state.now.value from.now.thread from.now.undo.now.thread
+        from.now.undo.now.reads from.now.undo.now.memory next.now }
+    requires sound { IsFindingOf (M.rules machine) program.now from.now.state.now.value (Sound order.now) }
+    ensures some { IfOk result (λ found. IfSome found (IsFindingOf (M.rules machine) program.now next.now)) }
     ensures none { IfOk result
-        (λ found. IfNone found (IsFindingOf (M.rules machine) program.now here.now.next.now (Sound order.now))) }
+        (λ found. IfNone found (IsFindingOf (M.rules machine) program.now next.now (Sound order.now))) }
 {
-    if let Some(fault) = fault_here(machine, here.next, here.undo.reads()) {
+    if let Some(fault) = fault_here(machine, next, from.undo.reads()) {
         return Ok(Some(fault));
     }
-    let Some((name, reply)) = reply_since(here.undo.thread(), here.next, here.thread) else {
+    let Some((name, reply)) = reply_since(from.undo.thread(), next, from.thread) else {
         return Ok(None);
     };
-    let finding = finding_by_reply(alloc, machine, program, here, name, reply, order)?;
+    if is_last(next, name)
+        && let Some(longer) = order_with_reply(program, order, name, reply)
+    {
+        return Ok(Some(Finding::Sound(longer)));
+    }
+    let finding = judged(alloc, machine, program, next)?;
     Ok(Some(finding))
 }

@@ -1,12 +1,14 @@
 //! Memory that serves again.
+ghost use Rattle.std.specs.Prelude.{◌≡◌, ◌≤◌, [], IfOk, vec_capacity};
+
 use crate::label::Label;
 use crate::successor::Successor;
 use sched_program::OutOfMemory;
 use std::alloc::Global;
 
-/// What entering steps left over: the labels of known states, and the lists in which steps lay.
-/// Under the lock of a book nothing asks for memory but the book, and nothing is freed: what has no
-/// room here is dropped.
+/// Lists that serve again: those in which the labels of known states lay, and those in which steps
+/// lay. Under the lock of a book nothing asks for memory but the book, and nothing is freed: what
+/// has no room here is dropped.
 #[derive(Drop)]
 pub struct Recycled {
     /// Lists that labels lay in.
@@ -24,7 +26,7 @@ impl Recycled {
         }
     }
 
-    /// Asks for room for so many labels and lists.
+    /// Asks for room for so many more labels and lists.
     pub(crate) fn reserve(&mut self, labels: usize, lists: usize) -> Result<(), OutOfMemory> {
         self.labels.reserve(labels)?;
         self.lists.reserve(lists)?;
@@ -45,13 +47,29 @@ impl Recycled {
         }
     }
 
-    /// Moves what it keeps to spare lists, or keeps it where a growth is refused.
-    pub(crate) fn move_to(
+    /// A list for a label: one that it keeps, or else a new one.
+    pub(crate) fn label(&mut self, alloc: Global) -> Vec<u8> {
+        match self.labels.pop() {
+            Some(label) => label,
+            None => Vec::new(alloc),
+        }
+    }
+
+    /// A list for steps, with nothing in it and room for so many: one that it keeps, or else a new
+    /// one.
+    pub(crate) fn list(
         &mut self,
-        labels: &mut Vec<Vec<u8>>,
-        lists: &mut Vec<Vec<Successor<Label>>>,
-    ) {
-        let _ = labels.append(&mut self.labels);
-        let _ = lists.append(&mut self.lists);
+        alloc: Global,
+        steps: usize,
+    ) -> Result<Vec<Successor<Label>>, OutOfMemory>
+        ensures list { IfOk result (λ list. list.items ≡ []) }
+        ensures room { IfOk result (λ list. steps ≤ vec_capacity list) }
+    {
+        if let Some(mut list) = self.lists.pop() {
+            list.clear();
+            list.reserve(steps)?;
+            return Ok(list);
+        }
+        Ok(Vec::with_capacity(alloc, steps)?)
     }
 }

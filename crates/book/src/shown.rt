@@ -55,15 +55,6 @@ impl<S> Drop for Shown<S> {
     }
 }
 
-/// A thread of a shown state.
-#[derive(Drop)]
-struct Turn<M: Encode> {
-    machine: M,
-    program: Shown<Program>,
-    source: Shown<State<M>>,
-    thread: u8,
-}
-
 /// The step that a thread of a shown state has.
 pub fn shown_step<M: Encode>(
     machine: M,
@@ -74,11 +65,5 @@ pub fn shown_step<M: Encode>(
     requires { IsSome (step (M.rules machine) program.now source.now.value thread) }
     ensures { step (M.rules machine) program.now source.now.value thread ≡ Some result.value }
 {
-    let turn = Turn {
-        machine,
-        program: Shown::of(program),
-        source: source.copy(),
-        thread,
-    };
-    Shown::any(&turn)
+    Shown::any(&(machine, program, source, thread))
 }

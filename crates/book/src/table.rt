@@ -1,5 +1,5 @@
 //! The entries by number and by label, and the places among them that are looked for again and again.
-ghost use Rattle.std.specs.Prelude.{◌≡◌, ℕ, ◌+◌, ◌-◌, ◌^◌, ◌<◌, ◌≤◌, ◌++◌, ◌∷◌, [], count_by, length, map, not};
+ghost use Rattle.std.specs.Prelude.{◌≡◌, ℕ, ◌+◌, ◌-◌, ◌^◌, ◌<◌, ◌≤◌, ◌++◌, ◌∷◌, ◌⊎◌, [], count_by, length, map, not};
 ghost use Rattle.std.specs.Prelude.{position, true, OnOk, OnErr, IfOk, IfErr, IfSome, Some, None, IsSome};
 ghost use Rattle.std.specs.Prelude.{List, slice_get};
 ghost use Rattle.std.specs.List.{All, range_with_len};
@@ -13,7 +13,7 @@ ghost use Rattle.book.specs.Labels.{AreKnownBy, labelled, same_as, steps_of};
 ghost use Rattle.book.specs.Slots.{entries_of, labels_of, IsFirstLeft, IsOpenFrom};
 ghost use Rattle.book.specs.Unknown.{unknown};
 
-use crate::book::Totals;
+use crate::book::{EnterFault, Totals};
 use crate::entry::{Mark, Origin, Row};
 use crate::finding::Finding;
 use crate::label::Label;
@@ -28,15 +28,6 @@ use sched_program::Program;
 use std::alloc::{AllocError, Global};
 use std::marker::Model;
 use tree_machine::{Encode, State};
-
-/// Why rows were not put in.
-#[derive(Clone, Copy, PartialEq, Eq)]
-pub enum TableFault {
-    /// There would be more rows than the limit.
-    Full,
-    /// A growth was refused.
-    OutOfMemory,
-}
 
 /// The entries of a book: a row for each label. No state is held.
 #[derive(Drop)]
@@ -306,7 +297,7 @@ impl<M: Encode> Table<State<M>> {
         parent: usize,
         steps: Vec<Successor<Label>>,
         recycled: &mut Recycled,
-    ) -> Result<(), TableFault>
+    ) -> Result<(), EnterFault>
         requires room { length self.old.entries ≤ limit }
         requires few { limit ≤ 2000000 }
         requires within { parent < length self.old.entries }
@@ -318,12 +309,12 @@ impl<M: Encode> Table<State<M>> {
             → (self.new.entries ≡ self.old.entries ++ map (opened parent) (unknown (same_as label_of)
             (states self.old.entries) (steps_of (step (M.rules machine) program.now) e.state steps.items)))
             × AreKnownBy label_of self.new) }
-        ensures full { IfErr result (λ fault. fault ≡ TableFault.Full
-            → (label_of : State M M.Mem M.Loc M.Form → List ℕ) (e : Entry (State M M.Mem M.Loc M.Form))
+        ensures refused { IfErr result (λ fault. (fault ≡ EnterFault.OutOfMemory) ⊎ ((fault ≡ EnterFault.Full)
+            × ((label_of : State M M.Mem M.Loc M.Form → List ℕ) (e : Entry (State M M.Mem M.Loc M.Form))
             → AreKnownBy label_of self.old → At self.old.entries parent e
             → steps.items ≡ map (labelled label_of) (steps_of (step (M.rules machine) program.now) e.state steps.items)
             → limit < length self.old.entries + length (unknown (same_as label_of) (states self.old.entries)
-            (steps_of (step (M.rules machine) program.now) e.state steps.items))) }
+            (steps_of (step (M.rules machine) program.now) e.state steps.items))))) }
         ensures within { OnOk result (length self.new.entries ≤ limit) }
         ensures err { OnErr result (self.new ≡ self.old) }
     {
@@ -332,11 +323,11 @@ impl<M: Encode> Table<State<M>> {
         let slots = &mut self.slots;
         let Ok(()) = put_steps(slots, machine, program, &source, parent, steps, recycled) else {
             self.slots.truncate(was);
-            return Err(TableFault::OutOfMemory);
+            return Err(EnterFault::OutOfMemory);
         };
         if self.slots.len() > limit {
             self.slots.truncate(was);
-            return Err(TableFault::Full);
+            return Err(EnterFault::Full);
         }
         if self.fault.is_none() {
             self.fault = first_fault_from(&self.slots, was);

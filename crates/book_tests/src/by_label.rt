@@ -1,5 +1,7 @@
 //! Entries as a worker expands them: taken by their labels, worked on without the book, and
 //! entered.
+ghost use Rattle.std.specs.Prelude.{IfOk};
+ghost use Rattle.book.specs.ByLabel.{IsOf};
 
 use crate::fixtures::Broken;
 use book::{Book, Entered, ExpandedEntry, Scratch};
@@ -14,7 +16,9 @@ pub fn steps_by_label<'a, M: Encode>(
     id: usize,
     program: &'a Program,
     scratch: &mut Scratch<M>,
-) -> Result<ExpandedEntry<'a, M>, Broken> {
+) -> Result<ExpandedEntry<'a, M>, Broken>
+    ensures { IfOk result (λ steps. IsOf book.now.machine book.now.program steps.key) }
+{
     if !book.is_of(book.machine(), program) {
         return Err(Broken::Stranger);
     }
@@ -29,15 +33,14 @@ pub fn steps_by_label<'a, M: Encode>(
 
 /// Enters an entry's steps. What is left over serves the scratch again.
 pub fn enter_steps<M: Encode>(
-    alloc: Global,
     book: &mut Book<M>,
     steps: ExpandedEntry<'_, M>,
     scratch: &mut Scratch<M>,
-) -> Result<Entered, Broken> {
-    let mut recycled = scratch.recycled(alloc, steps.len(), 1)?;
-    let entered = book.enter_expanded(steps, &mut recycled);
-    scratch.recycle(recycled);
-    Ok(entered?)
+) -> Result<Entered, Broken>
+    requires { IsOf book.old.machine book.old.program steps.key }
+{
+    let recycled = scratch.recycled(steps.len(), 1)?;
+    Ok(book.enter_expanded(steps, recycled)?)
 }
 
 /// Enters the steps of a taken entry of this program.
@@ -49,7 +52,7 @@ fn enter_of<M: Encode>(
     scratch: &mut Scratch<M>,
 ) -> Result<Entered, Broken> {
     let steps = steps_by_label(alloc, book, id, program, scratch)?;
-    enter_steps(alloc, book, steps, scratch)
+    enter_steps(book, steps, scratch)
 }
 
 /// Enters the steps of a taken entry, made from its label.

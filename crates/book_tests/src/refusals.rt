@@ -1,10 +1,12 @@
 //! Entries with their steps that a book refuses. It is as it was then, and enters the steps of its
 //! own.
+ghost use Rattle.std.specs.Prelude.{◌≡◌, OnOk};
+ghost use Rattle.book.specs.ByLabel.{IsOf};
 
 use crate::by_label::{enter_by_label, steps_by_label};
 use crate::fixtures::{
-    BOTH_NEW, Broken, ELLEN, MERGES, NO_MARK, ONE_NEW, TWO_FINDS, TWO_INSERTS, expand, expanded,
-    is_broken, open, settled, take_number,
+    BOTH_NEW, Broken, ELLEN, MERGES, ONE_NEW, TWO_FINDS, TWO_INSERTS, expand, expanded, is_broken,
+    open, settled, take_number,
 };
 use crate::picture::Picture;
 use book::{Book, Entered, ExpandedEntry, Merge, Recycled, Scratch};
@@ -18,7 +20,11 @@ fn enter<M: Encode>(
     alloc: Global,
     book: &mut Book<M>,
     steps: ExpandedEntry<'_, M>,
-) -> Result<Entered, Broken> {
+) -> Result<Entered, Broken>
+    requires { IsOf book.old.machine book.old.program steps.key }
+    ensures machine { OnOk result (book.new.machine ≡ book.old.machine) }
+    ensures program { OnOk result (book.new.program ≡ book.old.program) }
+{
     Ok(book.enter_expanded(steps, &mut Recycled::none(alloc))?)
 }
 
@@ -28,7 +34,9 @@ fn refuses<M: Encode>(
     book: &mut Book<M>,
     steps: ExpandedEntry<'_, M>,
     fault: Broken,
-) -> Result<bool, Broken> {
+) -> Result<bool, Broken>
+    requires { IsOf book.old.machine book.old.program steps.key }
+{
     let before = Picture::of(alloc, book)?;
     let answer = enter(alloc, book, steps);
     Ok(is_broken(answer, fault)? && before.is_of(alloc, book)?)
@@ -60,7 +68,8 @@ fn an_entry_with_its_steps_is_entered_once(rt: HostRuntime) -> Result<(), Fail> 
     Ok(())
 }
 
-/// Whether a book refuses the steps of another book's entry of this number for this.
+/// Whether a book of the machine and the program of another one refuses the steps of that one's
+/// entry of this number for this.
 fn refuses_of<M: Encode>(
     alloc: Global,
     book: &mut Book<M>,
@@ -70,6 +79,9 @@ fn refuses_of<M: Encode>(
 ) -> Result<bool, Broken> {
     let mut scratch = Scratch::new(alloc);
     let program = other.program().copy(alloc)?;
+    if !book.is_of(other.machine(), &program) {
+        return Ok(false);
+    }
     let steps = steps_by_label(alloc, other, id, &program, &mut scratch)?;
     refuses(alloc, book, steps, fault)
 }
@@ -135,23 +147,6 @@ fn start_taken<M: Encode>(
     Ok(book)
 }
 
-/// Two threads that insert 1 and 2. No operation has begun at the start, so its label is that of
-/// the two inserts' start.
-const TWO_KEYS: &str =
-    r#"{"version":1,"tree":"atomic","initial":[],"threads":[[{"op":"insert","key":1}],[{"op":"insert","key":2}]]}"#;
-
-fn is_other_program_refused(alloc: Global) -> Result<bool, Broken> {
-    let mut book = start_taken(alloc, Atomic, TWO_INSERTS, Merge::Exact)?;
-    let other = start_taken(alloc, Atomic, TWO_KEYS, Merge::Exact)?;
-    refuses_a_stranger(alloc, &mut *book, &*other, 0, BOTH_NEW)
-}
-
-fn is_other_machine_refused(alloc: Global) -> Result<bool, Broken> {
-    let mut book = start_taken(alloc, ELLEN, TWO_FINDS, Merge::Exact)?;
-    let other = start_taken(alloc, NO_MARK, TWO_FINDS, Merge::Exact)?;
-    refuses_a_stranger(alloc, &mut *book, &*other, 0, BOTH_NEW)
-}
-
 fn is_other_merge_refused(alloc: Global, merge: Merge, other: Merge) -> Result<bool, Broken> {
     let mut book = start_taken(alloc, Atomic, TWO_INSERTS, merge)?;
     let other = start_taken(alloc, Atomic, TWO_INSERTS, other)?;
@@ -187,16 +182,6 @@ fn is_other_label_refused(alloc: Global, merge: Merge) -> Result<bool, Broken> {
         3,
         Entered { entered: 0, met: 0 },
     )
-}
-
-#[test]
-fn steps_of_another_machine_or_program_are_refused(rt: HostRuntime) -> Result<(), Fail> {
-    let alloc = rt.alloc();
-    let is_refused = settled!(is_other_machine_refused(alloc))?;
-    assert!(rt; is_refused, "machine");
-    let is_refused = settled!(is_other_program_refused(alloc))?;
-    assert!(rt; is_refused, "program");
-    Ok(())
 }
 
 #[test]

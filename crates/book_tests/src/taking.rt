@@ -119,11 +119,17 @@ fn a_range_is_taken_at_once(rt: HostRuntime) -> Result<(), Fail> {
 const ONE_FIND: &str =
     r#"{"version":1,"tree":"ellen","initial":[],"threads":[[{"op":"find","key":5}]]}"#;
 
+/// Two finds of other keys. No operation has begun at the start, so its label is that of the two
+/// finds' start.
+const OTHER_FINDS: &str =
+    r#"{"version":1,"tree":"ellen","initial":[],"threads":[[{"op":"find","key":1}],[{"op":"find","key":2}]]}"#;
+
 /// Machines and programs, each with whether the book of the two finds in Ellen's tree is of them.
-static SUBJECTS: [(Ellen, &str, bool); 3] = [
+static SUBJECTS: [(Ellen, &str, bool); 4] = [
     (ELLEN, TWO_FINDS, true),
     (NO_MARK, TWO_FINDS, false),
     (ELLEN, ONE_FIND, false),
+    (ELLEN, OTHER_FINDS, false),
 ];
 
 /// Whether a book is of a machine and a program, as it says itself and as what it hands out says.

@@ -106,7 +106,7 @@ fn enters_by_label(
     let program = book.program().copy(alloc)?;
     let steps = steps_by_label(alloc, book, id, &program, &mut scratch)?;
     let known = book.prefetch(&steps);
-    let entered = enter_steps(alloc, book, steps, &mut scratch)?;
+    let entered = enter_steps(book, steps, &mut scratch)?;
     Ok(id == number && known == counts.met && entered == counts)
 }
 

@@ -7,12 +7,10 @@ use Rattle.sched_program.specs.Program.{Program}
 use Rattle.tree_machine.specs.Rules.{Rules}
 use Rattle.tree_machine.specs.declared.state.State.{State}
 use Rattle.book.specs.Schedule.{StepMachine, after, run}
-use Rattle.book.specs.Findings.{machine_of, IsFindingOf}
+use Rattle.book.specs.Findings.{machine_of}
 use Rattle.book.specs.declared.book.Merge.{Merge}
 use Rattle.book.specs.Entries.{Contents}
-use Rattle.book.specs.Books.{CountsAsOne, machine_in, right_in}
-use Rattle.crew.specs.Driving.{IsKept}
-use Rattle.crew.specs.Reading.{IsCutAt}
+use Rattle.book.specs.Books.{machine_in}
 
 -- where each thread of a schedule is enabled in its turn, so is each of its beginnings
 pub beginning_runs : {S : Type 0} (m : StepMachine S) (c : List ℕ) (k : ℕ) (s r : S) → run m s c ≡ Some r
@@ -52,29 +50,9 @@ given_merge P x y p q k l machine program merge h =
     subst (λ r. P y q r) merge (given_own (λ z r. P z r k) x y p q machine program h)
 
 -- what was driven can be read
-pub is_answered : (W A : Type 0) (n l : ℕ) (K L : ℕ → ℕ → Type 0) → n ≡ l → ((d i : ℕ) → K d i → L d i)
+pub is_answered : (W A : Type 0) (n l : ℕ) (K : ℕ → ℕ → Type 0) → n ≡ l
     → (o : Option ℕ) → IfNone o W → IfSome o (λ i. (d : ℕ) × (d < n) × K d i)
-    → (o ≡ None → W → A) → IfSome o (λ i. (d : ℕ) → d < l → L d i → A) → A
-is_answered W A n l K L is turn None worked cut finished stopped = finished refl worked
-is_answered W A n l K L is turn (Some i) worked cut finished stopped =
-    stopped cut.0 (subst (λ k. cut.0 < k) is cut.1) (turn cut.0 i cut.2)
-
--- a layer that is cut in a book of one machine, program and merge is cut in one of the same
-pub cut_kept : {X Memory Place Form : Type 0} (rules : X → Rules Memory Place)
-    (old new b : Contents X (State X Memory Place Form)) (d i : ℕ) → IsKept old new
-    → IsCutAt (machine_in rules old) (CountsAsOne (rules old.machine) old.merge) (right_in rules old) b d i
-    → IsCutAt (machine_in rules new) (CountsAsOne (rules new.machine) new.merge) (right_in rules new) b d i
-cut_kept {X} {Memory} {Place} {Form} rules old new b d i kept cut =
-    given_merge
-    (λ x p k. IsCutAt (machine_of {Machine = X} {Form = Form} (rules x) p)
-    (CountsAsOne {Machine = X} {Form = Form} (rules x) k) (IsFindingOf (rules x) p) b d i) old.machine new.machine
-    old.program new.program old.merge new.merge (sym kept.machine) (sym kept.program) (sym kept.merge) cut
-
--- and the other way round
-pub kept_back : {X S : Type 0} (old new : Contents X S) → IsKept old new → IsKept new old
-kept_back old new kept = record {
-  machine = sym kept.machine;
-  program = sym kept.program;
-  merge = sym kept.merge;
-  limit = sym kept.limit;
-}
+    → (o ≡ None → W → A) → IfSome o (λ i. (d : ℕ) → d < l → K d i → A) → A
+is_answered W A n l K is None worked cut finished stopped = finished refl worked
+is_answered W A n l K is (Some i) worked cut finished stopped =
+    stopped cut.0 (subst (λ k. cut.0 < k) is cut.1) cut.2

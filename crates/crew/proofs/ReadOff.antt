@@ -2,14 +2,13 @@
 use Rattle.std.proofs.Common.{◌≡◌, ℕ, ◌+◌, ◌<◌, ◌≤◌, ◌∙◌, Bool, true, None, Some, List, length, refl, sym, ap, subst}
 use Rattle.std.proofs.Common.{arith, slice_get}
 use Rattle.std.proofs.lemmas.Bool.{true≢false}
+use Rattle.std.specs.Global.{Vec}
 use Rattle.tree_machine.specs.Rules.{Rules}
 use Rattle.tree_machine.specs.declared.state.State.{State}
 use Rattle.book.specs.declared.successor.Successor.{Successor}
 use Rattle.book.specs.declared.finding.Finding.{Finding}
 use Rattle.book.specs.Books.{CountsAsOne, IsLawfulIn, machine_in, right_in}
 use Rattle.book.specs.Closed.{IsClosed}
-use Rattle.book.specs.Correct.{HoldsAlways}
-use Rattle.book.specs.Counts.{IsCount}
 use Rattle.book.specs.Entries.{At, Contents, Enters, Entry, IsFullFor, Steps, states}
 use Rattle.book.specs.Unknown.{unknown}
 use Rattle.book.specs.Findings.{IsSound, is_sound}
@@ -17,10 +16,8 @@ use Rattle.book.specs.Law.{FindsAlike, IsExpansion, IsLawfulBook}
 use Rattle.book.specs.Schedule.{AreOneBy, IsDecided, IsMachine, Merges, after}
 use Rattle.book.proofs.Agreeing.{Agree, book_back, count_as, turned}
 use Rattle.book.proofs.Growth.{few_steps}
-use Rattle.crew.specs.Due.{IsDue, IsFirstAbove}
-use Rattle.crew.specs.Faults.{IsLeastFault, LeadsToFault}
-use Rattle.crew.specs.Headline.{HoldsTo, IsShortestFault}
-use Rattle.crew.specs.Reading.{IsAtRest, IsFullAt, IsLastLayer, IsWorkedOff, first_fault}
+use Rattle.crew.specs.Faults.{LeadsToFault}
+use Rattle.crew.specs.Reading.{IsAtRest, IsFullIn, IsLastLayer, IsReadOff, IsWorkedOff, first_fault}
 use Rattle.crew.specs.declared.answer.Answer.TheVariants as answer
 use Rattle.crew.proofs.Agreeing.{due_as, first_above_as}
 use Rattle.crew.proofs.Answers.{fault_due, fault_sound, holds_due, holds_sound, leads_to_fault, least_fault}
@@ -73,61 +70,58 @@ module _ {Machine Memory Place Form : Type 0} (rules : Machine → Rules Memory 
     last : IsLastLayer (machine_in rules b).steps b.entries n
     last = subst (λ d. IsLastLayer (machine_in rules b).steps b.entries d) is layer
 
-    pub holds_true : HoldsTo Machine Form (rules b.machine) b.program n
-    holds_true schedule state short leads =
-        sound_correct (rules b.machine) b.program state
-        (holds_sound (machine_in rules b) same (right_in rules b) machine merges alike agree b law n none last schedule
-        state short leads)
-
-    pub holds_is_due : (IsAtRest (machine_in rules b).steps b.entries b.merge k → ⊥)
-        → IsDue (machine_in rules b) (CountsAsOne (rules b.machine) b.merge) (right_in rules b) b.merge n b.limit
-        (length b.entries) (answer.Holds n)
-    holds_is_due moves =
+    pub holds_read_off : (IsAtRest (machine_in rules b).steps b.entries b.merge k → ⊥) → (IsClosed b → ⊥)
+        → IsReadOff rules b n (answer.Holds n)
+    holds_read_off moves unclosed =
         let due =
         holds_due (machine_in rules b) same (right_in rules b) machine merges alike agree b law n none last in
-        due_as (machine_in rules b) machine (AreOneBy same) (CountsAsOne (rules b.machine) b.merge) counts
-        (right_in rules b) b.merge n b.limit (length b.entries) (answer.Holds n) (
-          refl,
-          due.0,
-          due.1,
-          due.2,
-          (λ names before next count.
-              let shallow =
-              count_rest (machine_in rules b) same (right_in rules b) machine merges alike b.entries law.law n
-              before next last count in
-              moves (subst (λ d. IsAtRest (machine_in rules b).steps b.entries b.merge d) (sym is)
-              (names, before, next, shallow))),
-        )
+        record {
+          due = due_as (machine_in rules b) machine (AreOneBy same) (CountsAsOne (rules b.machine) b.merge) counts
+              (right_in rules b) b.merge n b.limit (length b.entries) (answer.Holds n) (
+                refl,
+                due.0,
+                due.1,
+                due.2,
+                (λ names before next count.
+                    let shallow =
+                    count_rest (machine_in rules b) same (right_in rules b) machine merges alike b.entries law.law n
+                    before next last count in
+                    moves (subst (λ d. IsAtRest (machine_in rules b).steps b.entries b.merge d) (sym is)
+                    (names, before, next, shallow))),
+              );
+          headline = (λ schedule state short leads. sound_correct (rules b.machine) b.program state
+              (holds_sound (machine_in rules b) same (right_in rules b) machine merges alike agree b law n none last
+              schedule state short leads));
+          first = none;
+          closed = unclosed;
+        }
 
     -- and no entry has so many steps
     module _ (rests : IsAtRest (machine_in rules b).steps b.entries b.merge k) where
       rest : IsAtRest (machine_in rules b).steps b.entries b.merge n
       rest = subst (λ d. IsAtRest (machine_in rules b).steps b.entries b.merge d) is rests
 
-      pub every_is_due : IsDue (machine_in rules b) (CountsAsOne (rules b.machine) b.merge) (right_in rules b) b.merge
-          n b.limit (length b.entries) answer.Every
-      every_is_due =
+      pub every_read_off : IsReadOff rules b n answer.Every
+      every_read_off =
           let due =
           holds_due (machine_in rules b) same (right_in rules b) machine merges alike agree b law n none last in
           let count =
           rest_count (machine_in rules b) same (right_in rules b) machine merges alike b.entries law.law n rest.1
           rest.2 last rest.3 in
-          due_as (machine_in rules b) machine (AreOneBy same) (CountsAsOne (rules b.machine) b.merge) counts
-          (right_in rules b) b.merge n b.limit (length b.entries) answer.Every
-          (due.0, due.1, due.2, rest.0, (rest.1, rest.2, count))
-
-      pub every_true : HoldsAlways Machine Form (rules b.machine) b.program
-      every_true schedule state leads =
-          sound_correct (rules b.machine) b.program state
-          (rest_holds (machine_in rules b) same (right_in rules b) machine merges alike b.entries law.law n rest.1
-          rest.2 last none rest.3 schedule state leads)
-
-      pub every_closed : IsClosed b
-      every_closed = (
-        rest.0,
-        rest_worked_out (machine_in rules b) same (right_in rules b) machine merges alike b.entries law.law n
-            rest.1 rest.2 last rest.3,
-      )
+          record {
+            due = due_as (machine_in rules b) machine (AreOneBy same) (CountsAsOne (rules b.machine) b.merge) counts
+                (right_in rules b) b.merge n b.limit (length b.entries) answer.Every
+                (due.0, due.1, due.2, rest.0, (rest.1, rest.2, count));
+            headline = (λ schedule state leads. sound_correct (rules b.machine) b.program state
+                (rest_holds (machine_in rules b) same (right_in rules b) machine merges alike b.entries law.law n rest.1
+                rest.2 last none rest.3 schedule state leads));
+            first = none;
+            closed = (
+              rest.0,
+              rest_worked_out (machine_in rules b) same (right_in rules b) machine merges alike b.entries law.law n
+                  rest.1 rest.2 last rest.3,
+            );
+          }
 
   -- a closed book that is worked off rests
   pub closed_rests : (n k : ℕ) → k ≡ n → IsClosed b → IsWorkedOff (machine_in rules b).steps b.entries n
@@ -140,29 +134,29 @@ module _ {Machine Memory Place Form : Type 0} (rules : Machine → Rules Memory 
       (at_rest (machine_in rules b).steps b.entries b.merge n worked closed.0 closed.1 start.0 start.1 none)
 
   -- the first fault, with the schedule that is recorded of it
-  module _ (id : ℕ) (first : first_fault b.entries ≡ Some id) (c : List ℕ)
+  module _ (id : ℕ) (first : first_fault b.entries ≡ Some id) (schedule : Vec ℕ)
       (way : (e : Entry (State Machine Memory Place Form)) × At b.entries id e
-      × (after (machine_in rules b) c ≡ Some e.state) × (length c ≡ e.state.steps)) where
+      × (after (machine_in rules b) schedule.items ≡ Some e.state) × (length schedule.items ≡ e.state.steps)) where
     -- entries of fewer steps are sound, and of as many not all
-    pub sound_before : (n : ℕ) → n < length c → (i : ℕ) (e : Entry (State Machine Memory Place Form)) → At b.entries i e
+    pub sound_before : (n : ℕ) → n < length schedule.items → (i : ℕ) (e : Entry (State Machine Memory Place Form)) → At b.entries i e
         → e.state.steps ≤ n → is_sound e.finding ≡ true
     sound_before n less i e at few =
-        let long : length c ≡ way.0.state.steps = way.3 in
+        let long : length schedule.items ≡ way.0.state.steps = way.3 in
         sound_below (machine_in rules b) same (right_in rules b) machine merges alike b.entries law.law id first way.0
         way.1 i e at (omega arith)
 
-    pub unsound_from : (n : ℕ) → length c ≤ n
+    pub unsound_from : (n : ℕ) → length schedule.items ≤ n
         → ((i : ℕ) (e : Entry (State Machine Memory Place Form)) → At b.entries i e → e.state.steps ≤ n
         → is_sound e.finding ≡ true) → ⊥
     unsound_from n le sound =
-        let long : length c ≡ way.0.state.steps = way.3 in
+        let long : length schedule.items ≡ way.0.state.steps = way.3 in
         true≢false (sym (sound id way.0 way.1 (omega arith))
         ∙ is_fault (machine_in rules b) same (right_in rules b) machine merges alike b.entries law.law id first way.0
         way.1)
 
     -- where the book is worked off, its layer is the last
     pub fault_is_last : (n : ℕ) → IsWorkedOff (machine_in rules b).steps b.entries n
-        → (length c ≤ n) × IsLastLayer (machine_in rules b).steps b.entries (length c)
+        → (length schedule.items ≤ n) × IsLastLayer (machine_in rules b).steps b.entries (length schedule.items)
     fault_is_last n worked =
         let here = last_of_fault (machine_in rules b).steps b.entries n worked id way.0 way.1
         (is_fault (machine_in rules b) same (right_in rules b) machine merges alike b.entries law.law id first way.0
@@ -171,58 +165,51 @@ module _ {Machine Memory Place Form : Type 0} (rules : Machine → Rules Memory 
 
     module _ (f : Finding) (found : (e : Entry (State Machine Memory Place Form)) × At b.entries id e
         × (e.finding ≡ f)) where
-      same_entry : way.0 ≡ found.0
-      same_entry = (let p : slice_get b.entries id ≡ Some way.0 = way.1 in
-          let q : slice_get b.entries id ≡ Some found.0 = found.1 in cc)
-
       finding : way.0.finding ≡ f
-      finding = ap (λ (e : Entry (State Machine Memory Place Form)). e.finding) same_entry ∙ found.2
+      finding =
+          let same_entry : way.0 ≡ found.0 = (let p : slice_get b.entries id ≡ Some way.0 = way.1 in
+          let q : slice_get b.entries id ≡ Some found.0 = found.1 in cc) in
+          ap (λ (e : Entry (State Machine Memory Place Form)). e.finding) same_entry ∙ found.2
 
-      pub first_told : (i : ℕ) × (e : Entry (State Machine Memory Place Form)) × (first_fault b.entries ≡ Some i)
-          × At b.entries i e × (e.finding ≡ f) × (after (machine_in rules b) c ≡ Some e.state)
-      first_told = (id, way.0, first, way.1, finding, way.2)
-
-      leads : LeadsToFault (machine_in rules b) (right_in rules b) c f
+      leads : LeadsToFault (machine_in rules b) (right_in rules b) schedule.items f
       leads =
-          subst (λ g. LeadsToFault (machine_in rules b) (right_in rules b) c g) finding
+          subst (λ g. LeadsToFault (machine_in rules b) (right_in rules b) schedule.items g) finding
           (leads_to_fault (machine_in rules b) same (right_in rules b) machine merges alike agree b law id first way.0
-          way.1 c way.2 way.3)
+          way.1 schedule.items way.2 way.3)
 
-      pub fault_true : IsShortestFault Machine Form (rules b.machine) b.program c f
-      fault_true =
-          record {
-            fault = leads;
-            none_shorter = (λ shorter state less run. sound_correct (rules b.machine) b.program state
-                (fault_sound (machine_in rules b) same (right_in rules b) machine merges alike agree b law id first
-                way.0 way.1 c way.2 way.3 (length shorter) less shorter state (omega arith) run));
-          }
-
-      pub fault_is_due : (n k : ℕ) → k ≡ length c → k ≤ n → IsLastLayer (machine_in rules b).steps b.entries k
-          → LeadsToFault (machine_in rules b) (right_in rules b) c f
-          × IsLeastFault (machine_in rules b) (right_in rules b) (length c) × (length c ≤ n)
-          × ((J : ℕ) → IsFirstAbove (machine_in rules b) (CountsAsOne (rules b.machine) b.merge) n b.limit J
-          → length c < J)
-          × IsCount (machine_in rules b) (CountsAsOne (rules b.machine) b.merge) (length c) (length b.entries)
-      fault_is_due n k is few layer =
-          let last : IsLastLayer (machine_in rules b).steps b.entries (length c) =
+      pub fault_read_off : (n k : ℕ) → k ≡ length schedule.items → k ≤ n
+          → IsLastLayer (machine_in rules b).steps b.entries k → IsReadOff rules b n (answer.Fault f schedule)
+      fault_read_off n k is few layer =
+          let last : IsLastLayer (machine_in rules b).steps b.entries (length schedule.items) =
           subst (λ d. IsLastLayer (machine_in rules b).steps b.entries d) is layer in
           let due =
           fault_due (machine_in rules b) same (right_in rules b) machine merges alike agree b law id first way.0
-          way.1 c way.2 way.3 n last in (
-            leads,
-            least_fault (machine_in rules b) same (right_in rules b) machine merges alike agree b law id first way.0
-                way.1 c way.2 way.3,
-            (omega arith),
-            (λ J above. due.0 J
-                (first_above_as (machine_in rules b) machine (CountsAsOne (rules b.machine) b.merge) (AreOneBy same)
-                (turned (machine_in rules b) machine (AreOneBy same) (CountsAsOne (rules b.machine) b.merge) counts) n
-                b.limit J above)),
-            count_as (machine_in rules b) machine (AreOneBy same) (CountsAsOne (rules b.machine) b.merge) counts
-                (length c) (length b.entries) due.1,
-          )
+          way.1 schedule.items way.2 way.3 n last in
+          record {
+            due = (
+              leads,
+              least_fault (machine_in rules b) same (right_in rules b) machine merges alike agree b law id first way.0
+                  way.1 schedule.items way.2 way.3,
+              (omega arith),
+              (λ J above. due.0 J
+                  (first_above_as (machine_in rules b) machine (CountsAsOne (rules b.machine) b.merge) (AreOneBy same)
+                  (turned (machine_in rules b) machine (AreOneBy same) (CountsAsOne (rules b.machine) b.merge) counts) n
+                  b.limit J above)),
+              count_as (machine_in rules b) machine (AreOneBy same) (CountsAsOne (rules b.machine) b.merge) counts
+                  (length schedule.items) (length b.entries) due.1,
+            );
+            headline = record {
+              fault = leads;
+              none_shorter = (λ shorter state less run. sound_correct (rules b.machine) b.program state
+                  (fault_sound (machine_in rules b) same (right_in rules b) machine merges alike agree b law id first
+                  way.0 way.1 schedule.items way.2 way.3 (length shorter) less shorter state (omega arith) run));
+            };
+            first = (id, way.0, first, way.1, finding, way.2);
+            closed = tt;
+          }
 
   -- the book has no room for an entry's steps, whoever made them
-  pub full_alike : (e : Entry (State Machine Memory Place Form)) (xs ys : List (Successor (State Machine Memory Place Form)))
+  full_alike : (e : Entry (State Machine Memory Place Form)) (xs ys : List (Successor (State Machine Memory Place Form)))
       → IsExpansion (machine_in rules b) (right_in rules b) e.state xs
       → IsExpansion (machine_in rules b) (right_in rules b) e.state ys
       → IsFullFor (CountsAsOne (rules b.machine) b.merge) b xs
@@ -253,8 +240,7 @@ module _ {Machine Memory Place Form : Type 0} (rules : Machine → Rules Memory 
       omega arith
 
   -- an entry for whose steps there is no room, with the schedule that is recorded of it
-  module _ (id : ℕ) (full : IsFullAt (machine_in rules b) (CountsAsOne (rules b.machine) b.merge) (right_in rules b) b
-      id) (d : ℕ)
+  module _ (id : ℕ) (full : IsFullIn rules b id) (d : ℕ)
       (way : (e : Entry (State Machine Memory Place Form)) × At b.entries id e × (d ≡ e.state.steps))
       (sound : (i : ℕ) (e : Entry (State Machine Memory Place Form)) → At b.entries i e → e.state.steps ≤ d
       → is_sound e.finding ≡ true) where
@@ -269,20 +255,22 @@ module _ {Machine Memory Place Form : Type 0} (rules : Machine → Rules Memory 
         full_by_test (machine_in rules b) (CountsAsOne (rules b.machine) b.merge) test (right_in rules b) b law
         full.entry.state full.successors full.expansion full.full
 
-    pub stopped_true : HoldsTo Machine Form (rules b.machine) b.program d
-    stopped_true schedule state short leads =
-        sound_correct (rules b.machine) b.program state
-        (stopped_sound (machine_in rules b) same (right_in rules b) machine merges alike agree b law d id full.entry full.at
-        full.taken full.successors full.expansion over layer sound schedule state short leads)
-
-    pub stopped_is_due : (n : ℕ) → d < n
-        → IsFirstAbove (machine_in rules b) (CountsAsOne (rules b.machine) b.merge) n b.limit (d + 1)
-        × ((F : ℕ) → IsLeastFault (machine_in rules b) (right_in rules b) F → d + 1 ≤ F)
-    stopped_is_due n less =
+    pub stopped_read_off : (n limit : ℕ) → limit ≡ b.limit → d < n → IsReadOff rules b n (answer.Stopped limit d)
+    stopped_read_off n limit at less =
         let due =
         stopped_due (machine_in rules b) same (right_in rules b) machine merges alike agree b law d id full.entry
-        full.at full.taken full.successors full.expansion over layer sound n less in (
-          first_above_as (machine_in rules b) machine (AreOneBy same) (CountsAsOne (rules b.machine) b.merge) counts
-              n b.limit (d + 1) due.0,
-          due.1,
-        )
+        full.at full.taken full.successors full.expansion over layer sound n less in
+        record {
+          due = (
+            at,
+            first_above_as (machine_in rules b) machine (AreOneBy same) (CountsAsOne (rules b.machine) b.merge) counts
+                n b.limit (d + 1) due.0,
+            due.1,
+          );
+          headline = (λ schedule state short leads. sound_correct (rules b.machine) b.program state
+              (stopped_sound (machine_in rules b) same (right_in rules b) machine merges alike agree b law d id
+              full.entry full.at full.taken full.successors full.expansion over layer sound schedule state short
+              leads));
+          first = tt;
+          closed = tt;
+        }

@@ -16,7 +16,7 @@ use Rattle.crew.specs.Driving.{IsLedgerOf}
 use Rattle.crew.specs.Due.{IsDue, IsSameVerdict}
 use Rattle.crew.specs.Headline.{IsTrueOf}
 use Rattle.crew.specs.Ledger.{ledger}
-use Rattle.crew.specs.Reading.{TellsFirst, TellsClosed}
+use Rattle.crew.specs.Reading.{IsReadOff, TellsFirst, TellsClosed}
 use Rattle.crew.specs.Reporting.{IsBookOf, IsReport}
 use Rattle.crew.proofs.Agreeing.{due_as}
 use Rattle.crew.proofs.Ends.{given_own, given_merge}
@@ -61,14 +61,10 @@ module _ {X Memory Place Form : Type 0} (rules : X → Rules Memory Place) (mach
       → IsBookOf machine program settings book
       → IsMachine (machine_in rules book)
       → IsDecided (machine_in rules book) (CountsAsOne (rules book.machine) book.merge)
-      → IsDue (machine_in rules book) (CountsAsOne (rules book.machine) book.merge) (right_in rules book)
-      book.merge settings.steps book.limit (length book.entries) answer
-      → IsTrueOf X Form (rules book.machine) book.program answer
-      → TellsFirst (machine_in rules book) book.entries answer
-      → TellsClosed book answer
+      → IsReadOff rules book settings.steps answer
       → read ≡ book → told ≡ totals_of read → length each ≡ settings.workers → IsLedgerOf book (ledger each)
       → IsReport rules machine program settings answer told each read
-  reported book read answer told each asked keeps test due headline first closed same totals workers sums =
+  reported book read answer told each asked keeps test off same totals workers sums =
       let m = machine_of {Machine = X} {Form = Form} (rules machine) program in
       let right = IsFindingOf {Machine = X} {Form = Form} (rules machine) program in
       let alike = CountsAsOne {Machine = X} {Form = Form} (rules machine) settings.merge in
@@ -79,7 +75,8 @@ module _ {X Memory Place Form : Type 0} (rules : X → Rules Memory Place) (mach
       (λ x p k. IsDue (machine_of {Machine = X} {Form = Form} (rules x) p)
       (CountsAsOne {Machine = X} {Form = Form} (rules x) k)
       (IsFindingOf {Machine = X} {Form = Form} (rules x) p) k settings.steps book.limit (length book.entries) answer)
-      book.machine machine book.program program book.merge settings.merge asked.machine asked.program asked.merge due in
+      book.machine machine book.program program book.merge settings.merge asked.machine asked.program asked.merge
+      off.due in
       let only_of_book : (count : ℕ) (other : Answer)
       → IsDue m alike right settings.merge settings.steps book.limit count other
       → IsSameVerdict (length book.entries) answer count other =
@@ -90,7 +87,7 @@ module _ {X Memory Place Form : Type 0} (rules : X → Rules Memory Place) (mach
       (IsFindingOf {Machine = X} {Form = Form} (rules x) p) k settings.steps book.limit count other
       → IsSameVerdict (length book.entries) answer count other)
       book.machine machine book.program program book.merge settings.merge asked.machine asked.program asked.merge
-      (only_here book answer keeps test due) in
+      (only_here book answer keeps test off.due) in
       record {
         due = subst (λ k. IsDue m alike right settings.merge settings.steps settings.limit k answer) (sym entries)
             (subst (λ l. IsDue m alike right settings.merge settings.steps l (length book.entries) answer) asked.limit
@@ -103,11 +100,11 @@ module _ {X Memory Place Form : Type 0} (rules : X → Rules Memory Place) (mach
             → IsSameVerdict (length book.entries) answer count other) asked.limit only_of_book);
         headline =
             given_own (λ x p. IsTrueOf X Form (rules x) p answer) book.machine machine book.program program
-            asked.machine asked.program headline;
+            asked.machine asked.program off.headline;
         first = subst (λ (b : Contents X (State X Memory Place Form)). TellsFirst m b.entries answer) (sym same)
             (given_own (λ x p. TellsFirst (machine_of {Machine = X} {Form = Form} (rules x) p) book.entries answer)
-            book.machine machine book.program program asked.machine asked.program first);
-        closed = subst (λ (b : Contents X (State X Memory Place Form)). TellsClosed b answer) (sym same) closed;
+            book.machine machine book.program program asked.machine asked.program off.first);
+        closed = subst (λ (b : Contents X (State X Memory Place Form)). TellsClosed b answer) (sym same) off.closed;
         asked = subst (λ (b : Contents X (State X Memory Place Form)). IsBookOf machine program settings b)
             (sym same) asked;
         totals = totals;

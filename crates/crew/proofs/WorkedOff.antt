@@ -1,21 +1,14 @@
 -- Where the layers are worked off, the last one is at hand.
-use Rattle.std.proofs.Common.{◌≡◌, ℕ, zero, suc, ◌≤◌, inl, inr, false, None, List, sym, ◌∙◌, arith, subst}
+use Rattle.std.proofs.Common.{◌≡◌, ℕ, zero, suc, ◌≤◌, inl, inr, false, List, sym, ◌∙◌, arith, subst}
 use Rattle.std.proofs.lemmas.Bool.{true≢false, cases_lt}
 use Rattle.book.specs.Findings.{is_sound}
 use Rattle.book.specs.Entries.{Entry, At}
 use Rattle.book.specs.declared.book.Merge.{Merge}
 use Rattle.book.specs.declared.book.Merge.TheVariants.{Names}
 use Rattle.book.specs.Closed.{IsWorkedOut}
-use Rattle.crew.specs.Reading.{first_fault, IsAtRest, IsLastLayer, IsWorkedOff}
+use Rattle.crew.specs.Reading.{IsAtRest, IsLastLayer, IsWorkedOff}
 
 module _ {S : Type 0} (steps : S → ℕ) (es : List (Entry S)) (n : ℕ) (worked : IsWorkedOff steps es n) where
-  pub last_of_all : first_fault es ≡ None → IsLastLayer steps es n
-  last_of_all none = (
-    worked.all none,
-    (λ i e at. let few : steps e.state ≤ worked.layer = worked.stands.shallow i e at in
-        let le : worked.layer ≤ n = worked.within in omega arith),
-  )
-
   pub last_of_fault : (i : ℕ) (e : Entry S) → At es i e → is_sound e.finding ≡ false → (steps e.state ≤ n)
       × IsLastLayer steps es (steps e.state)
   last_of_fault i e at fault =

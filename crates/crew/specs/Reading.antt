@@ -1,11 +1,14 @@
--- When an answer can be read off a book.
-use Rattle.std.specs.Prelude.{◌≡◌, ◌≢◌, ℕ, ◌+◌, ◌<◌, ◌≤◌, true, Option, None, Some, List, not, position}
+-- When an answer can be read off a book, and what it then is.
+use Rattle.std.specs.Prelude.{◌≡◌, ◌≢◌, ℕ, ◌+◌, ◌<◌, ◌≤◌, true, Option, None, Some, List, length, not, position}
+use Rattle.tree_machine.specs.Rules.{Rules}
+use Rattle.tree_machine.specs.declared.state.State.{State}
 use Rattle.book.specs.declared.successor.Successor.{Successor}
 use Rattle.book.specs.declared.finding.Finding.{Finding}
 use Rattle.book.specs.declared.entry.Mark.TheVariants.{Taken, Expanded}
 use Rattle.book.specs.Schedule.{StepMachine, after}
 use Rattle.book.specs.Findings.{is_sound}
 use Rattle.book.specs.Entries.{Entry, Contents, At, IsFullFor}
+use Rattle.book.specs.Books.{CountsAsOne, machine_in, right_in}
 use Rattle.book.specs.Law.{IsExpansion}
 use Rattle.book.specs.Closed.{IsClosed}
 use Rattle.book.specs.declared.book.Merge.{Merge}
@@ -13,6 +16,8 @@ use Rattle.book.specs.declared.book.Merge.TheVariants.{Names}
 use Rattle.book.specs.Layers.{IsExpandedBelow, IsShallow, IsThrough, NoneTaken}
 use Rattle.crew.specs.declared.answer.Answer.{Answer}
 use Rattle.crew.specs.declared.answer.Answer.TheVariants as answer
+use Rattle.crew.specs.Due.{IsDue}
+use Rattle.crew.specs.Headline.{IsTrueOf}
 
 -- the number of the lowest-numbered entry that is not sound
 abbrev pub first_fault : {S : Type 0} → List (Entry S) → Option ℕ
@@ -79,3 +84,22 @@ TellsClosed book answer.Every = IsClosed book
 TellsClosed book (answer.Holds steps) = ¬ IsClosed book
 TellsClosed book (answer.Fault finding schedule) = Unit {0}
 TellsClosed book (answer.Stopped limit holds_to) = Unit {0}
+
+module _ {X Memory Place Form : Type 0} (rules : X → Rules Memory Place)
+    (book : Contents X (State X Memory Place Form)) where
+  -- entry i is taken, and the book has no room for its steps
+  abbrev pub IsFullIn : ℕ → Type 0
+  IsFullIn = IsFullAt (machine_in rules book) (CountsAsOne (rules book.machine) book.merge) (right_in rules book) book
+
+  -- layer d is cut at its entry i
+  abbrev pub IsCutIn : ℕ → ℕ → Type 0
+  IsCutIn = IsCutAt (machine_in rules book) (CountsAsOne (rules book.machine) book.merge) (right_in rules book) book
+
+  -- the answer is the due one for at most n steps and the book's limit, and true; and it tells the book's first fault,
+  -- and whether the book is closed
+  pub record IsReadOff (n : ℕ) (answer : Answer) : Type 0 where
+    pub due : IsDue (machine_in rules book) (CountsAsOne (rules book.machine) book.merge) (right_in rules book)
+        book.merge n book.limit (length book.entries) answer
+    pub headline : IsTrueOf X Form (rules book.machine) book.program answer
+    pub first : TellsFirst (machine_in rules book) book.entries answer
+    pub closed : TellsClosed book answer

@@ -1,10 +1,10 @@
 //! The expansion of the layers on one thread, entry by entry.
 ghost use Rattle.std.specs.Prelude.{◌≡◌, ℕ, ◌+◌, ◌<◌, ◌≤◌, IfOk, IfSome, IfNone, OnOk, None, count_by};
-ghost use Rattle.book.specs.Books.{machine_in, right_in, CountsAsOne};
+ghost use Rattle.book.specs.Books.{machine_in};
 ghost use Rattle.book.specs.Entries.{is_expanded};
 ghost use Rattle.book.specs.Layers.{IsLeftTo};
 ghost use Rattle.crew.specs.Driving.{IsInLayer, IsKept, IsLedgerOf};
-ghost use Rattle.crew.specs.Reading.{first_fault, IsCutAt, IsWorkedOff, StandsAt};
+ghost use Rattle.crew.specs.Reading.{first_fault, IsCutIn, IsWorkedOff, StandsAt};
 
 use crate::answer::Share;
 use book::{Book, EnterFault, Expansion};
@@ -30,8 +30,7 @@ fn expand_next<M: Encode>(
     ensures next { IfOk result (λ o. IfNone o (IsInLayer (machine_in M.rules book.old).steps book.new.entries depth)) }
     ensures more { IfOk result (λ o. IfNone o (count_by (λ e. is_expanded e.mark) book.new.entries
         ≡ count_by (λ e. is_expanded e.mark) book.old.entries + 1)) }
-    ensures cut { IfOk result (λ o. IfSome o (λ i. IsCutAt (machine_in M.rules book.old)
-        (CountsAsOne (M.rules book.old.machine) book.old.merge) (right_in M.rules book.old) book.new depth i)) }
+    ensures cut { IfOk result (λ o. IfSome o (IsCutIn M.rules book.new depth)) }
 {
     book.law();
     let Some((id, state)) = book.take()? else {
@@ -68,8 +67,7 @@ fn expand_layer<M: Encode>(
     ensures ledger { OnOk result (IsLedgerOf book.new share.new) }
     ensures next { IfOk result
         (λ o. IfNone o (StandsAt (machine_in M.rules book.old).steps book.new.entries (depth + 1))) }
-    ensures cut { IfOk result (λ o. IfSome o (λ i. IsCutAt (machine_in M.rules book.old)
-        (CountsAsOne (M.rules book.old.machine) book.old.merge) (right_in M.rules book.old) book.new depth i)) }
+    ensures cut { IfOk result (λ o. IfSome o (IsCutIn M.rules book.new depth)) }
 {
     'layer: while book.is_left_to(depth) {
         if let Some(id) = expand_next(alloc, program, book, depth, share)? {
@@ -96,8 +94,7 @@ pub(crate) fn drive<M: Encode>(
     ensures ledger { OnOk result (IsLedgerOf book.new share.new) }
     ensures done { IfOk result
         (λ o. IfNone o (IsWorkedOff (machine_in M.rules book.old).steps book.new.entries steps)) }
-    ensures cut { IfOk result (λ o. IfSome o (λ i. (d : ℕ) × (d < steps) × IsCutAt (machine_in M.rules book.old)
-        (CountsAsOne (M.rules book.old.machine) book.old.merge) (right_in M.rules book.old) book.new d i)) }
+    ensures cut { IfOk result (λ o. IfSome o (λ i. (d : ℕ) × (d < steps) × IsCutIn M.rules book.new d i)) }
 {
     'layers: for depth in 0..steps {
         if book.first_fault().is_some() || !book.is_left_to(u64::from(depth)) {

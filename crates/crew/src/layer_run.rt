@@ -1,6 +1,7 @@
 //! A layer of entries, and how a worker gets some of them.
 ghost use Rattle.std.specs.Prelude.{◌≡◌, ◌+◌, ◌<◌, ◌^◌, All, IfOk};
 ghost use Rattle.claims.specs.Seats.{IsSeatOf};
+ghost use Rattle.book.specs.ByLabel.{IsOf};
 
 use crate::gate::Gate;
 use crate::waiting::{read_soon, write_soon};
@@ -100,6 +101,25 @@ impl<'a, M: Encode, G: Gate, R: Wait> LayerRun<'a, M, G, R> {
         }
     }
 
+    /// The taken entry at a place, from a book of the exploration's machine and program.
+    fn entry_at(
+        &self,
+        book: &Book<M>,
+        place: usize,
+        scratch: &mut Scratch<M>,
+    ) -> Result<TakenEntry<'a, M>, Stop>
+        requires within { place < self.now.claims.size.len }
+        requires machine { book.now.machine ≡ self.now.exploration.machine }
+        requires program { book.now.program ≡ self.now.exploration.program.now }
+        ensures { IfOk result (λ x. IsOf self.now.exploration.machine self.now.exploration.program.now
+            x.key) }
+    {
+        match book.taken_entry(self.start + place, self.exploration.program, scratch)? {
+            Some(entry) => Ok(entry),
+            None => Err(Stop::Refused),
+        }
+    }
+
     /// The taken entries at some places, each beside its place.
     fn entries_at(
         &self,
@@ -108,6 +128,8 @@ impl<'a, M: Encode, G: Gate, R: Wait> LayerRun<'a, M, G, R> {
         scratch: &mut Scratch<M>,
     ) -> Result<Vec<(usize, TakenEntry<'a, M>)>, Stop>
         requires { All (λ place. place < self.now.claims.size.len) places.now }
+        ensures { IfOk result (λ drawn. All (λ d. IsOf self.now.exploration.machine
+            self.now.exploration.program.now d.1.key) drawn.items) }
     {
         let Exploration {
             alloc,
@@ -120,10 +142,8 @@ impl<'a, M: Encode, G: Gate, R: Wait> LayerRun<'a, M, G, R> {
         }
         let mut entries = Vec::with_capacity(*alloc, places.len())?;
         for place in places {
-            match book.taken_entry(self.start + *place, program, scratch)? {
-                Some(entry) => entries.push((*place, entry))?,
-                None => return Err(Stop::Refused),
-            }
+            let entry = self.entry_at(book, *place, scratch)?;
+            entries.push((*place, entry))?;
         }
         Ok(entries)
     }
@@ -136,6 +156,8 @@ impl<'a, M: Encode, G: Gate, R: Wait> LayerRun<'a, M, G, R> {
     ) -> Result<Vec<(usize, TakenEntry<'a, M>)>, Stop>
         requires seat { IsSeatOf self.now.claims seat.old }
         ensures seat { IsSeatOf self.now.claims seat.new }
+        ensures drawn { IfOk result (λ drawn. All (λ d. IsOf self.now.exploration.machine
+            self.now.exploration.program.now d.1.key) drawn.items) }
     {
         let alloc = self.exploration.alloc;
         let places = places_of(alloc, &self.claims, self.round, seat)?;

@@ -1,7 +1,11 @@
 //! What a worker has expanded and not entered.
+ghost use Rattle.std.specs.Prelude.{◌≡◌, [], All, OnOk};
+ghost use Rattle.book.specs.ByLabel.{IsOf};
+
 use crate::answer::Share;
 use crate::worker::Stop;
 use book::{Book, ExpandedEntry, Recycled};
+use sched_program::Program;
 use std::alloc::Global;
 use tree_machine::Encode;
 
@@ -15,7 +19,9 @@ pub struct Pending<'a, M: Encode> {
 
 impl<'a, M: Encode> Pending<'a, M> {
     /// No entry. It takes no memory.
-    pub fn new(alloc: Global) -> Pending<'a, M> {
+    pub fn new(alloc: Global) -> Pending<'a, M>
+        ensures { result.entries.items ≡ [] }
+    {
         Pending {
             entries: Vec::new(alloc),
             prefetched: 0,
@@ -34,7 +40,9 @@ impl<'a, M: Encode> Pending<'a, M> {
     /// Prefetches the entries for which this was not done yet. What the book has of their steps is
     /// mostly not in the processor's caches: looked for one right after the other, they are not
     /// waited for one by one. The sum of what it sees is of no use.
-    pub fn prefetch(&mut self, book: &Book<M>) -> usize {
+    pub fn prefetch(&mut self, book: &Book<M>) -> usize
+        ensures { self.new.entries ≡ self.old.entries }
+    {
         let mut seen = 0usize;
         if let Some(others) = self.entries.get(self.prefetched..) {
             for entry in others {
@@ -45,14 +53,22 @@ impl<'a, M: Encode> Pending<'a, M> {
         seen
     }
 
-    /// Enters all of them, and counts them in the worker's share. The labels of known states are
-    /// left for after the lock.
+    /// Enters all of them into the book of their machine and program, and counts them in the
+    /// worker's share. The labels of known states are left for after the lock.
     pub fn enter_all(
         &mut self,
+        machine: M,
+        program: &Program,
         book: &mut Book<M>,
         share: &mut Share,
         recycled: &mut Recycled,
-    ) -> Result<(), Stop> {
+    ) -> Result<(), Stop>
+        requires { All (λ x. IsOf machine program.now x.key) self.old.entries.items }
+        ensures { OnOk result (self.new.entries.items ≡ []) }
+    {
+        if !book.is_of(machine, program) {
+            return Err(Stop::Refused);
+        }
         self.prefetched = 0;
         for entry in self.entries.drain(..) {
             let id = entry.id();
@@ -61,6 +77,7 @@ impl<'a, M: Encode> Pending<'a, M> {
                 Err(fault) => return Err(Stop::of(fault, id)),
             }
         }
+        self.entries.clear();
         Ok(())
     }
 }

@@ -1,17 +1,14 @@
 //! The due answer, read off a book.
 ghost use Rattle.std.specs.Prelude.{◌≡◌, ℕ, ◌<◌, ◌≤◌, ◌↔◌};
-ghost use Rattle.std.specs.Prelude.{IsTrue, IsSome, IfOk, IfSome, Some, None, length, false, true};
-ghost use Rattle.book.specs.Books.{machine_in, right_in, CountsAsOne};
+ghost use Rattle.std.specs.Prelude.{IsTrue, IsSome, IfOk, IfSome, Some, None, false, true};
+ghost use Rattle.book.specs.Books.{machine_in};
 ghost use Rattle.tree_machine.specs.Step.{Fits};
 ghost use Rattle.tree_machine.specs.declared.state.State.{State};
 ghost use Rattle.book.specs.Entries.{At, Entry};
 ghost use Rattle.book.specs.Schedule.{after};
 ghost use Rattle.book.specs.Findings.{is_sound};
 ghost use Rattle.book.specs.Layers.{IsExpandedBelow};
-ghost use Rattle.crew.specs.Due.{IsDue};
-ghost use Rattle.crew.specs.Headline.{IsTrueOf};
-ghost use Rattle.crew.specs.Reading.{first_fault, IsAtRest, IsCutAt, IsFullAt, IsLastLayer, IsWorkedOff, TellsClosed};
-ghost use Rattle.crew.specs.Reading.{TellsFirst};
+ghost use Rattle.crew.specs.Reading.{first_fault, IsAtRest, IsCutIn, IsFullIn, IsLastLayer, IsReadOff, IsWorkedOff};
 
 use crate::answer::Answer;
 use crate::options::Options;
@@ -83,13 +80,7 @@ fn tell_fault<M: Encode>(
     id: usize,
 ) -> Result<Option<Answer>, OutOfMemory>
     requires { first_fault book.now.entries ≡ Some id }
-    ensures due { IfOk result (λ o. IfSome o
-        (IsDue (machine_in M.rules book.now) (CountsAsOne (M.rules book.now.machine) book.now.merge)
-        (right_in M.rules book.now) book.now.merge steps book.now.limit
-        (length book.now.entries))) }
-    ensures headline { IfOk result (λ o. IfSome o (IsTrueOf M M.Form (M.rules book.now.machine) book.now.program)) }
-    ensures first { IfOk result (λ o. IfSome o (TellsFirst (machine_in M.rules book.now) book.now.entries)) }
-    ensures closed { IfOk result (λ o. IfSome o (TellsClosed book.now)) }
+    ensures told { IfOk result (λ o. IfSome o (IsReadOff M.rules book.now steps)) }
     ensures some { IsWorkedOff (machine_in M.rules book.now).steps book.now.entries steps
         → IfOk result (λ o. IsSome o) }
 {
@@ -110,13 +101,7 @@ fn read_finished<M: Encode>(
     book: &Book<M>,
     steps: u16,
 ) -> Result<Option<Answer>, OutOfMemory>
-    ensures due { IfOk result (λ o. IfSome o
-        (IsDue (machine_in M.rules book.now) (CountsAsOne (M.rules book.now.machine) book.now.merge)
-        (right_in M.rules book.now) book.now.merge steps book.now.limit
-        (length book.now.entries))) }
-    ensures headline { IfOk result (λ o. IfSome o (IsTrueOf M M.Form (M.rules book.now.machine) book.now.program)) }
-    ensures first { IfOk result (λ o. IfSome o (TellsFirst (machine_in M.rules book.now) book.now.entries)) }
-    ensures closed { IfOk result (λ o. IfSome o (TellsClosed book.now)) }
+    ensures told { IfOk result (λ o. IfSome o (IsReadOff M.rules book.now steps)) }
     ensures some { IsWorkedOff (machine_in M.rules book.now).steps book.now.entries steps
         → IfOk result (λ o. IsSome o) }
 {
@@ -153,11 +138,8 @@ fn is_full_for<M: Encode>(
     requires program { program.now ≡ book.old.program }
     requires own { (e : Entry (State M M.Mem M.Loc M.Form)) × At book.old.entries id e × (e.state ≡ state.now) }
     requires fits { Fits (M.rules book.old.machine) book.old.program state.now }
-    ensures full { IfOk result (λ yes. yes ≡ true → IsFullAt (machine_in M.rules book.old)
-        (CountsAsOne (M.rules book.old.machine) book.old.merge) (right_in M.rules book.old) book.old id) }
-    ensures yes { IsFullAt (machine_in M.rules book.old)
-        (CountsAsOne (M.rules book.old.machine) book.old.merge) (right_in M.rules book.old) book.old id
-        → IfOk result (λ yes. yes ≡ true) }
+    ensures full { IfOk result (λ yes. yes ≡ true → IsFullIn M.rules book.old id) }
+    ensures yes { IsFullIn M.rules book.old id → IfOk result (λ yes. yes ≡ true) }
     ensures same { IfOk result (λ yes. yes ≡ true → book.new ≡ book.old) }
 {
     book.law();
@@ -184,11 +166,8 @@ fn is_full_at<M: Encode>(
     requires program { program.now ≡ book.old.program }
     requires way { (e : Entry (State M M.Mem M.Loc M.Form)) × At book.old.entries id e
         × (after (machine_in M.rules book.old) schedule.now ≡ Some e.state) }
-    ensures full { IfOk result (λ yes. yes ≡ true → IsFullAt (machine_in M.rules book.old)
-        (CountsAsOne (M.rules book.old.machine) book.old.merge) (right_in M.rules book.old) book.old id) }
-    ensures yes { IsFullAt (machine_in M.rules book.old)
-        (CountsAsOne (M.rules book.old.machine) book.old.merge) (right_in M.rules book.old) book.old id
-        → IfOk result (λ yes. yes ≡ true) }
+    ensures full { IfOk result (λ yes. yes ≡ true → IsFullIn M.rules book.old id) }
+    ensures yes { IsFullIn M.rules book.old id → IfOk result (λ yes. yes ≡ true) }
     ensures same { IfOk result (λ yes. yes ≡ true → book.new ≡ book.old) }
 {
     match replay(alloc, book.machine(), program, schedule) {
@@ -209,16 +188,9 @@ fn read_stopped<M: Encode>(
 ) -> Result<Option<Answer>, OutOfMemory>
     requires program { program.now ≡ book.old.program }
     requires limit { book.old.limit ≡ options.limit }
-    ensures due { IfOk result (λ o. IfSome o
-        (IsDue (machine_in M.rules book.old) (CountsAsOne (M.rules book.old.machine) book.old.merge)
-        (right_in M.rules book.old) book.old.merge options.steps book.old.limit (length book.old.entries))) }
-    ensures headline { IfOk result (λ o. IfSome o (IsTrueOf M M.Form (M.rules book.old.machine) book.old.program)) }
-    ensures first { IfOk result (λ o. IfSome o (TellsFirst (machine_in M.rules book.old) book.old.entries)) }
-    ensures closed { IfOk result (λ o. IfSome o (TellsClosed book.old)) }
+    ensures told { IfOk result (λ o. IfSome o (IsReadOff M.rules book.old options.steps)) }
     ensures same { IfOk result (λ o. IfSome o (λ _. book.new ≡ book.old)) }
-    ensures some { (d : ℕ) → d < options.steps → IsCutAt (machine_in M.rules book.old)
-        (CountsAsOne (M.rules book.old.machine) book.old.merge) (right_in M.rules book.old) book.old d id
-        → IfOk result (λ o. IsSome o) }
+    ensures some { (d : ℕ) → d < options.steps → IsCutIn M.rules book.old d id → IfOk result (λ o. IsSome o) }
 {
     if id >= book.len() {
         return Ok(None);
@@ -249,17 +221,11 @@ pub(crate) fn read_answer<M: Encode>(
 ) -> Result<Option<Answer>, OutOfMemory>
     requires program { program.now ≡ book.old.program }
     requires limit { book.old.limit ≡ options.limit }
-    ensures due { IfOk result (λ o. IfSome o
-        (IsDue (machine_in M.rules book.old) (CountsAsOne (M.rules book.old.machine) book.old.merge)
-        (right_in M.rules book.old) book.old.merge options.steps book.old.limit (length book.old.entries))) }
-    ensures headline { IfOk result (λ o. IfSome o (IsTrueOf M M.Form (M.rules book.old.machine) book.old.program)) }
-    ensures first { IfOk result (λ o. IfSome o (TellsFirst (machine_in M.rules book.old) book.old.entries)) }
-    ensures closed { IfOk result (λ o. IfSome o (TellsClosed book.old)) }
+    ensures told { IfOk result (λ o. IfSome o (IsReadOff M.rules book.old options.steps)) }
     ensures same { IfOk result (λ o. IfSome o (λ _. book.new ≡ book.old)) }
     ensures finished { cut ≡ None → IsWorkedOff (machine_in M.rules book.old).steps book.old.entries options.steps
         → IfOk result (λ o. IsSome o) }
-    ensures stopped { IfSome cut (λ id. (d : ℕ) → d < options.steps → IsCutAt (machine_in M.rules book.old)
-        (CountsAsOne (M.rules book.old.machine) book.old.merge) (right_in M.rules book.old) book.old d id
+    ensures stopped { IfSome cut (λ id. (d : ℕ) → d < options.steps → IsCutIn M.rules book.old d id
         → IfOk result (λ o. IsSome o)) }
 {
     match cut {

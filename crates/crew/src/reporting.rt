@@ -1,9 +1,9 @@
 //! The report on a book.
 ghost use Rattle.std.specs.Prelude.{◌≡◌, ℕ, ◌<◌, ◌↔◌, IsTrue, IsSome, IfOk, IfSome, IfNone, length};
-ghost use Rattle.book.specs.Books.{machine_in, right_in, CountsAsOne};
+ghost use Rattle.book.specs.Books.{machine_in};
 ghost use Rattle.crew.specs.Driving.{IsLedgerOf};
 ghost use Rattle.crew.specs.Ledger.{ledger};
-ghost use Rattle.crew.specs.Reading.{IsCutAt, IsWorkedOff};
+ghost use Rattle.crew.specs.Reading.{IsCutIn, IsWorkedOff};
 ghost use Rattle.crew.specs.Reporting.{IsBookOf, IsReport};
 
 use crate::answer::{Answer, Report, Share};
@@ -43,8 +43,7 @@ pub fn told_of<M: Encode>(
         → IsWorkedOff (machine_in M.rules book.old).steps book.old.entries options.steps
         → IfOk result (λ o. IsSome o) }
     ensures stopped { IsBookOf machine program.now options book.old → IfSome cut (λ id. (d : ℕ) → d < options.steps
-        → IsCutAt (machine_in M.rules book.old) (CountsAsOne (M.rules book.old.machine) book.old.merge)
-        (right_in M.rules book.old) book.old d id → IfOk result (λ o. IsSome o)) }
+        → IsCutIn M.rules book.old d id → IfOk result (λ o. IsSome o)) }
 {
     if !is_asked(book, machine, program, options) {
         return Ok(None);

@@ -1,6 +1,7 @@
 //! What one worker does in one layer.
-ghost use Rattle.std.specs.Prelude.{IfSome};
+ghost use Rattle.std.specs.Prelude.{◌≡◌, All, IfSome, OnOk};
 ghost use Rattle.claims.specs.Seats.{IsSeatOf};
+ghost use Rattle.book.specs.ByLabel.{IsOf};
 
 use crate::answer::Share;
 use crate::gate::Gate;
@@ -28,7 +29,9 @@ impl<'a, M: Encode, G: Gate, R: Wait> Exploration<'a, M, G, R> {
 impl<'a, M: Encode, G: Gate, R: Wait> LayerRun<'a, M, G, R> {
     /// Prefetches pending entries before they are entered, beside other workers that do so too, so
     /// that to enter them takes the lock for less time. Whether it was done.
-    fn prefetch(&self, pending: &mut Pending<'a, M>, waits: bool) -> bool {
+    fn prefetch(&self, pending: &mut Pending<'a, M>, waits: bool) -> bool
+        ensures { pending.new.entries ≡ pending.old.entries }
+    {
         match self.read(waits) {
             Some(book) => {
                 let _seen = pending.prefetch(&*book);
@@ -46,18 +49,48 @@ impl<'a, M: Encode, G: Gate, R: Wait> LayerRun<'a, M, G, R> {
         waits: bool,
         share: &mut Share,
         scratch: &mut Scratch<M>,
-    ) -> Result<(), Stop> {
+    ) -> Result<(), Stop>
+        requires pending { All (λ x. IsOf self.now.exploration.machine self.now.exploration.program.now x.key)
+            pending.old.entries.items }
+        ensures pending { OnOk result (All (λ x. IsOf self.now.exploration.machine
+            self.now.exploration.program.now x.key) pending.new.entries.items) }
+    {
         if pending.entries.is_empty() || !self.prefetch(pending, waits) {
             return Ok(());
         }
-        let alloc = self.exploration.alloc;
-        let mut recycled = scratch.recycled(alloc, pending.count_steps(), pending.entries.len())?;
-        let mut entered = Ok(());
-        if let Some(mut book) = self.write(waits) {
-            entered = pending.enter_all(&mut *book, share, &mut recycled);
+        let Exploration {
+            machine,
+            program,
+            ..
+        } = &self.exploration;
+        let recycled = scratch.recycled(pending.count_steps(), pending.entries.len())?;
+        match self.write(waits) {
+            Some(mut book) => pending.enter_all(*machine, program, &mut *book, share, recycled),
+            None => Ok(()),
         }
-        scratch.recycle(recycled);
-        entered
+    }
+
+    /// Expands an entry, and puts it behind those that are pending.
+    fn expand(
+        &self,
+        number: u8,
+        place: usize,
+        entry: TakenEntry<'a, M>,
+        pending: &mut Pending<'a, M>,
+        scratch: &mut Scratch<M>,
+    ) -> Result<(), Stop>
+        requires entry { IsOf self.now.exploration.machine self.now.exploration.program.now entry.key }
+        requires pending { All (λ x. IsOf self.now.exploration.machine self.now.exploration.program.now x.key)
+            pending.old.entries.items }
+        ensures pending { OnOk result (All (λ x. IsOf self.now.exploration.machine
+            self.now.exploration.program.now x.key) pending.new.entries.items) }
+    {
+        let Some(expanded) = entry.expand(self.exploration.alloc, scratch)? else {
+            return Err(Stop::Refused);
+        };
+        self.exploration.gate.arrive(number, self.number, place);
+        pending.entries.push(expanded)?;
+        Ok(())
     }
 
     /// Expands the entries drawn, and enters what is pending whenever no other worker has the lock.
@@ -68,14 +101,17 @@ impl<'a, M: Encode, G: Gate, R: Wait> LayerRun<'a, M, G, R> {
         pending: &mut Pending<'a, M>,
         share: &mut Share,
         scratch: &mut Scratch<M>,
-    ) -> Result<(), Stop> {
+    ) -> Result<(), Stop>
+        requires drawn { All (λ d. IsOf self.now.exploration.machine self.now.exploration.program.now d.1.key)
+            drawn.items }
+        requires pending { All (λ x. IsOf self.now.exploration.machine self.now.exploration.program.now x.key)
+            pending.old.entries.items }
+        ensures pending { OnOk result (All (λ x. IsOf self.now.exploration.machine
+            self.now.exploration.program.now x.key) pending.new.entries.items) }
+    {
         pending.entries.reserve(drawn.len())?;
         for (place, entry) in drawn {
-            let Some(expanded) = entry.expand(self.exploration.alloc, scratch)? else {
-                return Err(Stop::Refused);
-            };
-            self.exploration.gate.arrive(number, self.number, place);
-            pending.entries.push(expanded)?;
+            self.expand(number, place, entry, pending, scratch)?;
             if pending.entries.len() % self.stride == 0 {
                 let waits = pending.entries.len() >= PILE;
                 self.enter(pending, waits, share, scratch)?;

@@ -1,5 +1,5 @@
 -- What lines are refused for: one thing at most, and nothing where they pass.
-use Rattle.std.proofs.Common.{◌≡◌, ◌≢◌, ℕ, ◌+◌, ◌<◌, ◌≤◌, ◌⊎◌, inl, inr, None, Some, List, [], ◌∷◌, ◌++◌, length, sym}
+use Rattle.std.proofs.Common.{◌≡◌, ℕ, ◌+◌, ◌<◌, ◌≤◌, ◌⊎◌, inl, inr, None, Some, List, [], ◌∷◌, ◌++◌, length, sym}
 use Rattle.std.proofs.Common.{ap, ◌∙◌, arith, slice_get, subst}
 use Rattle.std.proofs.lemmas.Bool.{cases_lt}
 use Rattle.std.proofs.lemmas.Option.{same_Some}
@@ -14,7 +14,7 @@ use Rattle.book.specs.Findings.{machine_of}
 use Rattle.book.proofs.EntryLemmas.{get_within}
 use Rattle.book.specs.declared.file.line.Line.{Line}
 use Rattle.book.specs.declared.file.fault.CheckFault.{CheckFault}
-use Rattle.book.specs.declared.file.fault.CheckFault.TheVariants.{Open, OutOfMemory}
+use Rattle.book.specs.declared.file.fault.CheckFault.TheVariants.{Open}
 use Rattle.book.specs.BookFile.Replays.{IsShown, IsUnshown, Reaches, IsStuck, Tells, IsAmiss, Continues, FirstAmiss}
 use Rattle.book.specs.BookFile.Replays.{AreReplayed, IsFirstAmiss}
 use Rattle.book.specs.BookFile.Closing.{IsFirstOpen}
@@ -182,21 +182,3 @@ module _ (Machine Form : Type 0) {Memory Place : Type 0} (rules : Rules Memory P
       closed_not_open rules program a.0 f
       (subst (λ (states : List (State Machine Memory Place Form)). AreClosed (machine_of rules program)
       (AreStatesAlike rules) states) same pass.2) a.2
-
-  -- a refusal for something other than memory: what the lines are refused for ..
-  pub amiss_refused : (f : CheckFault) → (f ≡ OutOfMemory) ⊎ IsFirstAmiss Machine Form rules program lines f
-      → (f ≡ OutOfMemory) ⊎ AreRefused Machine Form rules program lines f
-  amiss_refused f (inl h) = inl h
-  amiss_refused f (inr h) = inr (inl h)
-
-  -- .. they are refused for nothing else, and they don't pass
-  pub only_refusal : (f : CheckFault) → (f ≡ OutOfMemory) ⊎ AreRefused Machine Form rules program lines f
-      → f ≢ OutOfMemory
-      → (g : CheckFault) → AreRefused Machine Form rules program lines g → g ≡ f
-  only_refusal f (inl h) not g refused = absurd (not h)
-  only_refusal f (inr h) not g refused = one_refusal g f refused h
-
-  pub refusal_not_pass : (f : CheckFault) → (f ≡ OutOfMemory) ⊎ AreRefused Machine Form rules program lines f
-      → f ≢ OutOfMemory → Pass Machine Form rules program lines → ⊥
-  refusal_not_pass f (inl h) not pass = not h
-  refusal_not_pass f (inr h) not pass = pass_not_refused f pass h

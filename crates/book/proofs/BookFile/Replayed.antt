@@ -2,8 +2,7 @@
 use Rattle.std.proofs.Common.{◌≡◌, ℕ, zero, suc, ◌+◌, ◌<◌, ◌≤◌, ◌⊎◌, inl, inr, get_or, take, drop, None, Some, Option}
 use Rattle.std.proofs.Common.{List, [], ◌∷◌, ◌++◌, length, refl, sym, ap, ◌∙◌, arith, slice_get, subst}
 use Rattle.std.proofs.Math.ListN.{length-map}
-use Rattle.std.proofs.lemmas.List.{length_push, length-take-le, map-append}
-use Rattle.std.proofs.Math.Seq.{take-suc}
+use Rattle.std.proofs.lemmas.List.{drop_more, length_push, length-take-le, map-append, take-append-drop, take_more}
 use Rattle.sched_program.specs.Program.{Program, IsWithinLimits}
 use Rattle.tree_machine.specs.Rules.{Rules, AreLawful, AreFormsExact}
 use Rattle.tree_machine.specs.Alike.{AreStatesAlike}
@@ -40,10 +39,10 @@ last_item_or {X} P xs y all last i x at =
 
 -- a list before, at and after a place
 split_at : {X : Type 0} (xs : List X) (i : ℕ) (x : X) → i < length xs → x ≡ get_or xs i x
-    → xs ≡ take i xs ++ x ∷ drop (suc i) xs
-split_at [] i x l e = absurd (omega arith)
-split_at (y ∷ xs) zero x l e = ap (λ z. z ∷ xs) (sym e)
-split_at (y ∷ xs) (suc i) x l e = ap (λ zs. y ∷ zs) (split_at xs i x (omega arith) e)
+    → xs ≡ take i xs ++ x ∷ drop (i + 1) xs
+split_at xs i x less is =
+    sym (take-append-drop i xs)
+    ∙ ap (λ zs. take i xs ++ zs) (drop_more xs i x less ∙ ap (λ z. z ∷ drop (i + 1) xs) (sym is))
 
 module _ {Machine Memory Place Form : Type 0} (rules : Rules Memory Place) (program : Program) where
   -- one more line
@@ -180,9 +179,8 @@ module _ {Machine Memory Place Form : Type 0} (rules : Rules Memory Place) (prog
         → longer ≡ labels ++ label ∷ [] → AreLabelsOf rules program label_of (take (i + 1) lines) longer
     labels_next label longer tells made =
         let w = tells so.states so.replayed in
-        let one : suc i ≡ i + 1 = omega arith in
         let more : take i lines ++ line ∷ [] ≡ take (i + 1) lines =
-        sym (take-suc lines i line less ∙ ap (λ x. take i lines ++ x ∷ []) (sym is)) ∙ ap (λ n. take n lines) one in
+        sym (take_more lines i line less ∙ ap (λ x. take i lines ++ x ∷ []) (sym is)) in
         record {
           states = so.states ++ w.0 ∷ [];
           replayed = (
@@ -206,7 +204,7 @@ module _ {Machine Memory Place Form : Type 0} (rules : Rules Memory Place) (prog
             so.replayed.0,
             subst (λ (ls : List Line). FirstAmiss {Machine = Machine} {Form = Form} rules program
                 (start rules program ∷ []) ls fault) (sym (split_at lines i line less is))
-                (amiss_next rules program (start rules program ∷ []) (take i lines) line (drop (suc i) lines) so.states
+                (amiss_next rules program (start rules program ∷ []) (take i lines) line (drop (i + 1) lines) so.states
                 fault so.replayed.1 (r so.states so.replayed)),
           ))
         ]

@@ -3,10 +3,11 @@ use Rattle.std.proofs.Common.{◌≡◌, ◌≢◌, ◌⊎◌, inl, inr, ℕ, �
 use Rattle.sched_program.specs.Program.{Program}
 use Rattle.tree_machine.specs.Rules.{Rules}
 use Rattle.book.specs.declared.file.line.Line.{Line}
-use Rattle.book.specs.Text.Files.{IsBookText}
+use Rattle.book.specs.Text.Files.{IsBookText, IsFormFault}
 use Rattle.book.proofs.Text.OneReading.{same_book, not_both, same_misformed}
 use Rattle.book.specs.declared.file.fault.CheckFault.{CheckFault}
 use Rattle.book.specs.declared.file.fault.CheckFault.TheVariants.{Form, OutOfMemory}
+use Rattle.book.specs.BookFile.Replays.{IsFirstAmiss}
 use Rattle.book.specs.BookFile.Checks.{Pass, AreRefused, PassAs, IsRefusedFor}
 use Rattle.book.proofs.BookFile.Exclusive.{one_refusal, pass_not_refused}
 
@@ -30,12 +31,24 @@ module _ (Machine MachineForm : Type 0) {Memory Place : Type 0} (rules : Rules M
       pass_not_refused Machine MachineForm rules program a.0 f
       (subst (λ (lines : List Line). Pass Machine MachineForm rules program lines) same pass.2) a.2
 
-  -- the lines of the bytes were refused
-  pub lines_refused : (lines : List Line) → IsBookText bytes lines → (f : CheckFault)
-      → (f ≡ OutOfMemory) ⊎ AreRefused Machine MachineForm rules program lines f
+  -- the bytes are not in the form
+  pub form_refused : (f : CheckFault) → (f ≡ OutOfMemory) ⊎ IsFormFault bytes f
       → (f ≡ OutOfMemory) ⊎ IsRefusedFor Machine MachineForm rules program bytes f
-  lines_refused lines is f (inl h) = inl h
-  lines_refused lines is f (inr h) = inr (inr (lines, is, h))
+  form_refused f (inl h) = inl h
+  form_refused f (inr h) = inr (inl h)
+
+  module _ (lines : List Line) (is : IsBookText bytes lines) (f : CheckFault) where
+    -- something is amiss with an entry of their lines
+    pub amiss_refused : (f ≡ OutOfMemory) ⊎ IsFirstAmiss Machine MachineForm rules program lines f
+        → (f ≡ OutOfMemory) ⊎ IsRefusedFor Machine MachineForm rules program bytes f
+    amiss_refused (inl h) = inl h
+    amiss_refused (inr h) = inr (inr (lines, is, inl h))
+
+    -- their lines were refused
+    pub lines_refused : (f ≡ OutOfMemory) ⊎ AreRefused Machine MachineForm rules program lines f
+        → (f ≡ OutOfMemory) ⊎ IsRefusedFor Machine MachineForm rules program bytes f
+    lines_refused (inl h) = inl h
+    lines_refused (inr h) = inr (inr (lines, is, h))
 
   -- a refusal for something other than memory is the only one, and the bytes don't pass
   pub only_of_bytes : (f : CheckFault) → (f ≡ OutOfMemory) ⊎ IsRefusedFor Machine MachineForm rules program bytes f

@@ -1,10 +1,13 @@
 -- The lines of the entries of a lawful and sound book can be written.
-use Rattle.std.proofs.Common.{◌≡◌, ℕ, zero, suc, ◌+◌, ◌<◌, ◌≤◌, not, false, is_some, Option, None, Some, List, [], ◌∷◌}
+use Rattle.std.proofs.Common.{◌≡◌, ℕ, ◌+◌, ◌<◌, ◌≤◌, not, false, is_some, Option, None, Some, List, [], ◌∷◌}
 use Rattle.std.proofs.Common.{◌++◌, ◌∙◌, length, position, take, All, true, refl, sym, ap, subst, arith}
-use Rattle.std.specs.List.{AllZip}
 use Rattle.std.specs.Prelude.{IfSome}
 use Rattle.std.proofs.lemmas.Bool.{true≢false, not-false}
+use Rattle.std.proofs.lemmas.List.{length-take-le, take_more}
 use Rattle.std.proofs.lemmas.List.Elements.{All-nil, All-cons, All-push}
+use Rattle.std.proofs.lemmas.Option.{get_or_from_slice_get}
+use Rattle.std.proofs.lemmas.Slice.Zip.{AllZip-long}
+use Rattle.indexmap.proofs.SetLemmas.{AllZip-push}
 use Rattle.sched_program.specs.declared.operation.OpId.{OpId}
 use Rattle.sched_program.specs.declared.operation.Op.{Op}
 use Rattle.sched_program.specs.History.{History, reply}
@@ -18,8 +21,8 @@ use Rattle.lin.specs.Linearization.{GivesReplies}
 use Rattle.lin.proofs.Lists.{IsSomeAnd-value}
 use Rattle.book.specs.declared.file.line.Line.{Line}
 use Rattle.book.specs.Text.Files.{ended, start_text, IsName, IsBookText}
-use Rattle.book.specs.Text.Written.{head_text, book_text, IsProper}
-use Rattle.book.proofs.Text.Printing.{text_of, is_written, written_push, written_start}
+use Rattle.book.specs.Text.Written.{head_text, IsProper}
+use Rattle.book.proofs.Text.Printing.{text_of, book_text, is_written, written_push, written_start}
 use Rattle.book.specs.declared.finding.Finding.{Finding}
 use Rattle.book.specs.declared.finding.Finding.TheVariants as found
 use Rattle.book.specs.Closed.{AreSound}
@@ -80,39 +83,15 @@ pub lines_push : {S : Type 0} (es : List (Entry S)) (lines : List Line) (e : Ent
     → AreLinesOf es lines → IsLineOf e.origin e.finding line
     → AreLinesOf (es ++ e ∷ []) (lines ++ line ∷ [])
 lines_push [] lines e line some are is = absurd (omega arith)
-lines_push {S} (start ∷ es) lines e line some are is = push es lines are
-  where
-    push : (fs : List (Entry S)) (ls : List Line)
-        → AllZip (λ entry line. IsLineOf entry.origin entry.finding line) fs ls
-        → AllZip (λ entry line. IsLineOf entry.origin entry.finding line) (fs ++ e ∷ []) (ls ++ line ∷ [])
-    push [] [] z = (is, tt)
-    push [] (l ∷ ls) z = absurd z
-    push (f ∷ fs) [] z = absurd z
-    push (f ∷ fs) (l ∷ ls) z = (z.0, push fs ls z.1)
+lines_push {S} (start ∷ es) lines e line some are is =
+    AllZip-push (λ (entry : Entry S) line. IsLineOf entry.origin entry.finding line) es lines e line are is
 
 -- there is one line less than entries
 pub lines_count : {S : Type 0} (es : List (Entry S)) (lines : List Line) → 1 ≤ length es → AreLinesOf es lines
     → length es ≡ length lines + 1
 lines_count [] lines some are = absurd (omega arith)
-lines_count {S} (start ∷ es) lines some are = let e = count es lines are in omega arith
-  where
-    count : (fs : List (Entry S)) (ls : List Line)
-        → AllZip (λ entry line. IsLineOf entry.origin entry.finding line) fs ls → length fs ≡ length ls
-    count [] [] z = refl
-    count [] (l ∷ ls) z = absurd z
-    count (f ∷ fs) [] z = absurd z
-    count (f ∷ fs) (l ∷ ls) z = ap suc (count fs ls z.1)
-
--- the entries up to one more
-take_more : {S : Type 0} (es : List (Entry S)) (i : ℕ) (e : Entry S) → At es i e → take (suc i) es ≡ take i es ++ e ∷ []
-take_more [] i e at = absurd cc
-take_more (x ∷ es) zero e at = let same : x ≡ e = cc in ap (λ (y : Entry _). y ∷ []) same
-take_more (x ∷ es) (suc i) e at = ap (λ (ys : List (Entry _)). x ∷ ys) (take_more es i e at)
-
-some_taken : {S : Type 0} (es : List (Entry S)) (i : ℕ) (e : Entry S) → At es i e → 0 < i → 1 ≤ length (take i es)
-some_taken [] i e at some = absurd cc
-some_taken (x ∷ es) zero e at some = absurd (omega arith)
-some_taken (x ∷ es) (suc i) e at some = omega arith
+lines_count {S} (start ∷ es) lines some are =
+    let e = AllZip-long (λ (entry : Entry S) line. IsLineOf entry.origin entry.finding line) es lines are in omega arith
 
 -- the text is that of a head with this number of entries, and of the lines of the entries
 pub record HasWritten {S : Type 0} (count : ℕ) (es : List (Entry S)) (text : List ℕ) : Type 0 where
@@ -127,13 +106,15 @@ pub written_next : {S : Type 0} (count : ℕ) (es : List (Entry S)) (i : ℕ) (e
     → more ≡ text ++ ended (text_of line ∷ []) → HasWritten count (take i es) text
     → HasWritten count (take (i + 1) es) more
 written_next {S} count es i e line text more at some is proper added so =
-    let one : i + 1 ≡ suc i = omega arith in
-    let longer : take (i + 1) es ≡ take i es ++ e ∷ [] = ap (λ n. take n es) one ∙ take_more es i e at in
+    let within : i < length es = get_within es i e at in
+    let longer : take (i + 1) es ≡ take i es ++ e ∷ [] =
+    take_more es i e within ∙ ap (λ x. take i es ++ x ∷ []) (get_or_from_slice_get es i e e at) in
+    let taken : length (take i es) ≡ i = length-take-le i es (omega arith) in
     record {
       lines = so.lines ++ line ∷ [];
       of_entries =
           subst (λ (fs : List (Entry S)). AreLinesOf fs (so.lines ++ line ∷ [])) (sym longer)
-          (lines_push (take i es) so.lines e line (some_taken es i e at some) so.of_entries is);
+          (lines_push (take i es) so.lines e line (omega arith) so.of_entries is);
       proper = All-push IsProper so.lines line so.proper proper;
       whole = added ∙ ap (λ (t : List ℕ). t ++ ended (text_of line ∷ [])) so.whole
           ∙ sym (written_push count so.lines line);
@@ -165,7 +146,7 @@ written_all es text some few so =
       lines = so.lines;
       of_entries = so.of_entries;
       whole = subst (λ (t : List ℕ). IsBookText t so.lines) (sym whole)
-          (is_written so.lines (record { each = so.proper; few = omega arith }));
+          (is_written so.lines so.proper (omega arith));
     }
 
 -- where no entry is the first that is not sound, all are sound

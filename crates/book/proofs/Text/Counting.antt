@@ -16,9 +16,6 @@ pub record HasCounted (bytes : List ℕ) (count : ℕ) (is_ended : Bool) : Type 
   pub counted : length texts ≡ count
   pub ends : MatchBool is_ended (rest ≡ []) (1 ≤ length rest)
 
-pub counted_none : HasCounted [] 0 true
-counted_none = record { texts = []; rest = []; whole = refl; bare = tt; rest_bare = tt; counted = refl; ends = refl }
-
 pub counted_feed : (bytes : List ℕ) (count : ℕ) (is_ended : Bool) (b : ℕ) → HasCounted bytes count is_ended → b ≡ 10
     → HasCounted (bytes ++ b ∷ []) (count + 1) true
 counted_feed bytes count is_ended b has is = record {

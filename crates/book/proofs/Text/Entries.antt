@@ -1,12 +1,14 @@
 -- Lines of entries that have been read, and those that are left.
 use Rattle.std.proofs.Common.{◌≡◌, ◌≢◌, ℕ, ◌+◌, ◌<◌, List, [], ◌∷◌, ◌++◌, ◌∙◌, length, sym, ap, subst, arith}
 use Rattle.std.proofs.lemmas.List.{append_assoc, append-nil}
+use Rattle.std.proofs.lemmas.Slice.Zip.{AllZip-long}
 use Rattle.std.specs.List.{AllByRecursion, AllZip}
-use Rattle.book.specs.declared.file.line.FormFault.TheVariants as fault
+use Rattle.indexmap.proofs.SetLemmas.{AllZip-push}
+use Rattle.book.specs.declared.file.fault.CheckFault.TheVariants.{Form}
 use Rattle.book.specs.declared.file.line.Line.{Line}
 use Rattle.book.specs.Text.Files.{AreLines, IsNumber, IsOrder, IsEntryLine, IsEntryText, IsEntriesFault}
 use Rattle.book.proofs.Text.Cuts.{same_cut, no_cut, next_line, no_line}
-use Rattle.book.proofs.Text.OneReading.{no_space, space_fails, same_lengths, entries_formed}
+use Rattle.book.proofs.Text.OneReading.{digits_bare, space_fails, entries_formed}
 
 -- a text without a space is no entry's line
 pub no_pieces : (text : List ℕ) → AllByRecursion (λ b. b ≢ 32) text → ¬ IsEntryText text
@@ -21,7 +23,7 @@ entry_pieces : (text parent rest : List ℕ) (line : Line) → text ≡ parent +
 entry_pieces text parent rest line e none is =
     let same =
     same_cut (λ b. b ≢ 32) is.parent 32 ((48 + line.thread) ∷ 32 ∷ is.order) parent 32 rest (sym is.whole ∙ e)
-    (no_space is.parent is.is_number.digits.1) space_fails none space_fails in
+    (digits_bare 32 (omega arith) is.parent is.is_number.digits.1) space_fails none space_fails in
     (same.0, sym same.2)
 
 pub no_parent : (text parent rest : List ℕ) → text ≡ parent ++ 32 ∷ rest → AllByRecursion (λ b. b ≢ 32) parent
@@ -59,14 +61,6 @@ pub lines_none : (bytes : List ℕ) (texts : List (List ℕ)) → AreLines bytes
     → HasReadLines bytes [] bytes
 lines_none bytes texts are few = record { done = []; ahead = texts; whole = are; left = are; each = tt; few = few }
 
-zip_push : (texts : List (List ℕ)) (lines : List Line) (text : List ℕ) (line : Line) → AllZip IsEntryLine texts lines
-    → IsEntryLine text line
-    → AllZip IsEntryLine (texts ++ text ∷ []) (lines ++ line ∷ [])
-zip_push [] [] text line are is = (is, tt)
-zip_push [] (other ∷ lines) text line are is = absurd are
-zip_push (first ∷ texts) [] text line are is = absurd are
-zip_push (first ∷ texts) (other ∷ lines) text line are is = (are.0, zip_push texts lines text line are.1 is)
-
 pub lines_push : (bytes : List ℕ) (lines : List Line) (rest text tail : List ℕ) (line : Line)
     → HasReadLines bytes lines rest → rest ≡ text ++ 10 ∷ tail
     → AllByRecursion (λ b. b ≢ 10) text → IsEntryLine text line → HasReadLines bytes (lines ++ line ∷ []) tail
@@ -79,7 +73,7 @@ lines_push bytes lines rest text tail line has e bare is =
       ahead = later;
       whole = subst (AreLines bytes) same has.whole;
       left = left;
-      each = zip_push has.done lines text line has.each is;
+      each = AllZip-push IsEntryLine has.done lines text line has.each is;
       few = subst (λ (ts : List (List ℕ)). length ts < 2000000) same has.few;
     }
 
@@ -94,15 +88,16 @@ lines_all bytes lines rest has bare =
 
 pub lines_fault : (bytes : List ℕ) (lines : List Line) (rest text tail : List ℕ) → HasReadLines bytes lines rest
     → rest ≡ text ++ 10 ∷ tail
-    → AllByRecursion (λ b. b ≢ 10) text → ¬ IsEntryText text → IsEntriesFault bytes (fault.Form (length lines + 3))
+    → AllByRecursion (λ b. b ≢ 10) text → ¬ IsEntryText text → IsEntriesFault bytes (Form (length lines + 3))
 lines_fault bytes lines rest text tail has e bare not =
     let (later, split, left) = next_line rest text tail has.ahead has.left e bare in
-    let same : has.done ++ has.ahead ≡ has.done ++ text ∷ later = ap (λ (ts : List (List ℕ)). has.done ++ ts) split in (
+    let same : has.done ++ has.ahead ≡ has.done ++ text ∷ later = ap (λ (ts : List (List ℕ)). has.done ++ ts) split in
+    let count : length lines ≡ length has.done = AllZip-long IsEntryLine has.done lines has.each in (
       has.done,
       text,
       later,
       subst (AreLines bytes) same has.whole,
       entries_formed has.done lines has.each,
       not,
-      omega (arith, same_lengths has.done lines has.each),
+      ap (λ n. Form (n + 3)) count,
     )

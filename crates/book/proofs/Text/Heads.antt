@@ -1,13 +1,13 @@
 -- The head of a book file, and what follows it.
 use Rattle.std.proofs.Common.{◌≡◌, ◌≢◌, ℕ, ◌<◌, List, [], ◌∷◌, ◌++◌, ◌∙◌, length, codes, refl, sym, ap, subst, arith}
-use Rattle.std.proofs.Common.{inl, inr}
+use Rattle.std.proofs.Common.{◌+◌, ◌⊎◌, inl, inr}
 use Rattle.std.proofs.lemmas.List.{append_cancel_left}
 use Rattle.std.specs.List.{AllByRecursion, AllZip}
-use Rattle.book.specs.declared.file.line.FormFault.{FormFault}
-use Rattle.book.specs.declared.file.line.FormFault.TheVariants as fault
+use Rattle.book.specs.declared.file.fault.CheckFault.{CheckFault}
+use Rattle.book.specs.declared.file.fault.CheckFault.TheVariants.{OutOfMemory}
 use Rattle.book.specs.declared.file.line.Line.{Line}
 use Rattle.book.specs.Text.Files.{ended, AreLines, IsNumber, IsEntryLine, IsHead, start_text, HasHead, IsBookText}
-use Rattle.book.specs.Text.Files.{IsFirstMisformed, IsEntriesFault, IsFormFault}
+use Rattle.book.specs.Text.Files.{IsEntryMisformed, IsFirstMisformed, IsEntriesFault, IsFormFault}
 use Rattle.book.proofs.Text.Cuts.{next_line, no_line, same_lines}
 use Rattle.book.proofs.Text.OneReading.{same_number}
 
@@ -71,23 +71,27 @@ is_book bytes rest tail texts lines has are e (others, lie, each) =
     split ∙ ap (λ (ts : List (List ℕ)). start_text ∷ ts) (same_lines tail later others left lie) in
     record { texts = others; has_head = subst (HasHead bytes) same has; each = each }
 
-pub entries_fault : (bytes rest tail : List ℕ) (texts : List (List ℕ)) (told : FormFault) → HasHead bytes texts
+-- what is told of the lines after the start's is told of the bytes
+pub entries_fault : (bytes rest tail : List ℕ) (texts : List (List ℕ)) (told : CheckFault) → HasHead bytes texts
     → AreLines rest texts → rest ≡ start_text ++ 10 ∷ tail
-    → IsEntriesFault tail told → IsFormFault bytes told
-entries_fault bytes rest tail texts fault.OutOfMemory has are e is = tt
-entries_fault bytes rest tail texts (fault.Form number) has are e (earlier, text, later, lie, formed, not, place) =
+    → (told ≡ OutOfMemory) ⊎ IsEntriesFault tail told → (told ≡ OutOfMemory) ⊎ IsFormFault bytes told
+entries_fault bytes rest tail texts told has are e (inl memory) = inl memory
+entries_fault bytes rest tail texts told has are e (inr is) =
+    let (earlier, text, later, lie, formed, not, place) = is in
     let (others, split, left, few) = after_start bytes rest tail texts has are e in
     let same : texts ≡ start_text ∷ earlier ++ text ∷ later =
     split ∙ ap (λ (ts : List (List ℕ)). start_text ∷ ts) (same_lines tail others (earlier ++ text ∷ later) left lie) in
-    inr (inr (record {
+    let entry : IsEntryMisformed bytes (length earlier + 3) =
+    record {
       earlier = earlier;
       text = text;
       later = later;
       has_head = subst (HasHead bytes) same has;
       formed = formed;
       misformed = not;
-      place = place;
-    }))
+      place = refl;
+    } in
+    inr (length earlier + 3, place, inr (inr entry))
 
 -- where the start's line doesn't follow the head, the second line is the first that is not in the form
 pub start_fault : (bytes rest : List ℕ) (texts : List (List ℕ)) → HasHead bytes texts → AreLines rest texts

@@ -1,21 +1,21 @@
 -- Bytes are the text of the lines of one book at most, and one line at most is the first that is not in the form.
-use Rattle.std.proofs.Common.{◌≡◌, ◌≢◌, ◌∙◌, ℕ, suc, ◌+◌, min, List, [], ◌∷◌, ◌++◌, length, get_or, refl, sym, subst}
+use Rattle.std.proofs.Common.{◌≡◌, ◌≢◌, ◌∙◌, ℕ, ◌+◌, ◌<◌, min, List, [], ◌∷◌, ◌++◌, length, get_or, refl, sym, subst}
 use Rattle.std.proofs.Common.{ap, arith, inl, inr}
+use Rattle.std.proofs.lemmas.Slice.Zip.{AllZip-long}
 use Rattle.std.proofs.lemmas.Str.Parse.{digit_from_value}
 use Rattle.std.specs.List.{AllByRecursion, AllZip}
 use Rattle.std.specs.Str.Parse.{AllDigits}
 use Rattle.sched_program.specs.declared.operation.OpId.{OpId}
-use Rattle.book.specs.declared.file.line.FormFault.{FormFault}
-use Rattle.book.specs.declared.file.line.FormFault.TheVariants as fault
 use Rattle.book.specs.declared.file.line.Line.{Line}
 use Rattle.book.specs.Text.Files.{IsNumber, commaed, order_text, IsEntryLine, start_text, IsBookText, HasHead}
-use Rattle.book.specs.Text.Files.{IsEntryText, IsStartMisformed, IsEntryMisformed, IsFirstMisformed, IsFormFault}
+use Rattle.book.specs.Text.Files.{IsEntryText, IsStartMisformed, IsEntryMisformed, IsFirstMisformed}
 use Rattle.book.proofs.Text.Cuts.{same_cut, same_lines}
 
--- no digit is a space
-pub no_space : (text : List ℕ) → AllDigits 10 text → AllByRecursion (λ b. b ≢ 32) text
-no_space [] digits = tt
-no_space (c ∷ text) digits = let range = digit_from_value c digits.0 in (omega arith, no_space text digits.1)
+-- no digit is a byte below 48, as a space or a line feed
+pub digits_bare : (at : ℕ) → at < 48 → (text : List ℕ) → AllDigits 10 text → AllByRecursion (λ b. b ≢ at) text
+digits_bare at below [] digits = tt
+digits_bare at below (c ∷ text) digits = let range = digit_from_value c digits.0 in
+    (omega arith, digits_bare at below text digits.1)
 
 pub space_fails : ¬ (let n : ℕ = 32 in n ≢ 32)
 space_fails differs = differs refl
@@ -67,8 +67,8 @@ same_entry_line text line other is also =
     let cut =
     same_cut (λ b. b ≢ 32) is.parent 32 ((48 + line.thread) ∷ 32 ∷ is.order) also.parent 32
     ((48 + other.thread) ∷ 32 ∷ also.order)
-    (sym is.whole ∙ also.whole) (no_space is.parent is.is_number.digits.1) space_fails
-    (no_space also.parent also.is_number.digits.1) space_fails in
+    (sym is.whole ∙ also.whole) (digits_bare 32 (omega arith) is.parent is.is_number.digits.1) space_fails
+    (digits_bare 32 (omega arith) also.parent also.is_number.digits.1) space_fails in
     let parents : is.parent ≡ also.parent = cut.0 in
     let rests : (48 + line.thread) ∷ 32 ∷ is.order ≡ (48 + other.thread) ∷ 32 ∷ also.order = cut.2 in
     let numbers : is.number ≡ also.number =
@@ -110,12 +110,9 @@ same_book bytes lines others is also =
     same_entries also.texts lines others (subst (λ (ts : List (List ℕ)). AllZip IsEntryLine ts lines) same is.each)
     also.each
 
-pub same_lengths : (texts : List (List ℕ)) (lines : List Line) → AllZip IsEntryLine texts lines
-    → length texts ≡ length lines
-same_lengths [] [] are = refl
-same_lengths [] (line ∷ lines) are = absurd are
-same_lengths (text ∷ texts) [] are = absurd are
-same_lengths (text ∷ texts) (line ∷ lines) are = ap (λ n. suc n) (same_lengths texts lines are.1)
+-- a book has fewer lines after the start's than it may have entries
+pub few_lines : (bytes : List ℕ) (lines : List Line) → IsBookText bytes lines → length lines < 2000000
+few_lines bytes lines is = omega (arith, is.has_head.is_head.few, AllZip-long IsEntryLine is.texts lines is.each)
 
 pub entries_formed : (texts : List (List ℕ)) (lines : List Line) → AllZip IsEntryLine texts lines
     → AllByRecursion IsEntryText texts
@@ -173,15 +170,3 @@ same_misformed bytes m n (inr (inl start)) (inr (inl other)) = start.place ∙ s
 same_misformed bytes m n (inr (inl start)) (inr (inr entry)) = absurd (start_or_entry bytes m n start entry)
 same_misformed bytes m n (inr (inr entry)) (inr (inl start)) = absurd (start_or_entry bytes n m start entry)
 same_misformed bytes m n (inr (inr entry)) (inr (inr other)) = entry_or_entry bytes m n entry other
-
--- so what is told of the bytes is all that may be
-pub first_one : (bytes : List ℕ) (told : FormFault) → IsFormFault bytes told → (number : ℕ) → told ≡ fault.Form number
-    → (other : ℕ) → IsFirstMisformed bytes other → other ≡ number
-first_one bytes fault.OutOfMemory is number e other also = cc
-first_one bytes (fault.Form n) is number e other also = let same : n ≡ number = cc in
-    same_misformed bytes other n also is ∙ same
-
-pub no_book : (bytes : List ℕ) (told : FormFault) → IsFormFault bytes told → told ≢ fault.OutOfMemory
-    → (lines : List Line) → ¬ IsBookText bytes lines
-no_book bytes fault.OutOfMemory is differs lines book = differs refl
-no_book bytes (fault.Form n) is differs lines book = not_both bytes lines n book is

@@ -3,22 +3,24 @@ use Rattle.std.proofs.Common.{◌≡◌, ◌≢◌, ℕ, zero, suc, ◌+◌, ◌
 use Rattle.std.proofs.Common.{codes, refl, sym, ap, subst, arith}
 use Rattle.std.proofs.lemmas.Fmt.{decimal_is_IsNumeral, first_decimal, decimal_digit}
 use Rattle.std.proofs.lemmas.List.{append_assoc, map_push, length-map}
-use Rattle.std.proofs.lemmas.List.Elements.{recursion_from_All, All-from_recursion, All-head, All-tail}
-use Rattle.std.proofs.lemmas.Str.Parse.{digit_from_value}
+use Rattle.std.proofs.lemmas.List.Elements.{recursion_from_All, All-head, All-tail}
 use Rattle.std.specs.Fmt.{decimal}
 use Rattle.std.specs.List.{All, AllByRecursion, AllZip}
-use Rattle.std.specs.Str.Parse.{AllDigits}
 use Rattle.sched_program.specs.declared.operation.OpId.{OpId}
 use Rattle.book.specs.declared.file.line.Line.{Line}
 use Rattle.book.specs.Text.Files.{ended, IsNumber, IsName, name_text, commaed, order_text, IsEntryLine, IsHead}
 use Rattle.book.specs.Text.Files.{start_text, IsBookText}
-use Rattle.book.specs.Text.Written.{head_text, line_text, book_text, IsProper, AreProper}
+use Rattle.book.specs.Text.Written.{head_text, line_text, IsProper}
 use Rattle.book.proofs.Text.Cuts.{all_append, ended_append}
 use Rattle.book.proofs.Text.Heads.{start_bare}
-use Rattle.book.proofs.Text.OneReading.{same_lengths}
+use Rattle.book.proofs.Text.OneReading.{digits_bare}
 
 abbrev pub text_of : Line → List ℕ
 text_of line = line_text line.parent line.thread line.order
+
+-- the head of a file of so many entries, the line of the first, and these lines of entries after it
+unfoldable pub book_text : ℕ → List Line → List ℕ
+book_text entries lines = ended (head_text entries ∷ start_text ∷ map text_of lines)
 
 -- four pieces, written one by one
 pub pieces : (old words number feed : List ℕ) → ((old ++ words) ++ number) ++ feed ≡ old ++ ((words ++ number) ++ feed)
@@ -72,12 +74,8 @@ is_entry_line line is = record {
 }
 
 -- no digit, and no name, has a line feed
-digits_bare : (text : List ℕ) → AllDigits 10 text → AllByRecursion (λ b. b ≢ 10) text
-digits_bare [] digits = tt
-digits_bare (c ∷ text) digits = let range = digit_from_value c digits.0 in (omega arith, digits_bare text digits.1)
-
 number_bare : (text : List ℕ) (n : ℕ) → IsNumber text n → AllByRecursion (λ b. b ≢ 10) text
-number_bare text n is = digits_bare text is.digits.1
+number_bare text n is = digits_bare 10 (omega arith) text is.digits.1
 
 commaed_bare : (ids : List OpId) → AllByRecursion (λ b. b ≢ 10) (commaed ids)
 commaed_bare [] = tt
@@ -119,10 +117,11 @@ entries_bare (text ∷ texts) [] are = absurd are
 entries_bare (text ∷ texts) (line ∷ lines) are = (entry_bare text line are.0, entries_bare texts lines are.1)
 
 -- the text of a book's lines is what is written of them
-pub is_written : (lines : List Line) → AreProper lines → IsBookText (book_text (length lines + 1) lines) lines
+pub is_written : (lines : List Line) → All IsProper lines → length lines < 2000000
+    → IsBookText (book_text (length lines + 1) lines) lines
 unfolding book_text
-is_written lines are =
-    let each = entries_each lines are.each in
+is_written lines proper few =
+    let each = entries_each lines proper in
     let count : length lines + 1 ≡ length (start_text ∷ map text_of lines) = omega (arith, length-map lines text_of) in
     record {
       texts = map text_of lines;
@@ -131,37 +130,15 @@ is_written lines are =
         are_lines = record {
           whole = refl;
           bare = (
-            head_bare (length lines + 1) (omega (arith, are.few)),
+            head_bare (length lines + 1) (omega arith),
             (start_bare, entries_bare (map text_of lines) lines each),
           );
         };
         is_head =
             subst (IsHead (head_text (length lines + 1))) count
-            (is_head (length lines + 1) (omega arith) (omega (arith, are.few)));
+            (is_head (length lines + 1) (omega arith) (omega arith));
       };
       each = each;
-    }
-
-proper_each : (texts : List (List ℕ)) (lines : List Line) → AllZip IsEntryLine texts lines
-    → AllByRecursion IsProper lines
-proper_each [] [] are = tt
-proper_each [] (line ∷ lines) are = absurd are
-proper_each (text ∷ texts) [] are = absurd are
-proper_each (text ∷ texts) (line ∷ lines) are = (
-  record {
-    parent = omega (arith, are.0.counted);
-    thread = are.0.thread;
-    names = All-from_recursion IsName line.order are.0.is_order.names;
-  },
-  proper_each texts lines are.1,
-)
-
--- what a text has can be written
-pub is_proper : (bytes : List ℕ) (lines : List Line) → IsBookText bytes lines → AreProper lines
-is_proper bytes lines is =
-    record {
-      each = All-from_recursion IsProper lines (proper_each is.texts lines is.each);
-      few = omega (arith, is.has_head.is_head.few, same_lengths is.texts lines is.each);
     }
 
 -- one more line

@@ -8,8 +8,7 @@ use Rattle.book.specs.Closed.{AreClosed}
 use Rattle.book.specs.Findings.{machine_of}
 use Rattle.book.specs.declared.file.line.Line.{Line}
 use Rattle.book.specs.declared.file.fault.CheckFault.{CheckFault}
-use Rattle.book.specs.declared.file.fault.CheckFault.TheVariants as refusal
-use Rattle.book.specs.Text.Files.{IsBookText, IsFirstMisformed}
+use Rattle.book.specs.Text.Files.{IsBookText, IsFormFault}
 use Rattle.book.specs.BookFile.Replays.{AreReplayed, IsFirstAmiss}
 use Rattle.book.specs.BookFile.Closing.{IsFirstOpen}
 
@@ -35,5 +34,4 @@ module _ (Machine Form : Type 0) {Memory Place : Type 0} (rules : Rules Memory P
   -- refused for
   abbrev pub IsRefusedFor : List ℕ → CheckFault → Type 0
   IsRefusedFor bytes fault =
-      ((number : ℕ) × (fault ≡ refusal.Form number) × IsFirstMisformed bytes number)
-      ⊎ ((lines : List Line) × IsBookText bytes lines × AreRefused lines fault)
+      IsFormFault bytes fault ⊎ ((lines : List Line) × IsBookText bytes lines × AreRefused lines fault)

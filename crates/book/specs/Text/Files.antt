@@ -3,8 +3,8 @@ use Rattle.std.specs.Prelude.{◌≡◌, ◌≢◌, ℕ, ◌+◌, ◌<◌, ◌�
 use Rattle.std.specs.List.{AllByRecursion, AllZip, flat_map}
 use Rattle.std.specs.Str.Parse.{IsNumeral, digits_value}
 use Rattle.sched_program.specs.declared.operation.OpId.{OpId}
-use Rattle.book.specs.declared.file.line.FormFault.{FormFault}
-use Rattle.book.specs.declared.file.line.FormFault.TheVariants as fault
+use Rattle.book.specs.declared.file.fault.CheckFault.{CheckFault}
+use Rattle.book.specs.declared.file.fault.CheckFault.TheVariants.{Form}
 use Rattle.book.specs.declared.file.line.Line.{Line}
 
 abbrev pub line_feed : ℕ
@@ -130,14 +130,12 @@ abbrev pub IsFirstMisformed : List ℕ → ℕ → Type 0
 IsFirstMisformed bytes number =
     IsHeadMisformed bytes number ⊎ IsStartMisformed bytes number ⊎ IsEntryMisformed bytes number
 
--- what a refusal says of the bytes. Memory may be refused whatever they are
-abbrev pub IsFormFault : List ℕ → FormFault → Type 0
-IsFormFault bytes (fault.Form number) = IsFirstMisformed bytes number
-IsFormFault bytes fault.OutOfMemory = Unit {0}
+-- the fault tells that line
+abbrev pub IsFormFault : List ℕ → CheckFault → Type 0
+IsFormFault bytes fault = (number : ℕ) × (fault ≡ Form number) × IsFirstMisformed bytes number
 
--- the same of the bytes from the third line on, which are lines
-abbrev pub IsEntriesFault : List ℕ → FormFault → Type 0
-IsEntriesFault bytes (fault.Form number) = (earlier : List (List ℕ)) × (text : List ℕ) × (later : List (List ℕ))
+-- the bytes from the third line on are lines, and the fault tells the first that is not an entry's
+abbrev pub IsEntriesFault : List ℕ → CheckFault → Type 0
+IsEntriesFault bytes fault = (earlier : List (List ℕ)) × (text : List ℕ) × (later : List (List ℕ))
     × AreLines bytes (earlier ++ text ∷ later) × AllByRecursion IsEntryText earlier × ¬ IsEntryText text
-    × (number ≡ length earlier + 3)
-IsEntriesFault bytes fault.OutOfMemory = Unit {0}
+    × (fault ≡ Form (length earlier + 3))

@@ -3,7 +3,7 @@ ghost use Rattle.std.specs.Prelude.{◌≡◌, ◌↔◌, ◌⊎◌, IfOk, IfErr
 ghost use Rattle.tree_machine.specs.declared.state.State.{State};
 ghost use Rattle.book.specs.Books.{machine_in, right_in, CountsAsOne};
 ghost use Rattle.book.specs.Entries.{Entry, At, Enters, IsFullFor, IsOwn, IsTaken, Refuses};
-ghost use Rattle.book.specs.ByLabel.{expansion_of, AreStepsOf, IsEntryOf, RefusesEntry};
+ghost use Rattle.book.specs.ByLabel.{expansion_of, AreStepsOf, IsEntryOf, IsOf, RefusesEntry};
 ghost use Rattle.book.specs.Labels.{label_by, steps_of};
 ghost use Rattle.book.specs.declared.book.Merge.TheVariants.{Exact};
 
@@ -13,7 +13,6 @@ use crate::expansion::Expansion;
 use crate::label::Label;
 use crate::recycled::Recycled;
 use crate::successor::Successor;
-use crate::table::TableFault;
 use sched_program::OutOfMemory;
 use tree_machine::{Encode, State};
 
@@ -66,20 +65,19 @@ impl<M: Encode> Book<M> {
         }
     }
 
-    /// Whether labelled steps are of the entry of their number, by its label.
+    /// Whether labelled steps of the book's machine and program are of the entry of their number, by its label.
     fn is_entry_of(&self, entry: &ExpandedEntry<'_, M>) -> bool
-        requires { IsTaken self.now.entries entry.now.key.id }
+        requires taken { IsTaken self.now.entries entry.now.key.id }
+        requires of { IsOf self.now.machine self.now.program entry.now.key }
         ensures { IsTrue result ↔ IsEntryOf (label_by M.whole_code M.form_code (M.form_of self.now.machine)
             self.now.merge) self.now entry.now.key }
     {
-        if !self.is_of(entry.machine, entry.program) {
-            return false;
-        }
         self.merge == entry.merge && self.table.label(entry.id) == entry.label.as_slice()
     }
 
     /// Whether labelled steps may be entered: their entry is taken, and they are that entry's.
     fn check_entry(&self, entry: &ExpandedEntry<'_, M>) -> Result<(), EnterFault>
+        requires { IsOf self.now.machine self.now.program entry.now.key }
         ensures admitted { OnOk result (IsTaken self.now.entries entry.now.key.id
             × IsEntryOf (label_by M.whole_code M.form_code (M.form_of self.now.machine) self.now.merge) self.now
             entry.now.key) }
@@ -122,8 +120,7 @@ impl<M: Encode> Book<M> {
         let was = self.table.len();
         let count = steps.len();
         match self.table.append(self.machine, &self.program, self.limit, id, steps, recycled) {
-            Err(TableFault::Full) => Err(EnterFault::Full),
-            Err(TableFault::OutOfMemory) => Err(EnterFault::OutOfMemory),
+            Err(fault) => Err(fault),
             Ok(()) => {
                 let entered = self.table.len() - was;
                 let met = count - entered;
@@ -162,12 +159,14 @@ impl<M: Encode> Book<M> {
     }
 
     /// Enters an entry's steps as `enter` does, where they are labelled. Its label and those of known states are
-    /// recycled.
+    /// recycled. Whoever enters many asks once whether the book is of their machine and program (`is_of`), and not
+    /// under its lock for each of them.
     pub fn enter_expanded(
         &mut self,
         entry: ExpandedEntry<'_, M>,
         recycled: &mut Recycled,
     ) -> Result<Entered, EnterFault>
+        requires { IsOf self.old.machine self.old.program entry.key }
         ensures entered { IfOk result (λ r. (e : Entry (State M M.Mem M.Loc M.Form))
             × At self.old.entries entry.entry.key.id e
             × Enters (CountsAsOne (M.rules self.old.machine) self.old.merge) self.old self.new entry.entry.key.id

@@ -59,7 +59,7 @@ impl<M: Encode> Book<M> {
             return Ok(None);
         }
         let alloc = self.table.allocator();
-        let label = Bytes::copied_in(self.table.label(id), scratch.spare_label(alloc))?;
+        let label = Bytes::copied_in(self.table.label(id), scratch.spare.label(alloc))?;
         Ok(Some(TakenEntry {
             id,
             machine: self.machine,

@@ -1,12 +1,11 @@
-//! Whether the lines of a book file pass.
-ghost use Rattle.std.specs.Prelude.{◌≡◌, ◌≢◌, ℕ, ◌<◌, ◌⊎◌, length, IfOk, IfErr};
+//! Whether the bytes of a book file pass.
+ghost use Rattle.std.specs.Prelude.{◌≡◌, ◌≢◌, ℕ, ◌⊎◌, IfOk, IfErr};
 ghost use Rattle.book.specs.Correct.{HoldsAlways};
 ghost use Rattle.book.specs.declared.file.fault.CheckFault.{CheckFault};
-ghost use Rattle.book.specs.BookFile.Checks.{AreRefused, IsRefusedFor, Pass, PassAs};
+ghost use Rattle.book.specs.BookFile.Checks.{IsRefusedFor, PassAs};
 
 use crate::file::closing::test_closed;
 use crate::file::fault::CheckFault;
-use crate::file::line::{FormFault, Line};
 use crate::file::reading::read_lines;
 use crate::file::recalling::{Input, Workspace};
 use crate::file::replaying::replay_lines;
@@ -14,40 +13,28 @@ use sched_program::Program;
 use std::alloc::Global;
 use tree_machine::Encode;
 
-/// Whether the lines of the entries after the first pass: each tells the step of an earlier entry, and its order shows
-/// that state correct; and no step of an entry leads to a state that is alike to no entry's. Then every schedule of any
-/// length leads to a correct state, whoever wrote the lines.
-pub fn check_lines<M: Encode>(
+/// The number of entries of a book file whose bytes pass: each line but the first two tells the step of an earlier
+/// entry, and its order shows that state correct; and no step of an entry leads to a state that is alike to no entry's.
+fn entries_checked<M: Encode>(
     alloc: Global,
     machine: M,
     program: &Program,
-    lines: &[Line],
-) -> Result<(), CheckFault>
-    requires { length lines.now < 2000000 }
-    ensures pass { IfOk result (λ _. Pass M M.Form (M.rules machine) program.now lines.now) }
-    ensures every { IfOk result (λ _. HoldsAlways M M.Form (M.rules machine) program.now) }
-    ensures none { IfOk result (λ _. (fault : CheckFault)
-        → AreRefused M M.Form (M.rules machine) program.now lines.now fault → ⊥) }
+    bytes: &[u8],
+) -> Result<usize, CheckFault>
+    ensures pass { IfOk result (PassAs M M.Form (M.rules machine) program.now bytes.now) }
     ensures refused { IfErr result (λ fault. (fault ≡ CheckFault.OutOfMemory)
-        ⊎ AreRefused M M.Form (M.rules machine) program.now lines.now fault) }
-    ensures only { IfErr result (λ fault. fault ≢ CheckFault.OutOfMemory → (other : CheckFault)
-        → AreRefused M M.Form (M.rules machine) program.now lines.now other → other ≡ fault) }
-    ensures passes { IfErr result (λ fault. fault ≢ CheckFault.OutOfMemory
-        → Pass M M.Form (M.rules machine) program.now lines.now → ⊥) }
+        ⊎ IsRefusedFor M M.Form (M.rules machine) program.now bytes.now fault) }
 {
-    // Whoever reads a program knows that it meets the limits.
-    let _ = program.initial();
+    let lines = read_lines(alloc, bytes)?;
     let input = Input {
         machine,
         program,
-        lines,
+        lines: lines.as_slice(),
     };
     let mut work = Workspace::new(alloc, &input)?;
-    let labels = match replay_lines(alloc, &input, &mut work) {
-        Ok(labels) => labels,
-        Err(fault) => return Err(fault),
-    };
-    test_closed(alloc, &input, &labels, &mut work)
+    let labels = replay_lines(alloc, &input, &mut work)?;
+    test_closed(alloc, &input, &labels, &mut work)?;
+    Ok(lines.len() + 1)
 }
 
 /// Whether the bytes of a book file pass, and how many entries it has: they are in the form, and their lines pass. Then
@@ -73,13 +60,7 @@ pub fn check_book<M: Encode>(
     ensures passes { IfErr result (λ fault. fault ≢ CheckFault.OutOfMemory → (entries : ℕ)
         → PassAs M M.Form (M.rules machine) program.now bytes.now entries → ⊥) }
 {
-    let lines = match read_lines(alloc, bytes) {
-        Ok(lines) => lines,
-        Err(FormFault::Form(number)) => return Err(CheckFault::Form(number)),
-        Err(FormFault::OutOfMemory) => return Err(CheckFault::OutOfMemory),
-    };
-    match check_lines(alloc, machine, program, lines.as_slice()) {
-        Ok(()) => Ok(lines.len() + 1),
-        Err(fault) => Err(fault),
-    }
+    // Whoever reads a program knows that it meets the limits.
+    let _ = program.initial();
+    entries_checked(alloc, machine, program, bytes)
 }

@@ -1,4 +1,4 @@
-//! A line of a book file, and why a file is not in the form.
+//! A line of a book file.
 ghost use Rattle.std.specs.Prelude.{◌≡◌, IfOk};
 
 use sched_program::{OpId, OutOfMemory, Sequence, ShortList};
@@ -69,23 +69,5 @@ impl Names {
             Stored::Few(names) => names.as_slice(),
             Stored::Many(names) => names.as_slice(),
         }
-    }
-}
-/// Why the lines of a file can't be read.
-#[derive(Clone, Copy, Debug, PartialEq, Eq)]
-pub enum FormFault {
-    /// The first line that is not in the form, counted from 1.
-    Form(usize),
-    /// A growth was refused.
-    OutOfMemory,
-}
-
-impl From<OutOfMemory> for FormFault {
-    ghost use Rattle.book.specs.declared.file.line.FormFault.TheVariants as fault;
-
-    ghost from_gives = { λ _ e. e ≡ fault.OutOfMemory };
-
-    fn from(_refused: OutOfMemory) -> FormFault {
-        FormFault::OutOfMemory
     }
 }

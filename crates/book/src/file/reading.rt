@@ -1,16 +1,14 @@
 //! The lines of a book file, read from its bytes.
-ghost use Rattle.std.specs.Prelude.{◌≡◌, ◌≢◌, ℕ, ◌+◌, ◌^◌, ◌<◌, List, ◌∷◌, ◌++◌, min, length, IfSome, IfNone, IfOk};
-ghost use Rattle.std.specs.Prelude.{IfErr};
+ghost use Rattle.std.specs.Prelude.{◌≡◌, ◌≢◌, ℕ, ◌+◌, ◌^◌, ◌<◌, ◌⊎◌, List, ◌∷◌, ◌++◌, min, length, IfSome, IfNone};
+ghost use Rattle.std.specs.Prelude.{IfOk, IfErr};
 ghost use Rattle.std.specs.List.{AllByRecursion, AllZip};
 ghost use Rattle.sched_program.specs.declared.operation.OpId.{OpId};
-ghost use Rattle.book.specs.declared.file.line.FormFault.TheVariants as fault;
-ghost use Rattle.book.specs.declared.file.line.Line.{Line};
-ghost use Rattle.book.specs.Text.Written.{AreProper};
 ghost use Rattle.book.specs.Text.Files.{space, comma, digit, AreLines, IsNumber, IsName, name_text, IsOrder};
-ghost use Rattle.book.specs.Text.Files.{IsEntryLine, IsEntryText, IsHead, HasHead, IsBookText, IsFirstMisformed};
+ghost use Rattle.book.specs.Text.Files.{IsEntryLine, IsEntryText, IsHead, HasHead, IsBookText};
 ghost use Rattle.book.specs.Text.Files.{IsEntriesFault, IsFormFault};
 
-use crate::file::line::{FormFault, Line, MOST_ENTRIES, Names};
+use crate::file::fault::CheckFault;
+use crate::file::line::{Line, MOST_ENTRIES, Names};
 use sched_program::{OpId, OutOfMemory, Sequence};
 use std::alloc::Global;
 
@@ -187,18 +185,18 @@ fn after_head(bytes: &[u8]) -> Option<&[u8]>
 }
 
 /// The lines of the entries after the first, which begin at the third line of a file.
-fn entry_lines(alloc: Global, bytes: &[u8]) -> Result<Vec<Line>, FormFault>
+fn entry_lines(alloc: Global, bytes: &[u8]) -> Result<Vec<Line>, CheckFault>
     requires { (texts : List (List ℕ)) × AreLines bytes.now texts × (length texts < 2000000) }
     ensures ok { IfOk result (λ lines. (texts : List (List ℕ)) × AreLines bytes.now texts
         × AllZip IsEntryLine texts lines.items) }
-    ensures err { IfErr result (IsEntriesFault bytes.now) }
+    ensures err { IfErr result (λ fault. (fault ≡ CheckFault.OutOfMemory) ⊎ IsEntriesFault bytes.now fault) }
 {
     let mut lines = Sequence::new(alloc);
     let mut rest = bytes;
     while let Some((text, tail)) = cut(rest, b'\n') {
         match line_of(alloc, text)? {
             Some(line) => lines.push(line)?,
-            None => return Err(FormFault::Form(lines.len() + 3)),
+            None => return Err(CheckFault::Form(lines.len() + 3)),
         }
         rest = tail;
     }
@@ -210,21 +208,16 @@ fn entry_lines(alloc: Global, bytes: &[u8]) -> Result<Vec<Line>, FormFault>
 /// # Errors
 ///
 /// The first line that is not in the form, or `OutOfMemory` where a growth was refused.
-pub fn read_lines(alloc: Global, bytes: &[u8]) -> Result<Vec<Line>, FormFault>
+pub fn read_lines(alloc: Global, bytes: &[u8]) -> Result<Vec<Line>, CheckFault>
     ensures book { IfOk result (λ lines. IsBookText bytes.now lines.items) }
-    ensures proper { IfOk result (λ lines. AreProper lines.items) }
-    ensures only { IfOk result (λ lines. (others : List Line) → IsBookText bytes.now others → others ≡ lines.items) }
-    ensures fault { IfErr result (IsFormFault bytes.now) }
-    ensures first { IfErr result (λ told. (number : ℕ) → told ≡ fault.Form number
-        → (other : ℕ) → IsFirstMisformed bytes.now other → other ≡ number) }
-    ensures refused { IfErr result (λ told. told ≢ fault.OutOfMemory
-        → (lines : List Line) → ¬ IsBookText bytes.now lines) }
+    ensures few { IfOk result (λ lines. length lines.items < 2000000) }
+    ensures refused { IfErr result (λ fault. (fault ≡ CheckFault.OutOfMemory) ⊎ IsFormFault bytes.now fault) }
 {
     let Some(rest) = after_head(bytes) else {
-        return Err(FormFault::Form(1));
+        return Err(CheckFault::Form(1));
     };
     match rest.strip_prefix(b"- - -\n") {
         Some(rest) => entry_lines(alloc, rest),
-        None => Err(FormFault::Form(2)),
+        None => Err(CheckFault::Form(2)),
     }
 }

@@ -85,9 +85,7 @@ fn label_of_line<M: Encode>(
         Err(StepFault::OutOfMemory) => return Err(CheckFault::OutOfMemory),
     }
     let order = line.order.as_slice();
-    if let Err(fault) = test_state(alloc, input.machine, input.program, &*state, order, number) {
-        return Err(fault);
-    }
+    test_state(alloc, input.machine, input.program, &*state, order, number)?;
     let buffer = &mut work.buffer;
     Ok(state.label(
         alloc,
@@ -119,9 +117,7 @@ pub fn replay_lines<M: Encode>(
         program,
         ..
     } = *input;
-    if let Err(fault) = test_state(alloc, machine, program, &work.state, &[], 2) {
-        return Err(fault);
-    }
+    test_state(alloc, machine, program, &work.state, &[], 2)?;
     let mut labels = Labels::new(alloc);
     let buffer = &mut work.buffer;
     labels.push(
@@ -134,10 +130,8 @@ pub fn replay_lines<M: Encode>(
             program,
             lines: &input.lines[..i],
         };
-        match label_of_line(alloc, &earlier, &labels, line, work) {
-            Ok(label) => labels.push(label)?,
-            Err(fault) => return Err(fault),
-        }
+        let next = label_of_line(alloc, &earlier, &labels, line, work)?;
+        labels.push(next)?;
     }
     Ok(labels)
 }

@@ -1,10 +1,19 @@
 -- What is put of the decoded state is right for each state with the label, and the decoded state is what it was.
 use Rattle.std.proofs.Common.{ap, refl, Err, ◌∙◌}
+use Rattle.tree_machine.proofs.Forms.{numbers_fit}
 use Rattle.book.specs.Findings.{IsFindingOf}
 use Rattle.book.specs.Labels.{label_by}
 use Rattle.book.proofs.Lent.{found_or}
 use Rattle.book.proofs.StandingIn.{puts_none, puts_twin}
 use Rattle.book.proofs.in_place.put_step_here.Goals as goal
+
+-- a state with the label that is known fits the program
+pub label_after-requires-clause-coded : goal.label_after-requires-clause-coded
+label_after-requires-clause-coded g c κs within =
+    let from = c.args.from.now in
+    let some = c.requires.source.labelled in
+    rw c.naming-naming.ensures
+    (some.0, numbers_fit (g.M.Machine.rules from.machine) from.program.now some.0 some.1, some.2)
 
 pub returns-clause-put : goal.returns-clause-put
 returns-clause-put g c =
@@ -19,8 +28,9 @@ returns-clause-put g c =
     from.merge of c.args.state.now c.args.thread fits source.fits (source.counts of fits is) next
     c.in-Ok.ensures.step g.M.Encode.whole_code g.M.Encode.form_code c.args.steps.now.items
     c.push_reserved.new.self.items
-    (record { thread = c.args.thread; state = c.in_ok-label.label; finding = c.unwrap_or.result })
-    c.push_reserved.ensures.items refl c.in_ok-label.ensures c.in-Ok.ensures.fits
+    (record { thread = c.args.thread; state = c.new.result; finding = c.unwrap_or.result })
+    c.push_reserved.ensures.items refl
+    (c.new.ensures ∙ (rw c.naming-naming.ensures at c.in_ok-label.ensures)) c.in-Ok.ensures.fits
     (rw c.unwrap_or.ensures
     (found_or (right next) c.in_ok-found.found _ c.in_ok-found.ensures.some c.in_ok-found.ensures.none))
 

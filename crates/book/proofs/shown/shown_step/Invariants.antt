@@ -4,6 +4,4 @@ use Rattle.book.proofs.shown.shown_step.Given as goal
 
 abbrev pub ghost-any : goal.ghost-any
 ghost-any g a =
-    unwrap_or
-    (step (g.M.Machine.rules a.x.now.machine) a.x.now.program.value a.x.now.source.value a.x.now.thread)
-    a.x.now.source.value
+    unwrap_or (step (g.M.Machine.rules a.x.now.0) a.x.now.1.now a.x.now.2.now.value a.x.now.3) a.x.now.2.now.value

@@ -1,5 +1,4 @@
 use Rattle.std.proofs.Common.{◌+◌, ◌<◌, ◌≤◌, refl, arith}
-use Rattle.crew.proofs.Ends.{cut_kept, kept_back}
 use Rattle.crew.proofs.Soundness.{none_unsound}
 use Rattle.crew.proofs.driving.expand_layer.Goals as goal
 
@@ -33,8 +32,3 @@ returns-clause-next g c =
       sound = (λ i e at less. here.through.sound i e at
           (let few : e.state.steps < c.args.depth + 1 = less in omega arith));
     }
-
-pub returns-in-Some-clause-cut : goal.returns-in-Some-clause-cut
-returns-in-Some-clause-cut g c =
-    cut_kept g.M.Machine.rules c.layer.book c.args.book.now c.expand_next.new.book c.args.depth c.in-Some.id
-    (kept_back c.args.book.now c.layer.book c.layer.invariant.kept) (rw c.in-Some.is at c.in_ok-id.ensures.cut)

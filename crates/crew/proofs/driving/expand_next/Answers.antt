@@ -1,12 +1,12 @@
-use Rattle.std.proofs.Common.{◌≡◌, ◌+◌, ◌^◌, ◌<◌, ◌≤◌, ◌∙◌, length, arith, count_by}
-use Rattle.std.proofs.lemmas.List.Sums.{count_by-le-length}
-use Rattle.book.specs.Entries.{IsFullFor, IsTaken, IsOwn, is_expanded}
-use Rattle.book.specs.Books.{CountsAsOne, machine_in, right_in}
+use Rattle.std.proofs.Common.{◌∙◌}
+use Rattle.book.specs.Books.{machine_in, right_in}
 use Rattle.book.specs.Schedule.{AreOneBy}
 use Rattle.book.proofs.Agreeing.{book_back}
 use Rattle.book.proofs.Growth.{one_is_next}
-use Rattle.crew.proofs.NextEntry.{there_it_is, its_own, ledger_of_refused, cut_of_full, one_more, in_layer}
-use Rattle.crew.proofs.NextEntry.{met_is_small, ledger_of_entered}
+use Rattle.crew.proofs.NextEntry.{IsNext, there_it_is, its_own, ledger_of_refused, cut_of_full, one_more, in_layer}
+use Rattle.crew.proofs.NextEntry.{ledger_of_entered}
+use Rattle.crew.proofs.driving.expand_next.Given.{Over}
+use Rattle.crew.proofs.driving.expand_next.Goals.{After-enter}
 use Rattle.crew.proofs.driving.expand_next.Goals as goal
 
 pub unreachable-requires : goal.unreachable-requires
@@ -19,117 +19,61 @@ unreachable-requires g c =
     tested.law c.requires.in_layer.none_taken c.args.depth c.requires.left
     (rw c.in_default.is at c.in_ok-id.ensures.none)
 
+-- the entry that is taken, and its steps
+next : (g : Over) (c : After-enter g)
+    → IsNext g.M.Machine.rules c.args.book.now c.take.new.self c.args.depth c.in-Some.id c.in_ok-expansion.expansion
+next g c = record {
+  machine = c.law.ensures.machine;
+  test = c.law.ensures.test;
+  was = c.law.ensures.law;
+  law = c.law-2.ensures.law;
+  same = c.in_ok-id.ensures.same;
+  layer = c.requires.in_layer;
+  left = c.requires.left;
+  state = c.in-Some.state.value;
+  takes = rw c.in-Some.is at c.in_ok-id.ensures.taken;
+  own = c.in_ok-expansion.ensures.machine ∙ c.machine.ensures;
+  program = c.in_ok-expansion.ensures.program ∙ c.requires.program;
+  source = c.in_ok-expansion.ensures.source ∙ c.deref.ensures;
+  holds = c.law-3.ensures;
+}
+
 pub returns-in-Ok-clause-ledger : goal.returns-in-Ok-clause-ledger
 returns-in-Ok-clause-ledger g c =
-    let b = c.args.book.now in
-    let share = c.args.share.now in
-    let ledger = c.requires.ledger in
-    let expanded : share.expanded ≡ count_by (λ e. is_expanded e.mark) b.entries = ledger.expanded in
-    let few : count_by (λ e. is_expanded e.mark) b.entries ≤ length b.entries =
-    count_by-le-length (λ e. is_expanded e.mark) b.entries in
-    let within : length b.entries ≤ b.limit = c.law.ensures.law.within in
-    let limit : b.limit ≤ 2000000 = c.law.ensures.law.limit in
-    let entered : share.entered + 1 ≡ length b.entries = ledger.entered in
-    let mid = c.take.new.self in
-    let room : length mid.entries + c.in-Ok.counts.entered ≤ mid.limit = c.in-Ok.ensures.entered.room in
-    let mid_limit : mid.limit ≤ 2000000 = c.law-2.ensures.law.limit in
-    let met : share.met ≡ b.met = ledger.met in
-    let small_met : b.met + c.in-Ok.counts.met < 2 ^ 64 =
-    met_is_small g.M.Machine.rules c.args.book.now c.take.new.self
-    c.law.ensures.machine c.law.ensures.test c.in_ok-id.ensures.same c.law-2.ensures.law c.in-Some.id
-    c.in-Some.state.value (rw c.in-Some.is at c.in_ok-id.ensures.taken)
-    c.in_ok-expansion.expansion (c.in_ok-expansion.ensures.machine ∙ c.machine.ensures)
-    (c.in_ok-expansion.ensures.program ∙ c.requires.program)
-    (c.in_ok-expansion.ensures.source ∙ c.deref.ensures) c.law-3.ensures
-    c.args.depth c.requires.in_layer c.requires.left
-    c.enter.new.self c.in-Ok.counts.entered c.in-Ok.counts.met c.in-Ok.ensures.entered in
-    ledger_of_entered g.M.Machine.rules c.args.book.now c.take.new.self
-    c.law.ensures.machine c.law.ensures.test c.in_ok-id.ensures.same c.law-2.ensures.law c.in-Some.id
-    c.in-Some.state.value (rw c.in-Some.is at c.in_ok-id.ensures.taken)
-    c.in_ok-expansion.expansion (c.in_ok-expansion.ensures.machine ∙ c.machine.ensures)
-    (c.in_ok-expansion.ensures.program ∙ c.requires.program)
-    (c.in_ok-expansion.ensures.source ∙ c.deref.ensures) c.law-3.ensures
-    c.args.depth c.requires.in_layer c.requires.left
-    c.enter.new.self c.in-Ok.counts.entered c.in-Ok.counts.met c.in-Ok.ensures.entered
-    c.args.share.now c.add.new.self c.requires.ledger
-    (c.add.ensures (omega arith) (omega arith) (omega arith))
+    ledger_of_entered (next g (goal.at.returns-in-Ok-clause-ledger g c).After-enter) c.enter.new.self
+    c.in-Ok.counts.entered c.in-Ok.counts.met c.in-Ok.ensures.entered c.args.share.now c.add.new.self
+    c.requires.ledger c.add.ensures
 
 pub returns-in-Ok-clause-next : goal.returns-in-Ok-clause-next
 returns-in-Ok-clause-next g c =
-    in_layer g.M.Machine.rules c.args.book.now c.take.new.self
-    c.law.ensures.machine c.law.ensures.test c.in_ok-id.ensures.same c.law-2.ensures.law c.in-Some.id
-    c.in-Some.state.value (rw c.in-Some.is at c.in_ok-id.ensures.taken)
-    c.in_ok-expansion.expansion (c.in_ok-expansion.ensures.machine ∙ c.machine.ensures)
-    (c.in_ok-expansion.ensures.program ∙ c.requires.program)
-    (c.in_ok-expansion.ensures.source ∙ c.deref.ensures) c.law-3.ensures
-    c.args.depth c.requires.in_layer c.requires.left
-    c.enter.new.self c.in-Ok.counts.entered c.in-Ok.counts.met c.in-Ok.ensures.entered
+    in_layer (next g (goal.at.returns-in-Ok-clause-next g c).After-enter) c.enter.new.self
+    c.in-Ok.counts.entered c.in-Ok.counts.met c.in-Ok.ensures.entered
 
 pub returns-in-Ok-clause-more : goal.returns-in-Ok-clause-more
 returns-in-Ok-clause-more g c =
-    one_more g.M.Machine.rules c.args.book.now c.take.new.self
-    c.law.ensures.machine c.law.ensures.test c.in_ok-id.ensures.same c.law-2.ensures.law c.in-Some.id
-    c.in-Some.state.value (rw c.in-Some.is at c.in_ok-id.ensures.taken)
-    c.in_ok-expansion.expansion (c.in_ok-expansion.ensures.machine ∙ c.machine.ensures)
-    (c.in_ok-expansion.ensures.program ∙ c.requires.program)
-    (c.in_ok-expansion.ensures.source ∙ c.deref.ensures) c.law-3.ensures
-    c.args.depth c.requires.in_layer c.requires.left
-    c.enter.new.self c.in-Ok.counts.entered c.in-Ok.counts.met c.in-Ok.ensures.entered
+    one_more (next g (goal.at.returns-in-Ok-clause-more g c).After-enter) c.enter.new.self
+    c.in-Ok.counts.entered c.in-Ok.counts.met c.in-Ok.ensures.entered
 
 pub returns-in-Err-Full-clause-ledger : goal.returns-in-Err-Full-clause-ledger
 returns-in-Err-Full-clause-ledger g c =
-    ledger_of_refused g.M.Machine.rules c.args.book.now c.take.new.self
-    c.law.ensures.machine c.law.ensures.test c.in_ok-id.ensures.same c.law-2.ensures.law c.in-Some.id
-    c.in-Some.state.value (rw c.in-Some.is at c.in_ok-id.ensures.taken)
-    c.in_ok-expansion.expansion (c.in_ok-expansion.ensures.machine ∙ c.machine.ensures)
-    (c.in_ok-expansion.ensures.program ∙ c.requires.program)
-    (c.in_ok-expansion.ensures.source ∙ c.deref.ensures) c.law-3.ensures
-    c.enter.new.self c.in-Err-Full.ensures.err c.args.share.now c.requires.ledger
+    ledger_of_refused (next g (goal.at.returns-in-Err-Full-clause-ledger g c).After-enter) c.enter.new.self
+    c.in-Err-Full.ensures.err c.args.share.now c.requires.ledger
 
 pub returns-in-Err-Full-clause-cut : goal.returns-in-Err-Full-clause-cut
 returns-in-Err-Full-clause-cut g c =
-    let mid = c.take.new.self in
-    let x = c.in_ok-expansion.expansion in
-    let refused : IsTaken mid.entries c.in-Some.id
-    × IsOwn {X = g.row.M.Denot} mid c.in-Some.id x.machine x.program x.source
-    × IsFullFor (CountsAsOne {Machine = g.row.M.Denot} {Form = g.row.M-Form.Denot} (g.M.Machine.rules mid.machine)
-    mid.merge) mid x.successors =
-    rw c.in-Err-Full.field-0-is at c.in-Err-Full.ensures.refused in
-    cut_of_full g.M.Machine.rules c.args.book.now c.take.new.self
-    c.law.ensures.machine c.law.ensures.test c.in_ok-id.ensures.same c.law-2.ensures.law c.in-Some.id
-    c.in-Some.state.value (rw c.in-Some.is at c.in_ok-id.ensures.taken)
-    c.in_ok-expansion.expansion (c.in_ok-expansion.ensures.machine ∙ c.machine.ensures)
-    (c.in_ok-expansion.ensures.program ∙ c.requires.program)
-    (c.in_ok-expansion.ensures.source ∙ c.deref.ensures) c.law-3.ensures
-    c.args.depth c.requires.in_layer c.requires.left
-    c.enter.new.self c.in-Err-Full.ensures.err refused.2
+    let refused = rw c.in-Err-Full.field-0-is at c.in-Err-Full.ensures.refused in
+    cut_of_full (next g (goal.at.returns-in-Err-Full-clause-cut g c).After-enter) c.enter.new.self
+    c.in-Err-Full.ensures.err refused.2
 
 pub unreachable-requires-in-Err-NotTaken : goal.unreachable-requires-in-Err-NotTaken
 unreachable-requires-in-Err-NotTaken g c =
-    let refused : IsTaken c.take.new.self.entries c.in-Some.id → ⊥ =
-    rw c.in-Err-NotTaken.field-0-is at c.in-Err-NotTaken.ensures.refused in
-    refused
-    (there_it_is g.M.Machine.rules c.args.book.now c.take.new.self
-    c.law.ensures.machine c.law.ensures.test c.in_ok-id.ensures.same c.law-2.ensures.law c.in-Some.id
-    c.in-Some.state.value (rw c.in-Some.is at c.in_ok-id.ensures.taken)
-    c.in_ok-expansion.expansion (c.in_ok-expansion.ensures.machine ∙ c.machine.ensures)
-    (c.in_ok-expansion.ensures.program ∙ c.requires.program)
-    (c.in_ok-expansion.ensures.source ∙ c.deref.ensures) c.law-3.ensures)
+    let refused = rw c.in-Err-NotTaken.field-0-is at c.in-Err-NotTaken.ensures.refused in
+    refused (there_it_is (next g (goal.at.unreachable-requires-in-Err-NotTaken g c).After-enter))
 
 pub unreachable-requires-in-Err-Stranger : goal.unreachable-requires-in-Err-Stranger
 unreachable-requires-in-Err-Stranger g c =
-    let mid = c.take.new.self in
-    let x = c.in_ok-expansion.expansion in
-    let refused : IsTaken mid.entries c.in-Some.id
-    × (IsOwn {X = g.row.M.Denot} mid c.in-Some.id x.machine x.program x.source → ⊥) =
-    rw c.in-Err-Stranger.field-0-is at c.in-Err-Stranger.ensures.refused in
-    refused.1
-    (its_own g.M.Machine.rules c.args.book.now c.take.new.self
-    c.law.ensures.machine c.law.ensures.test c.in_ok-id.ensures.same c.law-2.ensures.law c.in-Some.id
-    c.in-Some.state.value (rw c.in-Some.is at c.in_ok-id.ensures.taken)
-    c.in_ok-expansion.expansion (c.in_ok-expansion.ensures.machine ∙ c.machine.ensures)
-    (c.in_ok-expansion.ensures.program ∙ c.requires.program)
-    (c.in_ok-expansion.ensures.source ∙ c.deref.ensures) c.law-3.ensures)
+    let refused = rw c.in-Err-Stranger.field-0-is at c.in-Err-Stranger.ensures.refused in
+    refused.1 (its_own (next g (goal.at.unreachable-requires-in-Err-Stranger g c).After-enter))
 
 pub returns-in-Err-Full-clause-next : goal.returns-in-Err-Full-clause-next
 returns-in-Err-Full-clause-next g c = tt

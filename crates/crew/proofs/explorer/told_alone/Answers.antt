@@ -1,9 +1,9 @@
 use Rattle.std.proofs.Common.{◌≡◌, ◌∙◌, sym, ap, subst, IsSome, is_some}
 use Rattle.std.proofs.lemmas.Bool.{false≢true}
-use Rattle.book.specs.Books.{CountsAsOne, machine_in, right_in}
-use Rattle.crew.specs.Reading.{IsCutAt, IsWorkedOff}
+use Rattle.book.specs.Books.{machine_in}
+use Rattle.crew.specs.Reading.{IsCutIn, IsWorkedOff}
 use Rattle.crew.specs.Reporting.{IsBookOf}
-use Rattle.crew.proofs.Ends.{is_answered, cut_kept}
+use Rattle.crew.proofs.Ends.{is_answered}
 use Rattle.crew.proofs.explorer.told_alone.Goals as goal
 
 -- what was driven is read
@@ -23,15 +23,8 @@ unreachable-requires g c =
     } in
     let some : IsSome c.in_ok-answer.field-0 =
     is_answered (IsWorkedOff (machine_in g.M.Machine.rules b).steps new.entries c.steps.result)
-    (IsSome c.in_ok-answer.field-0) c.steps.result n
-    (λ d i. IsCutAt (machine_in g.M.Machine.rules b)
-    (CountsAsOne {Machine = g.row.M.Denot} {Form = g.row.M-Form.Denot} (g.M.Machine.rules b.machine) b.merge)
-    (right_in g.M.Machine.rules b) new d i)
-    (λ d i. IsCutAt (machine_in g.M.Machine.rules new)
-    (CountsAsOne {Machine = g.row.M.Denot} {Form = g.row.M-Form.Denot} (g.M.Machine.rules new.machine) new.merge)
-    (right_in g.M.Machine.rules new) new d i)
-    steps (λ d i cut. cut_kept g.M.Machine.rules b new new d i kept cut)
-    c.in_ok-cut.cut c.in_ok-cut.ensures.done c.in_ok-cut.ensures.cut
+    (IsSome c.in_ok-answer.field-0) c.steps.result n (IsCutIn g.M.Machine.rules new)
+    steps c.in_ok-cut.cut c.in_ok-cut.ensures.done c.in_ok-cut.ensures.cut
     (λ none worked. c.in_ok-answer.ensures.finished asked none
     (subst (λ k. IsWorkedOff (machine_in g.M.Machine.rules b).steps new.entries k) steps worked))
     (c.in_ok-answer.ensures.stopped asked) in

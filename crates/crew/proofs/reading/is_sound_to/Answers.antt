@@ -19,11 +19,11 @@ returns-in_ok-schedule_of-in-Some g c =
     let long : c.len.result ≡ length v.items = c.len.ensures ∙ v.ok.0 in (
       (λ h. let more : c.args.steps < c.len.result = ltb-true c.args.steps c.len.result h in
           sound_before g.M.Machine.rules c.args.book.now law.machine law.test law.findings law.law c.in-Some.id first
-          v.items way c.args.steps (omega arith)),
+          v way c.args.steps (omega arith)),
       (λ sound. elim (cases_lt c.args.steps c.len.result) [
         | inl l ↦ lt-ltb c.args.steps c.len.result l
         | inr ge ↦ absurd
             (unsound_from g.M.Machine.rules c.args.book.now law.machine law.test law.findings law.law c.in-Some.id
-            first v.items way c.args.steps (omega arith) sound)
+            first v way c.args.steps (omega arith) sound)
       ]),
     )

@@ -1,7 +1,7 @@
 use Rattle.std.proofs.Common.{◌≡◌, ◌<◌, ◌∙◌, sym, ap, arith}
 use Rattle.book.specs.Schedule.{after}
 use Rattle.book.specs.Books.{machine_in}
-use Rattle.crew.proofs.ReadOff.{stopped_is_due, stopped_true}
+use Rattle.crew.proofs.ReadOff.{stopped_read_off}
 use Rattle.crew.proofs.reading.read_stopped.Goals as goal
 
 pub is_full_at-requires-clause-way : goal.is_full_at-requires-clause-way
@@ -9,26 +9,16 @@ is_full_at-requires-clause-way g c κs within =
     let s = c.in_ok-schedule.ensures.leads in
     (s.0, s.1, ap (after (machine_in g.M.Machine.rules c.args.book.now)) c.as_slice.ensures.value ∙ s.2)
 
-pub returns-clause-due : goal.returns-clause-due
-returns-clause-due g c =
+pub returns-clause-told : goal.returns-clause-told
+returns-clause-told g c =
     let law = c.law.ensures in
     let s = c.in_ok-schedule.ensures.leads in
     let less : c.len-holds_to.result < c.args.options.steps =
     (let l : c.len-holds_to.result < c.from.result = c.if-holds_to-from.false in
     let a : c.from.result ≡ c.steps.result = c.from.ensures in
     let d : c.steps.result ≡ c.args.options.steps = c.steps.ensures in omega arith) in
-    let due =
-    stopped_is_due g.M.Machine.rules c.args.book.now law.machine law.test law.findings law.law c.args.id
+    stopped_read_off g.M.Machine.rules c.args.book.now law.machine law.test law.findings law.law c.args.id
     (c.in_ok-is_full_at.ensures.full c.if-not-branch-2.false) c.len-holds_to.result
     (s.0, s.1, c.len-holds_to.ensures ∙ c.in_ok-schedule.schedule.ok.0 ∙ s.3)
-    (c.in_ok-is_sound_to.ensures.0 c.if-not-branch.false) c.args.options.steps less in
-    (c.limit.ensures ∙ sym c.requires.limit, due.0, due.1)
-
-pub returns-clause-headline : goal.returns-clause-headline
-returns-clause-headline g c =
-    let law = c.law.ensures in
-    let s = c.in_ok-schedule.ensures.leads in
-    stopped_true g.M.Machine.rules c.args.book.now law.machine law.test law.findings law.law c.args.id
-    (c.in_ok-is_full_at.ensures.full c.if-not-branch-2.false) c.len-holds_to.result
-    (s.0, s.1, c.len-holds_to.ensures ∙ c.in_ok-schedule.schedule.ok.0 ∙ s.3)
-    (c.in_ok-is_sound_to.ensures.0 c.if-not-branch.false)
+    (c.in_ok-is_sound_to.ensures.0 c.if-not-branch.false) c.args.options.steps c.limit.result
+    (c.limit.ensures ∙ sym c.requires.limit) less

@@ -2,7 +2,7 @@ use Rattle.std.proofs.Common.{◌≡◌, ◌<◌, ◌≤◌, ◌∙◌, sym, len
 use Rattle.std.proofs.lemmas.Bool.{true≢false}
 use Rattle.book.specs.Books.{machine_in}
 use Rattle.crew.specs.Reading.{IsLastLayer}
-use Rattle.crew.proofs.ReadOff.{fault_is_due, fault_is_last, fault_true, first_told}
+use Rattle.crew.proofs.ReadOff.{fault_is_last, fault_read_off}
 use Rattle.crew.proofs.reading.tell_fault.Goals.{then-length-from-via-then-length-from}
 use Rattle.crew.proofs.reading.tell_fault.Goals.{then-length-from-via-else-length-from+then-not-is_last_layer}
 use Rattle.crew.proofs.reading.tell_fault.Goals as goal
@@ -15,7 +15,7 @@ returns-then-length-from-clause-some g c =
     let is : c.len-length.result ≡ length v.items = c.len-length.ensures ∙ v.ok.0 in
     λ worked.
     let last =
-    fault_is_last g.M.Machine.rules b law.machine law.test law.findings law.law c.args.id c.requires v.items
+    fault_is_last g.M.Machine.rules b law.machine law.test law.findings law.law c.args.id c.requires v
     c.in_ok-schedule.ensures.leads c.args.steps worked in
     elim c.then-length-from.branch [
       | then-length-from-via-then-length-from w
@@ -30,26 +30,14 @@ returns-then-length-from-clause-some g c =
           ∙ w.if-not-is_last_layer.true))
     ]
 
-pub returns-clause-due : goal.returns-clause-due
-returns-clause-due g c =
+pub returns-clause-told : goal.returns-clause-told
+returns-clause-told g c =
     let law = c.law.ensures in
     let v = c.in_ok-schedule.schedule in
     let le : c.len-length.result ≤ c.args.steps =
     (let few : c.len-length.result ≤ c.from.result = c.if-length-from.false in
     let from : c.from.result ≡ c.args.steps = c.from.ensures in omega arith) in
-    fault_is_due g.M.Machine.rules c.args.book.now law.machine law.test law.findings law.law c.args.id
-    c.requires v.items c.in_ok-schedule.ensures.leads _ c.fault_at-finding.ensures
+    fault_read_off g.M.Machine.rules c.args.book.now law.machine law.test law.findings law.law c.args.id
+    c.requires v c.in_ok-schedule.ensures.leads _ c.fault_at-finding.ensures
     c.args.steps c.len-length.result (c.len-length.ensures ∙ v.ok.0) le
     (c.is_last_layer.ensures.0 c.if-not-is_last_layer.false)
-
-pub returns-clause-first : goal.returns-clause-first
-returns-clause-first g c =
-    let law = c.law.ensures in
-    first_told g.M.Machine.rules c.args.book.now law.machine law.test law.findings law.law c.args.id
-    c.requires c.in_ok-schedule.schedule.items c.in_ok-schedule.ensures.leads _ c.fault_at-finding.ensures
-
-pub returns-clause-headline : goal.returns-clause-headline
-returns-clause-headline g c =
-    let law = c.law.ensures in
-    fault_true g.M.Machine.rules c.args.book.now law.machine law.test law.findings law.law c.args.id
-    c.requires c.in_ok-schedule.schedule.items c.in_ok-schedule.ensures.leads _ c.fault_at-finding.ensures

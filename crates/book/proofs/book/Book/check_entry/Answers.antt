@@ -3,8 +3,8 @@ use Rattle.std.proofs.lemmas.Bool.{true≢false}
 use Rattle.book.specs.Entries.{IsTaken}
 use Rattle.book.proofs.book.Book.check_entry.Goals as goal
 
-pub is_entry_of-requires-after_bounds : goal.is_entry_of-requires-after_bounds
-is_entry_of-requires-after_bounds g c κs within =
+pub is_entry_of-requires-clause-taken : goal.is_entry_of-requires-clause-taken
+is_entry_of-requires-clause-taken g c κs within =
     rw (← c.entry.view_is) (c.is_taken.ensures.0 c.if-not-is_taken.false)
 
 pub returns-then-not-is_taken-clause-refused : goal.returns-then-not-is_taken-clause-refused

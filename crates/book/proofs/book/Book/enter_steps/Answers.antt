@@ -84,20 +84,20 @@ invariant_of-self-in-Ok g c =
       known_mark label_of c.append.new.self c.args.id Expanded put.1,
     )
 
-pub returns-in-Err-Full-clause-refused : goal.returns-in-Err-Full-clause-refused
-returns-in-Err-Full-clause-refused g c =
+pub returns-in-Err-clause-refused : goal.returns-in-Err-clause-refused
+returns-in-Err-clause-refused g c =
     let s = c.self.inside in
     let xs = c.args.steps.items in
-    let label_of : State g.row.M.Denot g.row.M-Mem.Denot g.row.M-Loc.Denot g.row.M-Form.Denot → List ℕ =
-    label_by g.M.Encode.whole_code g.M.Encode.form_code (g.M.Machine.form_of s.machine) s.merge in
     let steps = rw (← c.self.view_is) at c.requires.steps in
-    let full = c.in-Err-Full.ensures.full c.in-Err-Full.field-0-is in
-    rw (← c.self.view_is)
-    (inr (
-      refl,
-      λ e at. full_for c.self.invariant.0 c.args.id e at xs (steps e at)
-          (full label_of e c.self.invariant.1 at (steps e at).labels),
-    ))
+    let refused = c.in-Err.ensures.refused in
+    rw (← c.self.view_is) (elim refused [
+      | inl memory ↦ inl memory
+      | inr full ↦ inr (
+        full.0,
+        λ e at. full_for c.self.invariant.0 c.args.id e at xs (steps e at)
+            (full.1 _ e c.self.invariant.1 at (steps e at).labels),
+      )
+    ])
 
 pub returns-in-Ok-clause-entered : goal.returns-in-Ok-clause-entered
 returns-in-Ok-clause-entered g c =

@@ -15,15 +15,15 @@ returns-then-eq g c =
     let x = c.entry.inside in
     let label_of : State g.row.M.Denot g.row.M-Mem.Denot g.row.M-Loc.Denot g.row.M-Form.Denot → List ℕ =
     label_by g.M.Encode.whole_code g.M.Encode.form_code (g.M.Machine.form_of s.machine) s.merge in
-    let own = rw (← c.self.view_is) at (c.is_of.ensures.0 c.if-not-is_of.false) in
+    let own = rw (← c.self.view_is, ← c.entry.view_is) at c.requires.of in
     let merges : IsTrue c.eq.result ↔ (s.merge ≡ x.merge) = search rules in
-    let taken = rw (← c.self.view_is, ← c.entry.view_is) at c.requires in
+    let taken = rw (← c.self.view_is, ← c.entry.view_is) at c.requires.taken in
     let label : c.label.result.now ≡ label_of taken.0.state =
     label_there label_of s.table c.self.invariant.1 x.id taken.0 taken.1 c.label.result.now c.label.ensures in
     rw (← c.self.view_is, ← c.entry.view_is) (
       (λ yes. record {
-        machine = sym own.0;
-        program = sym own.1;
+        machine = own.0;
+        program = own.1;
         merge = sym (merges.0 c.if-eq.true);
         label =
             (λ e at.

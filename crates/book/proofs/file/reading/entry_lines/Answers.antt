@@ -1,4 +1,4 @@
-use Rattle.std.proofs.Common.{List, subst, sym}
+use Rattle.std.proofs.Common.{List, inr, subst, sym}
 use Rattle.book.specs.declared.file.line.Line.{Line}
 use Rattle.book.proofs.Text.Entries.{HasReadLines, lines_none, lines_push, lines_all, lines_fault}
 use Rattle.book.proofs.file.reading.entry_lines.Goals as goal
@@ -12,9 +12,9 @@ pub returns-in-None-clause-err : goal.returns-in-None-clause-err
 returns-in-None-clause-err c =
     let cut = c.in-Some.ensures.found in
     rw c.len.ensures
-    (lines_fault c.args.bytes.now c.loop-text.lines c.loop-text.rest.now c.in-Some.text.now c.in-Some.tail.now
+    (inr (lines_fault c.args.bytes.now c.loop-text.lines c.loop-text.rest.now c.in-Some.text.now c.in-Some.tail.now
     c.loop-text.invariant cut.0 cut.1
-    (rw c.in-None.is at c.in_ok-line.ensures.none))
+    (rw c.in-None.is at c.in_ok-line.ensures.none)))
 
 pub loop-text-preserved : goal.loop-text-preserved
 loop-text-preserved c =

@@ -1,22 +1,16 @@
-use Rattle.std.proofs.Common.{◌≡◌, ◌≢◌, ℕ, List, ◌∷◌, ◌++◌, codes, refl, inl}
+use Rattle.std.proofs.Common.{◌≡◌, ◌≢◌, ◌⊎◌, List, ◌∷◌, ◌++◌, codes, refl, inl, inr}
 use Rattle.std.proofs.lemmas.Bool.Decides.{Decides-eqb}
 use Rattle.std.proofs.lemmas.Result.{IfOk-weaker, IfErr-weaker}
 use Rattle.std.proofs.lemmas.Slice.Eq.{strip_prefix_is}
-use Rattle.book.specs.declared.file.line.FormFault.TheVariants as fault
+use Rattle.book.specs.declared.file.fault.CheckFault.TheVariants.{OutOfMemory}
 use Rattle.book.specs.Text.Files.{start_text, IsBookText, IsFormFault}
 use Rattle.book.proofs.Text.Heads.{after_start, is_book, entries_fault, start_fault}
-use Rattle.book.proofs.Text.OneReading.{same_book, first_one, no_book}
-use Rattle.book.proofs.Text.Printing.{is_proper}
+use Rattle.book.proofs.Text.OneReading.{few_lines}
 use Rattle.book.proofs.file.reading.read_lines.Goals as goal
 
-head_fault : (c : goal.In_default) → IsFormFault c.args.bytes.now (fault.Form 1)
-head_fault c = inl (record { misformed = c.in_default.ensures.none; place = refl })
-
-pub returns-in_default-clause-first : goal.returns-in_default-clause-first
-returns-in_default-clause-first c = first_one c.args.bytes.now (fault.Form 1) (head_fault c)
-
 pub returns-in_default-clause-refused : goal.returns-in_default-clause-refused
-returns-in_default-clause-refused c = no_book c.args.bytes.now (fault.Form 1) (head_fault c)
+returns-in_default-clause-refused c =
+    inr (1, refl, inl (record { misformed = c.in_default.ensures.none; place = refl }))
 
 pub entry_lines-requires : goal.entry_lines-requires
 entry_lines-requires c =
@@ -40,33 +34,19 @@ returns-in-Some-strip_prefix c =
     let book = IfOk-weaker r _ (λ v. IsBookText bytes v.items)
     (λ v are. is_book bytes c.in-Some.rest.now c.in-Some-strip_prefix.rest.now has.0 v.items has.1 has.2 e are)
     c.entry_lines.ensures.ok in
-    let told = IfErr-weaker r _ (IsFormFault bytes)
-    (λ told is. entries_fault bytes c.in-Some.rest.now c.in-Some-strip_prefix.rest.now has.0 told has.1 has.2 e is)
-    c.entry_lines.ensures.err in
     record {
       book = book;
-      proper = IfOk-weaker r (λ v. IsBookText bytes v.items) _ (λ v is. is_proper bytes v.items is) book;
-      only = IfOk-weaker r (λ v. IsBookText bytes v.items) _
-          (λ v is others also. same_book bytes others v.items also is) book;
-      fault = told;
-      first = IfErr-weaker r (IsFormFault bytes) _ (first_one bytes) told;
-      refused = IfErr-weaker r (IsFormFault bytes) _ (no_book bytes) told;
+      few = IfOk-weaker r (λ v. IsBookText bytes v.items) _ (λ v is. few_lines bytes v.items is) book;
+      refused = IfErr-weaker r _ (λ told. (told ≡ OutOfMemory) ⊎ IsFormFault bytes told)
+          (λ told is. entries_fault bytes c.in-Some.rest.now c.in-Some-strip_prefix.rest.now has.0 told has.1 has.2 e is)
+          c.entry_lines.ensures.err;
     }
 
-pub returns-in-None : goal.returns-in-None
-returns-in-None c =
-    let bytes = c.args.bytes.now in
+pub returns-in-None-clause-refused : goal.returns-in-None-clause-refused
+returns-in-None-clause-refused c =
     let has = c.in-Some.ensures.found in
-    let none : (tail : List ℕ) → c.in-Some.rest.now ≢ start_text ++ 10 ∷ tail =
+    let none : (tail : List _) → c.in-Some.rest.now ≢ start_text ++ 10 ∷ tail =
     rw c.in-None.is at
     (strip_prefix_is Decides-eqb c.in-Some.rest.now (codes "- - -\n") c.strip_prefix.result
     c.strip_prefix.ensures.cases) in
-    let told : IsFormFault bytes (fault.Form 2) = start_fault bytes c.in-Some.rest.now has.0 has.1 has.2 none in
-    record {
-      book = tt;
-      proper = tt;
-      only = tt;
-      fault = told;
-      first = first_one bytes (fault.Form 2) told;
-      refused = no_book bytes (fault.Form 2) told;
-    }
+    inr (2, refl, start_fault c.args.bytes.now c.in-Some.rest.now has.0 has.1 has.2 none)

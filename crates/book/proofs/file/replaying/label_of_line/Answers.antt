@@ -1,4 +1,5 @@
 use Rattle.std.proofs.Common.{◌≡◌, ◌+◌, ◌<◌, ◌≤◌, ◌⊎◌, inl, inr, length, Err, None, ap, ◌∙◌, arith}
+use Rattle.std.proofs.lemmas.Result.{err_from_is_err_and}
 use Rattle.tree_machine.specs.Step.{step}
 use Rattle.book.specs.declared.file.fault.CheckFault.TheVariants.{OutOfMemory}
 use Rattle.book.specs.BookFile.Replays.{IsUnshown}
@@ -41,22 +42,25 @@ returns-in-Err-NotEnabled-clause-amiss g c =
     input.lines.now c.args.before.now c.requires.kept c.len-number.result c.len-number.ensures c.args.line.now
     states so c.recall.new.state c.in_ok-recall.ensures none)
 
-pub returns-in-Err-clause-amiss : goal.returns-in-Err-clause-amiss
-returns-in-Err-clause-amiss g c =
+pub returns-in_err-test_state-clause-amiss : goal.returns-in_err-test_state-clause-amiss
+returns-in_err-test_state-clause-amiss g c =
     let bound = g.met.M.Machine g.world.𝓛 g.world.𝓜 g.world.𝓡 ((λ s x. x), (λ x. x), (λ x. x), λ x. x) in
     let input = c.args.input.now in
     let next = c.step_here.new.self in
-    let unshown : (c.in-Err.fault ≡ OutOfMemory) ⊎ IsUnshown (g.M.Machine.rules input.machine) input.program.now next
-    c.args.line.now.order (c.len-number.result + 2) c.in-Err.fault =
-    rw c.as_slice-order.ensures at c.in-Err.ensures.unshown in
-    elim unshown [
+    let fault = c.in_err-test_state.field-0.0 in
+    let unshown : (fault ≡ OutOfMemory) ⊎ IsUnshown (g.M.Machine.rules input.machine) input.program.now next
+    c.args.line.now.order (c.len-number.result + 2) fault =
+    rw c.as_slice-order.ensures at c.in_err-test_state.ensures.unshown in
+    let exit = c.from_residual-in_err-test_state in
+    let p = err_from_is_err_and exit.result exit.ensures.1 in
+    rw (p.1, p.2) (elim unshown [
       | inl l ↦ inl l
       | inr r ↦ inr (λ states so. step_amiss (g.M.Machine.rules input.machine) input.program.now
           (bound.lawful input.machine) c.initial.ensures.limits (g.M.Machine.form_of input.machine)
           (bound.forms input.machine) g.M.Encode.form_code input.lines.now c.args.before.now c.requires.kept
           c.len-number.result c.len-number.ensures c.args.line.now states so c.recall.new.state
-          c.in_ok-recall.ensures next c.in-Ok.ensures.step c.in-Err.fault r)
-    ]
+          c.in_ok-recall.ensures next c.in-Ok.ensures.step fault r)
+    ])
 
 pub returns-clause-tells : goal.returns-clause-tells
 returns-clause-tells g c =
@@ -67,4 +71,4 @@ returns-clause-tells g c =
     input.lines.now c.args.before.now c.requires.kept c.len-number.result c.len-number.ensures c.args.line.now
     states so c.recall.new.state c.in_ok-recall.ensures c.step_here.new.self c.in-Ok.ensures.step
     c.in_ok-label.field-0 c.in_ok-label.ensures
-    (rw c.as_slice-order.ensures at c.in_default.ensures.shown)
+    (rw c.as_slice-order.ensures at c.in_ok-test_state.ensures.shown)

@@ -1,5 +1,6 @@
 use Rattle.std.proofs.Common.{◌∙◌, ap, [], ◌∷◌, ◌++◌}
 use Rattle.std.proofs.lemmas.List.{take_all}
+use Rattle.std.proofs.lemmas.Result.{err_from_is_err_and}
 use Rattle.book.specs.Labels.{named_by}
 use Rattle.book.proofs.BookFile.Replayed.{amiss_at_start, amiss_of_next, labels_few, labels_next, labels_start}
 use Rattle.book.proofs.file.replaying.replay_lines.Goals as goal
@@ -9,7 +10,7 @@ loop-i-init g c =
     let input = c.args.input.now in
     labels_start (g.M.Machine.rules input.machine) input.program.now
     (named_by g.M.Encode.form_code (g.M.Machine.form_of input.machine)) c.args.work.now.state
-    c.in_ok-label.field-0 c.push.new.self c.requires.start c.in_default.ensures.shown
+    c.in_ok-label.field-0 c.push.new.self c.requires.start c.in_ok-test_state.ensures.shown
     c.in_ok-label.ensures
     (c.in_ok-push.ensures ∙ ap (λ xs. xs ++ c.in_ok-label.field-0 ∷ []) c.new-labels.ensures)
 
@@ -19,21 +20,26 @@ loop-i-preserved g c =
     labels_next (g.M.Machine.rules input.machine) input.program.now
     (named_by g.M.Encode.form_code (g.M.Machine.form_of input.machine)) input.lines.now c.loop-i.labels c.loop-i.i
     c.line-item.result c.loop-i-test.true c.line-item.is c.loop-i.invariant
-    c.in-Ok.label c.push-in-Ok.new.self c.in-Ok.ensures.tells c.in_ok-push-in-Ok.ensures
+    c.in_ok-next.next c.push-in-loop-i.new.self c.in_ok-next.ensures.tells c.in_ok-push-2.ensures
 
-pub returns-in-Err-label_of_line-clause-amiss : goal.returns-in-Err-label_of_line-clause-amiss
-returns-in-Err-label_of_line-clause-amiss g c =
+pub returns-in_err-next-clause-amiss : goal.returns-in_err-next-clause-amiss
+returns-in_err-next-clause-amiss g c =
     let input = c.args.input.now in
-    amiss_of_next (g.M.Machine.rules input.machine) input.program.now
+    let exit = c.from_residual-in_err-next in
+    let p = err_from_is_err_and exit.result exit.ensures.1 in
+    rw (p.1, p.2)
+    (amiss_of_next (g.M.Machine.rules input.machine) input.program.now
     (named_by g.M.Encode.form_code (g.M.Machine.form_of input.machine)) input.lines.now c.loop-i.labels c.loop-i.i
     c.line-item.result c.loop-i-test.true c.line-item.is c.loop-i.invariant
-    c.in-Err-label_of_line.fault c.in-Err-label_of_line.ensures.amiss
+    c.in_err-next.field-0.0 c.in_err-next.ensures.amiss)
 
-pub returns-in-Err-clause-amiss : goal.returns-in-Err-clause-amiss
-returns-in-Err-clause-amiss g c =
+pub returns-in_err-test_state-clause-amiss : goal.returns-in_err-test_state-clause-amiss
+returns-in_err-test_state-clause-amiss g c =
     let input = c.args.input.now in
-    amiss_at_start (g.M.Machine.rules input.machine) input.program.now input.lines.now c.args.work.now.state
-    c.in-Err.fault c.requires.start c.in-Err.ensures.unshown
+    let p = err_from_is_err_and c.from_residual.result c.from_residual.ensures.1 in
+    rw (p.1, p.2)
+    (amiss_at_start (g.M.Machine.rules input.machine) input.program.now input.lines.now c.args.work.now.state
+    c.in_err-test_state.field-0.0 c.requires.start c.in_err-test_state.ensures.unshown)
 
 pub returns-clause-kept : goal.returns-clause-kept
 returns-clause-kept g c = rw (take_all c.loop-i.i c.args.input.now.lines.now c.loop-i-test.false) at c.loop-i.invariant
@@ -48,8 +54,8 @@ label_of_line-requires-clause-few g c κs within =
     (named_by g.M.Encode.form_code (g.M.Machine.form_of input.machine)) input.lines.now c.loop-i.labels c.loop-i.i
     c.loop-i.invariant c.loop-i-test.true c.requires.few
 
-pub push-requires-in-Ok : goal.push-requires-in-Ok
-push-requires-in-Ok g c =
+pub push-requires-in-loop-i : goal.push-requires-in-loop-i
+push-requires-in-loop-i g c =
     let input = c.args.input.now in
     labels_few (g.M.Machine.rules input.machine) input.program.now
     (named_by g.M.Encode.form_code (g.M.Machine.form_of input.machine)) input.lines.now c.loop-i.labels c.loop-i.i

@@ -1,5 +1,5 @@
 use Rattle.std.proofs.Common.{◌≡◌, ◌++◌, ◌+◌, ◌<◌, true, false, None, Some, Option, is_some, ℕ, not, length, map}
-use Rattle.std.proofs.Common.{position, sym, ap, ◌∙◌, arith, refl, subst, take, List, true≢false}
+use Rattle.std.proofs.Common.{position, sym, ap, ◌∙◌, arith, refl, subst, take, List, true≢false, inr}
 use Rattle.tree_machine.specs.Step.{step}
 use Rattle.tree_machine.specs.declared.state.State.{State}
 use Rattle.book.specs.Entries.{Entry, At, opened, states}
@@ -63,19 +63,22 @@ invariant_of-self-else-is_none g c =
     c.args.parent some.0 s.fault
     (is.1 ∙ sym (fault-append (entries_of s.slots.entries) (map (opened c.args.parent) some.0) is.0 first)))
 
-pub returns-then-len-limit-clause-full : goal.returns-then-len-limit-clause-full
-returns-then-len-limit-clause-full g c = λ _ label_of e known at are.
-    let old = c.self.inside.slots.entries in
-    let new = c.put_steps.new.slots.entries in
-    let count =
-    appended_length label_of (step (g.M.Machine.rules c.args.machine) c.args.program.now) c.args.self.now old new
-    c.self.view_is c.args.parent c.args.steps.items c.put_steps.ensures.kept c.in-Ok.ensures.put c.entry.result.now
-    c.entry.ensures c.copy-source.result.value (c.copy-source.ensures ∙ c.shown.ensures) c.put_steps.ensures.steps e
-    known at are (c.requires.enabled e at) (record { entries = entries_of new; labels = labels_of new }) refl in
-    let more : c.args.limit < c.len.result = c.if-len-limit.true in
-    let n : c.len.result ≡ length new = c.len.ensures.len in
-    let l : length (entries_of new) ≡ length new = length-entries new in
-    omega arith
+pub returns-then-len-limit-clause-refused : goal.returns-then-len-limit-clause-refused
+returns-then-len-limit-clause-refused g c = inr (
+  refl,
+  λ label_of e known at are.
+      let old = c.self.inside.slots.entries in
+      let new = c.put_steps.new.slots.entries in
+      let count =
+      appended_length label_of (step (g.M.Machine.rules c.args.machine) c.args.program.now) c.args.self.now old new
+      c.self.view_is c.args.parent c.args.steps.items c.put_steps.ensures.kept c.in-Ok.ensures.put c.entry.result.now
+      c.entry.ensures c.copy-source.result.value (c.copy-source.ensures ∙ c.shown.ensures) c.put_steps.ensures.steps e
+      known at are (c.requires.enabled e at) (record { entries = entries_of new; labels = labels_of new }) refl in
+      let more : c.args.limit < c.len.result = c.if-len-limit.true in
+      let n : c.len.result ≡ length new = c.len.ensures.len in
+      let l : length (entries_of new) ≡ length new = length-entries new in
+      omega arith,
+)
 
 pub returns-clause-put : goal.returns-clause-put
 returns-clause-put g c = λ label_of e known at are.
