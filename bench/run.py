@@ -40,14 +40,16 @@ RUNS: list[tuple[str, list[str]]] = [
     ("nm-3x2.json", LIMITS),
     ("ellen-2x3.json", [*LIMITS, *NAMES]),
     ("ellen-3x1.json", [*LIMITS, *NAMES]),
-    ("ellen-4x1.json", [*LIMITS, *NAMES]),
     ("nm-2x3.json", [*LIMITS, *NAMES]),
     ("nm-3x2.json", [*LIMITS, *NAMES]),
-    # Of each tree the programs with the most states of the families of docs/RESULTS.md.
-    ("most-ellen-2x2.json", ["--steps", "400", *NAMES]),
-    ("most-ellen-3x1.json", ["--steps", "400", *NAMES]),
-    ("most-nm-2x2.json", ["--steps", "400", *NAMES]),
-    ("most-nm-3x1.json", ["--steps", "400", *NAMES]),
+    # A state space that a user would care for: four threads, one operation each on neighbouring keys.
+    ("neighbours-ellen.json", [*LIMITS, *NAMES]),
+    ("neighbours-nm.json", [*LIMITS, *NAMES]),
+    # The slowest programs that sweeps met (docs/SWEEPS.md).
+    ("slowest-two-ellen.json", [*LIMITS, *NAMES]),
+    ("slowest-two-nm.json", [*LIMITS, *NAMES]),
+    ("slowest-three-nm.json", [*LIMITS, *NAMES]),
+    ("slowest-waits-ellen.json", [*LIMITS, *NAMES]),
 ]
 
 

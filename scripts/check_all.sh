@@ -58,12 +58,13 @@ lint() {
     scripts/lint_program.py "${files[@]}"
 }
 
-# A small family of each version: swept, made a page of, and explored once more by the place tables in Python.
+# A small family of each version: swept, the first in two parts, made a page of, and explored once more by the place
+# tables in Python.
 sweeps() {
-    local one=$work/one.jsonl two=$work/two.jsonl
-    scripts/sweep.py --program "$program" --commit here --out "$one" --initial - 10 --keys 5,10 --most 1 &&
-        scripts/sweep.py --program "$program" --commit here --out "$two" --initial 10 --threads 3 --most 1 --waits \
-            --trees ellen ellen-no-mark nm &&
+    local one=$work/one two=$work/two sweep=(scripts/sweep.py --program "$program" --commit here)
+    "${sweep[@]}" --out "$one" --initial - 10 --most 1 --part 1/2 &&
+        "${sweep[@]}" --out "$one" --initial - 10 --most 1 &&
+        "${sweep[@]}" --out "$two" --most 1 --waits --trees ellen ellen-no-mark nm &&
         scripts/sweep_report.py --out "$work/page.md" "$one" "$two" &&
         scripts/compare_sweep.py "$one" "$two"
 }

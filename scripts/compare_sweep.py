@@ -1,13 +1,13 @@
 #!/usr/bin/env python3
 """Explores the programs of a sweep a second time, by the place tables in Python, and compares what comes of them.
 
-usage: scripts/compare_sweep.py [--sample N] [--seed N] [--processes P] RESULTS ..
+usage: scripts/compare_sweep.py [--sample N|N%] [--seed N] [--processes P] FOLDER ..
 
 The explorer here shares nothing with treesched: its machines are scripts/place_tables.py, written from
-docs/MACHINES.md. For each line of RESULTS, which scripts/sweep.py wrote, it finds the verdict and the number
-of steps, and where every schedule holds the number of states. With --sample N, only N lines are drawn. It
-takes some twenty times as long as treesched. Lines whose verdict is `holds` or `stopped` bound the
-exploration, and are left out.
+docs/MACHINES.md. For each line of a FOLDER, which scripts/sweep.py wrote, it finds the verdict and the number
+of steps, and where every schedule holds the number of states. With --sample, only N lines are drawn, or N of
+each hundred: with one seed always the same. It takes some twenty times as long as treesched. Lines whose
+verdict is `holds` or `stopped` bound the exploration, and are left out.
 
 Each program for which the two differ is shown, and at the end comes 'N programs, M differ'. The status is 0
 if none differs, 1 if one does or none was compared, and 2 where a file can't be used.
@@ -18,6 +18,8 @@ import argparse
 import sys
 from concurrent.futures import ProcessPoolExecutor
 from dataclasses import dataclass
+from fractions import Fraction
+from math import ceil
 from pathlib import Path
 from random import Random
 from typing import Any
@@ -112,28 +114,42 @@ def difference(result: Result) -> str | None:
     is_same = result.verdict in found.verdicts and result.steps == found.steps
     if is_same and found.states in (None, result.states):
         return None
-    return f"{result.program}: {result.line()}, and here {found}"
+    return f"{result.answer}, after {result.steps} steps, and here {found}"
+
+
+def share_of(text: str) -> Fraction | int:
+    """For argparse: how many lines are drawn, or which share of them."""
+    if text.endswith("%"):
+        return Fraction(number_from(1, 100)(text[:-1]), 100)
+    return number_from(1, 10**8)(text)
+
+
+def drawn(results: list[Result], sample: Fraction | int, seed: int) -> list[Result]:
+    """So many of the results, or such a share, at random. What is drawn rests on the programs and the seed alone."""
+    there = sorted(results, key=lambda result: result.program)
+    number = ceil(len(there) * sample) if isinstance(sample, Fraction) else min(sample, len(there))
+    return Random(seed).sample(there, number)
 
 
 def read_words() -> argparse.Namespace:
     """The words of the command line."""
     parser = words_of(__doc__)
-    parser.add_argument("--sample", metavar="N", type=number_from(1, 10**8), help="how many lines are drawn")
+    parser.add_argument("--sample", metavar="N", type=share_of, help="how many lines are drawn, or N%% of them")
     parser.add_argument("--seed", metavar="N", type=int, default=1, help="with which the drawing begins")
     parser.add_argument("--processes", metavar="P", type=number_from(1, MOST_PROCESSES), default=1)
-    parser.add_argument("results", metavar="RESULTS", type=Path, nargs="+")
+    parser.add_argument("folders", metavar="FOLDER", type=Path, nargs="+")
     return parser.parse_args()
 
 
 def main() -> int:
     """Compares the lines, and answers the status."""
     words = read_words()
-    lines = [result for file in words.results for result in read_results(file)]
+    lines = [result for folder in words.folders for result in read_results(folder)]
     results = [result for result in lines if result.verdict not in ("holds", "stopped")]
     if len(results) < len(lines):
         print(f"compare_sweep: {len(lines) - len(results)} lines without a verdict to compare", file=sys.stderr)
     if words.sample is not None:
-        results = Random(words.seed).sample(results, min(words.sample, len(results)))
+        results = drawn(results, words.sample, words.seed)
     differing = 0
     with ProcessPoolExecutor(words.processes) as pool:
         for count, differs in enumerate(pool.map(difference, results, chunksize=8), start=1):

@@ -7,11 +7,12 @@ waits until the operation 0.0, which is the first of thread 0, has ended.
 from __future__ import annotations
 
 import argparse
+import hashlib
 import json
 import re
 from collections.abc import Iterable, Iterator
 from dataclasses import dataclass
-from itertools import combinations_with_replacement, permutations, product
+from itertools import combinations_with_replacement, product
 from typing import NamedTuple
 
 from common import Unusable
@@ -142,42 +143,13 @@ def program_text(name: str) -> str:
     return read_name(name).text
 
 
-def renumbered(threads: tuple[Thread, ...], order: tuple[int, ...]) -> list[Thread] | None:
-    """The threads in another order, if each then waits for earlier ones alone."""
-    place = {old: new for new, old in enumerate(order)}
-
-    def moved(operation: Operation) -> Operation:
-        return operation._replace(after=(place[operation.after[0]], operation.after[1]) if operation.after else None)
-
-    after = [tuple(map(moved, threads[old])) for old in order]
-    waits = ((new, operation.after) for new, thread in enumerate(after) for operation in thread)
-    return None if any(wait and wait[0] >= new for new, wait in waits) else after
-
-
-def by_words(threads: list[Thread]) -> list[list[tuple[int, int, tuple[int, int]]]]:
-    """What the order of programs goes by: inserts before deletes before finds, then the keys, then the waits."""
-    places = list(WORDS.values())
-    return [[(places.index(word), key, after or (-1, 0)) for word, key, after in thread] for thread in threads]
-
-
-def with_waits(threads: tuple[Thread, ...]) -> Iterator[list[Thread]]:
-    """The programs in which each find of these threads waits for an insert of another thread, and there is a find.
-    Of those that differ in the order of their threads alone there is one."""
-    places = [(number, index) for number, thread in enumerate(threads) for index in range(len(thread))]
-    finds = [place for place in places if threads[place[0]][place[1]].word == "find"]
-    inserts = [place for place in places if threads[place[0]][place[1]].word == "insert"]
-    seen: set[tuple[Thread, ...]] = set()
-    for chosen in product(*([insert for insert in inserts if insert[0] != find[0]] for find in finds)):
-        waits = {find: (thread, index + 1) for find, (thread, index) in zip(finds, chosen)}
-        waiting = tuple(
-            tuple(operation._replace(after=waits.get((number, index))) for index, operation in enumerate(thread))
-            for number, thread in enumerate(threads)
-        )
-        orders = (renumbered(waiting, order) for order in permutations(range(len(threads))))
-        first = min(filter(None, orders), default=None, key=by_words)
-        if waits and first and tuple(first) not in seen:
-            seen.add(tuple(first))
-            yield first
+def with_waiting_find(threads: tuple[Thread, ...], keys: list[int]) -> Iterator[tuple[Thread, ...]]:
+    """The programs that have one more thread, whose find of a key waits for one operation of these threads. Of threads
+    that are alike it waits for the first."""
+    for number, thread in enumerate(threads):
+        if thread not in threads[:number]:
+            for index, key in product(range(len(thread)), keys):
+                yield (*threads, (Operation("find", key, (number, index + 1)),))
 
 
 def name_of(thread: Iterable[Operation]) -> str:
@@ -186,9 +158,34 @@ def name_of(thread: Iterable[Operation]) -> str:
 
 
 @dataclass(frozen=True)
+class Part:
+    """One of `all` parts of a family. A program's part is drawn by its name alone, so that each part is a random
+    sample, and is the same on every machine."""
+
+    number: int = 1
+    all: int = 1
+
+    def __str__(self) -> str:
+        return f"{self.number}/{self.all}"
+
+    def has(self, name: str) -> bool:
+        """Whether the program of this name is in the part."""
+        drawn = int.from_bytes(hashlib.sha256(name.encode()).digest(), "big")
+        return drawn % self.all == self.number - 1
+
+
+def part_of(text: str) -> Part:
+    """For argparse: a part, as K/N."""
+    found = re.fullmatch(r"([1-9][0-9]{0,5})/([1-9][0-9]{0,5})", text)
+    if not found or int(found[1]) > int(found[2]):
+        raise argparse.ArgumentTypeError(f"{text!r} is no part, as 1/8 or 8/8")
+    return Part(int(found[1]), int(found[2]))
+
+
+@dataclass(frozen=True)
 class Family:
     """Which programs a sweep explores: on each tree and each list of initial keys, so many threads of 1 to `most`
-    operations on the keys. With `waits` each find waits for an insert of another thread."""
+    operations on the keys. With `waits` there is one more thread, whose find waits for an operation of the others."""
 
     trees: list[str]
     initials: list[str]
@@ -199,27 +196,27 @@ class Family:
 
     def refuse(self) -> None:
         """Refuses a family that is none, or that has a program which treesched would refuse."""
-        most = self.threads * self.most
-        if most > MOST_IN_ALL:
-            counts = f"{self.threads} threads of {self.most} operations have {most}"
-            raise Unusable(f"{counts}: a program has at most {MOST_IN_ALL}")
+        threads, most = self.threads + self.waits, self.threads * self.most + self.waits
+        if threads > MOST_THREADS or most > MOST_IN_ALL:
+            limits = f"a program has at most {MOST_THREADS} threads and {MOST_IN_ALL} operations"
+            raise Unusable(f"these are {threads} threads and {most} operations: {limits}")
         if len(set(self.trees)) < len(self.trees) or len(set(self.initials)) < len(self.initials):
             raise Unusable("a tree or a list of initial keys stands twice")
-        if self.waits and self.threads == 1:
-            raise Unusable("a find waits for another thread: --waits needs two threads")
 
-    def threads_of(self) -> Iterator[Iterable[Thread]]:
+    def threads_of(self) -> Iterator[tuple[Thread, ...]]:
         """The threads of its programs, one of each class that differs in the order of threads alone."""
         operations = [Operation(word, key) for word in WORDS.values() for key in self.keys]
         threads = [chosen for count in range(1, self.most + 1) for chosen in product(operations, repeat=count)]
         for chosen in combinations_with_replacement(threads, self.threads):
             if self.waits:
-                yield from with_waits(chosen)
+                yield from with_waiting_find(chosen, self.keys)
             else:
                 yield chosen
 
-    def names(self) -> Iterator[str]:
-        """The names of its programs."""
+    def names(self, part: Part = Part()) -> Iterator[str]:
+        """The names of the programs of a part."""
         for tree, initial in product(self.trees, self.initials):
             for threads in self.threads_of():
-                yield ":".join([tree, initial.strip("-"), *map(name_of, threads)])
+                name = ":".join([tree, initial.strip("-"), *map(name_of, threads)])
+                if part.has(name):
+                    yield name

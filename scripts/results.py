@@ -1,18 +1,22 @@
-"""The lines of JSON that scripts/sweep.py writes, one for each program, for the scripts that read them."""
+"""The lines of JSON that scripts/sweep.py writes, one for each program, for the scripts that read them.
+
+A folder of results has a file for each part of a family. A line ends with a sum over the rest of it, so that what was
+damaged is known.
+"""
 from __future__ import annotations
 
+import hashlib
 import json
-import os
 import subprocess
+from collections.abc import Iterable
 from dataclasses import asdict, dataclass
 from pathlib import Path
+from shutil import copyfile
 
 from common import TOP, Unusable, bytes_of
-from programs import NamedProgram, read_name
+from programs import NamedProgram, Part, read_name
 
-VERDICTS = ["every", "holds", "stopped", "astray", "order", "history"]
 FAULTS = ["history", "order", "astray"]
-BEGINNING = b'{"program": "'
 
 
 @dataclass(frozen=True)
@@ -39,66 +43,70 @@ class Result:
         """The tree on which it runs."""
         return self.program.partition(":")[0]
 
+    @property
+    def answer(self) -> str:
+        """What a rerun has to find again: the program, the verdict, the states, and the steps of a fault."""
+        return f"{self.program} {self.verdict} {self.states} {'-' if self.schedule is None else self.steps}"
+
     def line(self) -> str:
-        """As a line of JSON, without what is not known."""
-        return json.dumps({name: value for name, value in asdict(self).items() if value is not None})
+        """As a line of JSON, without what is not known, and with a sum at its end."""
+        text = json.dumps({name: value for name, value in asdict(self).items() if value is not None})
+        return f'{text[:-1]}, "sum": "{hashlib.sha256(text.encode()).hexdigest()[:16]}"}}\n'
 
 
-def read_line(text: bytes) -> Result:
-    """The result of a line. A line that is none is refused for what is wrong in it."""
+def digest_of(results: Iterable[Result]) -> str:
+    """One number for all answers, by which a rerun is compared: the SHA-256 of their sorted lines."""
+    answers = sorted(result.answer for result in results)
+    return hashlib.sha256("".join(f"{answer}\n" for answer in answers).encode()).hexdigest()
+
+
+def file_of(folder: Path, part: Part) -> Path:
+    """The file of a part."""
+    return folder / f"{part.number}of{part.all}.jsonl"
+
+
+def result_of(line: bytes) -> Result | None:
+    """The result of a line, or none where the line is not as it was written."""
     try:
-        value = json.loads(text)
-    except ValueError:
-        raise Unusable("no JSON") from None
-    if not isinstance(value, dict):
-        raise Unusable("no JSON object")
-    try:
+        value = json.loads(line)
+        value.pop("sum")
         result = Result(**value)
-    except TypeError:
-        strange = sorted(value.keys() - Result.__annotations__.keys())
-        lacking = [name for name in list(Result.__annotations__)[:7] if name not in value]
-        parts = [f"no {name!r}" for name in lacking] + [f"{name!r} is no member of a line" for name in strange]
-        raise Unusable("; ".join(parts)) from None
-    for name in ("states", "steps", "seconds", "seconds_all"):
-        number = getattr(result, name)
-        if not isinstance(number, (int, float)) or isinstance(number, bool):
-            raise Unusable(f"{name!r} is no number")
-    if not isinstance(result.program, str) or not isinstance(result.checked, bool) or result.verdict not in VERDICTS:
-        raise Unusable("'program', 'checked' or 'verdict' has no value of its kind")
-    read_name(result.program)
-    return result
+    except (ValueError, LookupError, TypeError, AttributeError):
+        return None
+    return result if result.line().encode() == line else None
 
 
-def read_results(file: Path) -> list[Result]:
-    """The results of a file, each line one."""
-    return parsed(file, bytes_of(file))
+def lines_in(file: Path) -> list[tuple[bytes, Result | None]]:
+    """The lines of a file, each with its result."""
+    return [(line, result_of(line)) for line in bytes_of(file).splitlines(keepends=True)]
 
 
-def names_in(file: Path) -> set[str]:
-    """The programs that have a line in a file that is to be added to. A beginning of a line, which an interruption
-    left at its end, is cut off."""
-    if not file.exists():
-        return set()
-    data = bytes_of(file)
-    whole = data[: data.rfind(b"\n") + 1]
-    results = parsed(file, whole)
-    rest = data[len(whole) :]
-    if rest:
-        if rest[: len(BEGINNING)] != BEGINNING[: len(rest)]:
-            raise Unusable(f"{file} is no file of results: its last line is not ended, and begins as no line does")
-        os.truncate(file, len(whole))
-    return {result.program for result in results}
+def mend(file: Path) -> int:
+    """Cuts the lines that are not whole out of a file, which is kept beside as it was, and answers how many there were.
+    An interruption leaves such a line, and so does a disk that lost something."""
+    lines = lines_in(file)
+    whole = [line for line, result in lines if result]
+    if len(whole) < len(lines):
+        copyfile(file, file.with_suffix(".damaged"))
+        file.write_bytes(b"".join(whole))
+    return len(lines) - len(whole)
 
 
-def parsed(file: Path, data: bytes) -> list[Result]:
-    """The results that the bytes of a file say. The first line that is none is refused by its number."""
-    results: list[Result] = []
-    for number, line in enumerate(data.splitlines(), start=1):
-        try:
-            results.append(read_line(line))
-        except Unusable as fault:
-            raise Unusable(f"{file}:{number} is no line of results: {fault}") from None
-    return results
+def whole_results(folder: Path) -> list[Result]:
+    """The results of a folder, without the lines that are not whole: a sweep may be writing them now."""
+    return [result for file in sorted(folder.glob("*.jsonl")) for _, result in lines_in(file) if result]
+
+
+def read_results(folder: Path) -> list[Result]:
+    """The results of a folder. One with a line that is not whole is refused."""
+    files = sorted(folder.glob("*.jsonl"))
+    if not files:
+        raise Unusable(f"{folder} has no results: sweep.py --out writes such a folder")
+    for file in files:
+        for number, (_, result) in enumerate(lines_in(file), start=1):
+            if not result:
+                raise Unusable(f"{file}:{number} is not whole: the sweep of this part mends it")
+    return whole_results(folder)
 
 
 def commit_here() -> str | None:

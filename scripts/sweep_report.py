@@ -1,16 +1,16 @@
 #!/usr/bin/env python3
-"""Makes a page of what sweeps came to, from the lines that scripts/sweep.py wrote.
+"""Makes a page of what sweeps came to, from the folders that scripts/sweep.py wrote.
 
-usage: scripts/sweep_report.py [--note TEXT].. [--command TEXT].. [--out PAGE] RESULTS ..
+usage: scripts/sweep_report.py [--note TEXT].. [--out PAGE] FOLDER[@K/N] ..
 
 Without --out the page is printed. PAGE, as docs/RESULTS.md, is written only when all is well; `>
 docs/RESULTS.md` would empty it before anything is read.
 
-Each file of results is one family: the trees, initial keys, keys, numbers of threads and of operations that
-stand in it. Each program of the family has to have one line, each answer has to have been judged anew, and
-each line has to name the commit by whose sources it was made. The notes, a paragraph each, stand at the end,
-after the commands that made the files. The status is 0 if the page was made, 1 if the results are incomplete,
-and 2 where a file can't be used.
+Each FOLDER is one family: the trees, initial keys, keys, numbers of threads and of operations that stand in it;
+FOLDER@K/N is part K of N of one. Each program of it has to have one line, each answer has to have been judged
+anew, and each line has to name the commit by whose sources it was made. Programs with more states than the sweep
+allowed have no answer, and are counted. The notes, a paragraph each, stand at the end. The status is 0 if the
+page was made, 1 if the results are incomplete, and 2 where a folder can't be used.
 """
 from __future__ import annotations
 
@@ -23,12 +23,16 @@ from dataclasses import dataclass
 from pathlib import Path
 from textwrap import wrap
 
-from common import MOST_STEPS, RIGHT, WRONG, Unusable, end, words_of
-from programs import TREES, VARIANTS, WORDS, Family
-from results import FAULTS, Result, read_results
+from common import MOST_STATES, MOST_STEPS, RIGHT, WRONG, Unusable, end, words_of
+from programs import TREES, VARIANTS, WORDS, Family, Part, part_of
+from results import FAULTS, Result, digest_of, read_results
+from viewer.clash import Run, clash_words, smallest_clash
+from viewer.replays import read_schedule, read_source
+from viewer.steps import operations_at, walk
+from viewer.text import text_picture
 
 WIDTH = 100
-LISTED = 6
+PICTURE = 80
 NUMBERS = ["no", "one", "two", "three", "four", "five", "six"]
 
 
@@ -39,23 +43,26 @@ def listed(items: list[str], last: str = "and") -> str:
 
 HEAD = [
     "# Results",
-    "What the program answered for every program of some families, on the trees of [MACHINES.md](MACHINES.md) and their"
-    f" broken variants. The sweep explores each program by names to {MOST_STEPS} steps.",
+    "What the program answered for every program of some families, or of a random part of one, on the trees of"
+    f" [MACHINES.md](MACHINES.md) and their broken variants. The sweep explores each by names to {MOST_STEPS} steps.",
     "- *Every schedule holds*: `treesched explore` printed `holds for every schedule` and wrote the book, and"
     " `treesched check` passed that book with the same number of states.\n"
     "- *Fault*: the program printed a shortest schedule with a fault, and `treesched replay` found the same fault on"
-    " that schedule. Lists have program, kind of fault and schedule.",
-    f"Every operation is an {listed(list(WORDS.values()), 'or')} of one of the keys. Threads are alike, so of programs"
-    " that differ only in the order of their threads there is one. States that count as one"
-    " ([by names](FORMATS.md#command-line)) are counted once. [A name](SWEEPS.md#a-name) is short for a program file.",
+    " that schedule.\n"
+    f"- *No answer*: there are more states than the sweep allows, by default {MOST_STATES:,}.\n"
+    "- *Digest*: the SHA-256 of the sorted lines `PROGRAM VERDICT STATES STEPS`, where the steps are those of a fault,"
+    " else `-`. A rerun that found the same has the same digest.",
+    f"Every operation is an {listed(list(WORDS.values()), 'or')} of one of the keys. Of programs that differ only in"
+    " the order of their threads there is one, and of states that count as one ([by"
+    " names](FORMATS.md#command-line)) too. [A name](SWEEPS.md#a-name) is short for a program file.",
 ]
 
 LIMITS = [
     "## What is not covered",
     "Other numbers of threads, operations, keys or initial keys; initial keys inserted in another order; keys that lie"
-    " otherwise between the initial keys; and operations that wait for anything but one insert. That all programs of"
-    " these families hold says nothing of a greater program, and proves neither tree. That no program of a family"
-    " shows some fault of a variant does not exclude that fault.",
+    " otherwise between the initial keys; and other waits. That all programs of these families hold says nothing of a"
+    " greater program, and proves neither tree. That no program of a family shows some fault of a variant does not"
+    " exclude that fault.",
 ]
 
 
@@ -65,9 +72,11 @@ class Incomplete(Exception):
 
 @dataclass(frozen=True)
 class Swept:
-    """A family and its results."""
+    """A family, the part of it that was run, and the results."""
 
+    folder: Path
     family: Family
+    part: Part
     results: list[Result]
 
     def of(self, tree: str) -> list[Result]:
@@ -83,37 +92,37 @@ def operations_in(result: Result) -> int:
 def family_of(results: list[Result]) -> Family:
     """The smallest family that has these programs."""
     programs = [result.named for result in results]
-    operations = {operation for program in programs for thread in program.threads for operation in thread}
+    operations = [operation for program in programs for thread in program.threads for operation in thread]
+    trees = {program.tree for program in programs}
     initials = {",".join(map(str, program.initial)) or "-" for program in programs}
+    waits = any(operation.after for operation in operations)
     return Family(
-        [tree for tree in TREES if any(program.tree == tree for program in programs)],
-        sorted(initials, key=lambda text: (len(text), text)),
+        [tree for tree in TREES if tree in trees],
+        sorted(initials, key=lambda initial: (len(initial.split(",")), initial)),
         sorted({operation.key for operation in operations}),
-        len(programs[0].threads),
+        max(len(program.threads) for program in programs) - waits,
         max(len(thread) for program in programs for thread in program.threads),
-        any(operation.after for operation in operations),
+        waits,
     )
 
 
-def read_sweep(file: Path) -> Swept:
-    """A file of results as a family: each of its programs has one line, whose answer was judged anew."""
-    results = read_results(file)
-    if not results:
-        raise Incomplete(f"{file} has no line")
+def read_sweep(folder: Path, part: Part) -> Swept:
+    """A folder of results as a family: each of its programs has one line, whose answer was judged anew."""
+    results = read_results(folder)
     for result in results:
-        if not result.checked or result.verdict in ("holds", "stopped"):
-            raise Incomplete(f"{file}: {result.program}: {result.verdict} was not judged anew, or judged otherwise")
+        if not result.checked or result.verdict == "holds":
+            raise Incomplete(f"{folder}: {result.program}: {result.verdict} was not judged anew, or judged otherwise")
         if not result.commit:
-            raise Incomplete(f"{file}: the line of {result.program} names no commit (sweep.py --commit names it)")
+            raise Incomplete(f"{folder}: the line of {result.program} names no commit (sweep.py --commit names it)")
     family = family_of(results)
     counts = Counter(result.program for result in results)
-    names = set(family.names())
+    names = set(family.names(part))
     missing, strange = len(names - counts.keys()), len(counts.keys() - names)
     twice = sum(count > 1 for count in counts.values())
     if missing or strange or twice:
         counted = f"{missing} programs of the family have no line, {twice} have more than one"
-        raise Incomplete(f"{file}: {counted}, and {strange} lines are of another family")
-    return Swept(family, results)
+        raise Incomplete(f"{folder}: {counted}, and {strange} lines are of another family")
+    return Swept(folder, family, part, results)
 
 
 def count(number: int) -> str:
@@ -137,104 +146,124 @@ def operations_of(family: Family) -> str:
     return f"one {'or' if family.most == 2 else 'to'} {NUMBERS[family.most]} operations"
 
 
-def title_of(family: Family) -> str:
+def title_of(swept: Swept) -> str:
     """A family in few words."""
+    family = swept.family
     title = f"{NUMBERS[family.threads].capitalize()} threads of {operations_of(family)}"
-    return f"{title}, each find waiting for an insert" if family.waits else title
+    if family.waits:
+        title += ", and a find that waits"
+    if set(family.trees) <= set(VARIANTS):
+        title += ", on the variants"
+    return f"{title}: a part" if swept.part.all > 1 else title
+
+
+def command_of(swept: Swept) -> str:
+    """The command that runs the family."""
+    family = swept.family
+    words = ["scripts/sweep.py --out", swept.folder.name, "--trees", *family.trees]
+    words += ["--initial", *family.initials, "--keys", ",".join(map(str, family.keys))]
+    words += ["--threads", str(family.threads), "--most", str(family.most)]
+    words += ["--waits"] if family.waits else []
+    words += ["--part", str(swept.part)] if swept.part.all > 1 else []
+    return " ".join(words)
 
 
 def in_words(swept: Swept) -> str:
     """The keys of a family and what waits in it, in words, with how many programs it has."""
-    family = swept.family
+    family, part = swept.family, swept.part
     initials = listed([f"[{initial.strip('-').replace(',', ', ')}]" for initial in family.initials])
-    keys = listed([str(key) for key in family.keys])
-    words = f"Keys {keys}; initial lists {initials}."
-    waits = " There is a find, and each find waits for one insert of another thread (version 2)."
-    programs = f"All {count(len(swept.results) // len(family.trees))} programs of each tree were run."
-    return f"{words}{waits if family.waits else ''} {programs}"
+    keys = f"Key{'s' if len(family.keys) > 1 else ''} {listed(list(map(str, family.keys)))}"
+    words = f"{keys}; initial list{'s' if len(family.initials) > 1 else ''} {initials}."
+    if family.waits:
+        words += " One more thread has one find, which waits for an operation of the others (version 2)."
+    programs = len(family.initials) * sum(1 for _ in family.threads_of())
+    if part.all == 1:
+        return f"{words} All {count(programs)} programs of each tree were run."
+    words += f" Of the {count(programs)} programs of each tree one in {part.all} was run, in all"
+    return f"{words} {count(len(swept.results))}: those that `--part {part}` draws, by a hash of their names."
 
 
-def greatest(results: list[Result], measure: Callable[[Result], int]) -> str:
-    """The greatest measure, and the first program that has it."""
-    result = max(results, key=measure)
-    return f"{count(measure(result))} (`{result.program}`)"
+def greatest(results: list[Result], measure: Callable[[Result], float]) -> Result:
+    """The result with the greatest measure, the first by its name where there are several."""
+    return max(sorted(results, key=lambda result: result.program), key=measure)
 
 
-def table(heads: list[str], rows: list[list[str]]) -> str:
-    """A table of the page."""
-    lines = [f"| {' | '.join(line)} |" for line in (heads, *rows)]
-    return "\n".join([lines[0], "|---" * len(heads) + "|", *lines[1:]]) + "\n"
+def row(tree: str, results: list[Result]) -> list[str]:
+    """The row of a tree."""
+    verdicts = Counter(result.verdict for result in results)
+    faults = [f"{count(verdicts[kind])} `{kind}`" for kind in FAULTS if verdicts[kind]]
+    answered = [result for result in results if result.verdict != "stopped"] or results
+    largest = greatest(answered, lambda result: result.states)
+    slowest = greatest(results, lambda result: result.seconds)
+    return [
+        f"`{tree}`",
+        count(len(results)),
+        count(verdicts["every"]),
+        ", ".join(faults) or "0",
+        count(verdicts["stopped"]),
+        f"{count(largest.states)} (`{largest.program}`)",
+        count(max(result.steps for result in answered)),
+        f"{slowest.seconds:.2f} (`{slowest.program}`)",
+    ]
 
 
-def published(swept: Swept) -> str:
-    """The table of the trees as published."""
-    rows = []
-    for tree in swept.family.trees:
-        results = swept.of(tree)
-        if tree not in VARIANTS:
-            holding = sum(result.verdict == "every" for result in results)
-            row = [f"`{tree}`", *map(count, (len(results), holding, len(results) - holding))]
-            most = [greatest(results, lambda result: result.states), greatest(results, lambda result: result.steps)]
-            rows.append([*row, *most, count(sum(result.states for result in results))])
-    heads = ["Tree", "Programs", "Every schedule holds", "Fault"]
-    heads += ["Most states", "Most steps to a state", "States of all"]
-    return table(heads, rows) if rows else ""
+def table(swept: Swept) -> str:
+    """The table of a family, with a row for each tree."""
+    heads = ["Tree", "Programs", "Every schedule holds", "Fault", "No answer", "Most states", "Most steps"]
+    rows = [row(tree, swept.of(tree)) for tree in swept.family.trees]
+    lines = [f"| {' | '.join(line)} |" for line in ([*heads, "Most CPU seconds to explore"], *rows)]
+    return "\n".join([lines[0], "|---" * (len(heads) + 1) + "|", *lines[1:]]) + "\n"
 
 
-def variants(swept: Swept) -> str:
-    """The table of the variants, and the smallest programs of each that go wrong."""
-    rows, paragraphs = [], []
-    for tree in swept.family.trees:
-        results = swept.of(tree)
-        wrong = [result for result in results if result.verdict != "every"]
-        if tree in VARIANTS:
-            kinds = Counter(result.verdict for result in wrong)
-            numbers = [len(results), len(results) - len(wrong), len(wrong), *(kinds[kind] for kind in FAULTS)]
-            rows.append([f"`{tree}`", *map(count, numbers)])
-            paragraphs.append(smallest(tree, wrong))
-    heads = ["Variant", "Programs", "Every schedule holds", "Go wrong", *(f"`fault {kind}`" for kind in FAULTS)]
-    return "\n".join([table(heads, rows), *paragraphs]) if rows else ""
+def sums(swept: Swept) -> str:
+    """What a family took, and its digest."""
+    hours = [sum(taken) / 3600 for taken in zip(*((result.seconds_all, result.seconds) for result in swept.results))]
+    words = "It took {:.2g} CPU hours, {:.2g} of them to explore.".format(*hours)
+    return f"{filled(words)}\nDigest: `{digest_of(swept.results)}`\n"
 
 
-def smallest(tree: str, wrong: list[Result]) -> str:
-    """The programs of a variant that go wrong with the fewest operations, of these those with the shortest fault."""
+def picture(result: Result) -> str:
+    """The lanes of a fault, and why its replies have no order."""
+    source, schedule = read_source(result.named.text.encode(), result.program), read_schedule(result.schedule or "")
+    operations = operations_at(walk(source, schedule), len(schedule))
+    finding = [f"fault {result.verdict}"]
+    if result.verdict == "history":
+        finding.append(clash_words(smallest_clash(operations, source.initial), operations, source))
+    title = f"{result.program}, schedule {result.schedule}"
+    run = Run(title, schedule, len(source.threads), operations, [], [], finding)
+    return f"```text\n{text_picture(run, PICTURE)}```\n"
+
+
+def smallest(tree: str, results: list[Result]) -> str:
+    """The programs of a variant that go wrong with the fewest operations, and one of these with the shortest fault."""
+    wrong = [result for result in results if result.verdict in FAULTS]
     if not wrong:
-        return f"No program of the family goes wrong on `{tree}`.\n"
+        return f"None of these programs goes wrong on `{tree}`.\n"
     operations = min(map(operations_in, wrong))
     fewest = [result for result in wrong if operations_in(result) == operations]
     steps = min(result.steps for result in fewest)
     shortest = sorted((result for result in fewest if result.steps == steps), key=lambda result: result.program)
     overall = min(result.steps for result in wrong)
-    go = "programs go" if len(fewest) > 1 else "program goes"
-    words = f"On `{tree}` {count(len(fewest))} {go} wrong with {operations} operations, and none with fewer."
-    words += f" The shortest fault of these takes {steps} steps, in {len(shortest)} of them;"
-    if overall == steps:
-        words += " no program of the family has a shorter one."
-    else:
-        words += f" with more operations there are faults of {overall}."
-    first = shortest[:LISTED]
-    lines = [f"- `{result.program}`: `{result.verdict}`, `{result.schedule}`" for result in first]
-    more = [f"- and {len(shortest) - LISTED} more"] if len(shortest) > LISTED else []
-    return "\n".join([filled(words), *lines, *more, ""])
+    go = "go" if len(fewest) > 1 else "goes"
+    words = f"On `{tree}` {count(len(fewest))} of these programs {go} wrong with {operations} operations, and none with"
+    words += f" fewer. The shortest fault of these takes {steps} steps, in {len(shortest)} of them"
+    words += "; none has a shorter one." if overall == steps else f"; with more operations there are {overall}."
+    return "\n".join([filled(words), picture(shortest[0])])
 
 
 def section(swept: Swept) -> str:
     """What a family came to."""
-    parts = [f"## {title_of(swept.family)}\n", filled(in_words(swept)), published(swept), variants(swept)]
-    return "\n".join(part for part in parts if part)
+    faulty = [smallest(tree, swept.of(tree)) for tree in swept.family.trees if tree in VARIANTS]
+    command = f"    {command_of(swept)}\n"
+    return "\n".join([f"## {title_of(swept)}\n", filled(in_words(swept)), command, table(swept), sums(swept), *faulty])
 
 
-def page(sweeps: list[Swept], notes: list[str], commands: list[str]) -> str:
+def page(sweeps: list[Swept], notes: list[str]) -> str:
     """The whole page."""
-    again = "## Again\n\n" + "\n".join(f"    {command}" for command in commands) + "\n"
-    results = [result for swept in sweeps for result in swept.results]
-    commits = sorted({f"`{result.commit}`" for result in results})
+    commits = sorted({f"`{result.commit}`" for swept in sweeps for result in swept.results})
     sources = f"The sources are those of commit {listed(commits)}."
-    minutes = [sum(taken) / 60 for taken in zip(*((result.seconds_all, result.seconds) for result in results))]
-    times = "One after the other these {} programs took {:.0f} minutes, {:.0f} of them to explore."
-    ending = map(filled, [*notes, times.format(count(len(results)), *minutes)])
-    head = map(filled, [*HEAD, sources])
-    return "\n".join([*head, *map(section, sweeps), *map(filled, LIMITS), again, *ending])
+    blocks = [*map(filled, [*HEAD, sources]), *map(section, sweeps), *map(filled, [*LIMITS, *notes])]
+    return "\n".join(blocks)
 
 
 def write_whole(file: Path, text: str) -> None:
@@ -247,13 +276,18 @@ def write_whole(file: Path, text: str) -> None:
         raise Unusable(f"can't write {file}: {fault.strerror}") from None
 
 
+def folder_of(text: str) -> tuple[Path, Part]:
+    """For argparse: a folder of results, and which part of its family it has."""
+    folder, at, part = text.partition("@")
+    return Path(folder), part_of(part) if at else Part()
+
+
 def read_words() -> argparse.Namespace:
     """The words of the command line."""
     parser = words_of(__doc__)
     parser.add_argument("--note", metavar="TEXT", action="append", default=[], help="how the runs were made")
-    parser.add_argument("--command", metavar="TEXT", action="append", default=[], help="a command that made the files")
     parser.add_argument("--out", metavar="PAGE", type=Path, help="the page, which else is printed")
-    parser.add_argument("results", metavar="RESULTS", type=Path, nargs="+")
+    parser.add_argument("folders", metavar="FOLDER", type=folder_of, nargs="+")
     return parser.parse_args()
 
 
@@ -261,7 +295,7 @@ def main() -> int:
     """Makes the page, and answers the status."""
     words = read_words()
     try:
-        text = page([read_sweep(file) for file in words.results], words.note, words.command)
+        text = page([read_sweep(*folder) for folder in words.folders], words.note)
     except Incomplete as fault:
         print(f"sweep_report: {fault}", file=sys.stderr)
         return WRONG

@@ -4,7 +4,6 @@ Importing this puts the folder of the scripts on the path.
 """
 from __future__ import annotations
 
-import json
 import subprocess
 import sys
 from pathlib import Path
@@ -12,6 +11,8 @@ from pathlib import Path
 SCRIPTS = Path(__file__).resolve().parent.parent
 TOP = SCRIPTS.parent
 sys.path.insert(0, str(SCRIPTS))
+
+from results import Result  # noqa: E402
 
 # A program that says of everything that it holds, and writes a book of two entries where one is asked for. With one
 # state it is refused memory; under the name `lying` its check answers otherwise.
@@ -50,10 +51,10 @@ def stub_program(folder: Path, name: str = "stub") -> Path:
 
 
 def result_line(program: str, **changes: object) -> str:
-    """A line of results, with some members changed, or left out where they are None."""
+    """A whole line of results, with some members changed."""
     values: dict[str, object] = {
         **{"program": program, "verdict": "every", "states": 2, "steps": 1, "checked": True},
         **{"seconds": 0.5, "seconds_all": 1.0, "commit": "c0ffee"},
         **changes,
     }
-    return json.dumps({name: value for name, value in values.items() if value is not None}) + "\n"
+    return Result(**values).line()  # type: ignore[arg-type]

@@ -52,7 +52,7 @@ class Beginnings(unittest.TestCase):
             ("mutate_books.py", "nowhere"),
             ("check_schema.py", "--program", "nowhere"),
             ("check_pages.py", "--program", "nowhere"),
-            ("sweep.py", "--job", "nm::i5", "--program", "nowhere"),
+            ("sweep.py", "--out", "nofolder", "--program", "nowhere"),
         ]:
             with self.subTest(name):
                 ended = run_script(f"scripts/{name}", *words)

@@ -3,12 +3,14 @@ from __future__ import annotations
 
 import tempfile
 import unittest
+from fractions import Fraction
 from pathlib import Path
 
 from script_runs import result_line, run_script
 from book_judge import Program
-from compare_sweep import Explorer, Outcome
-from programs import program_text
+from compare_sweep import Explorer, Outcome, drawn
+from programs import Family, program_text
+from results import Result
 
 
 def outcome(name: str) -> Outcome:
@@ -37,6 +39,11 @@ class Comparisons(unittest.TestCase):
         self.addCleanup(folder.cleanup)
         self.folder = Path(folder.name)
 
+    def results(self, name: str, *lines: str) -> None:
+        """A folder of results."""
+        (self.folder / name).mkdir()
+        (self.folder / name / "1of1.jsonl").write_text("".join(lines), encoding="utf-8")
+
     def compare(self, *words: object) -> tuple[int, str, str]:
         """The status and the outputs of a comparison."""
         ended = run_script("scripts/compare_sweep.py", *words, folder=self.folder)
@@ -45,27 +52,36 @@ class Comparisons(unittest.TestCase):
 
     def test_lines_are_compared(self) -> None:
         right = result_line("atomic::i1:i1", states=5, steps=2)
-        (self.folder / "right.jsonl").write_text(right, encoding="utf-8")
-        self.assertEqual(self.compare("right.jsonl"), (0, "1 programs, 0 differ\n", ""))
-        (self.folder / "wrong.jsonl").write_text(right + right.replace('"states": 5', '"states": 6'), encoding="utf-8")
-        status, out, _ = self.compare("wrong.jsonl")
-        self.assertEqual((status, out.splitlines()[-1]), (1, "2 programs, 1 differ"))
+        self.results("right", right)
+        self.assertEqual(self.compare("right"), (0, "1 programs, 0 differ\n", ""))
+        self.results("wrong", right, result_line("atomic::i1:i1", states=6, steps=2))
+        status, out, _ = self.compare("wrong")
+        self.assertEqual((status, out.splitlines()[1:]), (1, ["2 programs, 1 differ"]))
+        self.assertIn("atomic::i1:i1 every 6 -, after 2 steps, and here Outcome(", out)
 
     def test_lines_without_a_verdict_are_left_out(self) -> None:
-        line = result_line("atomic::i1:i1", verdict="stopped")
-        (self.folder / "stopped.jsonl").write_text(line, encoding="utf-8")
-        status, out, err = self.compare("stopped.jsonl")
+        self.results("stopped", result_line("atomic::i1:i1", verdict="stopped"))
+        status, out, err = self.compare("stopped")
         self.assertEqual((status, out), (1, "0 programs, 0 differ\n"))
         self.assertIn("1 lines without a verdict", err)
 
+    def test_what_is_drawn_rests_on_the_programs_alone(self) -> None:
+        lines = [Result(name, "every", 2, 1, True, 0.0, 0.0) for name in Family(["nm"], ["-"], [5, 10], 2, 2).names()]
+        share = drawn(lines, Fraction(5, 100), 1)
+        self.assertEqual((len(lines), len(share)), (903, 46))
+        self.assertEqual(drawn(lines[::-1], Fraction(5, 100), 1), share)
+        self.assertNotEqual(drawn(lines, Fraction(5, 100), 2), share)
+        self.assertEqual(len(drawn(lines, 2000, 1)), 903)
+
     def test_faults_of_use_are_one_line(self) -> None:
-        (self.folder / "damaged.jsonl").write_text('{"program": 1}\n', encoding="utf-8")
+        self.results("damaged", '{"program": 1}\n')
         faults: list[tuple[list[object], str]] = [
-            (["no.jsonl"], "can't read no.jsonl: No such file"),
-            (["damaged.jsonl"], "damaged.jsonl:1 is no line of results"),
-            (["--processes", "0", "damaged.jsonl"], "'0' is not a number from 1 to 256"),
-            (["--sample", "some", "damaged.jsonl"], "'some' is not a number"),
-            ([], "required: RESULTS"),
+            (["nofolder"], "nofolder has no results"),
+            (["damaged"], "damaged/1of1.jsonl:1 is not whole"),
+            (["--processes", "0", "damaged"], "'0' is not a number from 1 to 256"),
+            (["--sample", "some", "damaged"], "'some' is not a number"),
+            (["--sample", "101%", "damaged"], "'101' is not a number from 1 to 100"),
+            ([], "required: FOLDER"),
         ]
         for words, cause in faults:
             with self.subTest(words):

@@ -80,9 +80,9 @@ class Benchmarks(unittest.TestCase):
         names = [line[:28].strip() for line in ended.stdout.splitlines()]
         rows = ["nm-2x3 by 1", "nm-2x3 by 2", "nm-2x3 names by 1", "nm-2x3 names by 2"]
         self.assertEqual(names, ["program", *rows])
-        ended = run_script("bench/books.py", "--only", "most-nm-2x2", self.binary)
+        ended = run_script("bench/books.py", "--only", "slowest-two-nm", self.binary)
         self.assertEqual((ended.returncode, ended.stderr), (0, ""))
-        self.assertEqual(ended.stdout.splitlines()[1].split()[:2], ["most-nm-2x2", "7"])
+        self.assertEqual(ended.stdout.splitlines()[1].split()[:2], ["slowest-two-nm", "7"])
 
     def test_faults_of_use_are_one_line(self) -> None:
         faults: list[tuple[str, list[object], str]] = [

@@ -6,7 +6,7 @@ import unittest
 
 import script_runs  # noqa: F401  puts the scripts on the path
 from common import Unusable
-from programs import Family, program_text, read_name
+from programs import Family, Part, program_text, read_name
 
 
 def family(**changes: object) -> Family:
@@ -55,29 +55,36 @@ class Families(unittest.TestCase):
         self.assertEqual((len(names), len(set(names))), (4095, 4095))
         self.assertEqual(names[0], "nm::i5:i5")
 
-    def test_each_find_waits_for_an_insert(self) -> None:
-        names = list(family(waits=True).names())
-        self.assertEqual((len(names), len(set(names))), (2034, 2034))
+    def test_one_more_thread_has_a_find_that_waits(self) -> None:
+        names = list(family(waits=True, keys=[5, 10]).names())
+        self.assertEqual((len(names), len(set(names))), (6552, 6552))
         for name in names[::97]:
-            threads = read_name(name).threads
-            waits = [operation.after for thread in threads for operation in thread if operation.word == "find"]
-            self.assertTrue(waits)
-            for wait in waits:
-                assert wait is not None
-                self.assertEqual(threads[wait[0]][wait[1] - 1].word, "insert")
+            *others, last = read_name(name).threads
+            (find,) = last
+            self.assertEqual((len(others), find.word), (2, "find"))
+            assert find.after is not None
+            self.assertLessEqual(find.after[1], len(others[find.after[0]]))
+            self.assertFalse(any(operation.after for thread in others for operation in thread))
 
-    def test_threads_that_wait_are_named_once_whatever_their_order(self) -> None:
-        names = list(family(waits=True, threads=3, most=1).names())
-        self.assertEqual((len(names), len(set(names))), (72, 72))
-        self.assertIn("nm::i5:d10:f5@0.0", names)
-        self.assertNotIn("nm::d10:i5:f5@1.0", names)
+    def test_of_threads_that_are_alike_one_is_waited_for(self) -> None:
+        names = list(family(waits=True, most=1, keys=[5]).names())
+        self.assertIn("nm::i5:i5:f5@0.0", names)
+        self.assertNotIn("nm::i5:i5:f5@1.0", names)
+        self.assertIn("nm::i5:d5:f5@1.0", names)
+
+    def test_each_program_is_in_one_part(self) -> None:
+        there = family()
+        parts = [list(there.names(Part(number, 7))) for number in range(1, 8)]
+        self.assertEqual(sorted(sum(parts, [])), sorted(there.names()))
+        self.assertLess(max(map(len, parts)), 2 * min(map(len, parts)))
+        self.assertEqual(list(family(keys=[5]).names(Part(1, 20))), ["nm::i5:d5,f5", "nm::i5,i5:f5,f5"])
 
     def test_a_family_that_the_program_refuses_is_refused(self) -> None:
         families: list[tuple[dict[str, object], str]] = [
-            ({"threads": 4, "most": 4}, "have 16: a program has at most 12"),
+            ({"threads": 4, "most": 4}, "these are 4 threads and 16 operations: a program has at most 4 threads"),
+            ({"threads": 4, "waits": True}, "these are 5 threads and 9 operations"),
             ({"trees": ["nm", "nm"]}, "stands twice"),
             ({"initials": ["10", "10"]}, "stands twice"),
-            ({"threads": 1, "waits": True}, "needs two threads"),
         ]
         for changes, cause in families:
             with self.subTest(cause), self.assertRaisesRegex(Unusable, cause):

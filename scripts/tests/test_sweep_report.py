@@ -6,7 +6,8 @@ import unittest
 from pathlib import Path
 
 from script_runs import result_line, run_script
-from programs import Family
+from programs import Family, Part
+from results import digest_of, file_of, read_results
 
 
 class Reports(unittest.TestCase):
@@ -19,12 +20,13 @@ class Reports(unittest.TestCase):
         self.page = self.folder / "page.md"
         self.page.write_text("as it was\n", encoding="utf-8")
 
-    def results(self, name: str, family: Family, **changes: object) -> Path:
-        """A file with a line for each program of a family."""
-        file = self.folder / name
-        lines = [result_line(program, **changes) for program in family.names()]
-        file.write_text("".join(lines), encoding="utf-8")
-        return file
+    def results(self, name: str, family: Family, part: Part = Part(), **changes: object) -> Path:
+        """A folder with a line for each program of a part of a family."""
+        folder = self.folder / name
+        folder.mkdir(exist_ok=True)
+        lines = [result_line(program, **changes) for program in family.names(part)]
+        file_of(folder, part).write_text("".join(lines), encoding="utf-8")
+        return folder
 
     def report(self, *words: object) -> tuple[int, str, str]:
         """The status and the outputs of a report."""
@@ -32,62 +34,99 @@ class Reports(unittest.TestCase):
         self.assertNotIn("Traceback", ended.stderr)
         return ended.returncode, ended.stdout, ended.stderr
 
-    def test_a_page_has_each_family_and_the_commit(self) -> None:
-        one = self.results("one.jsonl", Family(["nm", "nm-no-tag"], ["-", "10"], [5], 2, 1))
-        two = self.results("two.jsonl", Family(["nm"], ["-"], [5, 10], 2, 2, True), commit="beefed")
-        words = ["--note", "A note.", "--command", "scripts/sweep.py ..", "--out", self.page, one, two]
-        self.assertEqual(self.report(*words), (0, "", ""))
+    def test_a_page_has_each_family_with_its_command_and_its_digest(self) -> None:
+        one = self.results("one", Family(["nm", "nm-no-tag"], ["-", "10"], [5], 2, 1))
+        two = self.results("two", Family(["nm"], ["-"], [5, 10], 2, 2, True), commit="beefed")
+        self.assertEqual(self.report("--note", "A note.", "--out", self.page, one, two), (0, "", ""))
         text = self.page.read_text(encoding="utf-8")
         for part in [
             "The sources are those of commit `beefed` and `c0ffee`.",
             "## Two threads of one operation\n",
-            "## Two threads of one or two operations, each find waiting for an insert\n",
-            "| `nm` | 12 | 12 | 0 | 2 (`nm::i5:i5`) | 1 (`nm::i5:i5`) | 24 |",
-            "No program of the family goes wrong on `nm-no-tag`.",
-            "    scripts/sweep.py ..\n\nA note.\n",
+            "Key 5; initial lists [] and [10]. All 12 programs of each tree were run.",
+            "    scripts/sweep.py --out one --trees nm nm-no-tag --initial - 10 --keys 5 --threads 2 --most 1\n",
+            "| `nm` | 12 | 12 | 0 | 0 | 2 (`nm:10:d5:d5`) | 1 | 0.50 (`nm:10:d5:d5`) |",
+            f"Digest: `{digest_of(read_results(one))}`\n",
+            "None of these programs goes wrong on `nm-no-tag`.",
+            "## Two threads of one or two operations, and a find that waits\n",
+            "--threads 2 --most 2 --waits\n",
+            "It took 1.8 CPU hours, 0.91 of them to explore.",
+            "\nA note.\n",
         ]:
             self.assertIn(part, text)
         prose = [line for line in text.splitlines() if not line.startswith(("|", "    "))]
         self.assertLessEqual(max(map(len, prose)), 100)
 
-    def test_the_smallest_programs_that_go_wrong_are_shown(self) -> None:
-        file = self.results("one.jsonl", Family(["nm-no-tag"], ["-"], [5], 2, 1))
-        text = file.read_text(encoding="utf-8")
-        wrong = result_line("nm-no-tag::i5:f5", verdict="history", steps=4, schedule="0,1,0,1")
-        file.write_text(text.replace(result_line("nm-no-tag::i5:f5"), wrong), encoding="utf-8")
-        status, out, _ = self.report(file)
+    def test_a_part_is_said_to_be_a_part(self) -> None:
+        family = Family(["nm", "ellen"], ["-"], [5, 10], 2, 2)
+        folder = self.results("part", family, Part(2, 20))
+        status, out, err = self.report(f"{folder}@2/20")
+        self.assertEqual(status, 0, err)
+        self.assertIn("## Two threads of one or two operations: a part\n", out)
+        drawn = len(list(family.names(Part(2, 20))))
+        self.assertIn(f"Of the 903 programs of each tree one in 20 was run, in all {drawn}:", " ".join(out.split()))
+        self.assertIn("--most 2 --part 2/20\n", out)
+        self.assertEqual(self.report(folder)[0], 1)
+        self.assertEqual(self.report(f"{folder}@1/20")[0], 1)
+
+    def test_parts_of_a_family_are_joined(self) -> None:
+        family = Family(["nm"], ["-"], [5, 10], 2, 2)
+        for number in (1, 2, 3):
+            folder = self.results("parts", family, Part(number, 3))
+        whole = self.results("whole", family)
+        self.assertEqual(self.report(folder)[1].replace("--out parts", "--out whole"), self.report(whole)[1])
+
+    def test_programs_without_an_answer_are_counted(self) -> None:
+        folder = self.results("one", Family(["nm"], ["-"], [5], 2, 1), verdict="stopped", states=2000000)
+        status, out, _ = self.report(folder)
         self.assertEqual(status, 0)
-        self.assertIn("On `nm-no-tag` 1 program goes wrong with 2 operations, and none with fewer.", out)
-        self.assertIn("- `nm-no-tag::i5:f5`: `history`, `0,1,0,1`", out)
+        self.assertIn("| `nm` | 6 | 0 | 0 | 6 |", out)
+
+    def test_the_smallest_programs_that_go_wrong_are_shown(self) -> None:
+        name, schedule = "ellen-no-mark:10:d10:i5,f5", "0,0,0,0,0,0,0,1,1,0,1,1,1,1,1,1,1"
+        folder = self.results("one", Family(["ellen-no-mark"], ["10"], [5, 10], 2, 2))
+        file = folder / "1of1.jsonl"
+        wrong = result_line(name, verdict="history", steps=17, schedule=schedule)
+        file.write_text(file.read_text(encoding="utf-8").replace(result_line(name), wrong), encoding="utf-8")
+        status, out, _ = self.report(folder)
+        self.assertEqual(status, 0)
+        self.assertIn("On `ellen-no-mark` 1 of these programs goes wrong with 3 operations, and none with fewer.", out)
+        self.assertIn("| 902 | 1 `history` | 0 |", out)
+        self.assertIn("thread 1                |x-x---x-x-x-x-x|x-x|\n", out)
+        self.assertIn("No order explains these replies: `1.0 insert 5` replied true;", out)
 
     def test_an_incomplete_family_leaves_the_page_as_it_is(self) -> None:
         family = Family(["nm"], ["-"], [5], 2, 1)
-        whole = self.results("whole.jsonl", family).read_text(encoding="utf-8")
+        folder = self.results("one", family)
+        whole = (folder / "1of1.jsonl").read_text(encoding="utf-8")
         first, rest = whole.split("\n", 1)
         for text, cause, status in [
             (rest, "1 programs of the family have no line", 1),
             (f"{first}\n{whole}", "1 have more than one", 1),
             (whole + result_line("nm:10:i5:i5"), "programs of the family have no line", 1),
-            (whole.replace('"checked": true', '"checked": false', 1), "was not judged anew, or judged otherwise", 1),
-            (whole.replace('"every"', '"stopped"', 1), "was not judged anew", 1),
-            (whole.replace(', "commit": "c0ffee"', "", 1), "names no commit", 1),
-            ("", "has no line", 1),
-            ("nonsense\n", "is no line of results: no JSON", 2),
+            (result_line("nm::i5:i5", checked=False) + rest, "was not judged anew, or judged otherwise", 1),
+            (result_line("nm::i5:i5", verdict="holds") + rest, "was not judged anew", 1),
+            (result_line("nm::i5:i5", commit=None) + rest, "names no commit", 1),
+            (whole.replace('"states": 2', '"states": 3', 1), "1of1.jsonl:1 is not whole", 2),
         ]:
-            file = self.folder / "results.jsonl"
-            file.write_text(text, encoding="utf-8")
+            (folder / "1of1.jsonl").write_text(text, encoding="utf-8")
             with self.subTest(cause):
-                ended = self.report("--out", self.page, file)
+                ended = self.report("--out", self.page, folder)
                 self.assertEqual((ended[0], ended[1], len(ended[2].splitlines())), (status, "", 1), ended[2])
                 self.assertIn(cause, ended[2])
                 self.assertEqual(self.page.read_text(encoding="utf-8"), "as it was\n")
 
-    def test_a_file_that_is_not_there_is_one_line(self) -> None:
-        cause = "sweep_report: can't read no.jsonl: No such file or directory\n"
-        self.assertEqual(self.report("no.jsonl"), (2, "", cause))
-        file = self.results("one.jsonl", Family(["nm"], ["-"], [5], 2, 1))
-        status, _, err = self.report("--out", "nodir/page.md", file)
-        self.assertEqual((status, err), (2, "sweep_report: can't write nodir/page.md: No such file or directory\n"))
+    def test_faults_of_use_are_one_line(self) -> None:
+        folder = self.results("one", Family(["nm"], ["-"], [5], 2, 1))
+        (self.folder / "empty").mkdir()
+        faults: list[tuple[list[object], str]] = [
+            (["nofolder"], "nofolder has no results: sweep.py --out writes such a folder"),
+            (["empty"], "empty has no results: sweep.py --out writes such a folder"),
+            ([f"{folder}@3"], "argument FOLDER: '3' is no part, as 1/8 or 8/8 (--help shows the use)"),
+            (["--out", "nodir/page.md", folder], "can't write nodir/page.md: No such file or directory"),
+        ]
+        for words, cause in faults:
+            with self.subTest(cause):
+                self.assertEqual(self.report(*words), (2, "", f"sweep_report: {cause}\n"))
 
 
 if __name__ == "__main__":
