@@ -1,16 +1,20 @@
 -- Few cells met, by the numbers that refer to them.
-use Rattle.std.proofs.Common.{◌≡◌, ℕ, zero, suc, ◌+◌, ◌-◌, ◌<◌, ◌≤◌, List, [], ◌∷◌, ◌++◌, map, length, refl, sym, ◌∙◌}
-use Rattle.std.proofs.Common.{ap, subst, arith, get_or, set, take, length-append}
+use Rattle.std.proofs.Common.{◌≡◌, ℕ, zero, suc, ◌+◌, ◌-◌, ◌<◌, List, [], ◌∷◌, ◌++◌, map, length, refl, sym, ◌∙◌}
+use Rattle.std.proofs.Common.{ap, subst, arith, false, true, get_or, not, set, take, length-append}
 use Rattle.std.specs.Prelude.{slice_get, replicate, Some, None, nat_eq}
-use Rattle.std.specs.List.{All, IsDistinct}
+use Rattle.std.specs.List.{All, IsDistinct, list_any}
 use Rattle.std.specs.Option.{option_map}
 use Rattle.std.proofs.lemmas.List.{length-map}
 use Rattle.tree_machine.specs.Cells.{met, place_in, HasPlaces}
 use Rattle.tree_machine.specs.Numbered.{referred_to, HasNumbers}
 use Rattle.tree_machine.specs.declared.numbering.Numbering.{Numbering}
 use Rattle.std.proofs.lemmas.List.Elements.{All-append, All-from_recursion, recursion_from_All}
-use Rattle.tree_machine.specs.Laws.CellOrder.{IsOrder, all_has, met_order, length-order}
-use Rattle.tree_machine.proofs.Numbers.{met_new, met_present, place_seen, places_push}
+use Rattle.tree_machine.specs.Laws.CellOrder.{Has, IsOrder, all_has, met_has, met_order, length-order}
+use Rattle.tree_machine.specs.Laws.CellPlaces.{place_from_has}
+use Rattle.tree_machine.specs.Laws.CellSteps.{is_other}
+use Rattle.std.proofs.lemmas.Option.{slice_get-get_or}
+use Rattle.tree_machine.proofs.Numbers.{met_new, met_present, place_absent, place_seen, places_push}
+use Rattle.tree_machine.proofs.Queued.{is_false}
 use Rattle.tree_machine.proofs.Passes.{place_below}
 
 none_at : (n x : ℕ) → x < length (map referred_to (replicate n 0))
@@ -61,6 +65,27 @@ pub number_seen : (order numbers : List ℕ) (x r : ℕ) → HasNumbers order nu
 number_seen order numbers x r h l e some =
     place_seen order (map referred_to numbers) x (r - 1) (referred_to r) h (within numbers x l)
     (ap referred_to e ∙ sym (get_map numbers x r)) (referred_some r some)
+
+-- a cell has a number exactly where it was met
+pub has_number : (order numbers : List ℕ) (x r : ℕ) → HasNumbers order numbers → x < length numbers
+    → r ≡ get_or numbers x r → not (nat_eq r 0) ≡ list_any (nat_eq x) order
+has_number order numbers x zero h l e =
+    let none = place_absent order (map referred_to numbers) x None h (within numbers x l)
+    (ap referred_to e ∙ sym (get_map numbers x 0)) refl in
+    sym (is_false (list_any (nat_eq x) order) (λ g. let k = place_from_has order x g in
+    let two : None ≡ Some k.0 = sym none ∙ k.1 in cc))
+has_number order numbers x (suc r) h l e =
+    ap not (is_other (suc r) 0 (λ e. omega (arith, e)))
+    ∙ sym (subst (λ o. Has o x) (sym (number_met order numbers x (suc r) h l e (omega arith))) (met_has order x))
+
+-- else its number is 0
+pub no_number : (numbers : List ℕ) (x r : ℕ) → x < length numbers → r ≡ get_or numbers x r → not (nat_eq r 0) ≡ false
+    → slice_get numbers x ≡ Some 0
+no_number numbers x zero l e h = slice_get-get_or numbers x 0 l ∙ ap Some (sym e)
+no_number numbers x (suc r) l e h =
+    let some : not (nat_eq (suc r) 0) ≡ not false = ap not (is_other (suc r) 0 (λ e. omega (arith, e))) in
+    let both : true ≡ false = sym some ∙ h in
+    cc
 
 abbrev zeros : ℕ → List ℕ
 zeros n = replicate n 0

@@ -1,9 +1,9 @@
 -- Cells met one after the other, and a part in the pieces in which it is written.
 use Rattle.std.proofs.Common.{◌≡◌, ℕ, ◌+◌, ◌<◌, ◌⊎◌, true, false, cond, ◌||◌, List, [], ◌∷◌}
 use Rattle.std.proofs.Common.{◌++◌, map, length, refl, sym, ◌∙◌, ap, inl, inr, arith, append_assoc}
-use Rattle.std.proofs.Common.{length-append, take, get_or, add-one}
-use Rattle.std.specs.Prelude.{Option, Some, None, nat_eq, slice_get}
-use Rattle.std.specs.List.{All, AllByRecursion, IsDistinct, list_any, flat_map}
+use Rattle.std.proofs.Common.{length-append}
+use Rattle.std.specs.Prelude.{Option, Some, None, nat_eq}
+use Rattle.std.specs.List.{All, AllByRecursion, list_any, flat_map}
 use Rattle.std.specs.Option.{option_map, option_and_then}
 use Rattle.std.proofs.lemmas.Bool.Decides.{eqb_tells}
 use Rattle.std.proofs.lemmas.Grind.{flat_map-append}
@@ -18,13 +18,8 @@ use Rattle.tree_machine.specs.Graphs.{numbers_from}
 use Rattle.tree_machine.specs.Laws.Graphs.{numbers_more}
 use Rattle.tree_machine.specs.Laws.CellLists.{numbers_all}
 use Rattle.tree_machine.specs.Flat.{number_code, reference_number, facts_code, cell_code, part_content}
+use Rattle.tree_machine.specs.Walked.{Walked, with_visit}
 use Rattle.tree_machine.specs.Written.{name_code}
-use Rattle.tree_machine.specs.Laws.CellSteps.{same_tests}
-use Rattle.tree_machine.specs.Laws.CellSteps.{is_other}
-use Rattle.tree_machine.proofs.Ranked.{is_false, not_before}
-use Rattle.tree_machine.proofs.Lists.{take_at}
-use Rattle.std.proofs.lemmas.List.Folds.{list_any-append}
-use Rattle.std.proofs.lemmas.Option.{slice_get-get_or}
 
 -- ---- a range of cells
 
@@ -48,39 +43,6 @@ run_next old first i h =
     (fresh (first + i) (old ++ numbers_from first i) (recursion_from_All _ _ before))
     ∙ (append_assoc old (numbers_from first i) ((first + i) ∷ []) ∙ ap (λ l. old ++ l) (sym (numbers_more first i)))
 
-pub raised_by_none : (xs : List ℕ) → map (λ x. 0 + x) xs ≡ xs
-raised_by_none [] = refl
-raised_by_none (x ∷ xs) = let same : 0 + x ≡ x = omega arith in λ i. same i ∷ raised_by_none xs i
-
--- a list of distinct cells, all raised and behind all that are met, is met cell by cell
-pub raised_next : (old xs : List ℕ) (first n d : ℕ) → IsDistinct nat_eq xs → All (λ x. x < first) old → n < length xs
-    → met (old ++ map (λ x. first + x) (take n xs)) (first + get_or xs n d)
-    ≡ old ++ map (λ x. first + x) (take (n + 1) xs)
-raised_next old xs first n d distinct h l =
-    let before = map (λ x. first + x) (take n xs) in
-    let x = get_or xs n d in
-    let at : slice_get xs n ≡ Some x = slice_get-get_or xs n d l in
-    let apart : list_any (nat_eq (first + x)) (old ++ before) ≡ false =
-    list_any-append (nat_eq (first + x)) old before
-    ∙ (λ i. above old (recursion_from_All _ old h) i || list_any (nat_eq (first + x)) before)
-    ∙ raised (take n xs) ∙ is_false _ (not_before xs distinct n x at) in
-    ap (λ t. cond t (old ++ before) ((old ++ before) ++ (first + x) ∷ [])) apart
-    ∙ append_assoc old before ((first + x) ∷ [])
-    ∙ ap (λ l. old ++ l) (sym (map-append (λ x. first + x) (take n xs) (x ∷ [])))
-    ∙ ap (λ l. old ++ map (λ x. first + x) l) (sym (take_at xs n x at) ∙ ap (λ k. take k xs) (sym (add-one n)))
-  where
-    above : (zs : List ℕ) → AllByRecursion (λ x. x < first) zs → list_any (nat_eq (first + get_or xs n d)) zs ≡ false
-    above [] g = refl
-    above (z ∷ zs) g =
-        let less : z < first = g.0 in
-        (λ i. is_other (first + get_or xs n d) z (λ e. omega arith) i || above zs g.1 i)
-
-    raised : (zs : List ℕ) → list_any (nat_eq (first + get_or xs n d)) (map (λ x. first + x) zs)
-        ≡ list_any (nat_eq (get_or xs n d)) zs
-    raised [] = refl
-    raised (z ∷ zs) = λ i. same_tests (first + get_or xs n d) (get_or xs n d) (first + z) z
-        ((λ e. omega (arith, e)), (λ e. ap (λ k. first + k) e)) i || raised zs i
-
 -- ---- cells that are met one after the other
 
 pub met_all_append : (order : List ℕ) (refs sefs : List (Option ℕ))
@@ -98,12 +60,6 @@ pub place_below : (order : List ℕ) (x k : ℕ) → place_in order x ≡ Some k
 place_below order x k e = slice_get_within order k x (get_place order x k e)
 
 -- ---- a cell in bytes, piece by piece
-
-pub shifted_by_none : (refs : List (Option ℕ)) → shifted 0 refs ≡ refs
-shifted_by_none [] = refl
-shifted_by_none (None ∷ refs) = ap (λ l. None ∷ l) (shifted_by_none refs)
-shifted_by_none (Some x ∷ refs) =
-    let e : 0 + x ≡ x = omega arith in ap (λ y. Some y ∷ shifted 0 refs) e ∙ ap (λ l. Some x ∷ l) (shifted_by_none refs)
 
 -- the places of refs, in bytes
 abbrev places_code : List ℕ → List (Option ℕ) → List ℕ
@@ -187,14 +143,19 @@ part_written named facts nodes records stack node_order record_order b c e f g i
     ∙ ap (λ k. b ++ facts_code (k ∷ facts) (length (node_names ++ record_names))) (sym node_count)) all
 
 -- three lists are met one after the other
-pub lists_met : (order first second third : List ℕ) (n : ℕ) (nodes records : List (Option ℕ)) (stack : List ℕ)
-    → first ≡ met_all order (shifted 0 nodes) → second ≡ met_all first (shifted n records)
-    → third ≡ met_all second (shifted n (map Some stack))
-    → third ≡ met_all order (nodes ++ shifted n (records ++ map Some stack))
-lists_met order first second third n nodes records stack e f g =
+pub lists_met : (w a b c : Walked) (nodes records : List (Option ℕ)) (facts stack : List ℕ)
+    → a ≡ record w { order = met_all w.order nodes }
+    → b ≡ record a { order = met_all a.order (shifted a.nodes records) }
+    → c ≡ record b { order = met_all b.order (shifted b.nodes (map Some stack)) }
+    → c ≡ with_visit w (record { facts = facts; nodes = nodes; records = records ++ map Some stack })
+lists_met w a b c nodes records facts stack e f g =
+    let n = w.nodes in
     let more = map Some stack in
-    let apart = map-append (option_map (λ x. n + x)) records more in
-    let nodes_met : first ≡ met_all order nodes = e ∙ ap (met_all order) (shifted_by_none nodes) in
-    g ∙ ap (λ o. met_all o (shifted n more)) f ∙ sym (met_all_append first (shifted n records) (shifted n more))
-    ∙ ap (met_all first) (sym apart) ∙ ap (λ o. met_all o (shifted n (records ++ more))) nodes_met
-    ∙ sym (met_all_append order nodes (shifted n (records ++ more)))
+    let first = met_all w.order nodes in
+    g
+    ∙ ap (λ (o : Walked). record o { order = met_all o.order (shifted o.nodes more) })
+    (f ∙ ap (λ (o : Walked). record o { order = met_all o.order (shifted o.nodes records) }) e)
+    ∙ ap (λ o. record w { order = o })
+    (sym (met_all_append first (shifted n records) (shifted n more))
+    ∙ ap (met_all first) (sym (map-append (option_map (λ x. n + x)) records more))
+    ∙ sym (met_all_append w.order nodes (shifted n (records ++ more))))

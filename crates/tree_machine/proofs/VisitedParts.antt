@@ -59,16 +59,13 @@ is_written w n r node_order record_order bytes more p v e =
     λ i. record { nodes = n; records = r; node_order = node_order; record_order = record_order; bytes = e i } in
     there ∙ ap (λ (o : Written). with_part o p) v
 
--- what a walk has met once it visited a part
-pub is_visited : (w : Walked) (n r cells count : ℕ) (order after : List ℕ) (p : Part)
-    → record { nodes = n; records = r; cells = cells; order = order } ≡ w
-    → after ≡ met_all order (part_cell n p).refs → count ≡ cells
-    → record { nodes = n; records = r; cells = count; order = after } ≡ with_visit w p
-is_visited w n r cells count order after p v e l =
-    let there : record { nodes = n; records = r; cells = count; order = after }
-    ≡ with_visit (record { nodes = n; records = r; cells = cells; order = order }) p =
-    λ i. record { nodes = n; records = r; cells = l i; order = e i } in
-    there ∙ ap (λ (o : Walked). with_visit o p) v
+-- what a walk has met once it met more
+pub is_met : (f : Walked → List ℕ) (w : Walked) (n r h : ℕ) (order after : List ℕ)
+    → record { nodes = n; records = r; held = h; order = order } ≡ w
+    → after ≡ f (record { nodes = n; records = r; held = h; order = order })
+    → record { nodes = n; records = r; held = h; order = after } ≡ record w { order = f w }
+is_met f w n r h order after v e =
+    (λ i. record { nodes = n; records = r; held = h; order = e i }) ∙ ap (λ (o : Walked). record o { order = f o }) v
 
 -- a walk that visited the part at a place of its order made a visit
 pub walk_visited : (old new : Walked) (cells : List Content) (roots : List ℕ) (n x nodes : ℕ) (p : Part)

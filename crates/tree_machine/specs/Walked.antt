@@ -3,11 +3,11 @@ use Rattle.std.specs.Prelude.{ℕ, List}
 use Rattle.tree_machine.specs.Cells.{met_all}
 use Rattle.tree_machine.specs.Parts.{Part, part_cell}
 
--- how many nodes and records there are, how many cells there are in all, and those met, in the order met
+-- how many nodes, records and threads there are, and the cells met, in the order met
 pub record Walked : Type 0 where
   pub nodes : ℕ
   pub records : ℕ
-  pub cells : ℕ
+  pub held : ℕ
   pub order : List ℕ
 
 -- the same once a part is visited: what it names is met

@@ -8,7 +8,7 @@ use crate::bytes::Bytes;
 use crate::coded::put_deeds;
 use crate::names::Names;
 use crate::number::put_number;
-use crate::numbering::{Numbering, Own};
+use crate::numbering::Own;
 use crate::state::Thread;
 use sched_program::OutOfMemory;
 use std::alloc::Global;
@@ -19,8 +19,8 @@ use std::marker::Model;
 #[derive(Drop)]
 pub struct EncodeBuffer {
     pub(crate) bytes: Vec<u8>,
-    /// The cells that the last walk met, and the canonical numbers.
-    pub(crate) met: Numbering,
+    /// The queue of the last walk, and the canonical numbers.
+    pub(crate) queue: Vec<u8>,
     pub(crate) names: Names,
     pub(crate) own: Own,
 }
@@ -40,7 +40,7 @@ impl EncodeBuffer {
     {
         EncodeBuffer {
             bytes: Vec::new(alloc),
-            met: Numbering::none(alloc),
+            queue: Vec::new(alloc),
             names: Names::none(alloc),
             own: Own::none(alloc),
         }

@@ -1,6 +1,5 @@
 //! The numbers by which bytes name nodes and records, each like apart.
 ghost use Rattle.std.specs.Prelude.{◌≡◌, ◌≤◌, [], length, IfOk};
-ghost use Rattle.tree_machine.specs.Canonical.{nodes_met, records_met};
 ghost use Rattle.tree_machine.specs.Graphs.{numbers_from};
 
 use crate::numbering::Numbering;
@@ -21,26 +20,6 @@ impl Names {
             nodes: Numbering::none(alloc),
             records: Numbering::none(alloc),
         }
-    }
-
-    /// Numbers so many nodes and, behind them, so many records in the order in which a walk met them. It uses the
-    /// buffers of these names.
-    pub(crate) fn ranked(
-        self,
-        met: &Numbering,
-        nodes: usize,
-        records: usize,
-    ) -> Result<Names, OutOfMemory>
-        ensures nodes { IfOk result (λ names. names.nodes.order.items ≡ nodes_met nodes met.now.order.items) }
-        ensures records { IfOk result (λ names. names.records.order.items
-            ≡ records_met nodes records met.now.order.items) }
-        ensures all_nodes { IfOk result (λ names. length names.nodes.numbers.items ≡ nodes) }
-        ensures all_records { IfOk result (λ names. length names.records.numbers.items ≡ records) }
-    {
-        Ok(Names {
-            nodes: self.nodes.ranked(met, 0, nodes)?,
-            records: self.records.ranked(met, nodes, records)?,
-        })
     }
 
     /// Numbers the first of so many nodes and records, each by its own number. It uses the buffers of these names.

@@ -1,9 +1,8 @@
 //! The numbers by which bytes name cells: each cell's own, or its place in the order in which a walk meets cells.
-ghost use Rattle.std.specs.Prelude.{◌≡◌, ◌<◌, ◌≤◌, ◌+◌, ◌++◌, [], Some, length, map, slice_get, vec_capacity};
+ghost use Rattle.std.specs.Prelude.{◌≡◌, ◌<◌, ◌≤◌, ◌+◌, ◌++◌, false, [], Some, length, slice_get, vec_capacity};
 ghost use Rattle.std.specs.Prelude.{IfOk, nat_eq};
-ghost use Rattle.std.specs.List.{All, IsDistinct};
+ghost use Rattle.std.specs.List.{All, IsDistinct, list_any};
 ghost use Rattle.std.proofs.Props.{props};
-ghost use Rattle.tree_machine.specs.Canonical.{records_met};
 ghost use Rattle.tree_machine.specs.Cells.{met, place_in};
 ghost use Rattle.tree_machine.specs.Flat.{reference_number};
 ghost use Rattle.tree_machine.specs.Graphs.{numbers_from};
@@ -14,7 +13,7 @@ use sched_program::OutOfMemory;
 use std::alloc::Global;
 
 /// Bytes name fewer cells than this, so that the number of each, one more than its place, is one byte below 255.
-const CELLS_BELOW: usize = 254;
+pub(crate) const CELLS_BELOW: usize = 254;
 
 /// Cells in an order, and the number of each cell: one more than its place in that order, or 0 where it has none. There
 /// is room for the whole order from the beginning.
@@ -61,9 +60,19 @@ impl Numbering {
         Ok(Numbering { order, numbers })
     }
 
+    /// Whether a cell has a number.
+    #[inline(always)]
+    pub(crate) fn has(&self, cell: usize) -> bool
+        requires { cell < length self.now.numbers.items }
+        ensures has { result ≡ list_any (nat_eq cell) self.now.order.items }
+        ensures absent { result ≡ false → slice_get self.now.numbers.items cell ≡ Some 0 }
+    {
+        self.numbers[cell] != 0
+    }
+
     /// Gives a cell that has no number the next one.
     #[inline(always)]
-    fn assign(&mut self, cell: usize)
+    pub(crate) fn assign(&mut self, cell: usize)
         requires known { cell < length self.old.numbers.items }
         requires absent { slice_get self.old.numbers.items cell ≡ Some 0 }
         ensures order { self.new.order.items ≡ met self.old.order.items cell }
@@ -76,12 +85,12 @@ impl Numbering {
 
     /// Puts a cell at the end of the order, unless it stands there.
     #[inline(always)]
-    pub(crate) fn meet(&mut self, cell: usize)
+    fn meet(&mut self, cell: usize)
         requires { cell < length self.old.numbers.items }
         ensures order { self.new.order.items ≡ met self.old.order.items cell }
         ensures cells { length self.new.numbers.items ≡ length self.old.numbers.items }
     {
-        if self.numbers[cell] == 0 {
+        if !self.has(cell) {
             self.assign(cell);
         }
     }
@@ -98,45 +107,11 @@ impl Numbering {
         }
     }
 
-    /// Meets the cells of another order, each raised by `first`, behind those met before, all of which are below
-    /// `first`.
-    pub(crate) fn meet_raised(&mut self, first: usize, order: &Numbering)
-        requires within { first + length order.now.numbers.items ≤ length self.old.numbers.items }
-        requires behind { All (λ x. x < first) self.old.order.items }
-        ensures order { self.new.order.items ≡ self.old.order.items ++ map (λ x. first + x) order.now.order.items }
-        ensures cells { length self.new.numbers.items ≡ length self.old.numbers.items }
+    /// The cells, in their order.
+    pub(crate) fn as_slice(&self) -> &[u8]
+        ensures { result.now ≡ self.now.order.items }
     {
-        for place in 0..order.order.len() {
-            self.meet(first + usize::from(order.order[place]));
-        }
-    }
-
-    /// Numbers `count` cells from `low` on, each by how far it stands behind `low`, in the order in which they were
-    /// met.
-    pub(crate) fn ranked(
-        self,
-        met: &Numbering,
-        low: usize,
-        count: usize,
-    ) -> Result<Numbering, OutOfMemory>
-        ensures order { IfOk result (λ n. n.order.items ≡ records_met low count met.now.order.items) }
-        ensures cells { IfOk result (λ n. length n.numbers.items ≡ count) }
-    {
-        let mut ranked = self.restarted(count)?;
-        for place in 0..met.order.len() {
-            let cell = usize::from(met.order[place]);
-            if low <= cell && cell - low < count {
-                ranked.meet(cell - low);
-            }
-        }
-        Ok(ranked)
-    }
-
-    /// How many cells there are.
-    pub(crate) fn cells(&self) -> usize
-        ensures { result ≡ length self.now.numbers.items }
-    {
-        self.numbers.len()
+        self.order.as_slice()
     }
 
     /// How many cells the order has.

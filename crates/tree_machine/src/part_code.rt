@@ -13,7 +13,7 @@ use crate::encode_buffer::EncodeBuffer;
 use crate::front::Front;
 use crate::names::Names;
 use crate::naming::Naming;
-use crate::numbering::{Numbering, Own};
+use crate::numbering::Own;
 use crate::part_walks::{front_names, names_behind};
 use crate::parts::Parts;
 use crate::writer::Writer;
@@ -244,12 +244,12 @@ fn write_canonical<P: Parts>(
     requires { ArePartsInRange fixed (P.parts parts.now) }
     ensures { OnOk result (buffer.new ≡ buffer.old ++ canonical_code fixed (P.parts parts.now)) }
 {
-    let met = replace(&mut buffer.met, Numbering::none(alloc));
+    let queue = replace(&mut buffer.queue, Vec::new(alloc));
     let names = replace(&mut buffer.names, Names::none(alloc));
-    let (met, names) = front_names(parts, fixed, met, names)?;
+    let (queue, names) = front_names(parts, fixed, queue, names)?;
     let front_nodes = names.nodes.len();
     let front_records = names.records.len();
-    let (met, names) = names_behind(parts, fixed, met, names)?;
+    let (queue, names) = names_behind(parts, fixed, queue, names)?;
     let bytes = replace(&mut buffer.bytes, Vec::new(alloc));
     let nodes = parts.node_count();
     let records = parts.record_count();
@@ -261,7 +261,7 @@ fn write_canonical<P: Parts>(
     write_graph(parts, places, &mut writer)?;
     write_behind_front(parts, front_nodes, front_records, &mut writer)?;
     buffer.bytes = writer.into_bytes();
-    buffer.met = met;
+    buffer.queue = queue;
     buffer.names = names;
     Ok(())
 }
@@ -287,15 +287,15 @@ fn write_canonical_behind<P: Parts>(
     if front_nodes == nodes && front_records == records {
         return write_own_held(alloc, parts, buffer);
     }
-    let met = replace(&mut buffer.met, Numbering::none(alloc));
+    let queue = replace(&mut buffer.queue, Vec::new(alloc));
     let names = replace(&mut buffer.names, Names::none(alloc));
     let names = names.first(front_nodes, front_records, nodes, records)?;
-    let (met, names) = names_behind(parts, fixed, met, names)?;
+    let (queue, names) = names_behind(parts, fixed, queue, names)?;
     let bytes = replace(&mut buffer.bytes, Vec::new(alloc));
     let mut writer = Writer::behind(&names.nodes, &names.records, bytes, nodes, records);
     write_behind_front(parts, front_nodes, front_records, &mut writer)?;
     buffer.bytes = writer.into_bytes();
-    buffer.met = met;
+    buffer.queue = queue;
     buffer.names = names;
     Ok(())
 }

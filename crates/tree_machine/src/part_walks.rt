@@ -1,41 +1,56 @@
 //! Walks that number nodes and records: first all that the fixed nodes lead to, then what the threads lead to besides.
-ghost use Rattle.std.specs.Prelude.{◌≡◌, ◌≤◌, ◌++◌, ℕ, length, IfOk, OnOk};
+ghost use Rattle.std.specs.Prelude.{◌≡◌, ◌≤◌, ◌++◌, ℕ, length, IfOk};
 ghost use Rattle.tree_machine.specs.Canonical.{front_nodes, front_records, met_nodes, met_records};
-ghost use Rattle.tree_machine.specs.Cells.{order_of, IsRooted};
+ghost use Rattle.tree_machine.specs.Canonical.{nodes_met, records_met};
+ghost use Rattle.tree_machine.specs.Cells.{met_in, order_of, IsRooted};
 ghost use Rattle.tree_machine.specs.Parts.{parts_graph, parts_held, ArePartsInRange};
 
 use crate::names::Names;
-use crate::numbering::Numbering;
 use crate::parts::{Parts, visit_cell};
 use crate::walk::Walk;
 use sched_program::OutOfMemory;
 
-/// Visits the cells that a walk met, in the order met, until all that they lead to is met.
-fn walk_all<P: Parts>(parts: &P, walk: &mut Walk) -> Result<(), OutOfMemory>
+/// Visits the cells that a walk met, in the order met, until all that they lead to is met, and returns the memory of
+/// the queue with the numbers. The first of them need no visit, as many as `start`: what they name is met.
+fn walk_all<P: Parts>(
+    parts: &P,
+    start: usize,
+    mut walk: Walk,
+) -> Result<(Vec<u8>, Names), OutOfMemory>
     requires in_range { (fixed : ℕ) × ArePartsInRange fixed (P.parts parts.now) }
-    requires rooted { IsRooted (parts_graph (P.parts parts.now) ++ parts_held (P.parts parts.now)) walk.old.order }
-    requires nodes { walk.old.nodes ≡ length (P.parts parts.now).nodes }
-    requires records { walk.old.records ≡ length (P.parts parts.now).records }
-    requires cells { walk.old.cells ≡ length (parts_graph (P.parts parts.now) ++ parts_held (P.parts parts.now)) }
-    ensures order { OnOk result (walk.new.order
-        ≡ order_of (parts_graph (P.parts parts.now) ++ parts_held (P.parts parts.now)) walk.old.order) }
+    requires rooted { IsRooted (parts_graph (P.parts parts.now) ++ parts_held (P.parts parts.now)) walk.order }
+    requires nodes { walk.nodes ≡ length (P.parts parts.now).nodes }
+    requires records { walk.records ≡ length (P.parts parts.now).records }
+    requires held { walk.held ≡ length (P.parts parts.now).held }
+    requires visited { met_in (parts_graph (P.parts parts.now) ++ parts_held (P.parts parts.now)) walk.order start
+        ≡ walk.order }
+    ensures nodes { IfOk result (λ named. named.1.nodes.order.items
+        ≡ nodes_met (length (P.parts parts.now).nodes)
+        (order_of (parts_graph (P.parts parts.now) ++ parts_held (P.parts parts.now)) walk.order)) }
+    ensures records { IfOk result (λ named. named.1.records.order.items
+        ≡ records_met (length (P.parts parts.now).nodes) (length (P.parts parts.now).records)
+        (order_of (parts_graph (P.parts parts.now) ++ parts_held (P.parts parts.now)) walk.order)) }
+    ensures all_nodes { IfOk result (λ named.
+        length named.1.nodes.numbers.items ≡ length (P.parts parts.now).nodes) }
+    ensures all_records { IfOk result (λ named.
+        length named.1.records.numbers.items ≡ length (P.parts parts.now).records) }
 {
-    for visits in 0..walk.cells() {
+    for visits in start..walk.cells() {
         match walk.cell_at(visits) {
-            Some(cell) => visit_cell(parts, cell, walk)?,
+            Some(cell) => visit_cell(parts, cell, &mut walk)?,
             None => break,
         }
     }
-    Ok(())
+    Ok(walk.into_names())
 }
 
-/// Numbers what the fixed nodes lead to, and returns the buffer of the walk with the numbers.
+/// Numbers what the fixed nodes lead to, and returns the memory of the queue with the numbers.
 pub(crate) fn front_names<P: Parts>(
     parts: &P,
     fixed: usize,
-    met: Numbering,
+    queue: Vec<u8>,
     names: Names,
-) -> Result<(Numbering, Names), OutOfMemory>
+) -> Result<(Vec<u8>, Names), OutOfMemory>
     requires { ArePartsInRange fixed (P.parts parts.now) }
     ensures nodes { IfOk result (λ named. named.1.nodes.order.items ≡ front_nodes fixed (P.parts parts.now)) }
     ensures records { IfOk result (λ named. named.1.records.order.items ≡ front_records fixed (P.parts parts.now)) }
@@ -44,23 +59,19 @@ pub(crate) fn front_names<P: Parts>(
     ensures all_records { IfOk result (λ named.
         length named.1.records.numbers.items ≡ length (P.parts parts.now).records) }
 {
-    let nodes = parts.node_count();
-    let records = parts.record_count();
-    let mut walk = Walk::fixed(met, fixed, nodes, records, parts.held_count())?;
-    walk_all(parts, &mut walk)?;
-    let met = walk.into_met();
-    let names = names.ranked(&met, nodes, records)?;
-    Ok((met, names))
+    let names = names.first(fixed, 0, parts.node_count(), parts.record_count())?;
+    let walk = Walk::of(parts, queue, names)?;
+    walk_all(parts, 0, walk)
 }
 
 /// Numbers what the threads lead to besides, behind what the fixed nodes lead to, which is numbered. It returns the
-/// buffer of the walk with the numbers. Where all is numbered, no walk is made.
+/// memory of the queue with the numbers. Where all is numbered, no walk is made.
 pub(crate) fn names_behind<P: Parts>(
     parts: &P,
     fixed: usize,
-    met: Numbering,
+    queue: Vec<u8>,
     names: Names,
-) -> Result<(Numbering, Names), OutOfMemory>
+) -> Result<(Vec<u8>, Names), OutOfMemory>
     requires in_range { ArePartsInRange fixed (P.parts parts.now) }
     requires nodes { names.nodes.order.items ≡ front_nodes fixed (P.parts parts.now) }
     requires records { names.records.order.items ≡ front_records fixed (P.parts parts.now) }
@@ -74,14 +85,11 @@ pub(crate) fn names_behind<P: Parts>(
         length named.1.records.numbers.items ≡ length (P.parts parts.now).records) }
 {
     let _ = fixed;
-    let nodes = parts.node_count();
-    let records = parts.record_count();
-    if names.nodes.len() == nodes && names.records.len() == records {
-        return Ok((met, names));
+    if names.nodes.len() == parts.node_count() && names.records.len() == parts.record_count() {
+        return Ok((queue, names));
     }
-    let mut walk = Walk::behind(met, &names, nodes, records, parts.held_count())?;
-    walk_all(parts, &mut walk)?;
-    let met = walk.into_met();
-    let names = names.ranked(&met, nodes, records)?;
-    Ok((met, names))
+    let begun = Walk::of(parts, queue, names)?;
+    let front = begun.len();
+    let walk = begun.with_held()?;
+    walk_all(parts, front, walk)
 }

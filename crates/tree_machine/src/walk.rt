@@ -1,56 +1,36 @@
-//! The walk that meets what fixed nodes and threads lead to.
-ghost use Rattle.std.specs.Prelude.{◌≡◌, ◌<◌, ◌≤◌, ◌+◌, ◌++◌, length, map, slice_get, Some, IfOk, IfSome};
+//! The walk that numbers what fixed nodes and threads lead to.
+ghost use Rattle.std.specs.Prelude.{◌≡◌, ◌<◌, ◌+◌, ◌++◌, length, map, slice_get, Some, IfOk, IfSome, OnOk};
 ghost use Rattle.std.specs.List.{All};
 ghost use Rattle.std.specs.Option.{option_map};
-ghost use Rattle.tree_machine.specs.Canonical.{as_cells};
-ghost use Rattle.tree_machine.specs.Cells.{met_all};
+ghost use Rattle.tree_machine.specs.Canonical.{as_cells, nodes_met, records_met};
+ghost use Rattle.tree_machine.specs.Cells.{met, met_all};
 ghost use Rattle.tree_machine.specs.Graphs.{numbers_from};
+ghost use Rattle.tree_machine.specs.declared.numbering.TheConstants.{CELLS_BELOW};
 
 use crate::names::Names;
 use crate::number::sum_of;
-use crate::numbering::Numbering;
-use crate::parts::PartVisitor;
+use crate::numbering::CELLS_BELOW;
+use crate::parts::{PartVisitor, Parts};
 use sched_program::OutOfMemory;
 use std::marker::Model;
 
-/// Meets what is named, of cells that stand behind so many others.
-#[inline(always)]
-fn meet_names(met: &mut Numbering, first: usize, names: &[Option<u16>])
-    requires { All (λ r. IfSome r (λ x. first + x < length met.old.numbers.items)) names.now }
-    ensures order { met.new.order.items ≡ met_all met.old.order.items (map (option_map (λ x. first + x)) names.now) }
-    ensures cells { length met.new.numbers.items ≡ length met.old.numbers.items }
-{
-    for name in names {
-        if let Some(number) = name {
-            met.meet(first + *number as usize);
-        }
-    }
-}
-
-/// Meets the cells of a stack, as `meet_names` meets what is named.
-#[inline(always)]
-fn meet_stack(met: &mut Numbering, first: usize, stack: &[u16])
-    requires { All (λ x. first + x < length met.old.numbers.items) stack.now }
-    ensures order { met.new.order.items
-        ≡ met_all met.old.order.items (map (option_map (λ x. first + x)) (map Some stack.now)) }
-    ensures cells { length met.new.numbers.items ≡ length met.old.numbers.items }
-{
-    for number in stack {
-        met.meet(first + *number as usize);
-    }
-}
-
-/// A walk over nodes, records and what threads hold: the list of the cells met is its queue.
+/// A walk over nodes, records and what threads hold: the list of the cells met is its queue. A node or a record gets
+/// its number when it is met.
 #[derive(Drop)]
 pub struct Walk {
-    met: Numbering,
+    queue: Vec<u8>,
+    names: Names,
     nodes: usize,
     records: usize,
-    ghost room: { nodes + records ≤ length met.numbers.items },
+    held: usize,
+    ghost node_names: { names.nodes.order.items ≡ nodes_met nodes queue.items },
+    ghost record_names: { names.records.order.items ≡ records_met nodes records queue.items },
+    ghost all_nodes: { length names.nodes.numbers.items ≡ nodes },
+    ghost all_records: { length names.records.numbers.items ≡ records },
+    ghost few: { nodes + records + held < CELLS_BELOW },
 }
 
 impl Model for Walk {
-    ghost use Rattle.std.specs.Prelude.{length};
     ghost use Rattle.tree_machine.specs.Walked.{Walked};
 
     ghost Value = { Walked };
@@ -58,74 +38,164 @@ impl Model for Walk {
     ghost view = { λ w. record {
       nodes = w.nodes;
       records = w.records;
-      cells = length w.met.numbers.items;
-      order = w.met.order.items;
+      held = w.held;
+      order = w.queue.items;
     } };
 }
 
+/// Appends numbers, each raised by `first`.
+fn put_raised(queue: &mut Vec<u8>, first: usize, numbers: &[u8]) -> Result<(), OutOfMemory>
+    requires { All (λ x. first + x < CELLS_BELOW) numbers.now }
+    ensures { OnOk result (queue.new.items ≡ queue.old.items ++ map (λ x. first + x) numbers.now) }
+{
+    for number in numbers {
+        queue.push((first + usize::from(*number)) as u8)?;
+    }
+    Ok(())
+}
+
 impl Walk {
-    /// Begins a walk that met the first nodes alone, as many as are fixed. It uses the buffers of a numbering. More
-    /// cells than bytes can name are refused as memory is.
-    pub(crate) fn fixed(
-        met: Numbering,
-        fixed: usize,
-        nodes: usize,
-        records: usize,
-        held: usize,
+    /// Begins a walk that met the nodes and the records that have names. It uses the memory of the queue. More cells
+    /// than bytes can name are refused as memory is.
+    pub(crate) fn of<P: Parts>(
+        parts: &P,
+        mut queue: Vec<u8>,
+        names: Names,
     ) -> Result<Walk, OutOfMemory>
-        requires { fixed ≤ nodes }
-        ensures nodes { IfOk result (λ walk. walk.nodes ≡ nodes) }
-        ensures records { IfOk result (λ walk. walk.records ≡ records) }
-        ensures cells { IfOk result (λ walk. walk.cells ≡ nodes + records + held) }
-        ensures order { IfOk result (λ walk. walk.order ≡ numbers_from 0 fixed) }
+        requires nodes { length names.nodes.numbers.items ≡ length (P.parts parts.now).nodes }
+        requires records { length names.records.numbers.items ≡ length (P.parts parts.now).records }
+        ensures nodes { IfOk result (λ walk. walk.nodes ≡ length (P.parts parts.now).nodes) }
+        ensures records { IfOk result (λ walk. walk.records ≡ length (P.parts parts.now).records) }
+        ensures held { IfOk result (λ walk. walk.held ≡ length (P.parts parts.now).held) }
+        ensures order { IfOk result (λ walk. walk.order
+            ≡ as_cells (length (P.parts parts.now).nodes) names.nodes.order.items names.records.order.items) }
     {
+        let nodes = parts.node_count();
+        let records = parts.record_count();
+        let held = parts.held_count();
         let graph = sum_of(nodes, records)?;
-        let cells = sum_of(graph, held)?;
-        let mut met = met.restarted(cells)?;
-        met.meet_range(0, fixed);
+        if sum_of(graph, held)? >= CELLS_BELOW {
+            return Err(OutOfMemory);
+        }
+        queue.clear();
+        queue.extend_from_slice(names.nodes.as_slice())?;
+        put_raised(&mut queue, nodes, names.records.as_slice())?;
         Ok(Walk {
-            met,
+            queue,
+            names,
             nodes,
             records,
+            held,
         })
     }
 
-    /// Begins a walk that met the nodes and the records that have names, and then what the threads hold. It uses the
-    /// buffers of a numbering. More cells than bytes can name are refused as memory is.
-    pub(crate) fn behind(
-        met: Numbering,
-        names: &Names,
-        nodes: usize,
-        records: usize,
-        held: usize,
-    ) -> Result<Walk, OutOfMemory>
-        requires nodes { length names.now.nodes.numbers.items ≡ nodes }
-        requires records { length names.now.records.numbers.items ≡ records }
-        ensures nodes { IfOk result (λ walk. walk.nodes ≡ nodes) }
-        ensures records { IfOk result (λ walk. walk.records ≡ records) }
-        ensures cells { IfOk result (λ walk. walk.cells ≡ nodes + records + held) }
-        ensures order { IfOk result (λ walk. walk.order
-            ≡ as_cells nodes names.now.nodes.order.items names.now.records.order.items
-            ++ numbers_from (nodes + records) held) }
+    /// The walk that met, behind these, what each thread holds, which was not met before.
+    pub(crate) fn with_held(self) -> Result<Walk, OutOfMemory>
+        ensures { IfOk result (λ walk. walk ≡ record self {
+          order = self.order ++ numbers_from (self.nodes + self.records) self.held;
+        }) }
     {
-        let graph = sum_of(nodes, records)?;
-        let cells = sum_of(graph, held)?;
-        let mut met = met.restarted(cells)?;
-        met.meet_raised(0, &names.nodes);
-        met.meet_raised(nodes, &names.records);
-        met.meet_range(graph, held);
-        Ok(Walk {
-            met,
+        let Walk {
+            mut queue,
+            names,
             nodes,
             records,
+            held,
+        } = self;
+        for thread in 0..held {
+            queue.push((nodes + records + thread) as u8)?;
+        }
+        Ok(Walk {
+            queue,
+            names,
+            nodes,
+            records,
+            held,
         })
+    }
+
+    /// Meets a node.
+    #[inline(always)]
+    fn meet_node(&mut self, node: usize) -> Result<(), OutOfMemory>
+        requires { node < self.old.nodes }
+        ensures { OnOk result (self.new ≡ record self.old { order = met self.old.order node }) }
+    {
+        if !self.names.nodes.has(node) {
+            self.queue.push(node as u8)?;
+            self.names.nodes.assign(node);
+        }
+        Ok(())
+    }
+
+    /// Meets a record.
+    #[inline(always)]
+    fn meet_record(&mut self, index: usize) -> Result<(), OutOfMemory>
+        requires { index < self.old.records }
+        ensures { OnOk result (self.new ≡ record self.old { order = met self.old.order (self.old.nodes + index) }) }
+    {
+        if !self.names.records.has(index) {
+            self.queue.push((self.nodes + index) as u8)?;
+            self.names.records.assign(index);
+        }
+        Ok(())
+    }
+
+    /// Meets the nodes that are named.
+    #[inline(always)]
+    fn meet_nodes(&mut self, names: &[Option<u16>]) -> Result<(), OutOfMemory>
+        requires { All (λ r. IfSome r (λ x. x < self.old.nodes)) names.now }
+        ensures { OnOk result (self.new ≡ record self.old { order = met_all self.old.order names.now }) }
+    {
+        for name in names {
+            if let Some(node) = name {
+                self.meet_node(usize::from(*node))?;
+            }
+        }
+        Ok(())
+    }
+
+    /// Meets the records that are named.
+    #[inline(always)]
+    fn meet_records(&mut self, names: &[Option<u16>]) -> Result<(), OutOfMemory>
+        requires { All (λ r. IfSome r (λ x. x < self.old.records)) names.now }
+        ensures { OnOk result (self.new ≡ record self.old {
+          order = met_all self.old.order (map (option_map (λ x. self.old.nodes + x)) names.now);
+        }) }
+    {
+        for name in names {
+            if let Some(index) = name {
+                self.meet_record(usize::from(*index))?;
+            }
+        }
+        Ok(())
+    }
+
+    /// Meets the records of a stack.
+    #[inline(always)]
+    fn meet_stack(&mut self, stack: &[u16]) -> Result<(), OutOfMemory>
+        requires { All (λ x. x < self.old.records) stack.now }
+        ensures { OnOk result (self.new ≡ record self.old {
+          order = met_all self.old.order (map (option_map (λ x. self.old.nodes + x)) (map Some stack.now));
+        }) }
+    {
+        for index in stack {
+            self.meet_record(usize::from(*index))?;
+        }
+        Ok(())
     }
 
     /// How many cells there are.
     pub(crate) fn cells(&self) -> usize
-        ensures { result ≡ self.now.cells }
+        ensures { result ≡ self.now.nodes + self.now.records + self.now.held }
     {
-        self.met.cells()
+        self.nodes + self.records + self.held
+    }
+
+    /// How many cells were met.
+    pub(crate) fn len(&self) -> usize
+        ensures { result ≡ length self.now.order }
+    {
+        self.queue.len()
     }
 
     /// The cell that was met after so many others, if so many were met.
@@ -133,15 +203,19 @@ impl Walk {
     pub(crate) fn cell_at(&self, place: usize) -> Option<usize>
         ensures { result ≡ slice_get self.now.order place }
     {
-        self.met.cell_at(place)
+        let cell = self.queue.get(place)?;
+        Some(usize::from(*cell))
     }
 
-    /// The cells met.
-    pub(crate) fn into_met(self) -> Numbering
-        ensures order { result.order.items ≡ self.order }
-        ensures cells { length result.numbers.items ≡ self.cells }
+    /// The memory of the queue, and the numbers of the nodes and the records that were met.
+    pub(crate) fn into_names(self) -> (Vec<u8>, Names)
+        ensures nodes { result.1.nodes.order.items ≡ nodes_met self.nodes self.order }
+        ensures records { result.1.records.order.items ≡ records_met self.nodes self.records self.order }
+        ensures all_nodes { length result.1.nodes.numbers.items ≡ self.nodes }
+        ensures all_records { length result.1.records.numbers.items ≡ self.records }
     {
-        self.met
+        let Walk { queue, names, .. } = self;
+        (queue, names)
     }
 }
 
@@ -164,9 +238,8 @@ impl PartVisitor for Walk {
         records: &[Option<u16>],
         stack: &[u16],
     ) -> Result<(), OutOfMemory> {
-        meet_names(&mut self.met, 0, nodes);
-        meet_names(&mut self.met, self.nodes, records);
-        meet_stack(&mut self.met, self.nodes, stack);
-        Ok(())
+        self.meet_nodes(nodes)?;
+        self.meet_records(records)?;
+        self.meet_stack(stack)
     }
 }

@@ -12,10 +12,10 @@ use Rattle.tree_machine.proofs.part_code.write_canonical.Goals as goal
 pub write_graph-requires : goal.write_graph-requires
 write_graph-requires g c =
     let s = g.P.Parts.parts c.args.parts.now in
-    let order = ap (λ (w : Written). w.node_order) c.behind-writer.ensures ∙ c.in_ok-met-2.ensures.nodes in
-    let others = ap (λ (w : Written). w.record_order) c.behind-writer.ensures ∙ c.in_ok-met-2.ensures.records in
-    let nodes = c.len-front_nodes.ensures ∙ ap length c.in_ok-met.ensures.nodes in
-    let records = c.len-front_records.ensures ∙ ap length c.in_ok-met.ensures.records in
+    let order = ap (λ (w : Written). w.node_order) c.behind-writer.ensures ∙ c.in_ok-queue-2.ensures.nodes in
+    let others = ap (λ (w : Written). w.record_order) c.behind-writer.ensures ∙ c.in_ok-queue-2.ensures.records in
+    let nodes = c.len-front_nodes.ensures ∙ ap length c.in_ok-queue.ensures.nodes in
+    let records = c.len-front_records.ensures ∙ ap length c.in_ok-queue.ensures.records in
     let few = front_nodes_few c.args.fixed s c.requires in
     let less = front_records_few c.args.fixed s c.requires in
     record {
@@ -30,15 +30,15 @@ write_graph-requires g c =
         arith,
         nodes,
         few,
-        ap length c.in_ok-met-2.ensures.nodes,
-        order_few c.in_ok-met-2.names.nodes,
+        ap length c.in_ok-queue-2.ensures.nodes,
+        order_few c.in_ok-queue-2.names.nodes,
       );
       few_records = omega (
         arith,
         records,
         less,
-        ap length c.in_ok-met-2.ensures.records,
-        order_few c.in_ok-met-2.names.records,
+        ap length c.in_ok-queue-2.ensures.records,
+        order_few c.in_ok-queue-2.names.records,
       );
       known =
           subst (λ o. All (λ x. x < length s.nodes) (take c.len-front_nodes.result o)) (sym order)
@@ -59,31 +59,31 @@ write_behind_front-requires g c =
       records = search rules;
       front_nodes = omega (
         arith,
-        c.len-front_nodes.ensures ∙ ap length c.in_ok-met.ensures.nodes,
-        order ∙ ap length c.in_ok-met-2.ensures.nodes,
+        c.len-front_nodes.ensures ∙ ap length c.in_ok-queue.ensures.nodes,
+        order ∙ ap length c.in_ok-queue-2.ensures.nodes,
         front_nodes_few c.args.fixed s c.requires,
       );
       front_records = omega (
         arith,
-        c.len-front_records.ensures ∙ ap length c.in_ok-met.ensures.records,
-        others ∙ ap length c.in_ok-met-2.ensures.records,
+        c.len-front_records.ensures ∙ ap length c.in_ok-queue.ensures.records,
+        others ∙ ap length c.in_ok-queue-2.ensures.records,
         front_records_few c.args.fixed s c.requires,
       );
-      few_nodes = omega (arith, order, order_few c.in_ok-met-2.names.nodes);
-      few_records = omega (arith, others, order_few c.in_ok-met-2.names.records);
+      few_nodes = omega (arith, order, order_few c.in_ok-queue-2.names.nodes);
+      few_records = omega (arith, others, order_few c.in_ok-queue-2.names.records);
       known = search rules;
     }
 
 pub returns : goal.returns
 returns g c =
     let s = g.P.Parts.parts c.args.parts.now in
-    let nodes = c.len-front_nodes.ensures ∙ ap length c.in_ok-met.ensures.nodes in
-    let records = c.len-front_records.ensures ∙ ap length c.in_ok-met.ensures.records in
+    let nodes = c.len-front_nodes.ensures ∙ ap length c.in_ok-queue.ensures.nodes in
+    let records = c.len-front_records.ensures ∙ ap length c.in_ok-queue.ensures.records in
     whole_written c.node_count-nodes.result c.record_count-records.result c.len-front_nodes.result
-    c.len-front_records.result c.in_ok-met-2.names.nodes.order.items c.in_ok-met-2.names.records.order.items
+    c.len-front_records.result c.in_ok-queue-2.names.nodes.order.items c.in_ok-queue-2.names.records.order.items
     c.replace-bytes.result.items c.into_bytes.result.items s c.behind-writer.result c.write_graph.new.writer
     c.write_behind_front.new.writer c.behind-writer.ensures c.in_ok-write_graph.ensures
     c.in_ok-write_behind_front.ensures c.into_bytes.ensures
     ∙ (λ i. (ap (λ v. v.items) c.replace-bytes.ensures.value ∙ c.buffer.view_is) i
     ++ parts_code (record { nodes = nodes i; records = records i })
-    (parts_by (c.in_ok-met-2.ensures.nodes i) (c.in_ok-met-2.ensures.records i) s))
+    (parts_by (c.in_ok-queue-2.ensures.nodes i) (c.in_ok-queue-2.ensures.records i) s))

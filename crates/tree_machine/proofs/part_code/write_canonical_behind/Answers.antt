@@ -64,17 +64,17 @@ write_behind_front-requires g c =
       front_nodes = omega (
         arith,
         nodes,
-        order ∙ ap length c.in_ok-met.ensures.nodes,
+        order ∙ ap length c.in_ok-queue.ensures.nodes,
         front_nodes_few c.args.fixed s c.requires.in_range,
       );
       front_records = omega (
         arith,
         records,
-        others ∙ ap length c.in_ok-met.ensures.records,
+        others ∙ ap length c.in_ok-queue.ensures.records,
         front_records_few c.args.fixed s c.requires.in_range,
       );
-      few_nodes = omega (arith, order, order_few c.in_ok-met.names.nodes);
-      few_records = omega (arith, others, order_few c.in_ok-met.names.records);
+      few_nodes = omega (arith, order, order_few c.in_ok-queue.names.nodes);
+      few_records = omega (arith, others, order_few c.in_ok-queue.names.records);
       known = search rules;
     }
 
@@ -86,9 +86,9 @@ returns g c =
     let fn = taken s.nodes most.at_most most.one c.from.ensures c.node_count-nodes.ensures in
     let fr = taken s.records more.at_most more.one c.from-2.ensures c.record_count-records.ensures in
     behind_written c.node_count-nodes.result c.record_count-records.result c.least-front_nodes.result
-    c.least-front_records.result c.in_ok-met.names.nodes.order.items c.in_ok-met.names.records.order.items
+    c.least-front_records.result c.in_ok-queue.names.nodes.order.items c.in_ok-queue.names.records.order.items
     c.replace-bytes.result.items c.into_bytes.result.items s c.behind-writer.result c.write_behind_front.new.writer
     c.behind-writer.ensures c.in_ok-write_behind_front.ensures c.into_bytes.ensures
     ∙ (λ i. (ap (λ v. v.items) c.replace-bytes.ensures.value ∙ c.buffer.view_is) i
     ++ behind_code (record { nodes = fn i; records = fr i })
-    (parts_by (c.in_ok-met.ensures.nodes i) (c.in_ok-met.ensures.records i) s))
+    (parts_by (c.in_ok-queue.ensures.nodes i) (c.in_ok-queue.ensures.records i) s))

@@ -11,5 +11,5 @@ invariant-loop-visits g l =
       order : l.walk.order ≡ met_in (parts_graph s ++ parts_held s) l.fn.walk.order l.visits;
       nodes : l.walk.nodes ≡ length s.nodes;
       records : l.walk.records ≡ length s.records;
-      cells : l.walk.cells ≡ l.fn.walk.cells;
+      held : l.walk.held ≡ length s.held;
     }
