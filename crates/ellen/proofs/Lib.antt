@@ -1,6 +1,6 @@
 pub mod Appended
 pub mod HeldBytes
-pub mod Present
+pub mod Past
 pub mod ReadBytes
 pub mod ReadParts
 pub mod Stack

@@ -2,7 +2,6 @@
 use Rattle.std.proofs.Common.{◌≡◌, ℕ, suc, ◌+◌, ◌-◌, ◌<◌, ◌≤◌, List, [], ◌∷◌, length, take, drop, get_or}
 use Rattle.std.proofs.Common.{ap, sym, ◌∙◌, subst, arith, add-one}
 use Rattle.std.specs.Prelude.{Option, Some, None}
-use Rattle.std.proofs.lemmas.List.{take_all}
 use Rattle.tree_machine.specs.Flat.{number_code}
 use Rattle.tree_machine.specs.Laws.FirstBytes.{first_two}
 use Rattle.tree_machine.specs.Laws.SmallCodes.{small_code}

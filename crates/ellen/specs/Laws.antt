@@ -12,6 +12,5 @@ pub mod PairedSteps
 pub mod Parts
 pub mod PartsRange
 pub mod Range
-pub mod RangeFromParts
 pub mod RangeSteps
 pub mod Rules

@@ -51,7 +51,7 @@ module _ (P R : ℕ → ℕ → Type 0) where
       × AreWordsPaired R d.parent_update e.parent_update
   AreRecordsPaired _ _ = ⊥
 
-  -- paired grandparents, with paired update words
+  -- paired nodes, with paired update words
   abbrev pub AreAbovesPaired : Above → Above → Type 0
   AreAbovesPaired a b = P a.node b.node × AreWordsPaired R a.update b.update
 

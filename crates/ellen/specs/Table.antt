@@ -127,35 +127,36 @@ abbrev pub help_first : Ellen → UpdateWord → Outcome EllenLoc
 help_first machine w = help machine w (with_base base.Again)
 
 -- IFlag, or InsOnly in the variant without the flag
-abbrev pub flagging : Ellen → ℕ → UpdateWord → ℕ → SearchLoc
-flagging machine p u l = if machine.iflag then IFlag p u l else InsOnly p l
+abbrev pub flagging : Ellen → Above → ℕ → SearchLoc
+flagging machine p l = if machine.iflag then IFlag p.node p.update l else InsOnly p.node l
 
 -- Decide, at leaf l of key j
-abbrev pub decide : Ellen → Op → Option Above → ℕ → UpdateWord → ℕ → ℕ → Outcome EllenLoc
-decide machine (Find k) above p u l j = Replies (nat_eq j k)
-decide machine (Insert k) above p u l j =
+abbrev pub decide : Ellen → Op → Option Above → Above → ℕ → ℕ → Outcome EllenLoc
+decide machine (Find k) above p l j = Replies (nat_eq j k)
+decide machine (Insert k) above p l j =
     if nat_eq j k then Replies false
-    else if is_clean u then Goes (Search (flagging machine p u l))
-    else help_first machine u
-decide machine (Delete k) None p u l j = if nat_eq j k then Astray else Replies false
-decide machine (Delete k) (Some above) p u l j =
+    else if is_clean p.update then Goes (Search (flagging machine p l))
+    else help_first machine p.update
+decide machine (Delete k) None p l j = if nat_eq j k then Astray else Replies false
+decide machine (Delete k) (Some above) p l j =
     if nat_eq j k then (
     if is_clean above.update then (
-    if is_clean u then Goes (Search (DFlag above p u l)) else help_first machine u
+    if is_clean p.update then Goes (Search (DFlag above p.node p.update l)) else help_first machine p.update
     ) else help_first machine above.update
     ) else Replies false
 
 -- at the child c
-abbrev pub arrived : Ellen → Op → Option Above → ℕ → UpdateWord → ℕ → Node → Outcome EllenLoc
-arrived machine op above p u c (Internal j v l r) = Goes (Search (Update (Some (record { node = p; update = u })) c))
-arrived machine op above p u c (Leaf j) = decide machine op above p u c j
+abbrev pub arrived : Ellen → Op → Option Above → Above → ℕ → Node → Outcome EllenLoc
+arrived machine op above p c (Internal j v l r) = Goes (Search (Update (Some p) c))
+arrived machine op above p c (Leaf j) = decide machine op above p c j
 
 -- ---- the table
 
 abbrev pub search_act : Ellen → Op → SearchLoc → EllenMem → After
 search_act machine op (Update above p) m = read_update m p (λ u. Goes (Search (Child above p u)))
 search_act machine op (Child above p u) m =
-    read_child m p (side_of (key_of op) (key_at m p)) (λ c. arrived machine op above p u c (node_at m c))
+    read_child m p (side_of (key_of op) (key_at m p))
+    (λ c. arrived machine op above (record { node = p; update = u }) c (node_at m c))
 search_act machine op (IFlag p u l) m =
     let r = length m.records in
     exchange_update m p u (word.InsertFlag r)
@@ -170,6 +171,12 @@ search_act machine op (DFlag above p u l) m =
     (add_record m (Del (record { grandparent = above.node; parent = p; leaf = l; parent_update = u })))
     (Goes (Help (marking machine r) (with_base base.Delete)))
     (λ w. help_first machine w)
+
+-- the flag of a delete that is done, or not, is taken back
+abbrev pub unflagged : Bool → ℕ → Resume → EllenMem → After
+unflagged done r resume m = with_delete m (record_at m r) (λ d.
+    exchange_update m d.grandparent (word.DeleteFlag r) (word.Clean r) m (returned done resume)
+    (λ w. returned done resume))
 
 abbrev pub help_act : Ellen → HelpLoc → Resume → EllenMem → After
 help_act machine (InsChild r) resume m = with_insert m (record_at m r) (λ i.
@@ -188,12 +195,8 @@ help_act machine (Other r s) resume m = with_delete m (record_at m r) (λ d.
     read_child m d.parent s (λ o. Goes (Help (Splice r o) resume)))
 help_act machine (Splice r o) resume m = with_delete m (record_at m r) (λ d.
     exchange_child m d.grandparent d.parent o m (Goes (Help (DelClean r) resume)) (Goes (Help (DelClean r) resume)))
-help_act machine (DelClean r) resume m = with_delete m (record_at m r) (λ d.
-    exchange_update m d.grandparent (word.DeleteFlag r) (word.Clean r) m (returned true resume)
-    (λ w. returned true resume))
-help_act machine (Back r) resume m = with_delete m (record_at m r) (λ d.
-    exchange_update m d.grandparent (word.DeleteFlag r) (word.Clean r) m (returned false resume)
-    (λ w. returned false resume))
+help_act machine (DelClean r) resume m = unflagged true r resume m
+help_act machine (Back r) resume m = unflagged false r resume m
 
 abbrev pub act : Ellen → Op → EllenLoc → EllenMem → After
 act machine op (Search at) m = search_act machine op at m

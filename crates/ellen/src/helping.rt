@@ -1,7 +1,7 @@
 //! The rows of the table at which an operation carries out what a record says.
 ghost use Rattle.std.specs.Prelude.{◌≡◌, IfOk, OnErr};
 ghost use Rattle.ellen.specs.declared.place.HelpLoc.TheVariants as place;
-ghost use Rattle.ellen.specs.Table.{help_act, returned, settled, marking, help};
+ghost use Rattle.ellen.specs.Table.{help_act, returned, settled, marking, help, unflagged};
 ghost use Rattle.ellen.specs.Table.{help_first, first_place, awaiting, with_base};
 
 use crate::machine::Ellen;
@@ -127,7 +127,6 @@ fn awaiting(alloc: Global, number: u16, resume: &Resume) -> Result<Resume, OutOf
     })
 }
 
-#[tactic(auto, using(crate::proofs::Present::has_update, crate::proofs::Present::has_child))]
 fn insert_child_row(
     alloc: Global,
     machine: Ellen,
@@ -154,7 +153,6 @@ fn insert_child_row(
     Ok(Outcome::Goes(goal))
 }
 
-#[tactic(auto, using(crate::proofs::Present::has_update, crate::proofs::Present::has_child))]
 fn insert_clean_row(
     alloc: Global,
     machine: Ellen,
@@ -179,7 +177,6 @@ fn insert_clean_row(
     Ok(outcome)
 }
 
-#[tactic(auto, using(crate::proofs::Present::has_update, crate::proofs::Present::has_child))]
 fn mark_row(
     alloc: Global,
     machine: Ellen,
@@ -264,7 +261,6 @@ fn other_row(
     Ok(Outcome::Goes(EllenLoc::Help(at, resume.copy(alloc)?)))
 }
 
-#[tactic(auto, using(crate::proofs::Present::has_update, crate::proofs::Present::has_child))]
 fn splice_row(
     alloc: Global,
     machine: Ellen,
@@ -292,16 +288,15 @@ fn splice_row(
     Ok(Outcome::Goes(goal))
 }
 
-#[tactic(auto, using(crate::proofs::Present::has_update, crate::proofs::Present::has_child))]
-fn delete_clean_row(
+/// Takes the flag of a delete back, which is done or not.
+fn unflag_row(
     alloc: Global,
-    machine: Ellen,
     mem: &mut EllenMem,
     number: u16,
+    done: bool,
     resume: &Resume,
 ) -> Result<Outcome<EllenLoc>, OutOfMemory>
-    ensures ok { IfOk result (λ outcome. help_act machine (place.DelClean number) resume.now mem.old
-        ≡ (mem.new, outcome)) }
+    ensures ok { IfOk result (λ outcome. unflagged done number resume.now mem.old ≡ (mem.new, outcome)) }
     ensures err { OnErr result (mem.new ≡ mem.old) }
 {
     let Some(Record::Del(info)) = mem.record(number) else {
@@ -310,31 +305,7 @@ fn delete_clean_row(
     let Some(found) = update_of(mem.node(info.grandparent)) else {
         return Ok(Outcome::Astray);
     };
-    let outcome = returned(alloc, true, resume)?;
-    if is_word(found, UpdateWord::DeleteFlag(number)) {
-        mem.set_update(info.grandparent, UpdateWord::Clean(number));
-    }
-    Ok(outcome)
-}
-
-#[tactic(auto, using(crate::proofs::Present::has_update, crate::proofs::Present::has_child))]
-fn back_row(
-    alloc: Global,
-    machine: Ellen,
-    mem: &mut EllenMem,
-    number: u16,
-    resume: &Resume,
-) -> Result<Outcome<EllenLoc>, OutOfMemory>
-    ensures ok { IfOk result (λ outcome. help_act machine (place.Back number) resume.now mem.old ≡ (mem.new, outcome)) }
-    ensures err { OnErr result (mem.new ≡ mem.old) }
-{
-    let Some(Record::Del(info)) = mem.record(number) else {
-        return Ok(Outcome::Astray);
-    };
-    let Some(found) = update_of(mem.node(info.grandparent)) else {
-        return Ok(Outcome::Astray);
-    };
-    let outcome = returned(alloc, false, resume)?;
+    let outcome = returned(alloc, done, resume)?;
     if is_word(found, UpdateWord::DeleteFlag(number)) {
         mem.set_update(info.grandparent, UpdateWord::Clean(number));
     }
@@ -365,7 +336,7 @@ pub fn help_act(
             record: number,
             other,
         } => splice_row(alloc, machine, mem, number, other, resume),
-        HelpLoc::DelClean(number) => delete_clean_row(alloc, machine, mem, number, resume),
-        HelpLoc::Back(number) => back_row(alloc, machine, mem, number, resume),
+        HelpLoc::DelClean(number) => unflag_row(alloc, mem, number, true, resume),
+        HelpLoc::Back(number) => unflag_row(alloc, mem, number, false, resume),
     }
 }

@@ -25,7 +25,6 @@ fn empty_tree(alloc: Global) -> Result<EllenMem, OutOfMemory>
 }
 
 /// Puts a key in: a new internal node takes the place of the leaf to which the key leads.
-#[tactic(auto, using(crate::proofs::Present::put_past))]
 fn put_in(alloc: Global, memory: &mut EllenMem, key: u8) -> Result<(), OutOfMemory>
     ensures ok { IfOk result (λ _. memory.new ≡ put_in memory.old key) }
     ensures err { OnErr result (memory.new ≡ memory.old) }
@@ -33,9 +32,7 @@ fn put_in(alloc: Global, memory: &mut EllenMem, key: u8) -> Result<(), OutOfMemo
     let end = search_end(memory, key, memory.nodes.len());
     let side = side_of(key, key_in(memory.node(end.parent)));
     let new = memory.add_internal(alloc, key, end.leaf)?;
-    if usize::from(end.parent) < memory.nodes.len() {
-        memory.set_child(end.parent, side, new);
-    }
+    memory.set_child(end.parent, side, new);
     Ok(())
 }
 

@@ -173,9 +173,9 @@ impl EllenMem {
         self.records.get(r as usize).copied()
     }
 
-    /// Puts an update word into a node.
+    /// Puts an update word into a node, if there is such a node.
+    #[tactic(auto, using(crate::proofs::Past::update_past))]
     pub(crate) fn set_update(&mut self, x: u16, word: UpdateWord)
-        requires { x < length self.old.nodes }
         ensures { self.new ≡ set_update self.old x word }
     {
         let node = match self.node(x) {
@@ -192,12 +192,14 @@ impl EllenMem {
                 right,
             },
         };
-        self.nodes.set(x as usize, node);
+        if usize::from(x) < self.nodes.len() {
+            self.nodes.set(x as usize, node);
+        }
     }
 
-    /// Puts a child into a node.
+    /// Puts a child into a node, if there is such a node.
+    #[tactic(auto, using(crate::proofs::Past::child_past))]
     pub(crate) fn set_child(&mut self, x: u16, side: Side, child: u16)
-        requires { x < length self.old.nodes }
         ensures { self.new ≡ set_child self.old x side child }
     {
         let node = match (side, self.node(x)) {
@@ -231,7 +233,9 @@ impl EllenMem {
                 right: child,
             },
         };
-        self.nodes.set(x as usize, node);
+        if usize::from(x) < self.nodes.len() {
+            self.nodes.set(x as usize, node);
+        }
     }
 
     /// The nodes with a new internal node for a key at a leaf, behind its two new leaves.

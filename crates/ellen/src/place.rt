@@ -6,7 +6,7 @@ use sched_program::{OutOfMemory, Sequence};
 use std::alloc::Global;
 use tree_machine::Side;
 
-/// A grandparent, with the update word that was read of it.
+/// A node above the one to which a search has come, with the update word that was read of it.
 #[derive(Clone, Copy, PartialEq, Eq, Hash)]
 pub struct Above {
     pub node: u16,
@@ -91,6 +91,15 @@ pub struct Resume {
 pub enum EllenLoc {
     Search(SearchLoc),
     Help(HelpLoc, Resume),
+}
+
+impl Above {
+    /// A node with the update word that was read of it.
+    pub(crate) fn new(node: u16, update: UpdateWord) -> Above
+        ensures { result ≡ record { node = node; update = update } }
+    {
+        Above { node, update }
+    }
 }
 
 impl Resume {

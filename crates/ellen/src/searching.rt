@@ -17,17 +17,20 @@ use std::alloc::Global;
 use tree_machine::{Outcome, short_number_of, side_of};
 
 /// The place that flags the parent of an insert, or the one that writes without a flag.
-fn flagging(machine: Ellen, parent: u16, update: UpdateWord, leaf: u16) -> SearchLoc
-    ensures { result ≡ flagging machine parent update leaf }
+fn flagging(machine: Ellen, parent: Above, leaf: u16) -> SearchLoc
+    ensures { result ≡ flagging machine parent leaf }
 {
     if machine.iflag {
         SearchLoc::IFlag {
-            parent,
-            update,
+            parent: parent.node,
+            update: parent.update,
             leaf,
         }
     } else {
-        SearchLoc::InsOnly { parent, leaf }
+        SearchLoc::InsOnly {
+            parent: parent.node,
+            leaf,
+        }
     }
 }
 
@@ -45,23 +48,22 @@ fn decide_delete(
     alloc: Global,
     machine: Ellen,
     above: Above,
-    parent: u16,
-    update: UpdateWord,
+    parent: Above,
     leaf: u16,
     key: u8,
 ) -> Result<Outcome<EllenLoc>, OutOfMemory>
-    ensures { IfOk result (λ outcome. outcome ≡ decide machine (op_of.Delete key) (Some above) parent update leaf key) }
+    ensures { IfOk result (λ outcome. outcome ≡ decide machine (op_of.Delete key) (Some above) parent leaf key) }
 {
     if !is_clean(above.update) {
         return help_first(alloc, machine, above.update);
     }
-    if !is_clean(update) {
-        return help_first(alloc, machine, update);
+    if !is_clean(parent.update) {
+        return help_first(alloc, machine, parent.update);
     }
     Ok(Outcome::Goes(EllenLoc::Search(SearchLoc::DFlag {
         above,
-        parent,
-        update,
+        parent: parent.node,
+        update: parent.update,
         leaf,
     })))
 }
@@ -72,23 +74,22 @@ fn decide(
     machine: Ellen,
     op: Op,
     above: Option<Above>,
-    parent: u16,
-    update: UpdateWord,
+    parent: Above,
     leaf: u16,
     key: u8,
 ) -> Result<Outcome<EllenLoc>, OutOfMemory>
-    ensures { IfOk result (λ outcome. outcome ≡ decide machine op above parent update leaf key) }
+    ensures { IfOk result (λ outcome. outcome ≡ decide machine op above parent leaf key) }
 {
     match op {
         Op::Find(wanted) => Ok(Outcome::Replies(key == wanted)),
         Op::Insert(wanted) => {
             if key == wanted {
                 Ok(Outcome::Replies(false))
-            } else if is_clean(update) {
-                let at = flagging(machine, parent, update, leaf);
+            } else if is_clean(parent.update) {
+                let at = flagging(machine, parent, leaf);
                 Ok(Outcome::Goes(EllenLoc::Search(at)))
             } else {
-                help_first(alloc, machine, update)
+                help_first(alloc, machine, parent.update)
             }
         }
         Op::Delete(wanted) => {
@@ -96,7 +97,7 @@ fn decide(
                 return Ok(Outcome::Replies(false));
             }
             match above {
-                Some(above) => decide_delete(alloc, machine, above, parent, update, leaf, key),
+                Some(above) => decide_delete(alloc, machine, above, parent, leaf, key),
                 None => Ok(Outcome::Astray),
             }
         }
@@ -109,25 +110,18 @@ fn arrived(
     machine: Ellen,
     op: Op,
     above: Option<Above>,
-    parent: u16,
-    update: UpdateWord,
+    parent: Above,
     child: u16,
     node: Node,
 ) -> Result<Outcome<EllenLoc>, OutOfMemory>
-    ensures { IfOk result (λ outcome. outcome ≡ arrived machine op above parent update child node) }
+    ensures { IfOk result (λ outcome. outcome ≡ arrived machine op above parent child node) }
 {
     match node {
-        Node::Internal { .. } => {
-            let above = Above {
-                node: parent,
-                update,
-            };
-            Ok(Outcome::Goes(EllenLoc::Search(SearchLoc::Update {
-                above: Some(above),
-                parent: child,
-            })))
-        }
-        Node::Leaf { key } => decide(alloc, machine, op, above, parent, update, child, key),
+        Node::Internal { .. } => Ok(Outcome::Goes(EllenLoc::Search(SearchLoc::Update {
+            above: Some(parent),
+            parent: child,
+        }))),
+        Node::Leaf { key } => decide(alloc, machine, op, above, parent, child, key),
     }
 }
 
@@ -156,29 +150,21 @@ fn child_row(
     op: Op,
     mem: &EllenMem,
     above: Option<Above>,
-    parent: u16,
-    update: UpdateWord,
+    parent: Above,
 ) -> Result<Outcome<EllenLoc>, OutOfMemory>
-    ensures { IfOk result (λ outcome. search_act machine op (place.Child above parent update) mem.now
+    ensures { IfOk result (λ outcome. search_act machine op (place.Child above parent.node parent.update) mem.now
         ≡ (mem.now, outcome)) }
 {
-    let node = mem.node(parent);
+    let node = mem.node(parent.node);
     match child_on(side_of(op.key(), key_in(node)), node) {
-        Some(child) => arrived(
-            alloc,
-            machine,
-            op,
-            above,
-            parent,
-            update,
-            child,
-            mem.node(child),
-        ),
+        Some(child) => {
+            let next = mem.node(child);
+            arrived(alloc, machine, op, above, parent, child, next)
+        }
         None => Ok(Outcome::Astray),
     }
 }
 
-#[tactic(auto, using(crate::proofs::Present::has_update, crate::proofs::Present::has_child, crate::proofs::Present::more_nodes))]
 fn insert_flag_row(
     alloc: Global,
     machine: Ellen,
@@ -205,7 +191,6 @@ fn insert_flag_row(
     Ok(Outcome::Goes(EllenLoc::Help(HelpLoc::InsChild(record), resume)))
 }
 
-#[tactic(auto, using(crate::proofs::Present::has_update, crate::proofs::Present::has_child, crate::proofs::Present::more_nodes))]
 fn insert_only_row(
     alloc: Global,
     machine: Ellen,
@@ -231,19 +216,17 @@ fn insert_only_row(
     Ok(Outcome::Replies(true))
 }
 
-#[tactic(auto, using(crate::proofs::Present::has_update, crate::proofs::Present::has_child, crate::proofs::Present::more_nodes))]
 fn delete_flag_row(
     alloc: Global,
     machine: Ellen,
     op: Op,
     mem: &mut EllenMem,
     above: Above,
-    parent: u16,
-    update: UpdateWord,
+    parent: Above,
     leaf: u16,
 ) -> Result<Outcome<EllenLoc>, OutOfMemory>
-    ensures ok { IfOk result (λ outcome. search_act machine op (place.DFlag above parent update leaf) mem.old
-        ≡ (mem.new, outcome)) }
+    ensures ok { IfOk result (λ outcome.
+        search_act machine op (place.DFlag above parent.node parent.update leaf) mem.old ≡ (mem.new, outcome)) }
     ensures err { OnErr result (mem.new ≡ mem.old) }
 {
     let Some(found) = update_of(mem.node(above.node)) else {
@@ -255,9 +238,9 @@ fn delete_flag_row(
     let record = short_number_of(mem.records.len())?;
     mem.add_record(Record::Del(DeleteRecord {
         grandparent: above.node,
-        parent,
+        parent: parent.node,
         leaf,
-        parent_update: update,
+        parent_update: parent.update,
     }))?;
     mem.set_update(above.node, UpdateWord::DeleteFlag(record));
     let resume = with_base(alloc, Base::Delete);
@@ -281,7 +264,7 @@ pub fn search_act(
             above,
             parent,
             update,
-        } => child_row(alloc, machine, op, mem, above, parent, update),
+        } => child_row(alloc, machine, op, mem, above, Above::new(parent, update)),
         SearchLoc::IFlag {
             parent,
             update,
@@ -295,6 +278,9 @@ pub fn search_act(
             parent,
             update,
             leaf,
-        } => delete_flag_row(alloc, machine, op, mem, above, parent, update, leaf),
+        } => {
+            let parent = Above::new(parent, update);
+            delete_flag_row(alloc, machine, op, mem, above, parent, leaf)
+        }
     }
 }

@@ -1,3 +1,2 @@
-pub mod PlaceBytes
-pub mod Present
+pub mod Past
 pub mod ReadParts

@@ -62,8 +62,8 @@ held_part (Some place) = place_part place
 abbrev pub natmit_parts : NatMitMem → List (Option NatMitLoc) → Parts
 natmit_parts memory held = record { nodes = map node_part memory.nodes; records = []; held = map held_part held }
 
--- the form of a memory with what the threads hold: the bytes of what nodes 0 and 1 and the threads lead to, in the order
--- in which a walk from these meets it
+-- the form of a memory with what the threads hold: the bytes of what nodes 0 and 1 and the threads lead to, in the
+-- order in which a walk from these meets it
 abbrev pub natmit_form : NatMitMem → List (Option NatMitLoc) → List ℕ
 natmit_form memory held = canonical_code 2 (natmit_parts memory held)
 

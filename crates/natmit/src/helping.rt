@@ -4,8 +4,8 @@ ghost use Rattle.natmit.specs.declared.place.NatMitLoc.TheVariants as place;
 ghost use Rattle.natmit.specs.Table.{act, other_side, tagging, clean_read, swung, IsHelping};
 
 use crate::machine::NatMit;
-use crate::memory::{NatMitMem, Word, is_plain, plain, word_on};
-use crate::place::{Mode, NatMitLoc};
+use crate::memory::{NatMitMem, Word, is_plain, untagged, word_on};
+use crate::place::{Mode, NatMitLoc, Path, path_of};
 use crate::searching::side_at;
 use sched_program::Op;
 use tree_machine::{Outcome, Side};
@@ -20,29 +20,22 @@ fn other_side(side: Side) -> Side
 }
 
 /// Where the cleanup goes once it knows the side of the sibling: to the tag, or past it in the variant.
-fn tagging(
-    machine: NatMit,
-    ancestor: u16,
-    successor: u16,
-    parent: u16,
-    side: Side,
-    mode: Mode,
-) -> NatMitLoc
-    ensures { result ≡ tagging machine ancestor successor parent side mode }
+fn tagging(machine: NatMit, path: Path, side: Side, mode: Mode) -> NatMitLoc
+    ensures { result ≡ tagging machine path.ancestor path.successor path.parent side mode }
 {
     if machine.tag {
         NatMitLoc::Tag {
-            ancestor,
-            successor,
-            parent,
+            ancestor: path.ancestor,
+            successor: path.successor,
+            parent: path.parent,
             side,
             mode,
         }
     } else {
         NatMitLoc::Sibling {
-            ancestor,
-            successor,
-            parent,
+            ancestor: path.ancestor,
+            successor: path.successor,
+            parent: path.parent,
             side,
             mode,
         }
@@ -50,22 +43,13 @@ fn tagging(
 }
 
 /// Where the cleanup goes that has read this word of the parent, on the side of the key.
-fn clean_read(
-    machine: NatMit,
-    ancestor: u16,
-    successor: u16,
-    parent: u16,
-    side: Side,
-    mode: Mode,
-    word: Word,
-) -> Outcome<NatMitLoc>
-    ensures { result ≡ clean_read machine ancestor successor parent side mode word }
+fn clean_read(machine: NatMit, path: Path, side: Side, mode: Mode, word: Word) -> Outcome<NatMitLoc>
+    ensures { result ≡ clean_read machine path.ancestor path.successor path.parent side mode word }
 {
     if word.flag {
-        let side = other_side(side);
-        Outcome::Goes(tagging(machine, ancestor, successor, parent, side, mode))
+        Outcome::Goes(tagging(machine, path, other_side(side), mode))
     } else {
-        Outcome::Goes(tagging(machine, ancestor, successor, parent, side, mode))
+        Outcome::Goes(tagging(machine, path, side, mode))
     }
 }
 
@@ -83,47 +67,38 @@ fn swung(mode: Mode) -> Outcome<NatMitLoc>
 
 impl NatMit {
     /// Of the two children of the parent the one that is not flagged stays.
-    fn clean_read_row(
-        self,
-        op: Op,
-        mem: &NatMitMem,
-        ancestor: u16,
-        successor: u16,
-        parent: u16,
-        mode: Mode,
-    ) -> Outcome<NatMitLoc>
-        ensures { act self op (place.CleanRead ancestor successor parent mode) mem.now ≡ (mem.now, result) }
+    fn clean_read_row(self, op: Op, mem: &NatMitMem, path: Path, mode: Mode) -> Outcome<NatMitLoc>
+        ensures { act self op (place.CleanRead path.ancestor path.successor path.parent mode) mem.now
+            ≡ (mem.now, result) }
     {
-        let side = side_at(op, mem, parent);
-        match word_on(side, mem.node(parent)) {
-            Some(word) => clean_read(self, ancestor, successor, parent, side, mode, word),
+        let side = side_at(op, mem, path.parent);
+        match word_on(side, mem.node(path.parent)) {
+            Some(word) => clean_read(self, path, side, mode, word),
             None => Outcome::Astray,
         }
     }
 
     /// The word of the sibling is tagged, so that no exchange changes it from here on.
-    #[tactic(auto, using(crate::proofs::Present::has_word))]
     fn tag_row(
         self,
         op: Op,
         mem: &mut NatMitMem,
-        ancestor: u16,
-        successor: u16,
-        parent: u16,
+        path: Path,
         side: Side,
         mode: Mode,
     ) -> Outcome<NatMitLoc>
-        ensures { act self op (place.Tag ancestor successor parent side mode) mem.old ≡ (mem.new, result) }
+        ensures { act self op (place.Tag path.ancestor path.successor path.parent side mode) mem.old
+            ≡ (mem.new, result) }
     {
-        let Some(word) = word_on(side, mem.node(parent)) else {
+        let Some(word) = word_on(side, mem.node(path.parent)) else {
             return Outcome::Astray;
         };
         let tagged = Word { tag: true, ..word };
-        mem.set_word(parent, side, tagged);
+        mem.set_word(path.parent, side, tagged);
         Outcome::Goes(NatMitLoc::Sibling {
-            ancestor,
-            successor,
-            parent,
+            ancestor: path.ancestor,
+            successor: path.successor,
+            parent: path.parent,
             side,
             mode,
         })
@@ -134,18 +109,17 @@ impl NatMit {
         self,
         op: Op,
         mem: &NatMitMem,
-        ancestor: u16,
-        successor: u16,
-        parent: u16,
+        path: Path,
         side: Side,
         mode: Mode,
     ) -> Outcome<NatMitLoc>
-        ensures { act self op (place.Sibling ancestor successor parent side mode) mem.now ≡ (mem.now, result) }
+        ensures { act self op (place.Sibling path.ancestor path.successor path.parent side mode) mem.now
+            ≡ (mem.now, result) }
     {
-        match word_on(side, mem.node(parent)) {
+        match word_on(side, mem.node(path.parent)) {
             Some(word) => Outcome::Goes(NatMitLoc::Swing {
-                ancestor,
-                successor,
+                ancestor: path.ancestor,
+                successor: path.successor,
                 flag: word.flag,
                 node: word.node,
                 mode,
@@ -155,29 +129,24 @@ impl NatMit {
     }
 
     /// The word of the ancestor leads to the sibling then, and all between them is cut off.
-    #[tactic(auto, using(crate::proofs::Present::has_word))]
     fn swing_row(
         self,
         op: Op,
         mem: &mut NatMitMem,
         ancestor: u16,
         successor: u16,
-        flag: bool,
-        node: u16,
+        sibling: Word,
         mode: Mode,
     ) -> Outcome<NatMitLoc>
-        ensures { act self op (place.Swing ancestor successor flag node mode) mem.old ≡ (mem.new, result) }
+        ensures { act self op (place.Swing ancestor successor sibling.flag sibling.node mode) mem.old
+            ≡ (mem.new, result) }
     {
         let side = side_at(op, mem, ancestor);
         let Some(word) = word_on(side, mem.node(ancestor)) else {
             return Outcome::Astray;
         };
         if is_plain(successor, word) {
-            let sibling = Word {
-                flag,
-                ..plain(node)
-            };
-            mem.set_word(ancestor, side, sibling);
+            mem.set_word(ancestor, side, untagged(sibling.flag, sibling.node));
             swung(mode)
         } else {
             Outcome::Goes(NatMitLoc::Begin { mode })
@@ -195,28 +164,28 @@ impl NatMit {
                 successor: s,
                 parent: p,
                 mode,
-            } => self.clean_read_row(op, mem, a, s, p, mode),
+            } => self.clean_read_row(op, mem, path_of(a, s, p), mode),
             NatMitLoc::Tag {
                 ancestor: a,
                 successor: s,
                 parent: p,
                 side,
                 mode,
-            } => self.tag_row(op, mem, a, s, p, side, mode),
+            } => self.tag_row(op, mem, path_of(a, s, p), side, mode),
             NatMitLoc::Sibling {
                 ancestor: a,
                 successor: s,
                 parent: p,
                 side,
                 mode,
-            } => self.sibling_row(op, mem, a, s, p, side, mode),
+            } => self.sibling_row(op, mem, path_of(a, s, p), side, mode),
             NatMitLoc::Swing {
                 ancestor: a,
                 successor: s,
                 flag,
                 node,
                 mode,
-            } => self.swing_row(op, mem, a, s, flag, node, mode),
+            } => self.swing_row(op, mem, a, s, untagged(flag, node), mode),
             _ => unreachable!(),
         }
     }

@@ -1,5 +1,5 @@
 //! The initial memory.
-ghost use Rattle.std.specs.Prelude.{◌≡◌, ◌<◌, length, IfOk};
+ghost use Rattle.std.specs.Prelude.{◌≡◌, IfOk};
 ghost use Rattle.natmit.specs.Initial.{empty_tree, put_in, initial_memory};
 
 use crate::memory::{NatMitMem, Node, plain};
@@ -33,16 +33,13 @@ fn empty_tree(alloc: Global) -> Result<NatMitMem, OutOfMemory>
 
 /// Puts a key in at the leaf to which it leads.
 fn put_in(alloc: Global, mem: &mut NatMitMem, key: u8) -> Result<(), OutOfMemory>
-    requires { 0 < length mem.old.nodes }
     ensures { IfOk result (λ _. mem.new ≡ put_in mem.old key) }
 {
-    let levels = mem.nodes.len();
-    let end = search_end(mem, key, levels);
+    let end = search_end(mem, key, mem.nodes.len());
     mem.put_at(alloc, key, end.parent, end.leaf)
 }
 
 /// The memory with these keys, put in in their order.
-#[tactic(auto, using(crate::proofs::Present::has_first))]
 pub(crate) fn build(alloc: Global, initial: &[u8]) -> Result<NatMitMem, OutOfMemory>
     ensures { IfOk result (λ memory. memory ≡ initial_memory initial.now) }
 {

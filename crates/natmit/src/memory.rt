@@ -1,7 +1,7 @@
 //! The nodes of the shared memory.
-ghost use Rattle.std.specs.Prelude.{◌≡◌, ◌+◌, ◌<◌, ◌++◌, length, IfOk, OnOk, OnErr};
+ghost use Rattle.std.specs.Prelude.{◌≡◌, false, ◌++◌, IfOk, OnOk, OnErr};
 ghost use Rattle.natmit.specs.Memory.{plain, is_plain, key_in, shape_in, shapes, word_on, with_word, node_at};
-ghost use Rattle.natmit.specs.Memory.{key_at, set_word, internal_over, with_internal, new_internal, put_at};
+ghost use Rattle.natmit.specs.Memory.{set_word, internal_over, with_internal, new_internal, put_at};
 
 use sched_program::{OutOfMemory, Sequence};
 use std::alloc::Global;
@@ -42,6 +42,17 @@ pub(crate) fn plain(node: u16) -> Word
 {
     Word {
         flag: false,
+        tag: false,
+        node,
+    }
+}
+
+/// The word of a child with this flag and without tag.
+pub(crate) fn untagged(flag: bool, node: u16) -> Word
+    ensures { result ≡ record { flag = flag; tag = false; node = node } }
+{
+    Word {
+        flag,
         tag: false,
         node,
     }
@@ -151,13 +162,15 @@ impl NatMitMem {
         }
     }
 
-    /// Puts a child word into a node.
+    /// Puts a child word into a node, if there is such a node.
+    #[tactic(auto, using(crate::proofs::Past::set_past))]
     pub(crate) fn set_word(&mut self, x: u16, side: Side, word: Word)
-        requires { x < length self.old.nodes }
         ensures { self.new ≡ set_word self.old x side word }
     {
         let node = with_word(side, word, self.node(x));
-        self.nodes.set(x as usize, node);
+        if usize::from(x) < self.nodes.len() {
+            self.nodes.set(x as usize, node);
+        }
     }
 
     /// Appends a new internal node for a key at a leaf, behind its new leaf, and answers its number. Where memory is
@@ -181,7 +194,6 @@ impl NatMitMem {
 
     /// Puts a new internal node for a key in the place of a leaf, below its parent. Where memory is refused nothing
     /// is changed.
-    #[tactic(auto, using(crate::proofs::Present::more_nodes))]
     pub(crate) fn put_at(
         &mut self,
         alloc: Global,
@@ -189,7 +201,6 @@ impl NatMitMem {
         parent: u16,
         leaf: u16,
     ) -> Result<(), OutOfMemory>
-        requires { parent < length self.old.nodes }
         ensures ok { IfOk result (λ _. self.new ≡ put_at self.old key parent leaf) }
         ensures err { OnErr result (self.new ≡ self.old) }
     {

@@ -56,45 +56,23 @@ fn visit_node<V: PartVisitor>(node: Node, visitor: &mut V) -> Result<(), OutOfMe
     }
 }
 
-/// Lets a visitor visit a place that holds four nodes and no other locals.
+/// Lets a visitor visit a place that holds four references, with these facts.
 fn visit_four<V: PartVisitor>(
-    place: u8,
-    ancestor: u16,
-    successor: u16,
-    parent: u16,
-    leaf: u16,
-    visitor: &mut V,
-) -> Result<(), OutOfMemory>
-    requires { IsPartBelow (V.nodes_below visitor.old) (V.records_below visitor.old)
-        (part_of (place ∷ []) (Some ancestor ∷ Some successor ∷ Some parent ∷ Some leaf ∷ [])) }
-    ensures { OnOk result (V.visited visitor.old
-        (part_of (place ∷ []) (Some ancestor ∷ Some successor ∷ Some parent ∷ Some leaf ∷ [])) visitor.new) }
-{
-    visitor.visit(
-        &[place],
-        &[Some(ancestor), Some(successor), Some(parent), Some(leaf)],
-        &[],
-        &[],
-    )
-}
-
-/// Lets a visitor visit a place that holds three nodes and a mode, with these facts.
-fn visit_three<V: PartVisitor>(
     facts: &[u8],
     ancestor: u16,
     successor: u16,
     node: u16,
-    mode: Mode,
+    last: Option<u16>,
     visitor: &mut V,
 ) -> Result<(), OutOfMemory>
     requires { IsPartBelow (V.nodes_below visitor.old) (V.records_below visitor.old)
-        (part_of facts.now (Some ancestor ∷ Some successor ∷ Some node ∷ owned mode ∷ [])) }
+        (part_of facts.now (Some ancestor ∷ Some successor ∷ Some node ∷ last ∷ [])) }
     ensures { OnOk result (V.visited visitor.old
-        (part_of facts.now (Some ancestor ∷ Some successor ∷ Some node ∷ owned mode ∷ [])) visitor.new) }
+        (part_of facts.now (Some ancestor ∷ Some successor ∷ Some node ∷ last ∷ [])) visitor.new) }
 {
     visitor.visit(
         facts,
-        &[Some(ancestor), Some(successor), Some(node), owned(mode)],
+        &[Some(ancestor), Some(successor), Some(node), last],
         &[],
         &[],
     )
@@ -112,28 +90,28 @@ fn visit_helping<V: PartVisitor>(place: NatMitLoc, visitor: &mut V) -> Result<()
             successor: s,
             parent: p,
             mode,
-        } => visit_three(&[6], a, s, p, mode, visitor),
+        } => visit_four(&[6], a, s, p, owned(mode), visitor),
         NatMitLoc::Tag {
             ancestor: a,
             successor: s,
             parent: p,
             side,
             mode,
-        } => visit_three(&[7, side_number(side)], a, s, p, mode, visitor),
+        } => visit_four(&[7, side_number(side)], a, s, p, owned(mode), visitor),
         NatMitLoc::Sibling {
             ancestor: a,
             successor: s,
             parent: p,
             side,
             mode,
-        } => visit_three(&[8, side_number(side)], a, s, p, mode, visitor),
+        } => visit_four(&[8, side_number(side)], a, s, p, owned(mode), visitor),
         NatMitLoc::Swing {
             ancestor: a,
             successor: s,
             flag,
             node,
             mode,
-        } => visit_three(&[9, u8::from(flag)], a, s, node, mode, visitor),
+        } => visit_four(&[9, u8::from(flag)], a, s, node, owned(mode), visitor),
         _ => unreachable!(),
     }
 }
@@ -164,19 +142,19 @@ fn visit_place<V: PartVisitor>(place: NatMitLoc, visitor: &mut V) -> Result<(), 
             successor: s,
             parent: p,
             leaf: l,
-        } => visit_four(3, a, s, p, l, visitor),
+        } => visit_four(&[3], a, s, p, Some(l), visitor),
         NatMitLoc::Flag {
             ancestor: a,
             successor: s,
             parent: p,
             leaf: l,
-        } => visit_four(4, a, s, p, l, visitor),
+        } => visit_four(&[4], a, s, p, Some(l), visitor),
         NatMitLoc::Look {
             ancestor: a,
             successor: s,
             parent: p,
             leaf: l,
-        } => visit_four(5, a, s, p, l, visitor),
+        } => visit_four(&[5], a, s, p, Some(l), visitor),
         _ => visit_helping(place, visitor),
     }
 }

@@ -1,4 +1,6 @@
 //! Where an operation stands: its next access to the memory, and its locals.
+ghost use Rattle.std.specs.Prelude.{◌≡◌};
+
 use tree_machine::Side;
 
 /// What a delete has done so far.
@@ -10,8 +12,17 @@ pub enum Mode {
     Owner(u16),
 }
 
-/// A place of the machine. The numbers are those of nodes: of the ancestor and its successor, the ends of the last
-/// word above the parent that was read untagged; of the parent; and of its child, a leaf where the search has ended.
+/// The nodes above the one to which a search has come: the ancestor and its successor, the ends of the last word above
+/// the parent that was read untagged; and the parent.
+#[derive(Clone, Copy)]
+pub(crate) struct Path {
+    pub(crate) ancestor: u16,
+    pub(crate) successor: u16,
+    pub(crate) parent: u16,
+}
+
+/// A place of the machine. The numbers are those of nodes: of a path, and of the parent's child, a leaf where the
+/// search has ended.
 #[derive(Clone, Copy, PartialEq, Eq, Hash)]
 pub enum NatMitLoc {
     /// The search reads the word from which it begins.
@@ -79,4 +90,15 @@ pub enum NatMitLoc {
         node: u16,
         mode: Mode,
     },
+}
+
+/// The path of these nodes.
+pub(crate) fn path_of(ancestor: u16, successor: u16, parent: u16) -> Path
+    ensures { result ≡ record { ancestor = ancestor; successor = successor; parent = parent } }
+{
+    Path {
+        ancestor,
+        successor,
+        parent,
+    }
 }

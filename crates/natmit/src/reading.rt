@@ -121,8 +121,8 @@ fn read_left(bytes: &[u8], nodes: &mut Vec<Node>) -> Result<bool, OutOfMemory>
         return Ok(true);
     }
     match read_graph(bytes, nodes)? {
-        Some((rest, count)) => Ok(count > 0 && rest.is_empty()),
-        None => Ok(false),
+        Some((rest, count)) if count > 0 => Ok(rest.is_empty()),
+        _ => Ok(false),
     }
 }
 

@@ -6,8 +6,8 @@ ghost use Rattle.natmit.specs.Memory.{side_at};
 ghost use Rattle.natmit.specs.Table.{act, arrived, went_down, looked};
 
 use crate::machine::NatMit;
-use crate::memory::{NatMitMem, Node, Word, is_plain, key_in, plain, word_on};
-use crate::place::{Mode, NatMitLoc};
+use crate::memory::{NatMitMem, Node, Word, is_plain, key_in, untagged, word_on};
+use crate::place::{Mode, NatMitLoc, Path, path_of};
 use sched_program::{Op, OutOfMemory};
 use std::alloc::Global;
 use tree_machine::{Outcome, Side, side_of};
@@ -20,17 +20,9 @@ pub(crate) fn side_at(op: Op, mem: &NatMitMem, x: u16) -> Side
 }
 
 /// What a delete does at the leaf, of this key, at which its search has ended.
-fn decide_delete(
-    wanted: u8,
-    ancestor: u16,
-    successor: u16,
-    parent: u16,
-    leaf: u16,
-    mode: Mode,
-    key: u8,
-) -> Outcome<NatMitLoc>
+fn decide_delete(wanted: u8, path: Path, leaf: u16, mode: Mode, key: u8) -> Outcome<NatMitLoc>
     ensures { (tag : Bool) → result
-        ≡ arrived (Op.Delete wanted) ancestor successor parent leaf tag mode (Node.Leaf key) }
+        ≡ arrived (Op.Delete wanted) path.ancestor path.successor path.parent leaf tag mode (Node.Leaf key) }
 {
     match mode {
         Mode::Plain => {
@@ -38,9 +30,9 @@ fn decide_delete(
                 return Outcome::Replies(false);
             }
             Outcome::Goes(NatMitLoc::Flag {
-                ancestor,
-                successor,
-                parent,
+                ancestor: path.ancestor,
+                successor: path.successor,
+                parent: path.parent,
                 leaf,
             })
         }
@@ -49,9 +41,9 @@ fn decide_delete(
                 return Outcome::Replies(true);
             }
             Outcome::Goes(NatMitLoc::CleanRead {
-                ancestor,
-                successor,
-                parent,
+                ancestor: path.ancestor,
+                successor: path.successor,
+                parent: path.parent,
                 mode,
             })
         }
@@ -59,16 +51,9 @@ fn decide_delete(
 }
 
 /// What an operation does at the leaf, of this key, at which its search has ended, whatever tag led there.
-fn decide(
-    op: Op,
-    ancestor: u16,
-    successor: u16,
-    parent: u16,
-    leaf: u16,
-    mode: Mode,
-    key: u8,
-) -> Outcome<NatMitLoc>
-    ensures { (tag : Bool) → result ≡ arrived op ancestor successor parent leaf tag mode (Node.Leaf key) }
+fn decide(op: Op, path: Path, leaf: u16, mode: Mode, key: u8) -> Outcome<NatMitLoc>
+    ensures { (tag : Bool) → result
+        ≡ arrived op path.ancestor path.successor path.parent leaf tag mode (Node.Leaf key) }
 {
     match op {
         Op::Find(wanted) => Outcome::Replies(key == wanted),
@@ -77,75 +62,64 @@ fn decide(
                 return Outcome::Replies(false);
             }
             Outcome::Goes(NatMitLoc::Put {
-                ancestor,
-                successor,
-                parent,
+                ancestor: path.ancestor,
+                successor: path.successor,
+                parent: path.parent,
                 leaf,
             })
         }
-        Op::Delete(wanted) => decide_delete(wanted, ancestor, successor, parent, leaf, mode, key),
+        Op::Delete(wanted) => decide_delete(wanted, path, leaf, mode, key),
     }
 }
 
 /// Where a search goes that has come to the node `leaf`.
-fn arrived(
-    op: Op,
-    ancestor: u16,
-    successor: u16,
-    parent: u16,
-    leaf: u16,
-    tag: bool,
-    mode: Mode,
-    node: Node,
-) -> Outcome<NatMitLoc>
-    ensures { result ≡ arrived op ancestor successor parent leaf tag mode node }
+fn arrived(op: Op, path: Path, leaf: u16, tag: bool, mode: Mode, node: Node) -> Outcome<NatMitLoc>
+    ensures { result ≡ arrived op path.ancestor path.successor path.parent leaf tag mode node }
 {
     match node {
         Node::Internal { .. } => Outcome::Goes(NatMitLoc::Down {
-            ancestor,
-            successor,
-            parent,
+            ancestor: path.ancestor,
+            successor: path.successor,
+            parent: path.parent,
             leaf,
             tag,
             mode,
         }),
-        Node::Leaf { key } => decide(op, ancestor, successor, parent, leaf, mode, key),
+        Node::Leaf { key } => decide(op, path, leaf, mode, key),
     }
 }
 
 /// Where a search goes that has read this word of the node `leaf`, to which a word with this tag led.
 fn went_down(
     op: Op,
-    ancestor: u16,
-    successor: u16,
-    parent: u16,
+    path: Path,
     leaf: u16,
     tag: bool,
     mode: Mode,
     mem: &NatMitMem,
     word: Word,
 ) -> Outcome<NatMitLoc>
-    ensures { result ≡ went_down op ancestor successor parent leaf tag mode mem.now word }
+    ensures { result ≡ went_down op path.ancestor path.successor path.parent leaf tag mode mem.now word }
 {
     let next = mem.node(word.node);
     if tag {
-        arrived(
-            op, ancestor, successor, leaf, word.node, word.tag, mode, next,
-        )
+        let path = path_of(path.ancestor, path.successor, leaf);
+        arrived(op, path, word.node, word.tag, mode, next)
     } else {
-        arrived(op, parent, leaf, leaf, word.node, word.tag, mode, next)
+        let path = path_of(path.parent, leaf, leaf);
+        arrived(op, path, word.node, word.tag, mode, next)
     }
 }
 
 /// Where an insert or delete goes whose exchange has failed, and that has found this word.
-fn looked(ancestor: u16, successor: u16, parent: u16, leaf: u16, word: Word) -> Outcome<NatMitLoc>
-    ensures { result ≡ looked ancestor successor parent leaf word }
+fn looked(path: Path, leaf: u16, word: Word) -> Outcome<NatMitLoc>
+    ensures { result ≡ looked path.ancestor path.successor path.parent leaf word }
 {
     if word.node == leaf && (word.flag || word.tag) {
         Outcome::Goes(NatMitLoc::CleanRead {
-            ancestor,
-            successor,
-            parent,
+            ancestor: path.ancestor,
+            successor: path.successor,
+            parent: path.parent,
             mode: Mode::Plain,
         })
     } else {
@@ -166,7 +140,7 @@ impl NatMit {
         match word_on(Side::Left, mem.node(1)) {
             Some(word) => {
                 let next = mem.node(word.node);
-                arrived(op, 0, 1, 1, word.node, word.tag, mode, next)
+                arrived(op, path_of(0, 1, 1), word.node, word.tag, mode, next)
             }
             None => Outcome::Astray,
         }
@@ -177,107 +151,75 @@ impl NatMit {
         self,
         op: Op,
         mem: &NatMitMem,
-        ancestor: u16,
-        successor: u16,
-        parent: u16,
+        path: Path,
         leaf: u16,
         tag: bool,
         mode: Mode,
     ) -> Outcome<NatMitLoc>
-        ensures { act self op (place.Down ancestor successor parent leaf tag mode) mem.now ≡ (mem.now, result) }
+        ensures { act self op (place.Down path.ancestor path.successor path.parent leaf tag mode) mem.now
+            ≡ (mem.now, result) }
     {
         match word_on(side_at(op, mem, leaf), mem.node(leaf)) {
-            Some(word) => went_down(op, ancestor, successor, parent, leaf, tag, mode, mem, word),
+            Some(word) => went_down(op, path, leaf, tag, mode, mem, word),
             None => Outcome::Astray,
         }
     }
 
     /// An insert puts its key in the place of the leaf, if the word of the parent leads there and no delete is under
     /// way.
-    #[tactic(auto, using(crate::proofs::Present::has_word))]
-    fn put_row(
-        self,
-        alloc: Global,
-        op: Op,
-        mem: &mut NatMitMem,
-        ancestor: u16,
-        successor: u16,
-        parent: u16,
-        leaf: u16,
-    ) -> Access
-        ensures ok { IfOk result (λ outcome. act self op (place.Put ancestor successor parent leaf) mem.old
-            ≡ (mem.new, outcome)) }
+    fn put_row(self, alloc: Global, op: Op, mem: &mut NatMitMem, path: Path, leaf: u16) -> Access
+        ensures ok { IfOk result (λ outcome.
+            act self op (place.Put path.ancestor path.successor path.parent leaf) mem.old ≡ (mem.new, outcome)) }
         ensures err { OnErr result (mem.new ≡ mem.old) }
     {
-        let side = side_at(op, mem, parent);
-        let Some(word) = word_on(side, mem.node(parent)) else {
+        let side = side_at(op, mem, path.parent);
+        let Some(word) = word_on(side, mem.node(path.parent)) else {
             return Ok(Outcome::Astray);
         };
         if !is_plain(leaf, word) {
             return Ok(Outcome::Goes(NatMitLoc::Look {
-                ancestor,
-                successor,
-                parent,
+                ancestor: path.ancestor,
+                successor: path.successor,
+                parent: path.parent,
                 leaf,
             }));
         }
-        mem.put_at(alloc, op.key(), parent, leaf)?;
+        mem.put_at(alloc, op.key(), path.parent, leaf)?;
         Ok(Outcome::Replies(true))
     }
 
     /// A delete flags the word of its leaf: the key is gone once the leaf is cut off, by whom ever.
-    #[tactic(auto, using(crate::proofs::Present::has_word))]
-    fn flag_row(
-        self,
-        op: Op,
-        mem: &mut NatMitMem,
-        ancestor: u16,
-        successor: u16,
-        parent: u16,
-        leaf: u16,
-    ) -> Outcome<NatMitLoc>
-        ensures { act self op (place.Flag ancestor successor parent leaf) mem.old ≡ (mem.new, result) }
+    fn flag_row(self, op: Op, mem: &mut NatMitMem, path: Path, leaf: u16) -> Outcome<NatMitLoc>
+        ensures { act self op (place.Flag path.ancestor path.successor path.parent leaf) mem.old ≡ (mem.new, result) }
     {
-        let side = side_at(op, mem, parent);
-        let Some(word) = word_on(side, mem.node(parent)) else {
+        let side = side_at(op, mem, path.parent);
+        let Some(word) = word_on(side, mem.node(path.parent)) else {
             return Outcome::Astray;
         };
         if is_plain(leaf, word) {
-            let flagged = Word {
-                flag: true,
-                ..plain(leaf)
-            };
-            mem.set_word(parent, side, flagged);
+            mem.set_word(path.parent, side, untagged(true, leaf));
             Outcome::Goes(NatMitLoc::CleanRead {
-                ancestor,
-                successor,
-                parent,
+                ancestor: path.ancestor,
+                successor: path.successor,
+                parent: path.parent,
                 mode: Mode::Owner(leaf),
             })
         } else {
             Outcome::Goes(NatMitLoc::Look {
-                ancestor,
-                successor,
-                parent,
+                ancestor: path.ancestor,
+                successor: path.successor,
+                parent: path.parent,
                 leaf,
             })
         }
     }
 
     /// After a failed exchange: a flagged or tagged word of the same leaf is that of another delete, which is helped.
-    fn look_row(
-        self,
-        op: Op,
-        mem: &NatMitMem,
-        ancestor: u16,
-        successor: u16,
-        parent: u16,
-        leaf: u16,
-    ) -> Outcome<NatMitLoc>
-        ensures { act self op (place.Look ancestor successor parent leaf) mem.now ≡ (mem.now, result) }
+    fn look_row(self, op: Op, mem: &NatMitMem, path: Path, leaf: u16) -> Outcome<NatMitLoc>
+        ensures { act self op (place.Look path.ancestor path.successor path.parent leaf) mem.now ≡ (mem.now, result) }
     {
-        match word_on(side_at(op, mem, parent), mem.node(parent)) {
-            Some(word) => looked(ancestor, successor, parent, leaf, word),
+        match word_on(side_at(op, mem, path.parent), mem.node(path.parent)) {
+            Some(word) => looked(path, leaf, word),
             None => Outcome::Astray,
         }
     }
@@ -296,25 +238,25 @@ impl NatMit {
                 leaf: l,
                 tag,
                 mode,
-            } => Ok(self.down_row(op, mem, a, s, p, l, tag, mode)),
+            } => Ok(self.down_row(op, mem, path_of(a, s, p), l, tag, mode)),
             NatMitLoc::Put {
                 ancestor: a,
                 successor: s,
                 parent: p,
                 leaf: l,
-            } => self.put_row(alloc, op, mem, a, s, p, l),
+            } => self.put_row(alloc, op, mem, path_of(a, s, p), l),
             NatMitLoc::Flag {
                 ancestor: a,
                 successor: s,
                 parent: p,
                 leaf: l,
-            } => Ok(self.flag_row(op, mem, a, s, p, l)),
+            } => Ok(self.flag_row(op, mem, path_of(a, s, p), l)),
             NatMitLoc::Look {
                 ancestor: a,
                 successor: s,
                 parent: p,
                 leaf: l,
-            } => Ok(self.look_row(op, mem, a, s, p, l)),
+            } => Ok(self.look_row(op, mem, path_of(a, s, p), l)),
             _ => Ok(self.help_act(op, loc, mem)),
         }
     }

@@ -9,8 +9,7 @@ use Rattle.ellen.specs.declared.machine.Ellen.{Ellen}
 use Rattle.ellen.specs.EllenRules.{ellen_rules}
 use Rattle.ellen.specs.Parts.{ellen_behind_code, ellen_form, ellen_front_code, ellen_parts, held_part}
 use Rattle.ellen.specs.Laws.Parts.{parts_alike}
-use Rattle.ellen.specs.Laws.PartsRange.{parts_in_range}
-use Rattle.ellen.specs.Laws.RangeFromParts.{memory_in_range, places_in_range}
+use Rattle.ellen.specs.Laws.PartsRange.{memory_in_range, parts_in_range, places_in_range}
 
 pub ellen_decodes : (machine : Ellen) (front : Front) → DecodesForms (ellen_rules machine) ellen_form (λ form. form)
     (cut_code ellen_front_code ellen_behind_code front)

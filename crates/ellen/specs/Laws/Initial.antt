@@ -6,7 +6,7 @@ use Rattle.std.specs.Option.{option_map}
 use Rattle.std.proofs.Common.{arith, sym, ◌∙◌, ap, ◌⊎◌, inl, inr}
 use Rattle.std.proofs.lemmas.List.{length-set}
 use Rattle.std.proofs.lemmas.Bool.Decides.{leb_tells}
-use Rattle.std.proofs.lemmas.List.Elements.{All-nil, All-cons}
+use Rattle.std.proofs.lemmas.List.Elements.{All-from_recursion}
 use Rattle.std.proofs.lemmas.Option.{slice_get_within}
 use Rattle.sched_program.specs.Program.{IsUserKey, AreInitialKeys}
 use Rattle.tree_machine.proofs.Lists.{slice_get-set, get-set_same, get-set_other, get-append_left, get-append_right}
@@ -49,11 +49,9 @@ fold_in_range (key ∷ keys) memory h = fold_in_range keys (put_in memory key) (
 
 empty_in_range : IsInRange empty_tree
 empty_in_range =
-    let P = IsNodeIn 3 0 in
     record {
       root = omega arith;
-      nodes = All-cons P (Internal 102 Untouched 1 2) (Leaf 101 ∷ Leaf 102 ∷ []) (tt, omega arith, omega arith)
-          (All-cons P (Leaf 101) (Leaf 102 ∷ []) tt (All-cons P (Leaf 102) [] tt (All-nil P)));
+      nodes = All-from_recursion (IsNodeIn 3 0) empty_tree.nodes ((tt, omega arith, omega arith), (tt, (tt, tt)));
       records = λ k d below. absurd (omega arith);
     }
 

@@ -1,8 +1,9 @@
 -- Each kind of access keeps a pairing.
-use Rattle.std.specs.Prelude.{◌≡◌, ℕ, zero, suc, ◌<◌, Bool, true, false, cond, nat_eq, List, [], ◌∷◌, ◌++◌, length}
+use Rattle.std.specs.Prelude.{◌≡◌, ℕ, ◌<◌, Bool, true, false, cond, nat_eq, List, [], ◌∷◌, ◌++◌, length}
 use Rattle.std.specs.Prelude.{slice_get, slice_set, Option, Some, None, unwrap_or, ◌⊎◌, refl}
-use Rattle.std.proofs.Common.{sym, ◌∙◌, ap, subst, inl, inr, arith, length-set}
+use Rattle.std.proofs.Common.{sym, ◌∙◌, ap, subst, inl, inr, length-set}
 use Rattle.std.proofs.lemmas.Bool.Decides.{eqb_tells}
+use Rattle.tree_machine.proofs.Lists.{get-set_same, get-set_other}
 use Rattle.tree_machine.specs.Pairing.{IsAmong, IsOneToOne, Pairing, Extends, AreOutcomesPaired, AreStepsPaired}
 use Rattle.tree_machine.specs.SearchOrder.{side_of}
 use Rattle.tree_machine.specs.declared.machine.Outcome.{Outcome}
@@ -134,17 +135,11 @@ module _ (P R : ℕ → ℕ → Type 0) where
 
 node_set_same : (nodes : List Node) (x : ℕ) (a : Node) → x < length nodes
     → unwrap_or (slice_get (slice_set nodes x a) x) (Leaf 0) ≡ a
-node_set_same [] x a l = absurd (omega arith)
-node_set_same (b ∷ nodes) zero a l = refl
-node_set_same (b ∷ nodes) (suc x) a l = node_set_same nodes x a (omega arith)
+node_set_same nodes x a l = ap (λ o. unwrap_or o (Leaf 0)) (get-set_same nodes x a l)
 
 node_set_other : (nodes : List Node) (x y : ℕ) (a : Node) → (y ≡ x → ⊥)
     → unwrap_or (slice_get (slice_set nodes x a) y) (Leaf 0) ≡ unwrap_or (slice_get nodes y) (Leaf 0)
-node_set_other [] x y a n = refl
-node_set_other (b ∷ nodes) zero zero a n = absurd (n refl)
-node_set_other (b ∷ nodes) zero (suc y) a n = refl
-node_set_other (b ∷ nodes) (suc x) zero a n = refl
-node_set_other (b ∷ nodes) (suc x) (suc y) a n = node_set_other nodes x y a (λ e. n (ap suc e))
+node_set_other nodes x y a n = ap (λ o. unwrap_or o (Leaf 0)) (get-set_other nodes x y a n)
 
 replace_node : (P R : ℕ → ℕ → Type 0) (memory other : EllenMem) (x y : ℕ) (a b : Node)
     → AreMemoriesPaired P R memory other → P x y → AreNodesPaired P R a b

@@ -3,6 +3,7 @@ use Rattle.std.specs.Prelude.{◌≡◌, ℕ, zero, suc, ◌+◌, ◌<◌, Bool,
 use Rattle.std.specs.Prelude.{slice_get, Option, Some, None, unwrap_or, refl}
 use Rattle.std.specs.List.{AllZip}
 use Rattle.std.proofs.Common.{sym, ◌∙◌, ap, subst, inl, inr, arith, length-append}
+use Rattle.std.proofs.lemmas.List.{append_assoc}
 use Rattle.tree_machine.specs.Pairing.{IsAmong, IsOneToOne, Pairing}
 use Rattle.ellen.specs.declared.memory.UpdateWord.{UpdateWord}
 use Rattle.ellen.specs.declared.memory.UpdateWord.TheVariants as word
@@ -189,8 +190,7 @@ append_node ps rs memory other a b h g =
     }
 
 three_nodes : (xs : List Node) (a b c : Node) → ((xs ++ a ∷ []) ++ b ∷ []) ++ c ∷ [] ≡ xs ++ a ∷ b ∷ c ∷ []
-three_nodes [] a b c = refl
-three_nodes (x ∷ xs) a b c = ap (λ ys. x ∷ ys) (three_nodes xs a b c)
+three_nodes xs a b c = append_assoc (xs ++ a ∷ []) (b ∷ []) (c ∷ []) ∙ append_assoc xs (a ∷ []) (b ∷ c ∷ [])
 
 internal_paired : (P R : ℕ → ℕ → Type 0) (k j i x y v w : ℕ) → j ≡ i → P x v → P y w
     → AreNodesPaired P R (internal_over k j x y) (internal_over k i v w)

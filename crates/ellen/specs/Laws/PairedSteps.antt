@@ -30,7 +30,7 @@ use Rattle.ellen.specs.declared.place.EllenLoc.TheVariants.{Search, Help}
 use Rattle.ellen.specs.declared.machine.Ellen.{Ellen}
 use Rattle.ellen.specs.Memory.{is_word, is_clean, with_internal, new_internal}
 use Rattle.ellen.specs.Table.{After, with_base, settled, top_taken, unwound, returned, marking, help, help_first}
-use Rattle.ellen.specs.Table.{flagging, decide, arrived, search_act, help_act, act}
+use Rattle.ellen.specs.Table.{flagging, decide, arrived, search_act, unflagged, help_act, act}
 use Rattle.ellen.specs.Pairs.{AreBoth, AreWordsPaired, AreNodesPaired, AreAbovesPaired, AreSearchesPaired}
 use Rattle.ellen.specs.Pairs.{AreHelpsPaired, AreResumesPaired, ellen_pairs}
 use Rattle.ellen.specs.Laws.PairedAccesses.{same_number, words_compared, key_paired, with_pairs, read_update_keeps}
@@ -118,42 +118,43 @@ module _ (p : Pairing) (root : IsAmong p.nodes 0 0) where
   clean_paired (word.Mark r) (word.Mark s) h = refl
   clean_paired _ _ h = absurd h
 
-  flagging_paired : (machine : Ellen) (x y : ℕ) (u v : UpdateWord) (l n : ℕ) → P x y → AreWordsPaired R u v → P l n
-      → AreSearchesPaired P R (flagging machine x u l) (flagging machine y v n)
-  flagging_paired machine x y u v l n h w k =
+  flagging_paired : (machine : Ellen) (x y : Above) (l n : ℕ) → AreAbovesPaired P R x y → P l n
+      → AreSearchesPaired P R (flagging machine x l) (flagging machine y n)
+  flagging_paired machine x y l n h k =
       elim machine.iflag as
-      (λ b. AreSearchesPaired P R (cond b (IFlag x u l) (InsOnly x l)) (cond b (IFlag y v n) (InsOnly y n))) [
+      (λ b. AreSearchesPaired P R (cond b (IFlag x.node x.update l) (InsOnly x.node l))
+      (cond b (IFlag y.node y.update n) (InsOnly y.node n))) [
         | true
-            ↦ (h, w, k)
-        | false ↦ (h, k)
+            ↦ (h.0, h.1, k)
+        | false ↦ (h.0, k)
       ]
 
-  decide_paired : (machine : Ellen) (op : Op) (a b : Option Above) (x y : ℕ) (u v : UpdateWord) (l n j i : ℕ)
-      → AreBoth (AreAbovesPaired P R) a b → P x y → AreWordsPaired R u v → P l n → j ≡ i →
-      Outcomes (decide machine op a x u l j) (decide machine op b y v n i)
-  decide_paired machine (Find k) a b x y u v l n j i ha h w hl e = ap (λ z. nat_eq z k) e
-  decide_paired machine (Insert k) a b x y u v l n j i ha h w hl e =
+  decide_paired : (machine : Ellen) (op : Op) (a b : Option Above) (x y : Above) (l n j i : ℕ)
+      → AreBoth (AreAbovesPaired P R) a b → AreAbovesPaired P R x y → P l n → j ≡ i →
+      Outcomes (decide machine op a x l j) (decide machine op b y n i)
+  decide_paired machine (Find k) a b x y l n j i ha h hl e = ap (λ z. nat_eq z k) e
+  decide_paired machine (Insert k) a b x y l n j i ha h hl e =
       either (nat_eq j k) (nat_eq i k) _ _ _ _ (ap (λ z. nat_eq z k) e) refl
-      (either (is_clean u) (is_clean v) _ _ _ _ (clean_paired u v w) (flagging_paired machine x y u v l n h w hl)
-      (help_first_paired machine u v w))
-  decide_paired machine (Delete k) None None x y u v l n j i ha h w hl e =
+      (either (is_clean x.update) (is_clean y.update) _ _ _ _ (clean_paired x.update y.update h.1)
+      (flagging_paired machine x y l n h hl) (help_first_paired machine x.update y.update h.1))
+  decide_paired machine (Delete k) None None x y l n j i ha h hl e =
       either (nat_eq j k) (nat_eq i k) _ _ _ _ (ap (λ z. nat_eq z k) e) tt refl
-  decide_paired machine (Delete k) (Some a) (Some b) x y u v l n j i ha h w hl e =
+  decide_paired machine (Delete k) (Some a) (Some b) x y l n j i ha h hl e =
       either (nat_eq j k) (nat_eq i k) _ _ _ _ (ap (λ z. nat_eq z k) e)
       (either (is_clean a.update) (is_clean b.update) _ _ _ _ (clean_paired a.update b.update ha.1)
-      (either (is_clean u) (is_clean v) _ _ _ _ (clean_paired u v w) (ha, h, w, hl) (help_first_paired machine u v w))
+      (either (is_clean x.update) (is_clean y.update) _ _ _ _ (clean_paired x.update y.update h.1) (ha, h.0, h.1, hl)
+      (help_first_paired machine x.update y.update h.1))
       (help_first_paired machine a.update b.update ha.1))
       refl
-  decide_paired machine (Delete k) None (Some b) x y u v l n j i ha h w hl e = absurd ha
-  decide_paired machine (Delete k) (Some a) None x y u v l n j i ha h w hl e = absurd ha
+  decide_paired machine (Delete k) None (Some b) x y l n j i ha h hl e = absurd ha
+  decide_paired machine (Delete k) (Some a) None x y l n j i ha h hl e = absurd ha
 
-  arrived_paired : (machine : Ellen) (op : Op) (a b : Option Above) (x y : ℕ) (u v : UpdateWord) (l n : ℕ) (c d : Node)
-      → AreBoth (AreAbovesPaired P R) a b → P x y → AreWordsPaired R u v → P l n → AreNodesPaired P R c d →
-      Outcomes (arrived machine op a x u l c) (arrived machine op b y v n d)
-  arrived_paired machine op a b x y u v l n (Leaf j) (Leaf i) ha h w hl k =
-      decide_paired machine op a b x y u v l n j i ha h w hl k
-  arrived_paired machine op a b x y u v l n (Internal j s c d) (Internal i t e f) ha h w hl k = ((h, w), hl)
-  arrived_paired machine op a b x y u v l n _ _ ha h w hl k = absurd k
+  arrived_paired : (machine : Ellen) (op : Op) (a b : Option Above) (x y : Above) (l n : ℕ) (c d : Node)
+      → AreBoth (AreAbovesPaired P R) a b → AreAbovesPaired P R x y → P l n → AreNodesPaired P R c d →
+      Outcomes (arrived machine op a x l c) (arrived machine op b y n d)
+  arrived_paired machine op a b x y l n (Leaf j) (Leaf i) ha h hl k = decide_paired machine op a b x y l n j i ha h hl k
+  arrived_paired machine op a b x y l n (Internal j s c d) (Internal i t e f) ha h hl k = (h, hl)
+  arrived_paired machine op a b x y l n _ _ ha h hl k = absurd k
 
 -- ---- the rows
 
@@ -180,7 +181,8 @@ module _ (machine : Ellen) (op : Op) (p : Pairing) (m o : EllenMem) (h : ellen_p
   child_keeps a b x y u v g =
       read_child_keeps p m o h x y _ _ _ _ g.1
       (ap (side_of (key_of op)) (key_paired Nodes Records _ _ (h.nodes x y g.1)))
-      (λ c d w. arrived_paired p h.root machine op a b x y u v c d _ _ g.0 g.1 g.2 w (h.nodes c d w))
+      (λ c d w. arrived_paired p h.root machine op a b (record { node = x; update = u })
+      (record { node = y; update = v }) c d _ _ g.0 (g.1, g.2) w (h.nodes c d w))
 
   -- the exchange of an insert's flag: three nodes and a record are new
   insert_flag_keeps : (x y : ℕ) (u v : UpdateWord) (l n : ℕ)
@@ -267,18 +269,11 @@ module _ (machine : Ellen) (op : Op) (p : Pairing) (m o : EllenMem) (h : ellen_p
         (λ i j k. exchange_child_keeps p m o h [] [] m o h i.grandparent j.grandparent i.parent j.parent x t _ _ _ _
         k.0 k.1 n (g, rest) (g, rest))
 
-    delete_clean_keeps : (r s : ℕ) → Records r s
-        → Steps (help_act machine (DelClean r) y m) (help_act machine (DelClean s) z o)
-    delete_clean_keeps r s g =
+    unflagged_keeps : (done : Bool) (r s : ℕ) → Records r s → Steps (unflagged done r y m) (unflagged done s z o)
+    unflagged_keeps done r s g =
         with_delete_keeps p m o h _ _ _ _ (h.records r s g)
         (λ i j k. exchange_update_keeps p m o h [] [] m o h i.grandparent j.grandparent _ _ _ _ _ _ _ _ k.0 g g
-        (returned_paired p h.root true y z rest) (λ u v w. returned_paired p h.root true y z rest))
-
-    back_keeps : (r s : ℕ) → Records r s → Steps (help_act machine (Back r) y m) (help_act machine (Back s) z o)
-    back_keeps r s g =
-        with_delete_keeps p m o h _ _ _ _ (h.records r s g)
-        (λ i j k. exchange_update_keeps p m o h [] [] m o h i.grandparent j.grandparent _ _ _ _ _ _ _ _ k.0 g g
-        (returned_paired p h.root false y z rest) (λ u v w. returned_paired p h.root false y z rest))
+        (returned_paired p h.root done y z rest) (λ u v w. returned_paired p h.root done y z rest))
 
     help_keeps : (at twin : HelpLoc) → AreHelpsPaired Nodes Records at twin
         → Steps (help_act machine at y m) (help_act machine twin z o)
@@ -290,8 +285,8 @@ module _ (machine : Ellen) (op : Op) (p : Pairing) (m o : EllenMem) (h : ellen_p
         with_delete_keeps p m o h _ _ _ _ (h.records r s g.0)
         (λ i j k. read_child_keeps p m o h i.parent j.parent c d _ _ k.1 g.1 (λ a b w. ((g.0, w), rest)))
     help_keeps (Splice r x) (Splice s t) g = splice_keeps r s x t g.0 g.1
-    help_keeps (DelClean r) (DelClean s) g = delete_clean_keeps r s g
-    help_keeps (Back r) (Back s) g = back_keeps r s g
+    help_keeps (DelClean r) (DelClean s) g = unflagged_keeps true r s g
+    help_keeps (Back r) (Back s) g = unflagged_keeps false r s g
     help_keeps _ _ g = absurd g
 
   -- accesses of paired places keep a pairing

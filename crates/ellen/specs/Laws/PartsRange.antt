@@ -1,8 +1,10 @@
--- Where the numbers of a memory and of places are in range, so are those of their parts.
+-- The numbers of a memory and of places are in range exactly if those of their parts are.
 use Rattle.std.specs.Prelude.{◌≡◌, ℕ, ◌<◌, List, [], ◌∷◌, map, length, Option, Some, None, IfSome, All}
+use Rattle.std.specs.List.{AllByRecursion}
 use Rattle.std.proofs.Common.{arith, sym, subst}
 use Rattle.std.proofs.lemmas.List.{length-map}
-use Rattle.std.proofs.lemmas.List.Elements.{All-nil, All-cons, All-map, All-weaker}
+use Rattle.std.proofs.lemmas.List.Elements.{All-nil, All-cons, All-head, All-tail, All-map, All-weaker}
+use Rattle.std.proofs.lemmas.List.Elements.{All-from_recursion, recursion_from_All}
 use Rattle.tree_machine.specs.Parts.{Part, IsPartBelow, ArePartsInRange}
 use Rattle.ellen.specs.declared.memory.UpdateWord.{UpdateWord}
 use Rattle.ellen.specs.declared.memory.UpdateWord.TheVariants as word
@@ -24,18 +26,10 @@ use Rattle.ellen.specs.Range.{IsPlaceInRange}
 use Rattle.ellen.specs.Parts.{word_record, node_part, record_part, above_node, above_record, search_part, help_record}
 use Rattle.ellen.specs.Parts.{help_node, place_part, held_part, ellen_parts}
 
-module _ (n : ℕ) where
-  abbrev Below : Option ℕ → Type 0
-  Below x = IfSome x (λ y. y < n)
+abbrev Below : ℕ → Option ℕ → Type 0
+Below n x = IfSome x (λ y. y < n)
 
-  none : All Below []
-  none = All-nil Below
-
-  next : (x : Option ℕ) (xs : List (Option ℕ)) → Below x → All Below xs → All Below (x ∷ xs)
-  next x xs h rest = All-cons Below x xs h rest
-
-  stack_below : (stack : List ℕ) → All (λ r. r < n) stack → All Below (map Some stack)
-  stack_below stack h = All-map Below Some stack h
+-- ---- from the memory and the places to their parts
 
 word_below : (m : ℕ) (u : UpdateWord) → IsWordIn m u → Below m (word_record u)
 word_below m word.Untouched h = tt
@@ -45,57 +39,40 @@ word_below m (word.DeleteFlag r) h = h
 word_below m (word.Mark r) h = h
 
 module _ (n m : ℕ) where
-  -- one, two or three nodes, and one or two records
-  one : (x : Option ℕ) → Below n x → All (Below n) (x ∷ [])
-  one x h = next n x [] h (none n)
-
-  two : (x y : Option ℕ) → Below n x → Below n y → All (Below n) (x ∷ y ∷ [])
-  two x y h k = next n x (y ∷ []) h (one y k)
-
-  three : (x y z : Option ℕ) → Below n x → Below n y → Below n z → All (Below n) (x ∷ y ∷ z ∷ [])
-  three x y z h k l = next n x (y ∷ z ∷ []) h (two y z k l)
-
-  one_record : (x : Option ℕ) → Below m x → All (Below m) (x ∷ [])
-  one_record x h = next m x [] h (none m)
-
-  two_records : (x y : Option ℕ) → Below m x → Below m y → All (Below m) (x ∷ y ∷ [])
-  two_records x y h k = next m x (y ∷ []) h (one_record y k)
+  part_below : (facts : List ℕ) (nodes records : List (Option ℕ)) → AllByRecursion (Below n) nodes
+      → AllByRecursion (Below m) records → IsPartBelow n m (record { facts = facts; nodes = nodes; records = records })
+  part_below facts nodes records h k =
+      record { nodes = All-from_recursion (Below n) nodes h; records = All-from_recursion (Below m) records k }
 
   node_below : (node : Node) → IsNodeIn n m node → IsPartBelow n m (node_part node)
-  node_below (Leaf k) h = record { nodes = none n; records = none m }
+  node_below (Leaf k) h = part_below _ [] [] tt tt
   node_below (Internal k u l r) h =
-      record { nodes = two (Some l) (Some r) h.1 h.2; records = one_record (word_record u) (word_below m u h.0) }
+      part_below _ (Some l ∷ Some r ∷ []) (word_record u ∷ []) (h.1, (h.2, tt)) (word_below m u h.0, tt)
 
   record_below : (each : Record) → IsRecordIn n m each → IsPartBelow n m (record_part each)
-  record_below (Ins i) h =
-      record { nodes = three (Some i.parent) (Some i.leaf) (Some i.new) h.0 h.1 h.2; records = none m }
+  record_below (Ins i) h = part_below _ (Some i.parent ∷ Some i.leaf ∷ Some i.new ∷ []) [] (h.0, (h.1, (h.2, tt))) tt
   record_below (Del d) h =
-      record {
-        nodes = three (Some d.grandparent) (Some d.parent) (Some d.leaf) h.0 h.1 h.2;
-        records = one_record (word_record d.parent_update) (word_below m d.parent_update h.3);
-      }
+      part_below _ (Some d.grandparent ∷ Some d.parent ∷ Some d.leaf ∷ []) (word_record d.parent_update ∷ [])
+      (h.0, (h.1, (h.2, tt))) (word_below m d.parent_update h.3, tt)
 
   above_below : (a : Option Above) → IfSome a (IsAboveIn n m) → Below n (above_node a) × Below m (above_record a)
   above_below None h = (tt, tt)
   above_below (Some a) h = (h.0, word_below m a.update h.1)
 
   search_below : (at : SearchLoc) → IsSearchIn n m at → IsPartBelow n m (search_part at)
-  search_below (Update a p) h = let t = above_below a h.0 in
-      record { nodes = two (above_node a) (Some p) t.0 h.1; records = one_record (above_record a) t.1 }
+  search_below (Update a p) h =
+      let t = above_below a h.0 in
+      part_below _ (above_node a ∷ Some p ∷ []) (above_record a ∷ []) (t.0, (h.1, tt)) (t.1, tt)
   search_below (Child a p u) h =
       let t = above_below a h.0 in
-      record {
-        nodes = two (above_node a) (Some p) t.0 h.1;
-        records = two_records (above_record a) (word_record u) t.1 (word_below m u h.2);
-      }
+      part_below _ (above_node a ∷ Some p ∷ []) (above_record a ∷ word_record u ∷ []) (t.0, (h.1, tt))
+      (t.1, (word_below m u h.2, tt))
   search_below (IFlag p u l) h =
-      record { nodes = two (Some p) (Some l) h.0 h.2; records = one_record (word_record u) (word_below m u h.1) }
-  search_below (InsOnly p l) h = record { nodes = two (Some p) (Some l) h.0 h.1; records = none m }
+      part_below _ (Some p ∷ Some l ∷ []) (word_record u ∷ []) (h.0, (h.2, tt)) (word_below m u h.1, tt)
+  search_below (InsOnly p l) h = part_below _ (Some p ∷ Some l ∷ []) [] (h.0, (h.1, tt)) tt
   search_below (DFlag a p u l) h =
-      record {
-        nodes = three (Some a.node) (Some p) (Some l) h.0.0 h.1 h.3;
-        records = two_records (word_record a.update) (word_record u) (word_below m a.update h.0.1) (word_below m u h.2);
-      }
+      part_below _ (Some a.node ∷ Some p ∷ Some l ∷ []) (word_record a.update ∷ word_record u ∷ [])
+      (h.0.0, (h.1, (h.3, tt))) (word_below m a.update h.0.1, (word_below m u h.2, tt))
 
   help_below : (at : HelpLoc) → IsHelpIn n m at → Below n (help_node at) × (help_record at < m)
   help_below (InsChild r) h = (tt, h)
@@ -112,12 +89,14 @@ module _ (n m : ℕ) where
   place_below (Help at resume) h =
       let t = help_below at h.0 in
       record {
-        nodes = one (help_node at) t.0;
-        records = next m (Some (help_record at)) (map Some resume.stack) t.1 (stack_below m resume.stack h.1);
+        nodes = All-from_recursion (Below n) (help_node at ∷ []) (t.0, tt);
+        records =
+            All-cons (Below m) (Some (help_record at)) (map Some resume.stack) t.1
+            (All-map (Below m) Some resume.stack h.1);
       }
 
   held_below : (held : Option EllenLoc) → IfSome held (IsPlaceIn n m) → IsPartBelow n m (held_part held)
-  held_below None h = record { nodes = none n; records = none m }
+  held_below None h = part_below _ [] [] tt tt
   held_below (Some place) h = place_below place h
 
 -- as many parts as there are elements, each with its numbers below these
@@ -142,3 +121,119 @@ parts_in_range memory held h at =
           all_below record_part (IsRecordIn n m) n m _ _ nodes records (record_below n m) memory.records h.records;
       held = all_below held_part (λ place. IfSome place (IsPlaceIn n m)) n m _ _ nodes records (held_below n m) held at;
     }
+
+-- ---- and back
+
+-- what holds of the values of a map
+from_map : {A B : Type 0} (f : A → B) (P : A → Type 0) (Q : B → Type 0) → ((a : A) → Q (f a) → P a) → (xs : List A)
+    → All Q (map f xs) → All P xs
+from_map f P Q back [] h = All-nil P
+from_map f P Q back (x ∷ xs) h =
+    All-cons P x xs (back x (All-head Q (f x) (map f xs) h))
+    (from_map f P Q back xs (All-tail Q (f x) (map f xs) h))
+
+word_in : (m : ℕ) (u : UpdateWord) → Below m (word_record u) → IsWordIn m u
+word_in m word.Untouched h = tt
+word_in m (word.Clean r) h = h
+word_in m (word.InsertFlag r) h = h
+word_in m (word.DeleteFlag r) h = h
+word_in m (word.Mark r) h = h
+
+module _ (n m : ℕ) where
+  node_in : (node : Node) → IsPartBelow n m (node_part node) → IsNodeIn n m node
+  node_in (Leaf k) h = tt
+  node_in (Internal k u l r) h =
+      let nodes = recursion_from_All (Below n) (Some l ∷ Some r ∷ []) h.nodes in
+      let records = recursion_from_All (Below m) (word_record u ∷ []) h.records in
+      (word_in m u records.0, nodes.0, nodes.1.0)
+
+  record_in : (each : Record) → IsPartBelow n m (record_part each) → IsRecordIn n m each
+  record_in (Ins i) h =
+      let nodes = recursion_from_All (Below n) (Some i.parent ∷ Some i.leaf ∷ Some i.new ∷ []) h.nodes in
+      (nodes.0, nodes.1.0, nodes.1.1.0)
+  record_in (Del d) h =
+      let nodes = recursion_from_All (Below n) (Some d.grandparent ∷ Some d.parent ∷ Some d.leaf ∷ []) h.nodes in
+      let records = recursion_from_All (Below m) (word_record d.parent_update ∷ []) h.records in
+      (nodes.0, nodes.1.0, nodes.1.1.0, word_in m d.parent_update records.0)
+
+  above_in : (a : Option Above) → Below n (above_node a) → Below m (above_record a) → IfSome a (IsAboveIn n m)
+  above_in None h k = tt
+  above_in (Some a) h k = (h, word_in m a.update k)
+
+  search_in : (at : SearchLoc) → IsPartBelow n m (search_part at) → IsSearchIn n m at
+  search_in (Update a p) h =
+      let nodes = recursion_from_All (Below n) (above_node a ∷ Some p ∷ []) h.nodes in
+      let records = recursion_from_All (Below m) (above_record a ∷ []) h.records in
+      (above_in a nodes.0 records.0, nodes.1.0)
+  search_in (Child a p u) h =
+      let nodes = recursion_from_All (Below n) (above_node a ∷ Some p ∷ []) h.nodes in
+      let records = recursion_from_All (Below m) (above_record a ∷ word_record u ∷ []) h.records in
+      (above_in a nodes.0 records.0, nodes.1.0, word_in m u records.1.0)
+  search_in (IFlag p u l) h =
+      let nodes = recursion_from_All (Below n) (Some p ∷ Some l ∷ []) h.nodes in
+      let records = recursion_from_All (Below m) (word_record u ∷ []) h.records in
+      (nodes.0, word_in m u records.0, nodes.1.0)
+  search_in (InsOnly p l) h =
+      let nodes = recursion_from_All (Below n) (Some p ∷ Some l ∷ []) h.nodes in
+      (nodes.0, nodes.1.0)
+  search_in (DFlag a p u l) h =
+      let nodes = recursion_from_All (Below n) (Some a.node ∷ Some p ∷ Some l ∷ []) h.nodes in
+      let records = recursion_from_All (Below m) (word_record a.update ∷ word_record u ∷ []) h.records in
+      ((nodes.0, word_in m a.update records.0), nodes.1.0, word_in m u records.1.0, nodes.1.1.0)
+
+  help_in : (at : HelpLoc) → Below n (help_node at) → help_record at < m → IsHelpIn n m at
+  help_in (InsChild r) h k = k
+  help_in (InsClean r) h k = k
+  help_in (Mark r) h k = k
+  help_in (Right r) h k = k
+  help_in (Other r s) h k = k
+  help_in (Splice r o) h k = (k, h)
+  help_in (DelClean r) h k = k
+  help_in (Back r) h k = k
+
+  place_in : (place : EllenLoc) → IsPartBelow n m (place_part place) → IsPlaceIn n m place
+  place_in (Search at) h = search_in at h
+  place_in (Help at resume) h =
+      let own = Some (help_record at) in
+      let stack = map Some resume.stack in (
+        help_in at (All-head (Below n) (help_node at) [] h.nodes) (All-head (Below m) own stack h.records),
+        from_map Some (λ r. r < m) (Below m) (λ r k. k) resume.stack (All-tail (Below m) own stack h.records),
+      )
+
+  held_in : (held : Option EllenLoc) → IsPartBelow n m (held_part held) → IfSome held (IsPlaceIn n m)
+  held_in None h = tt
+  held_in (Some place) h = place_in place h
+
+-- each element of which the part has its numbers below these
+all_in : {A : Type 0} (f : A → Part) (P : A → Type 0) (n m i j : ℕ) → i ≡ n → j ≡ m
+    → ((a : A) → IsPartBelow n m (f a) → P a) → (xs : List A) → All (IsPartBelow i j) (map f xs) → All P xs
+all_in f P n m i j e d inner xs h =
+    from_map f P (IsPartBelow i j)
+    (λ a k. inner a (subst (λ y. IsPartBelow n y (f a)) d (subst (λ x. IsPartBelow x j (f a)) e k))) xs h
+
+module _ (memory : EllenMem) (held : List (Option EllenLoc)) (h : ArePartsInRange 1 (ellen_parts memory held)) where
+  nodes_count : length (map node_part memory.nodes) ≡ length memory.nodes
+  nodes_count = length-map memory.nodes node_part
+
+  records_count : length (map record_part memory.records) ≡ length memory.records
+  records_count = length-map memory.records record_part
+
+  pub memory_in_range : IsInRange memory
+  memory_in_range =
+      let n = length memory.nodes in
+      let m = length memory.records in
+      record {
+        root = let root = h.fixed_in_range in omega (arith, nodes_count);
+        nodes =
+            all_in node_part (IsNodeIn n m) n m _ _ nodes_count records_count (node_in n m) memory.nodes h.nodes;
+        records =
+            all_in record_part (IsRecordIn n m) n m _ _ nodes_count records_count (record_in n m) memory.records
+            h.records;
+      }
+
+  pub places_in_range : All (λ place. IfSome place (IsPlaceInRange memory)) held
+  places_in_range =
+      let n = length memory.nodes in
+      let m = length memory.records in
+      all_in held_part (λ place. IfSome place (IsPlaceIn n m)) n m _ _ nodes_count records_count (held_in n m) held
+      h.held

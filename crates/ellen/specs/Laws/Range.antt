@@ -4,7 +4,7 @@ use Rattle.std.specs.Prelude.{List, [], ◌∷◌, length, refl, Option, Some, N
 use Rattle.std.proofs.Common.{arith, sym, subst, length-append}
 use Rattle.std.proofs.lemmas.List.{length-set}
 use Rattle.std.proofs.lemmas.List.Elements.{All-nil, All-cons, All-head, All-tail, All-append, All-set, All-push}
-use Rattle.std.proofs.lemmas.List.Elements.{All-weaker}
+use Rattle.std.proofs.lemmas.List.Elements.{All-weaker, All-from_recursion}
 use Rattle.sched_program.specs.declared.operation.Op.{Op}
 use Rattle.sched_program.specs.declared.operation.Op.TheVariants.{Insert, Delete, Find}
 use Rattle.tree_machine.proofs.Lists.{at_all}
@@ -138,13 +138,12 @@ module _ (n m : ℕ) (root : 0 < n) where
   pub help_first_in : (machine : Ellen) (u : UpdateWord) → IsWordIn m u → IsOutcomeIn n m (help_first machine u)
   help_first_in machine u w = help_in machine u (with_base base.Again) w (All-nil (λ r. r < m))
 
-  flagging_in : (machine : Ellen) (p : ℕ) (u : UpdateWord) (l : ℕ) → p < n → IsWordIn m u → l < n
-      → IsSearchIn n m (flagging machine p u l)
-  flagging_in machine p u l a w b =
-      elim machine.iflag as (λ c. IsSearchIn n m (if c then IFlag p u l else InsOnly p l)) [
-        | true ↦ (a, w, b)
+  flagging_in : (machine : Ellen) (p : Above) (l : ℕ) → IsAboveIn n m p → l < n → IsSearchIn n m (flagging machine p l)
+  flagging_in machine p l a b =
+      elim machine.iflag as (λ c. IsSearchIn n m (if c then IFlag p.node p.update l else InsOnly p.node l)) [
+        | true ↦ (a.0, a.1, b)
         | false
-            ↦ (a, b)
+            ↦ (a.0, b)
       ]
 
   pub either : (b : Bool) (first second : Outcome EllenLoc) → IsOutcomeIn n m first → IsOutcomeIn n m second
@@ -152,23 +151,24 @@ module _ (n m : ℕ) (root : 0 < n) where
   either true first second h k = h
   either false first second h k = k
 
-  decide_in : (machine : Ellen) (op : Op) (above : Option Above) (p : ℕ) (u : UpdateWord) (l j : ℕ)
-      → IfSome above (IsAboveIn n m) → p < n → IsWordIn m u → l < n → IsOutcomeIn n m (decide machine op above p u l j)
-  decide_in machine (Find k) above p u l j a b w c = tt
-  decide_in machine (Insert k) above p u l j a b w c =
-      either (nat_eq j k) _ _ tt (either (is_clean u) _ _ (flagging_in machine p u l b w c) (help_first_in machine u w))
-  decide_in machine (Delete k) None p u l j a b w c = either (nat_eq j k) Astray (Replies false) tt tt
-  decide_in machine (Delete k) (Some above) p u l j a b w c =
+  decide_in : (machine : Ellen) (op : Op) (above : Option Above) (p : Above) (l j : ℕ)
+      → IfSome above (IsAboveIn n m) → IsAboveIn n m p → l < n → IsOutcomeIn n m (decide machine op above p l j)
+  decide_in machine (Find k) above p l j a b c = tt
+  decide_in machine (Insert k) above p l j a b c =
+      either (nat_eq j k) _ _ tt
+      (either (is_clean p.update) _ _ (flagging_in machine p l b c) (help_first_in machine p.update b.1))
+  decide_in machine (Delete k) None p l j a b c = either (nat_eq j k) Astray (Replies false) tt tt
+  decide_in machine (Delete k) (Some above) p l j a b c =
       either (nat_eq j k) _ _
       (either (is_clean above.update) _ _
-      (either (is_clean u) (Goes (Search (DFlag above p u l))) _ (a, b, w, c) (help_first_in machine u w))
+      (either (is_clean p.update) (Goes (Search (DFlag above p.node p.update l))) _ (a, b.0, b.1, c)
+      (help_first_in machine p.update b.1))
       (help_first_in machine above.update a.1)) tt
 
-  pub arrived_in : (machine : Ellen) (op : Op) (above : Option Above) (p : ℕ) (u : UpdateWord) (c : ℕ) (node : Node)
-      → IfSome above (IsAboveIn n m) → p < n → IsWordIn m u → c < n
-      → IsOutcomeIn n m (arrived machine op above p u c node)
-  arrived_in machine op above p u c (Internal j v l r) a b w d = ((b, w), d)
-  arrived_in machine op above p u c (Leaf j) a b w d = decide_in machine op above p u c j a b w d
+  pub arrived_in : (machine : Ellen) (op : Op) (above : Option Above) (p : Above) (c : ℕ) (node : Node)
+      → IfSome above (IsAboveIn n m) → IsAboveIn n m p → c < n → IsOutcomeIn n m (arrived machine op above p c node)
+  arrived_in machine op above p c (Internal j v l r) a b d = (b, d)
+  arrived_in machine op above p c (Leaf j) a b d = decide_in machine op above p c j a b d
 
 -- ---- what is read of a memory
 
@@ -346,12 +346,9 @@ with_internal_in memory k l h =
     let same : length (with_internal memory k l).nodes ≡ n + 3 = three_more memory k l in
     let old : All P memory.nodes =
     All-weaker (IsNodeIn n m) P (node_more n m (n + 3) m (omega arith) (omega arith)) memory.nodes h.nodes in
-    let fresh : All P (Leaf k ∷ Leaf (key_at memory l) ∷ new ∷ []) =
-    All-cons P (Leaf k) (Leaf (key_at memory l) ∷ new ∷ []) tt
-    (All-cons P (Leaf (key_at memory l)) (new ∷ []) tt
-    (All-cons P new [] (over_in (n + 3) m k (key_at memory l) n (n + 1) (omega arith) (omega arith))
-    (All-nil P))) in
-    let both = All-append P memory.nodes (Leaf k ∷ Leaf (key_at memory l) ∷ new ∷ []) old fresh in
+    let added = Leaf k ∷ Leaf (key_at memory l) ∷ new ∷ [] in
+    let over = over_in (n + 3) m k (key_at memory l) n (n + 1) (omega arith) (omega arith) in
+    let both = All-append P memory.nodes added old (All-from_recursion P added (tt, (tt, (over, tt)))) in
     let records =
     All-weaker (IsRecordIn n m) (IsRecordIn (n + 3) m) (record_more n m (n + 3) m (omega arith) (omega arith))
     memory.records h.records in

@@ -82,8 +82,8 @@ module _ (machine : Ellen) (op : Op) (memory : EllenMem) (h : IsInRange memory) 
   search_kept (Update above p) at = read_update_kept memory h p _ (λ u w. (at.0, at.1, w))
   search_kept (Child above p u) at =
       read_child_kept memory h p _ _
-      (λ c below. arrived_in (length memory.nodes) (length memory.records) h.root machine op above p u c
-      (node_at memory c) at.0 at.1 at.2 below)
+      (λ c below. arrived_in (length memory.nodes) (length memory.records) h.root machine op above
+      (record { node = p; update = u }) c (node_at memory c) at.0 (at.1, at.2) below)
   search_kept (IFlag p u l) at = insert_flag_kept p u l at
   search_kept (InsOnly p l) at = insert_only_kept p l
   search_kept (DFlag above p u l) at = delete_flag_kept above p u l at

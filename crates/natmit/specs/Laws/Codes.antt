@@ -1,12 +1,16 @@
 -- The parts of a memory and of the places held tell them wholly.
-use Rattle.std.specs.Prelude.{◌≡◌, List, refl, Option, Some, None}
-use Rattle.std.proofs.Common.{ap, sym, ◌∙◌}
-use Rattle.tree_machine.specs.Parts.{Part}
+use Rattle.std.specs.Prelude.{◌≡◌, ℕ, List, [], ◌∷◌, refl, Option, Some, None}
+use Rattle.std.specs.List.{AllZip}
+use Rattle.std.proofs.Common.{ap, sym, subst, ◌∙◌}
+use Rattle.tree_machine.specs.Cells.{IsPairedOrNone}
+use Rattle.tree_machine.specs.Pairing.{AreHeldPaired}
+use Rattle.tree_machine.specs.Parts.{Part, ArePartsPaired}
 use Rattle.tree_machine.specs.FormCode.{TellsWholly, cut_code}
 use Rattle.tree_machine.specs.Laws.Codes.{map_tells, parts_code_tells}
 use Rattle.tree_machine.specs.Flat.{all_front}
 use Rattle.tree_machine.specs.declared.front.Front.{Front}
 use Rattle.std.proofs.lemmas.List.{length-map}
+use Rattle.natmit.specs.declared.memory.Word.{Word}
 use Rattle.natmit.specs.declared.memory.Node.{Node}
 use Rattle.natmit.specs.declared.memory.Node.TheVariants.{Leaf, Internal}
 use Rattle.natmit.specs.declared.memory.NatMitMem.{NatMitMem}
@@ -15,83 +19,77 @@ use Rattle.natmit.specs.declared.place.Mode.TheVariants.{Plain, Owner}
 use Rattle.natmit.specs.declared.place.NatMitLoc.{NatMitLoc}
 use Rattle.natmit.specs.declared.place.NatMitLoc.TheVariants.{Begin, Down, Put, Flag, Look, CleanRead, Tag, Sibling}
 use Rattle.natmit.specs.declared.place.NatMitLoc.TheVariants.{Swing}
-use Rattle.natmit.specs.Parts.{owned, node_part, place_part, held_part, natmit_parts, natmit_code}
+use Rattle.natmit.specs.Pairs.{AreWordsPaired, AreNodesPaired, AreModesPaired, ArePlacesPaired}
+use Rattle.natmit.specs.Parts.{node_part, held_part, natmit_parts, natmit_code}
 use Rattle.natmit.specs.Parts.{natmit_front_code, natmit_behind_code}
-use Rattle.natmit.specs.Laws.Parts.{bit_tells, marks_tell, side_tells, never_idle}
+use Rattle.natmit.specs.Laws.Parts.{nodes_of_parts, held_of_parts}
 
--- equal parts have equal facts and name equal nodes
-facts_of : {a b : Part} → a ≡ b → a.facts ≡ b.facts
-facts_of e = λ i. (e i).facts
+-- a number is paired with itself alone
+abbrev Same : ℕ → ℕ → Type 0
+Same x y = x ≡ y
 
-nodes_of : {a b : Part} → a ≡ b → a.nodes ≡ b.nodes
-nodes_of e = λ i. (e i).nodes
+-- ---- what equality pairs is equal
 
--- a part tells the node that it is of
-node_tells : (a b : Node) → node_part a ≡ node_part b → a ≡ b
-node_tells (Leaf k) (Leaf j) e = let f = facts_of e in cc
-node_tells (Internal k l r) (Internal j m s) e =
-    let f = facts_of e in
-    let n = nodes_of e in
-    let marks = marks_tell l r m s (cc) in
-    let left_node : l.node ≡ m.node = cc in
-    let right_node : r.node ≡ s.node = cc in
-    let left : l ≡ m = λ i. record { flag = marks.0 i; tag = marks.1 i; node = left_node i } in
-    let right : r ≡ s = λ i. record { flag = marks.2 i; tag = marks.3 i; node = right_node i } in
-    cc
-node_tells _ _ e = let f = facts_of e in cc
+words_equal : (v w : Word) → AreWordsPaired Same v w → v ≡ w
+words_equal v w h = λ i. record { flag = h.0 i; tag = h.1 i; node = h.2 i }
 
--- the leaf that the delete flagged tells the mode
-mode_tells : (m o : Mode) → owned m ≡ owned o → m ≡ o
-mode_tells Plain Plain e = refl
-mode_tells (Owner x) (Owner y) e = cc
-mode_tells _ _ e = cc
+nodes_equal : (a b : Node) → AreNodesPaired Same a b → a ≡ b
+nodes_equal (Leaf k) (Leaf j) h = ap Leaf h
+nodes_equal (Internal k l r) (Internal j m s) h =
+    let left = words_equal l m h.1 in
+    let right = words_equal r s h.2 in
+    λ i. Internal (h.0 i) (left i) (right i)
+nodes_equal _ _ h = absurd h
 
--- a part tells the place that it is of
-place_tells : (place twin : NatMitLoc) → place_part place ≡ place_part twin → place ≡ twin
-place_tells (Begin m) (Begin o) e = let n = nodes_of e in let mode = mode_tells m o (cc) in cc
-place_tells (Down a s p l t m) (Down b u q k v o) e =
-    let f = facts_of e in
-    let n = nodes_of e in
-    let told = bit_tells t v (cc) in
-    let mode = mode_tells m o (cc) in
-    cc
-place_tells (Put a s p l) (Put b u q k) e = let n = nodes_of e in cc
-place_tells (Flag a s p l) (Flag b u q k) e = let n = nodes_of e in cc
-place_tells (Look a s p l) (Look b u q k) e = let n = nodes_of e in cc
-place_tells (CleanRead a s p m) (CleanRead b u q o) e = let n = nodes_of e in let mode = mode_tells m o (cc) in cc
-place_tells (Tag a s p d m) (Tag b u q c o) e =
-    let f = facts_of e in
-    let n = nodes_of e in
-    let side = side_tells d c (cc) in
-    let mode = mode_tells m o (cc) in
-    cc
-place_tells (Sibling a s p d m) (Sibling b u q c o) e =
-    let f = facts_of e in
-    let n = nodes_of e in
-    let side = side_tells d c (cc) in
-    let mode = mode_tells m o (cc) in
-    cc
-place_tells (Swing a s f x m) (Swing b u g y o) e =
-    let t = facts_of e in
-    let n = nodes_of e in
-    let told = bit_tells f g (cc) in
-    let mode = mode_tells m o (cc) in
-    cc
-place_tells _ _ e = let f = facts_of e in cc
+modes_equal : (m o : Mode) → AreModesPaired Same m o → m ≡ o
+modes_equal Plain Plain h = refl
+modes_equal (Owner x) (Owner y) h = ap Owner h
+modes_equal _ _ h = absurd h
 
--- a part tells what the thread holds
-held_tells : (place twin : Option NatMitLoc) → held_part place ≡ held_part twin → place ≡ twin
-held_tells None None e = refl
-held_tells (Some place) (Some twin) e = ap Some (place_tells place twin e)
-held_tells None (Some twin) e = absurd (never_idle (λ x y. x ≡ y) (λ x y. x ≡ y) twin (facts_of e))
-held_tells (Some place) None e = absurd (never_idle (λ x y. x ≡ y) (λ x y. x ≡ y) place (sym (facts_of e)))
+places_equal : (place twin : NatMitLoc) → ArePlacesPaired Same place twin → place ≡ twin
+places_equal (Begin m) (Begin o) h = ap Begin (modes_equal m o h)
+places_equal (Down a s p l t m) (Down b u q k v o) h =
+    let mode = modes_equal m o h.5 in λ i. Down (h.0 i) (h.1 i) (h.2 i) (h.3 i) (h.4 i) (mode i)
+places_equal (Put a s p l) (Put b u q k) h = λ i. Put (h.0 i) (h.1 i) (h.2 i) (h.3 i)
+places_equal (Flag a s p l) (Flag b u q k) h = λ i. Flag (h.0 i) (h.1 i) (h.2 i) (h.3 i)
+places_equal (Look a s p l) (Look b u q k) h = λ i. Look (h.0 i) (h.1 i) (h.2 i) (h.3 i)
+places_equal (CleanRead a s p m) (CleanRead b u q o) h =
+    let mode = modes_equal m o h.3 in λ i. CleanRead (h.0 i) (h.1 i) (h.2 i) (mode i)
+places_equal (Tag a s p d m) (Tag b u q e o) h =
+    let mode = modes_equal m o h.4 in λ i. Tag (h.0 i) (h.1 i) (h.2 i) (h.3 i) (mode i)
+places_equal (Sibling a s p d m) (Sibling b u q e o) h =
+    let mode = modes_equal m o h.4 in λ i. Sibling (h.0 i) (h.1 i) (h.2 i) (h.3 i) (mode i)
+places_equal (Swing a s f x m) (Swing b u g y o) h =
+    let mode = modes_equal m o h.4 in λ i. Swing (h.0 i) (h.1 i) (h.2 i) (h.3 i) (mode i)
+places_equal _ _ h = absurd h
+
+held_equal : (place twin : Option NatMitLoc) → AreHeldPaired (ArePlacesPaired Same) place twin → place ≡ twin
+held_equal None None h = refl
+held_equal (Some place) (Some twin) h = ap Some (places_equal place twin h)
+held_equal _ _ h = absurd h
+
+-- ---- equality pairs a part with each part equal to it
+
+names_paired : (xs : List (Option ℕ)) → AllZip (IsPairedOrNone Same) xs xs
+names_paired [] = tt
+names_paired (None ∷ xs) = (tt, names_paired xs)
+names_paired (Some x ∷ xs) = (refl, names_paired xs)
+
+parts_paired : (a b : Part) → a ≡ b → ArePartsPaired Same Same a b
+parts_paired a b e = subst (ArePartsPaired Same Same a) e
+    (record { facts = refl; nodes = names_paired a.nodes; records = names_paired a.records })
 
 -- parts tell the memory and the places that they are of
 pub parts_tell : (memory other : NatMitMem) (held others : List (Option NatMitLoc))
     → natmit_parts memory held ≡ natmit_parts other others → (memory ≡ other) × (held ≡ others)
 parts_tell memory other held others e =
-    let nodes = map_tells node_part node_tells memory.nodes other.nodes (λ i. (e i).nodes) in
-    (λ i. record { nodes = nodes i }, map_tells held_part held_tells held others (λ i. (e i).held))
+    let nodes : memory.nodes ≡ other.nodes =
+    map_tells node_part (λ a b e. nodes_equal a b (nodes_of_parts Same Same a b (parts_paired _ _ e))) memory.nodes
+    other.nodes (λ i. (e i).nodes) in (
+      (λ i. record { nodes = nodes i }),
+      map_tells held_part (λ a b e. held_equal a b (held_of_parts Same Same a b (parts_paired _ _ e))) held others
+          (λ i. (e i).held),
+    )
 
 -- and so do their bytes
 pub natmit_tells : (front other_front : Front) → TellsWholly (cut_code natmit_front_code natmit_behind_code front)

@@ -1,4 +1,5 @@
--- A memory with places held whose code, cut at any front, is that of a form is in range, and alike to what the form is of.
+-- A memory with places held whose code, cut at any front, is that of a form is in range, and alike to what the form
+-- is of.
 use Rattle.tree_machine.specs.Laws.CanonicalCodes.{decoded_in_range, decoded_paired}
 use Rattle.std.proofs.Common.{sym, ◌∙◌}
 use Rattle.std.proofs.lemmas.List.{length-map}

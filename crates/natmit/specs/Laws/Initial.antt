@@ -5,7 +5,7 @@ use Rattle.std.specs.Option.{option_map}
 use Rattle.std.proofs.Common.{arith, sym, ◌∙◌, ap, subst, ◌⊎◌, inl, inr}
 use Rattle.std.proofs.lemmas.Bool.Decides.{leb_tells, eqb_tells}
 use Rattle.std.proofs.lemmas.List.{length-set}
-use Rattle.std.proofs.lemmas.List.Elements.{All-nil, All-cons, All-weaker}
+use Rattle.std.proofs.lemmas.List.Elements.{All-from_recursion, All-weaker}
 use Rattle.std.proofs.lemmas.Option.{slice_get_within, same_Some}
 use Rattle.sched_program.specs.Program.{IsUserKey, AreInitialKeys}
 use Rattle.tree_machine.proofs.Lists.{slice_get-set, get_at, get-append_left, get-append_right, get-append_cases}
@@ -47,35 +47,23 @@ leaf_of (Internal k l r) j h = cc
 
 -- ---- where a search ends
 
-module _ (shapes : ℕ → Option Shape) (n : ℕ) (present : (x : ℕ) (s : Shape) → shapes x ≡ Some s → x < n) (k : ℕ) where
-  parent_at : (levels parent x : ℕ) (o : Option Shape) → shapes x ≡ o
-      → ((parent x : ℕ) → parent < n → (end_of shapes k levels parent x).parent < n)
-      → parent < n → (went_down k (end_of shapes k levels x) (record { parent = parent; leaf = x }) o).parent < n
-  parent_at levels parent x None e f below = below
-  parent_at levels parent x (Some (shape.Leaf j)) e f below = below
-  parent_at levels parent x (Some (shape.Internal m l r)) e f below =
-      f x (if nat_lt k m then l else r) (present x (shape.Internal m l r) e)
+module _ (shapes : ℕ → Option Shape) (n k : ℕ)
+    (closed : (x m l r : ℕ) → shapes x ≡ Some (shape.Internal m l r) → (l < n) × (r < n)) where
+  leaf_at : (levels parent x : ℕ) (o : Option Shape) → shapes x ≡ o
+      → ((parent x : ℕ) → x < n → (end_of shapes k levels parent x).leaf < n)
+      → x < n → (went_down k (end_of shapes k levels x) (record { parent = parent; leaf = x }) o).leaf < n
+  leaf_at levels parent x None e f below = below
+  leaf_at levels parent x (Some (shape.Leaf j)) e f below = below
+  leaf_at levels parent x (Some (shape.Internal m l r)) e f below =
+      let both = closed x m l r e in
+      f x (if nat_lt k m then l else r)
+      (elim (nat_lt k m) as (λ b. (if b then l else r) < n) [ true ↦ both.0 | false ↦ both.1 ])
 
-  pub parent_below : (levels parent x : ℕ) → parent < n → (end_of shapes k levels parent x).parent < n
-  parent_below zero parent x below = below
-  parent_below (suc levels) parent x below = parent_at levels parent x (shapes x) refl (parent_below levels) below
+  leaf_below : (levels parent x : ℕ) → x < n → (end_of shapes k levels parent x).leaf < n
+  leaf_below zero parent x below = below
+  leaf_below (suc levels) parent x below = leaf_at levels parent x (shapes x) refl (leaf_below levels) below
 
-  module _ (closed : (x m l r : ℕ) → shapes x ≡ Some (shape.Internal m l r) → (l < n) × (r < n)) where
-    leaf_at : (levels parent x : ℕ) (o : Option Shape) → shapes x ≡ o
-        → ((parent x : ℕ) → x < n → (end_of shapes k levels parent x).leaf < n)
-        → x < n → (went_down k (end_of shapes k levels x) (record { parent = parent; leaf = x }) o).leaf < n
-    leaf_at levels parent x None e f below = below
-    leaf_at levels parent x (Some (shape.Leaf j)) e f below = below
-    leaf_at levels parent x (Some (shape.Internal m l r)) e f below =
-        let both = closed x m l r e in
-        f x (if nat_lt k m then l else r)
-        (elim (nat_lt k m) as (λ b. (if b then l else r) < n) [ true ↦ both.0 | false ↦ both.1 ])
-
-    leaf_below : (levels parent x : ℕ) → x < n → (end_of shapes k levels parent x).leaf < n
-    leaf_below zero parent x below = below
-    leaf_below (suc levels) parent x below = leaf_at levels parent x (shapes x) refl (leaf_below levels) below
-
-pub present : (memory : NatMitMem) (x : ℕ) (s : Shape) → shapes memory x ≡ Some s → x < length memory.nodes
+present : (memory : NatMitMem) (x : ℕ) (s : Shape) → shapes memory x ≡ Some s → x < length memory.nodes
 present memory x s h = let t = node_of memory x s h in slice_get_within memory.nodes x t.0 t.1
 
 -- ---- a key is put in
@@ -243,12 +231,6 @@ module _ (memory : NatMitMem) (k p l : ℕ) where
           | inr was ↦ old x t.0 was t.2
         ]
 
--- the search for a key ends below a node of the memory
-pub parent_present : (memory : NatMitMem) (k : ℕ) → 0 < length memory.nodes
-    → (end_of (shapes memory) k (length memory.nodes) 0 0).parent < length memory.nodes
-parent_present memory k some =
-    parent_below (shapes memory) (length memory.nodes) (present memory) k (length memory.nodes) 0 0 some
-
 puts : (memory : NatMitMem) (k : ℕ) → IsPutIn (shapes memory) (shapes (put_in memory k)) k
     (end_of (shapes memory) k (length memory.nodes) 0 0)
 puts memory k =
@@ -327,22 +309,17 @@ put_in_range memory k h =
     let end = end_of (shapes memory) k n 0 0 in
     let some = h.first_nodes in
     let more = two_more memory k end.leaf in
-    let leaf = leaf_below (shapes memory) n (present memory) k (closed memory h) n 0 0 (omega arith) in
+    let leaf = leaf_below (shapes memory) n k (closed memory h) n 0 0 (omega arith) in
     set_word_in (with_internal memory k end.leaf) end.parent (side_at k memory end.parent) (plain (new_internal memory))
     (with_internal_in memory k end.leaf h leaf) (omega arith)
 
 empty_in_range : IsInRange empty_tree
 empty_in_range =
-    let P = IsNodeIn 5 in
     record {
       first_nodes = omega arith;
       nodes =
-          All-cons P (Internal 102 (plain 1) (plain 2))
-          (Internal 101 (plain 3) (plain 4) ∷ Leaf 102 ∷ Leaf 100 ∷ Leaf 101 ∷ []) (omega arith, omega arith)
-          (All-cons P (Internal 101 (plain 3) (plain 4)) (Leaf 102 ∷ Leaf 100 ∷ Leaf 101 ∷ [])
-          (omega arith, omega arith)
-          (All-cons P (Leaf 102) (Leaf 100 ∷ Leaf 101 ∷ []) tt
-          (All-cons P (Leaf 100) (Leaf 101 ∷ []) tt (All-cons P (Leaf 101) [] tt (All-nil P)))));
+          All-from_recursion (IsNodeIn 5) empty_tree.nodes
+          ((omega arith, omega arith), ((omega arith, omega arith), (tt, (tt, (tt, tt)))));
     }
 
 fold_in_range : (keys : List ℕ) (memory : NatMitMem) → IsInRange memory → IsInRange (fold put_in memory keys)

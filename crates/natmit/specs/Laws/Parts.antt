@@ -26,14 +26,14 @@ use Rattle.natmit.specs.Parts.{natmit_parts}
 
 -- ---- facts tell what they are of
 
-pub bit_tells : (a b : Bool) → bit a ≡ bit b → a ≡ b
+bit_tells : (a b : Bool) → bit a ≡ bit b → a ≡ b
 bit_tells false false e = refl
 bit_tells false true e = absurd (omega arith)
 bit_tells true false e = absurd (omega arith)
 bit_tells true true e = refl
 
 -- the flags and the tags of two children
-pub marks_tell : (a b c d : Word) → mark_number a + 4 * mark_number b ≡ mark_number c + 4 * mark_number d
+marks_tell : (a b c d : Word) → mark_number a + 4 * mark_number b ≡ mark_number c + 4 * mark_number d
     → (a.flag ≡ c.flag) × (a.tag ≡ c.tag) × (b.flag ≡ d.flag) × (b.tag ≡ d.tag)
 marks_tell a b c d e =
     let same =
@@ -57,7 +57,7 @@ marks_tell a b c d e =
         let g0 = g.0 in let g1 = g.1 in let g2 = g.2 in let g3 = g.3 in
         (omega arith, omega arith, omega arith, omega arith)
 
-pub side_tells : (a b : Side) → side_number a ≡ side_number b → a ≡ b
+side_tells : (a b : Side) → side_number a ≡ side_number b → a ≡ b
 side_tells Left Left e = refl
 side_tells Left Right e = absurd (omega arith)
 side_tells Right Left e = absurd (omega arith)
@@ -80,7 +80,7 @@ module _ (P R : ℕ → ℕ → Type 0) where
       }
   parts_of_nodes _ _ h = absurd h
 
-  nodes_of_parts : (a b : Node) → ArePartsPaired P R (node_part a) (node_part b) → AreNodesPaired P a b
+  pub nodes_of_parts : (a b : Node) → ArePartsPaired P R (node_part a) (node_part b) → AreNodesPaired P a b
   nodes_of_parts (Leaf k) (Leaf j) h = let f = h.facts in cc
   nodes_of_parts (Internal k l r) (Internal j m s) h =
       let f = h.facts in
@@ -101,41 +101,27 @@ module _ (P R : ℕ → ℕ → Type 0) where
   modes_paired (Owner x) (Owner y) h = h
   modes_paired _ _ h = absurd h
 
+  -- parts that name no records
+  paired : {f g : List ℕ} {nodes twins : List (Option ℕ)} → f ≡ g → AllZip (IsPairedOrNone P) nodes twins
+      → ArePartsPaired P R (part_of f nodes) (part_of g twins)
+  paired e h = record { facts = e; nodes = h; records = tt }
+
   parts_of_places : (place twin : NatMitLoc) → ArePlacesPaired P place twin
       → ArePartsPaired P R (place_part place) (place_part twin)
-  parts_of_places (Begin m) (Begin o) h = record { facts = refl; nodes = (owned_paired m o h, tt); records = tt }
+  parts_of_places (Begin m) (Begin o) h = paired refl (owned_paired m o h, tt)
   parts_of_places (Down a s p l t m) (Down b u q k v o) h =
-      record {
-        facts = ap (λ c. 2 ∷ bit c ∷ []) h.4;
-        nodes = (h.0, (h.1, (h.2, (h.3, (owned_paired m o h.5, tt)))));
-        records = tt;
-      }
-  parts_of_places (Put a s p l) (Put b u q k) h =
-      record { facts = refl; nodes = (h.0, (h.1, (h.2, (h.3, tt)))); records = tt }
-  parts_of_places (Flag a s p l) (Flag b u q k) h =
-      record { facts = refl; nodes = (h.0, (h.1, (h.2, (h.3, tt)))); records = tt }
-  parts_of_places (Look a s p l) (Look b u q k) h =
-      record { facts = refl; nodes = (h.0, (h.1, (h.2, (h.3, tt)))); records = tt }
+      paired (ap (λ c. 2 ∷ bit c ∷ []) h.4) (h.0, (h.1, (h.2, (h.3, (owned_paired m o h.5, tt)))))
+  parts_of_places (Put a s p l) (Put b u q k) h = paired refl (h.0, (h.1, (h.2, (h.3, tt))))
+  parts_of_places (Flag a s p l) (Flag b u q k) h = paired refl (h.0, (h.1, (h.2, (h.3, tt))))
+  parts_of_places (Look a s p l) (Look b u q k) h = paired refl (h.0, (h.1, (h.2, (h.3, tt))))
   parts_of_places (CleanRead a s p m) (CleanRead b u q o) h =
-      record { facts = refl; nodes = (h.0, (h.1, (h.2, (owned_paired m o h.3, tt)))); records = tt }
+      paired refl (h.0, (h.1, (h.2, (owned_paired m o h.3, tt))))
   parts_of_places (Tag a s p d m) (Tag b u q e o) h =
-      record {
-        facts = ap (λ c. 7 ∷ side_number c ∷ []) h.3;
-        nodes = (h.0, (h.1, (h.2, (owned_paired m o h.4, tt))));
-        records = tt;
-      }
+      paired (ap (λ c. 7 ∷ side_number c ∷ []) h.3) (h.0, (h.1, (h.2, (owned_paired m o h.4, tt))))
   parts_of_places (Sibling a s p d m) (Sibling b u q e o) h =
-      record {
-        facts = ap (λ c. 8 ∷ side_number c ∷ []) h.3;
-        nodes = (h.0, (h.1, (h.2, (owned_paired m o h.4, tt))));
-        records = tt;
-      }
+      paired (ap (λ c. 8 ∷ side_number c ∷ []) h.3) (h.0, (h.1, (h.2, (owned_paired m o h.4, tt))))
   parts_of_places (Swing a s f x m) (Swing b u g y o) h =
-      record {
-        facts = ap (λ c. 9 ∷ bit c ∷ []) h.2;
-        nodes = (h.0, (h.1, (h.3, (owned_paired m o h.4, tt))));
-        records = tt;
-      }
+      paired (ap (λ c. 9 ∷ bit c ∷ []) h.2) (h.0, (h.1, (h.3, (owned_paired m o h.4, tt))))
   parts_of_places _ _ h = absurd h
 
   places_of_parts : (place twin : NatMitLoc) → ArePartsPaired P R (place_part place) (place_part twin)
@@ -158,7 +144,7 @@ module _ (P R : ℕ → ℕ → Type 0) where
   places_of_parts _ _ h = let f = h.facts in cc
 
   -- no place has the part of a thread that holds none
-  pub never_idle : (place : NatMitLoc) → (held_part None).facts ≡ (place_part place).facts → ⊥
+  never_idle : (place : NatMitLoc) → (held_part None).facts ≡ (place_part place).facts → ⊥
   never_idle (Begin m) e = cc
   never_idle _ e = cc
 
@@ -168,7 +154,7 @@ module _ (P R : ℕ → ℕ → Type 0) where
   parts_of_held (Some place) (Some twin) h = parts_of_places place twin h
   parts_of_held _ _ h = absurd h
 
-  held_of_parts : (place twin : Option NatMitLoc) → ArePartsPaired P R (held_part place) (held_part twin)
+  pub held_of_parts : (place twin : Option NatMitLoc) → ArePartsPaired P R (held_part place) (held_part twin)
       → AreHeldPaired (ArePlacesPaired P) place twin
   held_of_parts None None h = tt
   held_of_parts (Some place) (Some twin) h = places_of_parts place twin h

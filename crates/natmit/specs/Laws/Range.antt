@@ -48,8 +48,8 @@ module _ (n more : ℕ) (le : n ≤ more) where
 
   pub place_more : (place : NatMitLoc) → IsPlaceIn n place → IsPlaceIn more place
   place_more (Begin mode) h = mode_more mode h
-  place_more (Down a s p l t mode) h = let x = h.0 in let y = h.1 in let z = h.2 in
-      let w = h.3 in (omega arith, omega arith, omega arith, omega arith, mode_more mode h.4)
+  place_more (Down a s p l t mode) h =
+      let nodes = four a s p l (h.0, h.1, h.2, h.3) in (nodes.0, nodes.1, nodes.2, nodes.3, mode_more mode h.4)
   place_more (Put a s p l) h = four a s p l h
   place_more (Flag a s p l) h = four a s p l h
   place_more (Look a s p l) h = four a s p l h

@@ -15,14 +15,15 @@ returns c =
       read = IfOk-weaker c.read_left-read.result _ _
           (λ told read is.
           let left = read is in
+          let now = c.from_vec.ensures ∙ left.1 ∙ ap (λ l. l ++ left.0) cut in
           behind_read front old.items left.0 c.from_vec.result c.read_places.new.threads c.args.bytes.now
-          c.in-Some.rest.now few (c.from_vec.ensures ∙ left.1 ∙ ap (λ l. l ++ left.0) cut) c.in-Some.ensures.read left.2)
+          c.in-Some.rest.now few now c.in-Some.ensures.read left.2)
           c.read_left-read.ensures;
       front = IfOk-weaker c.read_left-read.result _ _
           (λ told read is.
           let left = read is in
-          front_kept front old.items left.0 c.from_vec.result few
-          (c.from_vec.ensures ∙ left.1 ∙ ap (λ l. l ++ left.0) cut)
+          let now = c.from_vec.ensures ∙ left.1 ∙ ap (λ l. l ++ left.0) cut in
+          front_kept front old.items left.0 c.from_vec.result few now
           ∙ ap (λ nodes. natmit_front_code front (record { nodes = nodes }))
           (c.into_vec-nodes.ensures ∙ c.replace.ensures.value))
           c.read_left-read.ensures;

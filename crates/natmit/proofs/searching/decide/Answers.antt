@@ -7,4 +7,6 @@ pub returns-in-Delete : goal.returns-in-Delete
 returns-in-Delete c =
     let a = c.args in
     λ tag. c.decide_delete.ensures tag
-    ∙ ap (λ op. arrived op a.ancestor a.successor a.parent a.leaf tag a.mode (Leaf a.key)) (sym c.in-Delete.is)
+    ∙ ap
+    (λ op. arrived op a.path.ancestor a.path.successor a.path.parent a.leaf tag a.mode (Leaf a.key))
+    (sym c.in-Delete.is)

@@ -1,8 +1,7 @@
 use Rattle.std.proofs.Common.{◌≡◌, ◌++◌, take}
 use Rattle.std.specs.List.{flat_map}
 use Rattle.tree_machine.specs.Alike.{replies_of, notes_of}
-use Rattle.tree_machine.specs.Flat.{cell_code}
-use Rattle.tree_machine.specs.Flat.{part_content}
+use Rattle.tree_machine.specs.Flat.{cell_code, part_content}
 use Rattle.ellen.specs.Parts.{held_part}
 use Rattle.ellen.proofs.reading.held.read_each.Given as goal
 

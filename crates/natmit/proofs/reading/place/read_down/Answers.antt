@@ -1,11 +1,28 @@
-use Rattle.std.proofs.Common.{◌∙◌, ap, arith}
-use Rattle.tree_machine.specs.Flat.{number_code, reference_number}
-use Rattle.natmit.proofs.PlaceBytes.{down_read}
+use Rattle.std.proofs.Common.{◌≡◌, ℕ, zero, suc, ◌<◌, [], ◌∷◌, get_or, refl, ap, ◌∙◌, arith}
+use Rattle.std.specs.Prelude.{nat_eq}
+use Rattle.tree_machine.specs.Flat.{number_code}
+use Rattle.tree_machine.specs.Laws.FirstBytes.{first_seven}
+use Rattle.natmit.specs.Parts.{bit}
 use Rattle.natmit.proofs.reading.place.read_down.Goals as goal
+
+-- a number below two is a truth as a number
+bit_coded : (told : ℕ) → told < 2 → number_code (bit (nat_eq told 1)) ≡ told ∷ []
+bit_coded zero h = refl
+bit_coded (suc zero) h = refl
+bit_coded (suc (suc told)) h = absurd (omega arith)
 
 pub returns-then-told-lt2 : goal.returns-then-told-lt2
 returns-then-told-lt2 c =
-    down_read c.in_ok-ancestor.ancestor c.in_ok-successor.successor c.in_ok-parent.parent c.in_ok-leaf.leaf
-    c.mode_of-mode.result c.args.bytes.now (omega arith) (omega arith) c.if-told-lt2.true c.in_ok-ancestor.ensures
-    c.in_ok-successor.ensures c.in_ok-parent.ensures c.in_ok-leaf.ensures
-    (ap (λ last. number_code (reference_number last)) c.mode_of-mode.ensures ∙ c.in_ok-reference_of.ensures)
+    let bytes = c.args.bytes.now in
+    let kind : get_or bytes 0 0 ≡ 2 = omega arith in
+    ap (λ l. 177 ∷ l) (first_seven bytes (omega arith))
+    ∙ rw (
+      kind,
+      bit_coded (get_or bytes 1 0) c.if-told-lt2.true,
+      c.in_ok-ancestor.ensures,
+      c.in_ok-successor.ensures,
+      c.in_ok-parent.ensures,
+      c.in_ok-leaf.ensures,
+      c.mode_of-mode.ensures,
+      c.in_ok-reference_of.ensures,
+    ) refl

@@ -1,19 +1,17 @@
 use Rattle.std.proofs.Common.{refl, ◌∙◌, arith}
-use Rattle.tree_machine.specs.Flat.{cell_code}
-use Rattle.tree_machine.specs.Flat.{part_content}
+use Rattle.tree_machine.specs.Flat.{cell_code, part_content}
 use Rattle.tree_machine.specs.Laws.ReadParts.{one_more_read, kept_at}
 use Rattle.natmit.specs.Parts.{held_part}
 use Rattle.natmit.proofs.reading.place.read_places.Goals as goal
 
 pub loop-thread-preserved : goal.loop-thread-preserved
 loop-thread-preserved c =
-    let threads = c.loop-thread.threads in
-    let i = c.loop-thread.thread-index in
+    let loop = c.loop-thread in
     let before = c.thread-item.result in
     record {
       read =
-          one_more_read (λ thread. cell_code (part_content (held_part thread.place))) threads i _ c.args.bytes.now
-          c.loop-thread.rest.now c.in_ok-held.behind.now (omega arith) c.loop-thread.invariant.read c.in_ok-held.ensures;
-      replies = kept_at (λ thread. thread.replies) threads i _ before refl ∙ c.loop-thread.invariant.replies;
-      notes = kept_at (λ thread. thread.notes) threads i _ before refl ∙ c.loop-thread.invariant.notes;
+          one_more_read (λ t. cell_code (part_content (held_part t.place))) loop.threads loop.thread-index _
+          c.args.bytes.now loop.rest.now c.in_ok-held.behind.now (omega arith) loop.invariant.read c.in_ok-held.ensures;
+      replies = kept_at (λ t. t.replies) loop.threads loop.thread-index _ before refl ∙ loop.invariant.replies;
+      notes = kept_at (λ t. t.notes) loop.threads loop.thread-index _ before refl ∙ loop.invariant.notes;
     }

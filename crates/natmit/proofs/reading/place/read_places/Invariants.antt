@@ -1,8 +1,7 @@
 use Rattle.std.proofs.Common.{◌≡◌, ◌++◌, take}
 use Rattle.std.specs.List.{flat_map}
 use Rattle.tree_machine.specs.Alike.{replies_of, notes_of}
-use Rattle.tree_machine.specs.Flat.{cell_code}
-use Rattle.tree_machine.specs.Flat.{part_content}
+use Rattle.tree_machine.specs.Flat.{cell_code, part_content}
 use Rattle.natmit.specs.Parts.{held_part}
 use Rattle.natmit.proofs.reading.place.read_places.Given as goal
 
