@@ -1,6 +1,6 @@
 -- Labels in place of states.
 use Rattle.std.proofs.Common.{◌≡◌, ℕ, zero, suc, Bool, true, false, cond, ◌||◌, Option, Some, None, List, [], ◌∷◌, ◌++◌}
-use Rattle.std.proofs.Common.{◌+◌, ◌≤◌, length, map, drop, refl, sym, ap, ◌∙◌, arith, slice_get, subst, true≢false}
+use Rattle.std.proofs.Common.{◌+◌, length, map, drop, refl, sym, ap, ◌∙◌, arith, slice_get, subst, true≢false}
 use Rattle.std.proofs.Common.{IsSome, length-append}
 use Rattle.std.specs.Prelude.{unwrap_or}
 use Rattle.std.specs.List.{All}

@@ -1,5 +1,5 @@
 -- Steps of an entry's own state, as they are entered.
-use Rattle.std.proofs.Common.{◌≡◌, ℕ, zero, suc, ◌⊎◌, inl, inr, Option, Some, Result, Ok, Err, IfOk, IfErr, List, [], ◌∷◌}
+use Rattle.std.proofs.Common.{◌≡◌, ℕ, suc, ◌⊎◌, inl, inr, Option, Some, Result, Ok, Err, IfOk, IfErr, List, [], ◌∷◌}
 use Rattle.std.proofs.Common.{map, refl, sym, ap, ◌∙◌, slice_get, subst}
 use Rattle.std.specs.Prelude.{unwrap_or}
 use Rattle.sched_program.specs.Program.{Program}

@@ -3,19 +3,18 @@ use Rattle.std.proofs.Common.{◌≡◌, ℕ, zero, suc, ◌+◌, ◌-◌, ◌^�
 use Rattle.std.proofs.Common.{IsSome, Option, List, [], ◌∷◌, ◌++◌, length, map, refl, sym, ap, ◌∙◌, arith, slice_get}
 use Rattle.std.proofs.Common.{subst, true≢false}
 use Rattle.std.specs.List.{All}
-use Rattle.std.specs.Prelude.{slice_index_or, unwrap_or}
+use Rattle.std.specs.Prelude.{unwrap_or}
 use Rattle.std.proofs.Math.ListN.{length-map}
 use Rattle.tree_machine.specs.Rules.{Rules}
 use Rattle.tree_machine.specs.declared.state.State.{State}
-use Rattle.tree_machine.proofs.Lists.{get-append_cases, get_at}
+use Rattle.tree_machine.proofs.Lists.{get-append_cases}
 use Rattle.book.specs.declared.entry.Mark.TheVariants.{Taken, Expanded}
 use Rattle.book.specs.Books.{machine_in, right_in, CountsAsOne, IsBook}
 use Rattle.book.specs.ByLabel.{AreStepsOf}
-use Rattle.book.specs.Entries.{AreNew, At, Contents, Enters, Entry, IsFullFor, IsOwn, IsTaken, Knows, Successor, opened}
+use Rattle.book.specs.Entries.{AreNew, At, Contents, Enters, Entry, IsFullFor, IsTaken, Knows, Successor, opened}
 use Rattle.book.specs.Entries.{states, with_mark}
 use Rattle.book.specs.Unknown.{knows, unknown}
 use Rattle.book.specs.Labels.{same_as, steps_of}
-use Rattle.book.specs.Law.{IsExpansion}
 use Rattle.book.specs.Schedule.{AreOneBy, StepMachine}
 use Rattle.book.proofs.Agreeing.{Agree}
 use Rattle.book.proofs.Entering.{length_appended, entered_is, few_entered, still_taken, entered_entries, lawful_entered}

@@ -21,6 +21,7 @@ use Rattle.book.specs.declared.book.Merge.TheVariants.{Exact, Names}
 use Rattle.book.specs.declared.finding.Finding.{Finding}
 use Rattle.book.specs.declared.finding.Finding.TheVariants as found
 use Rattle.book.specs.Books.{CountsAsOne}
+use Rattle.book.specs.ByLabel.{IsTakenOf, TakenView}
 use Rattle.book.specs.Decoding.{IsRead, IsSource, StandsIn}
 use Rattle.book.specs.declared.successor.Successor.{Successor}
 use Rattle.book.specs.Expanding.{Puts, PutsStep}
@@ -79,27 +80,6 @@ module _ {Machine Memory Place Form : Type 0} (rules : Rules Memory Place) (prog
         ap (λ f. number_code 0 ++ content_code form_code f)
         ((forms_alike rules form_of forms program program r s r_fits s_fits).1 one)
 
-    -- what is read from the label of a sound state is the source of the steps of each state with that label
-    pub source_of : (front_code : Front → Memory → List ℕ)
-        (behind_code : Front → Memory → List (Option Place) → List ℕ)
-        (whole_code : Memory → List (Option Place) → List ℕ) (form_code : Form → List ℕ) (merge : Merge)
-        (label : List ℕ) (offsets : CodeOffsets) (order : List OpId) (s c : State Machine Memory Place Form)
-        → IsRead front_code behind_code whole_code form_code form_of rules label offsets c → IsWithinLimits program
-        → Fits rules program s → s.steps < 2000000 → label_by whole_code form_code form_of merge s ≡ label
-        → IsFindingOf rules program s (found.Sound order)
-        → IsSource front_code behind_code whole_code form_code form_of rules program merge label offsets order c
-    source_of front_code behind_code whole_code form_code merge label offsets order s c read limits fits few is sound =
-        let stands : StandsIn rules program merge s c = read.stands merge program limits s fits is in
-        let fewer : c.steps ≤ s.steps = stands.steps in
-        record {
-          read = read.read;
-          labelled = (s, fits, sym is);
-          fits = stands.fits;
-          room = omega (arith, fewer, few);
-          sound = one_found merge s c fits stands.fits stands.counts (found.Sound order) sound;
-          counts = (λ r r_fits r_is. (read.stands merge program limits r r_fits r_is).counts);
-        }
-
     -- the state c stands in for s: the step of a thread of c is put as that of s
     module _ (merge : Merge) (s c : State Machine Memory Place Form) (t : ℕ) (s_fits : Fits rules program s)
         (c_fits : Fits rules program c) (one : CountsAsOne rules merge s c) where
@@ -152,3 +132,30 @@ read_stands {Machine} {Memory} {Place} {Form} rules program whole_code form_code
 read_stands rules program whole_code form_code form_of code c whole named label written Names s fits is =
     let law = named s (numbers_fit rules program s fits) (sym (is ∙ written)) in
     record { counts = law.0; fits = law.1 program fits; steps = (let none = law.2 in omega (arith, none)) }
+
+-- what is read from the label of a sound taken entry is the source of the steps of each state with that label
+pub source_of : {Machine Memory Place Form : Type 0} (front_code : Front → Memory → List ℕ)
+    (behind_code : Front → Memory → List (Option Place) → List ℕ) (rules : Machine → Rules Memory Place)
+    (whole_code : Memory → List (Option Place) → List ℕ) (form_code : Form → List ℕ)
+    (form_of : Machine → Memory → List (Option Place) → Form) (taken : TakenView Machine) (offsets : CodeOffsets)
+    (order : List OpId) (c : State Machine Memory Place Form) → AreLawful (rules taken.key.machine)
+    → AreFormsExact (rules taken.key.machine) (form_of taken.key.machine) → IsWithinLimits taken.key.program
+    → IsTakenOf rules whole_code form_code form_of taken → taken.finding ≡ found.Sound order
+    → IsRead front_code behind_code whole_code form_code (form_of taken.key.machine) (rules taken.key.machine)
+    taken.key.label offsets c
+    → IsSource front_code behind_code rules whole_code form_code form_of taken.key offsets order c
+source_of front_code behind_code rules whole_code form_code form_of taken offsets order c lawful forms limits of sound
+    read =
+    let key = taken.key in
+    let stands = read.stands key.merge key.program limits of.state of.fits of.label in
+    let fewer : c.steps ≤ of.state.steps = stands.steps in
+    let few : of.state.steps < 2000000 = of.few in
+    record {
+      read = read.read;
+      fits = stands.fits;
+      room = omega (arith, fewer, few);
+      sound = one_found (rules key.machine) key.program (form_of key.machine) lawful forms key.merge of.state c of.fits
+          stands.fits stands.counts (found.Sound order)
+          (subst (IsFindingOf (rules key.machine) key.program of.state) sound of.finding);
+      counts = (λ r r_fits r_is. (read.stands key.merge key.program limits r r_fits r_is).counts);
+    }

@@ -6,6 +6,7 @@ use Rattle.tree_machine.specs.Step.{Fits}
 use Rattle.tree_machine.specs.declared.state.State.{State}
 use Rattle.book.specs.Books.{CountsAsOne}
 use Rattle.book.specs.Entries.{Contents, Entry, Steps, At, IsFullFor, IsTaken}
+use Rattle.book.specs.Expanding.{PutsStep}
 use Rattle.book.specs.Findings.{machine_of, IsFindingOf}
 use Rattle.book.specs.Labels.{HoldsOfLabel, label_by, labelled, steps_of}
 use Rattle.book.specs.Law.{IsExpansion}
@@ -59,13 +60,22 @@ module _ {Machine Memory Place Form : Type 0} (rules : Machine → Rules Memory 
     pub label : label_in taken.key state ≡ taken.key.label
     pub finding : IsFindingOf (rules taken.key.machine) taken.key.program state taken.finding
 
-  -- whichever state of the program has the label, these are its steps
+  -- it holds of whichever state of the program has the label
+  abbrev pub HoldsOfKey : Key Machine → (State Machine Memory Place Form → Type 0) → Type 0
+  HoldsOfKey key Holds = HoldsOfLabel (rules key.machine) key.program (label_in key) key.label Holds
+
+  -- whichever state has the label, these are its steps
   abbrev pub IsExpandedOf : ExpandedView Machine → Type 0
   IsExpandedOf expanded =
-      HoldsOfLabel (rules expanded.key.machine) expanded.key.program (label_in expanded.key) expanded.key.label
-      (λ state. AreStepsOf (machine_of (rules expanded.key.machine) expanded.key.program)
-      (IsFindingOf (rules expanded.key.machine) expanded.key.program) (label_in expanded.key) state
-      expanded.steps)
+      let key = expanded.key in
+      HoldsOfKey key (λ state. AreStepsOf (machine_of (rules key.machine) key.program)
+      (IsFindingOf (rules key.machine) key.program) (label_in key) state expanded.steps)
+
+  -- whichever state has the label, the step of a thread of it is put behind others
+  abbrev pub PutsStepOf : Key Machine → ℕ → List (Successor (List ℕ)) → List (Successor (List ℕ)) → Type 0
+  PutsStepOf key thread old new =
+      HoldsOfKey key (λ state. PutsStep (machine_of (rules key.machine) key.program)
+      (IsFindingOf (rules key.machine) key.program) (label_in key) state thread old new)
 
 -- what labelled steps say of an entry of this state
 abbrev pub expansion_of : {Machine Memory Place Form : Type 0} → (Machine → Rules Memory Place) → ExpandedView Machine

@@ -1,5 +1,5 @@
 -- States that are read from labels, and what they stand for.
-use Rattle.std.specs.Prelude.{◌≡◌, ℕ, ◌+◌, ◌^◌, ◌<◌, ◌≤◌, List, Option}
+use Rattle.std.specs.Prelude.{ℕ, ◌+◌, ◌^◌, ◌<◌, ◌≤◌, List, Option}
 use Rattle.sched_program.specs.Program.{Program, IsWithinLimits}
 use Rattle.sched_program.specs.declared.operation.OpId.{OpId}
 use Rattle.tree_machine.specs.Offsets.{AreOffsetsOf}
@@ -11,6 +11,7 @@ use Rattle.tree_machine.specs.declared.code_offsets.CodeOffsets.{CodeOffsets}
 use Rattle.tree_machine.specs.declared.front.Front.{Front}
 use Rattle.book.specs.declared.finding.Finding.TheVariants.{Sound}
 use Rattle.book.specs.Books.{CountsAsOne}
+use Rattle.book.specs.ByLabel.{HoldsOfKey, Key}
 use Rattle.book.specs.Findings.{IsFindingOf}
 use Rattle.book.specs.Labels.{HoldsOfLabel, label_by}
 
@@ -34,15 +35,13 @@ pub record IsRead {Machine Memory Place Form : Type 0} (front_code : Front → M
 -- states with this label, of which there is one, are sound with this linearization; this one, whose own bytes are the
 -- label, stands in for them
 pub record IsSource {Machine Memory Place Form : Type 0} (front_code : Front → Memory → List ℕ)
-    (behind_code : Front → Memory → List (Option Place) → List ℕ) (whole_code : Memory → List (Option Place) → List ℕ)
-    (form_code : Form → List ℕ) (form_of : Memory → List (Option Place) → Form) (rules : Rules Memory Place)
-    (program : Program) (merge : Merge) (label : List ℕ) (offsets : CodeOffsets) (order : List OpId)
-    (twin : State Machine Memory Place Form) : Type 0 where
-  pub read : AreOffsetsOf front_code behind_code label offsets twin
-  pub labelled : (state : State Machine Memory Place Form) × Fits rules program state
-      × (label ≡ label_by whole_code form_code form_of merge state)
-  pub fits : Fits rules program twin
+    (behind_code : Front → Memory → List (Option Place) → List ℕ) (rules : Machine → Rules Memory Place)
+    (whole_code : Memory → List (Option Place) → List ℕ) (form_code : Form → List ℕ)
+    (form_of : Machine → Memory → List (Option Place) → Form) (key : Key Machine) (offsets : CodeOffsets)
+    (order : List OpId) (twin : State Machine Memory Place Form) : Type 0 where
+  pub read : AreOffsetsOf front_code behind_code key.label offsets twin
+  pub fits : Fits (rules key.machine) key.program twin
   pub room : twin.steps + 1 < 2 ^ 64
-  pub sound : IsFindingOf rules program twin (Sound order)
-  pub counts : HoldsOfLabel rules program (label_by whole_code form_code form_of merge) label
-      (λ state. CountsAsOne rules merge state twin)
+  pub sound : IsFindingOf (rules key.machine) key.program twin (Sound order)
+  pub counts : HoldsOfKey rules whole_code form_code form_of key
+      (λ state. CountsAsOne (rules key.machine) key.merge state twin)

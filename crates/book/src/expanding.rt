@@ -4,7 +4,7 @@ ghost use Rattle.std.specs.Prelude.{◌≡◌, IfOk, IfSome, length};
 
 use crate::book::Merge;
 use crate::finding::Finding;
-use crate::in_place::{Source, steps_here};
+use crate::in_place::steps_here;
 use crate::label::Label;
 use crate::scratch::Scratch;
 use crate::successor::Successor;
@@ -105,30 +105,24 @@ impl<'a, M: Encode> TakenEntry<'a, M> {
     {
         // Whoever reads a program knows that it meets the limits.
         let _ = self.program.initial();
+        let Finding::Sound(order) = &self.finding else {
+            return Ok(None);
+        };
+        let label = self.label.as_slice();
+        let Some(mut decoded) = scratch.decode(alloc, self.machine, self.program, label)? else {
+            return Ok(None);
+        };
+        let offsets = decoded.offsets;
+        let steps = steps_here(alloc, &self, offsets, order, &mut *decoded.state, scratch)?;
+        scratch.last = Some(decoded);
         let TakenEntry {
             id,
             machine,
             program,
             merge,
             label,
-            finding,
+            ..
         } = self;
-        let Finding::Sound(order) = finding else {
-            return Ok(None);
-        };
-        let Some(mut decoded) = scratch.decode(alloc, machine, program, label.as_slice())? else {
-            return Ok(None);
-        };
-        let from = Source {
-            machine,
-            program,
-            merge,
-            label: label.as_slice(),
-            offsets: decoded.offsets,
-            order: &order,
-        };
-        let steps = steps_here(alloc, &from, &mut *decoded.state, scratch)?;
-        scratch.last = Some(decoded);
         Ok(Some(ExpandedEntry {
             id,
             machine,

@@ -1,62 +1,43 @@
 //! All enabled steps of a sound state, each made in one place and taken back.
-ghost use Rattle.std.specs.Prelude.{◌≡◌, ◌+◌, ◌≤◌, ◌<◌, IfOk, OnOk, Some, vec_len, vec_capacity};
-ghost use Rattle.tree_machine.specs.declared.state.State.{State};
+ghost use Rattle.std.specs.Prelude.{◌≡◌, ◌+◌, ◌≤◌, ◌<◌, IfOk, OnOk, vec_len, vec_capacity};
 ghost use Rattle.book.specs.Decoding.{IsSource};
-ghost use Rattle.book.specs.Expanding.{PutsStep};
-ghost use Rattle.book.specs.Findings.{machine_of, IsFindingOf};
-ghost use Rattle.book.specs.ByLabel.{AreStepsOf};
-ghost use Rattle.book.specs.Labels.{HoldsOfLabel, label_by};
+ghost use Rattle.book.specs.ByLabel.{IsExpandedOf, PutsStepOf};
 
-use crate::book::Merge;
+use crate::expanding::TakenEntry;
 use crate::finding::Finding;
 use crate::label::Label;
 use crate::lending::find_here;
 use crate::scratch::Scratch;
 use crate::successor::Successor;
 use lin::Order;
-use sched_program::{OutOfMemory, Program};
+use sched_program::OutOfMemory;
 use std::alloc::Global;
 use std::snapshot::Snapshot;
 use tree_machine::{CodeOffsets, Encode, State, StepFault, StepOrigin};
 
-/// A sound state that was decoded from a label, with a linearization of its history.
-#[derive(Clone, Copy)]
-pub(crate) struct Source<'a, 's, M: Encode> {
-    pub(crate) machine: M,
-    pub(crate) program: &'a Program,
-    pub(crate) merge: Merge,
-    pub(crate) label: &'s [u8],
-    /// Where the parts of the label begin.
-    pub(crate) offsets: CodeOffsets,
-    pub(crate) order: &'s Order,
-}
-
 /// Puts the step of a thread, if it is enabled, behind those in a list, with its finding and its
-/// label. The step is made in the place of the source, and taken back. What is put is right for
-/// each state that has the source's label.
+/// label. The step is made in what was decoded from a sound entry's label, and taken back. What is
+/// put is right for each state that has this label.
 #[inline(always)]
 fn put_step_here<M: Encode>(
-    alloc: Global,
-    from: &Source<'_, '_, M>,
+    from: &TakenEntry<'_, M>,
+    offsets: CodeOffsets,
+    order: &Order,
     state: &mut State<M>,
     thread: u8,
     scratch: &mut Scratch<M>,
     steps: &mut Vec<Successor<Label>>,
 ) -> Result<(), OutOfMemory>
-    requires source { IsSource M.front_code M.behind_code M.whole_code M.form_code (M.form_of from.now.machine)
-        (M.rules from.now.machine) from.now.program.now from.now.merge from.now.label.now from.now.offsets
-        from.now.order.now state.old }
+    requires source { IsSource M.front_code M.behind_code M.rules M.whole_code M.form_code M.form_of from.now.key
+        offsets order.now state.old }
     requires place { vec_len steps.old < vec_capacity steps.old }
     ensures state { OnOk result (state.new ≡ state.old) }
-    ensures put { OnOk result (HoldsOfLabel (M.rules from.now.machine) from.now.program.now
-        (label_by M.whole_code M.form_code (M.form_of from.now.machine) from.now.merge) from.now.label.now
-        (λ (of : State M M.Mem M.Loc M.Form). PutsStep (machine_of (M.rules from.now.machine) from.now.program.now)
-        (IsFindingOf (M.rules from.now.machine) from.now.program.now)
-        (label_by M.whole_code M.form_code (M.form_of from.now.machine) from.now.merge)
-        of thread steps.old.items steps.new.items)) }
+    ensures put { OnOk result (PutsStepOf M.rules M.whole_code M.form_code M.form_of from.now.key thread
+        steps.old.items steps.new.items) }
     ensures len { vec_len steps.new ≤ vec_len steps.old + 1 }
     ensures capacity { vec_capacity steps.new ≡ vec_capacity steps.old }
 {
+    let alloc = *steps.allocator();
     // Whoever reads a program knows that it meets the limits.
     let _ = from.program.initial();
     let source = Snapshot::of(&*state);
@@ -67,62 +48,46 @@ fn put_step_here<M: Encode>(
     }
     let spare = scratch.spare.label(alloc);
     let origin = StepOrigin {
-        label: from.label,
-        offsets: from.offsets,
+        label: from.label.as_slice(),
+        offsets,
         state: &source,
         thread,
         undo: &scratch.undo,
     };
-    let found = find_here(
-        alloc,
-        from.machine,
-        from.program,
-        &origin,
-        &*state,
-        from.order,
-    )?;
+    let found = find_here(alloc, from.machine, from.program, &origin, &*state, order)?;
     let naming = from.merge.naming();
-    let label = state.label_after(
-        alloc,
-        from.machine,
-        naming,
-        &origin,
-        &mut scratch.buffer,
-        spare,
-    )?;
+    let buffer = &mut scratch.buffer;
+    let label = state.label_after(alloc, from.machine, naming, &origin, buffer, spare)?;
     state.take_back(alloc, &source, thread, &mut scratch.undo);
     steps.push_reserved(Successor {
         thread,
         state: Label::new(label),
-        finding: found.unwrap_or(Finding::Sound(*from.order)),
+        finding: found.unwrap_or(Finding::Sound(*order)),
     });
     Ok(())
 }
 
-/// The enabled steps of a sound state, in the order of the threads, each with its finding, and
-/// labelled as the state is: those of each state that has its label. They are made in its place,
-/// and taken back. After a refusal that place is of no use but to be decoded into.
+/// The enabled steps of a sound entry's state, in the order of the threads, each with its finding, and labelled as
+/// the entry is: those of each state that has its label. They are made in what was decoded from that, and taken
+/// back. After a refusal that place is of no use but to be decoded into.
 pub(crate) fn steps_here<M: Encode>(
     alloc: Global,
-    from: &Source<'_, '_, M>,
+    from: &TakenEntry<'_, M>,
+    offsets: CodeOffsets,
+    order: &Order,
     state: &mut State<M>,
     scratch: &mut Scratch<M>,
 ) -> Result<Vec<Successor<Label>>, OutOfMemory>
-    requires { IsSource M.front_code M.behind_code M.whole_code M.form_code (M.form_of from.now.machine)
-        (M.rules from.now.machine) from.now.program.now from.now.merge from.now.label.now from.now.offsets
-        from.now.order.now state.old }
+    requires { IsSource M.front_code M.behind_code M.rules M.whole_code M.form_code M.form_of from.now.key offsets
+        order.now state.old }
     ensures state { OnOk result (state.new ≡ state.old) }
-    ensures steps { IfOk result (λ steps. HoldsOfLabel (M.rules from.now.machine) from.now.program.now
-        (label_by M.whole_code M.form_code (M.form_of from.now.machine) from.now.merge) from.now.label.now
-        (λ (of : State M M.Mem M.Loc M.Form). AreStepsOf
-        (machine_of (M.rules from.now.machine) from.now.program.now)
-        (IsFindingOf (M.rules from.now.machine) from.now.program.now)
-        (label_by M.whole_code M.form_code (M.form_of from.now.machine) from.now.merge) of steps.items)) }
+    ensures steps { IfOk result (λ steps. IsExpandedOf M.rules M.whole_code M.form_code M.form_of
+        (record { key = from.now.key; steps = steps.items })) }
 {
     let threads = from.program.threads().len();
     let mut steps = scratch.spare.list(alloc, threads)?;
     for thread in 0..threads as u8 {
-        put_step_here(alloc, from, state, thread, scratch, &mut steps)?;
+        put_step_here(from, offsets, order, state, thread, scratch, &mut steps)?;
     }
     Ok(steps)
 }

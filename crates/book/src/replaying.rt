@@ -1,5 +1,5 @@
 //! The replay of a schedule, without a book.
-ghost use Rattle.std.specs.Prelude.{◌≡◌, ◌+◌, ◌<◌, IfOk, IfErr, Some};
+ghost use Rattle.std.specs.Prelude.{◌≡◌, ◌+◌, ◌<◌, IfOk, IfErr, IsSome, Some};
 ghost use Rattle.tree_machine.specs.Step.{Fits};
 ghost use Rattle.book.specs.Schedule.{after};
 ghost use Rattle.book.specs.Findings.{machine_of, IsFindingOf};
@@ -34,4 +34,23 @@ pub fn replay<M: Encode>(
     }
     let finding = find(alloc, machine, program, &state)?;
     Ok(Replay { state, finding })
+}
+
+/// The state after a schedule whose threads are enabled in their turns.
+pub(crate) fn state_after<M: Encode>(
+    alloc: Global,
+    machine: M,
+    program: &Program,
+    schedule: &[u8],
+) -> Result<State<M>, OutOfMemory>
+    requires leads { IsSome
+        (after (machine_of {Machine = M} {Form = M.Form} (M.rules machine) program.now) schedule.now) }
+    ensures state { IfOk result (λ s. after (machine_of (M.rules machine) program.now) schedule.now ≡ Some s) }
+    ensures fits { IfOk result (Fits (M.rules machine) program.now) }
+{
+    match replay(alloc, machine, program, schedule) {
+        Ok(end) => Ok(end.state),
+        Err(ReplayFault::OutOfMemory) => Err(OutOfMemory),
+        Err(ReplayFault::NotEnabled(_)) => unreachable!(),
+    }
 }

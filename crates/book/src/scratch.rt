@@ -1,4 +1,4 @@
-//! What expansions are made in, used again from one to the next.
+//! What steps are made in, used again from one state to the next.
 ghost use Rattle.std.specs.Prelude.{IfOk, IfSome};
 ghost use Rattle.book.specs.Decoding.{IsRead};
 
@@ -8,8 +8,8 @@ use sched_program::{OutOfMemory, Program};
 use std::alloc::Global;
 use tree_machine::{Encode, EncodeBuffer, State, Undo};
 
-/// What one worker makes expansions in: a state to read others into, a buffer for labels, what
-/// takes steps back, and lists that serve again.
+/// What one worker makes expansions in, or a check the steps of entries: a state to read others
+/// into, a buffer for labels, what takes steps back, and lists that serve again.
 #[derive(Drop)]
 pub struct Scratch<M: Encode> {
     pub(crate) buffer: EncodeBuffer,

@@ -6,8 +6,7 @@ ghost use Rattle.book.specs.Entries.{Entry, At};
 ghost use Rattle.book.specs.Slots.{AreStatesOf};
 
 use crate::book::Book;
-use crate::replayed::ReplayFault;
-use crate::replaying::replay;
+use crate::replaying::state_after;
 use sched_program::OutOfMemory;
 use std::sync::Arc;
 use tree_machine::{Encode, State};
@@ -21,11 +20,7 @@ impl<M: Encode> Book<M> {
     {
         let alloc = self.table.allocator();
         let schedule = self.schedule_of(alloc, id)?;
-        match replay(alloc, self.machine, &self.program, schedule.as_slice()) {
-            Ok(end) => Ok(end.state),
-            Err(ReplayFault::OutOfMemory) => Err(OutOfMemory),
-            Err(ReplayFault::NotEnabled(_)) => unreachable!(),
-        }
+        state_after(alloc, self.machine, &self.program, schedule.as_slice())
     }
 
     /// The state of an entry, to be shared.

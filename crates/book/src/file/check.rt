@@ -7,8 +7,9 @@ ghost use Rattle.book.specs.BookFile.Checks.{IsRefusedFor, PassAs};
 use crate::file::closing::test_closed;
 use crate::file::fault::CheckFault;
 use crate::file::reading::read_lines;
-use crate::file::recalling::{Input, Workspace};
+use crate::file::recalling::Input;
 use crate::file::replaying::replay_lines;
+use crate::scratch::Scratch;
 use sched_program::Program;
 use std::alloc::Global;
 use tree_machine::Encode;
@@ -31,9 +32,9 @@ fn entries_checked<M: Encode>(
         program,
         lines: lines.as_slice(),
     };
-    let mut work = Workspace::new(alloc, &input)?;
-    let labels = replay_lines(alloc, &input, &mut work)?;
-    test_closed(alloc, &input, &labels, &mut work)?;
+    let mut scratch = Scratch::new(alloc);
+    let labels = replay_lines(alloc, &input, &mut scratch)?;
+    test_closed(alloc, &input, &labels, &mut scratch)?;
     Ok(lines.len() + 1)
 }
 

@@ -11,12 +11,12 @@ ghost use Rattle.book.specs.declared.file.line.Line.{Line};
 use crate::file::fault::CheckFault;
 use crate::file::labels::Labels;
 use crate::file::line::Line;
-use crate::file::recalling::{Input, Workspace, recall};
+use crate::file::recalling::{Input, recall};
+use crate::scratch::Scratch;
 use sched_program::OutOfMemory;
 use std::alloc::Global;
-use std::mem::replace;
 use std::snapshot::Snapshot;
-use tree_machine::{Encode, Naming, StepFault};
+use tree_machine::{Encode, Naming, State, StepFault};
 
 /// Whether the step of a thread, if it is enabled, has one of the labels. The step is made in the state itself, and
 /// taken back.
@@ -25,33 +25,39 @@ fn knows_step<M: Encode>(
     input: &Input<'_, M>,
     labels: &Labels,
     thread: u8,
-    work: &mut Workspace<M>,
+    state: &mut State<M>,
+    scratch: &mut Scratch<M>,
 ) -> Result<bool, OutOfMemory>
-    requires fits { Fits (M.rules input.now.machine) input.now.program.now work.old.state }
-    requires room { work.old.state.steps + 1 < 2 ^ 64 }
+    requires fits { Fits (M.rules input.now.machine) input.now.program.now state.old }
+    requires room { state.old.steps + 1 < 2 ^ 64 }
     ensures known { IfOk result (λ yes. yes ≡ true → (next : State M M.Mem M.Loc M.Form)
-        → step (M.rules input.now.machine) input.now.program.now work.old.state thread ≡ Some next
+        → step (M.rules input.now.machine) input.now.program.now state.old thread ≡ Some next
         → Contains labels.now (named_by M.form_code (M.form_of input.now.machine) next)) }
     ensures new { IfOk result (λ yes. yes ≡ false → (next : State M M.Mem M.Loc M.Form)
-        × (step (M.rules input.now.machine) input.now.program.now work.old.state thread ≡ Some next)
+        × (step (M.rules input.now.machine) input.now.program.now state.old thread ≡ Some next)
         × (Contains labels.now (named_by M.form_code (M.form_of input.now.machine) next) → ⊥)) }
-    ensures state { OnOk result (work.new.state ≡ work.old.state) }
+    ensures state { OnOk result (state.new ≡ state.old) }
 {
     // Whoever reads a program knows that it meets the limits.
     let _ = input.program.initial();
     let machine = input.machine;
-    let state = &mut work.state;
     let source = Snapshot::of(&*state);
-    match state.step_here(alloc, machine, input.program, thread, &mut work.undo) {
+    match state.step_here(alloc, machine, input.program, thread, &mut scratch.undo) {
         Ok(()) => {}
         Err(StepFault::NotEnabled) => return Ok(true),
         Err(StepFault::OutOfMemory) => return Err(OutOfMemory),
     }
-    let spare = replace(&mut work.spare, Vec::new(alloc));
-    let label = state.label(alloc, machine, Naming::Canonical, &mut work.buffer, spare)?;
-    state.take_back(alloc, &source, thread, &mut work.undo);
+    let spare = scratch.spare.label(alloc);
+    let label = state.label(
+        alloc,
+        machine,
+        Naming::Canonical,
+        &mut scratch.buffer,
+        spare,
+    )?;
+    state.take_back(alloc, &source, thread, &mut scratch.undo);
     let is_known = labels.contains(&label);
-    work.spare = label.into_vec();
+    scratch.spare.keep_label(label.into_vec());
     Ok(is_known)
 }
 
@@ -74,25 +80,26 @@ fn leads_out<M: Encode>(
     labels: &Labels,
     index: usize,
     next: &mut usize,
-    work: &mut Workspace<M>,
+    state: &mut State<M>,
+    scratch: &mut Scratch<M>,
 ) -> Result<bool, OutOfMemory>
     requires kept { AreLabelsOf {Machine = M} (M.rules input.now.machine) input.now.program.now
         (named_by M.form_code (M.form_of input.now.machine)) input.now.lines.now labels.now }
     requires few { length input.now.lines.now < 2000000 }
     requires within { index < length labels.now }
     requires stands { StandsForEntry (M.rules input.now.machine) input.now.program.now input.now.lines.now index
-        work.old.state }
+        state.old }
     ensures out { IfOk result (λ yes. yes ≡ true → IsStepUnknown (M.rules input.now.machine) input.now.program.now
-        (named_by M.form_code (M.form_of input.now.machine)) labels.now work.old.state) }
+        (named_by M.form_code (M.form_of input.now.machine)) labels.now state.old) }
     ensures none { IfOk result (λ yes. yes ≡ false → AreStepsKnown (M.rules input.now.machine) input.now.program.now
-        (named_by M.form_code (M.form_of input.now.machine)) labels.now work.old.state) }
+        (named_by M.form_code (M.form_of input.now.machine)) labels.now state.old) }
 {
     for thread in 0..input.program.threads().len() as u8 {
         if has_step(input.lines, *next, index, thread) {
             *next += 1;
             continue;
         }
-        if !knows_step(alloc, input, labels, thread, work)? {
+        if !knows_step(alloc, input, labels, thread, state, scratch)? {
             return Ok(true);
         }
     }
@@ -105,7 +112,7 @@ pub fn test_closed<M: Encode>(
     alloc: Global,
     input: &Input<'_, M>,
     labels: &Labels,
-    work: &mut Workspace<M>,
+    scratch: &mut Scratch<M>,
 ) -> Result<(), CheckFault>
     requires kept { AreLabelsOf {Machine = M} (M.rules input.now.machine) input.now.program.now
         (named_by M.form_code (M.form_of input.now.machine)) input.now.lines.now labels.now }
@@ -117,10 +124,13 @@ pub fn test_closed<M: Encode>(
 {
     // Whoever reads a program knows that it meets the limits.
     let _ = input.program.initial();
+    // Labels are looked up one at a time, so one list serves all.
+    scratch.spare.reserve(1, 0)?;
+    let mut state = State::start(alloc, input.machine, input.program)?;
     let mut next = 0;
     for i in 0..labels.len() {
-        recall(alloc, input, labels, i, &mut work.state)?;
-        if leads_out(alloc, input, labels, i, &mut next, work)? {
+        recall(alloc, input, labels, i, &mut state)?;
+        if leads_out(alloc, input, labels, i, &mut next, &mut state, scratch)? {
             return Err(CheckFault::Open(i + 2));
         }
     }

@@ -1,7 +1,6 @@
-//! What lines are checked in, and states that stand in for those of entries.
+//! States that stand in for those of entries.
 ghost use Rattle.std.specs.Prelude.{◌≡◌, ◌<◌, List, Some, length, slice_get, IfOk, OnOk};
 ghost use Rattle.tree_machine.specs.declared.state.State.{State};
-ghost use Rattle.tree_machine.specs.Step.{start, Fits};
 ghost use Rattle.book.specs.BookFile.Kept.{AreLabelsOf, StandsForEntry};
 ghost use Rattle.book.specs.BookFile.Replays.{AreReplayed};
 ghost use Rattle.book.specs.Findings.{machine_of};
@@ -11,11 +10,10 @@ ghost use Rattle.book.specs.Schedule.{after};
 use crate::decoding::read_state;
 use crate::file::labels::Labels;
 use crate::file::line::Line;
-use crate::replayed::ReplayFault;
-use crate::replaying::replay;
+use crate::replaying::state_after;
 use sched_program::{OutOfMemory, Program};
 use std::alloc::Global;
-use tree_machine::{Encode, EncodeBuffer, State, Undo};
+use tree_machine::{Encode, State};
 
 /// What is checked: the lines of a book file, for a program on a machine.
 #[derive(Clone, Copy)]
@@ -23,33 +21,6 @@ pub struct Input<'a, M: Encode> {
     pub machine: M,
     pub program: &'a Program,
     pub lines: &'a [Line],
-}
-
-/// A state into which one label after the other is read, and what its steps are made and labelled in.
-#[derive(Drop)]
-pub struct Workspace<M: Encode> {
-    pub state: State<M>,
-    pub undo: Undo<M>,
-    pub buffer: EncodeBuffer,
-    /// A list for a label that nobody keeps.
-    pub spare: Vec<u8>,
-}
-
-impl<M: Encode> Workspace<M> {
-    /// A workspace with the start in it.
-    pub fn new(alloc: Global, input: &Input<'_, M>) -> Result<Workspace<M>, OutOfMemory>
-        ensures start { IfOk result (λ work.
-            work.state ≡ start (M.rules input.now.machine) input.now.program.now) }
-        ensures fits { IfOk result (λ work.
-            Fits (M.rules input.now.machine) input.now.program.now work.state) }
-    {
-        Ok(Workspace {
-            state: State::start(alloc, input.machine, input.program)?,
-            undo: Undo::new(),
-            buffer: EncodeBuffer::new(alloc),
-            spare: Vec::new(alloc),
-        })
-    }
 }
 
 /// The threads on the way from the start to an entry, as its line and those of its ancestors have it.
@@ -103,12 +74,6 @@ pub fn recall<M: Encode>(
         return Ok(());
     }
     let way = way_to(alloc, input, labels, index)?;
-    match replay(alloc, input.machine, input.program, way.as_slice()) {
-        Ok(end) => {
-            *state = end.state;
-            Ok(())
-        }
-        Err(ReplayFault::OutOfMemory) => Err(OutOfMemory),
-        Err(ReplayFault::NotEnabled(_)) => unreachable!(),
-    }
+    *state = state_after(alloc, input.machine, input.program, way.as_slice())?;
+    Ok(())
 }

@@ -1,6 +1,6 @@
 //! The replay of the entries of a book file, line by line.
 ghost use Rattle.std.specs.Prelude.{◌≡◌, ◌<◌, ◌⊎◌, List, length, IfOk, IfErr};
-ghost use Rattle.tree_machine.specs.Step.{start, Fits};
+ghost use Rattle.tree_machine.specs.Step.{Fits};
 ghost use Rattle.tree_machine.specs.declared.state.State.{State};
 ghost use Rattle.book.specs.BookFile.Kept.{AreLabelsOf};
 ghost use Rattle.book.specs.BookFile.Replays.{AreReplayed, IsAmiss, IsFirstAmiss, IsShown, IsUnshown, Tells};
@@ -9,7 +9,8 @@ ghost use Rattle.book.specs.Labels.{named_by};
 use crate::file::fault::CheckFault;
 use crate::file::labels::Labels;
 use crate::file::line::Line;
-use crate::file::recalling::{Input, Workspace, recall};
+use crate::file::recalling::{Input, recall};
+use crate::scratch::Scratch;
 use lin::check_order;
 use sched_program::{OpId, Program};
 use std::alloc::Global;
@@ -49,7 +50,8 @@ fn label_of_line<M: Encode>(
     input: &Input<'_, M>,
     before: &Labels,
     line: &Line,
-    work: &mut Workspace<M>,
+    state: &mut State<M>,
+    scratch: &mut Scratch<M>,
 ) -> Result<Bytes, CheckFault>
     requires kept { AreLabelsOf {Machine = M} (M.rules input.now.machine) input.now.program.now
         (named_by M.form_code (M.form_of input.now.machine)) input.now.lines.now before.now }
@@ -71,14 +73,13 @@ fn label_of_line<M: Encode>(
     if parent >= before.len() {
         return Err(CheckFault::Parent(number));
     }
-    let state = &mut work.state;
     recall(alloc, input, before, parent, state)?;
     match state.step_here(
         alloc,
         input.machine,
         input.program,
         line.thread,
-        &mut work.undo,
+        &mut scratch.undo,
     ) {
         Ok(()) => {}
         Err(StepFault::NotEnabled) => return Err(CheckFault::Step(number)),
@@ -86,7 +87,7 @@ fn label_of_line<M: Encode>(
     }
     let order = line.order.as_slice();
     test_state(alloc, input.machine, input.program, &*state, order, number)?;
-    let buffer = &mut work.buffer;
+    let buffer = &mut scratch.buffer;
     Ok(state.label(
         alloc,
         input.machine,
@@ -100,11 +101,9 @@ fn label_of_line<M: Encode>(
 pub fn replay_lines<M: Encode>(
     alloc: Global,
     input: &Input<'_, M>,
-    work: &mut Workspace<M>,
+    scratch: &mut Scratch<M>,
 ) -> Result<Labels, CheckFault>
-    requires few { length input.now.lines.now < 2000000 }
-    requires start { work.old.state ≡ start (M.rules input.now.machine) input.now.program.now }
-    requires fits { Fits (M.rules input.now.machine) input.now.program.now work.old.state }
+    requires { length input.now.lines.now < 2000000 }
     ensures kept { IfOk result (AreLabelsOf {Machine = M} (M.rules input.now.machine) input.now.program.now
         (named_by M.form_code (M.form_of input.now.machine)) input.now.lines.now) }
     ensures amiss { IfErr result (λ fault. (fault ≡ CheckFault.OutOfMemory)
@@ -117,20 +116,18 @@ pub fn replay_lines<M: Encode>(
         program,
         ..
     } = *input;
-    test_state(alloc, machine, program, &work.state, &[], 2)?;
+    let mut state = State::start(alloc, machine, program)?;
+    test_state(alloc, machine, program, &state, &[], 2)?;
     let mut labels = Labels::new(alloc);
-    let buffer = &mut work.buffer;
-    labels.push(
-        work.state
-            .label(alloc, machine, Naming::Canonical, buffer, Vec::new(alloc))?,
-    )?;
+    let buffer = &mut scratch.buffer;
+    labels.push(state.label(alloc, machine, Naming::Canonical, buffer, Vec::new(alloc))?)?;
     for (i, line) in input.lines.iter().enumerate() {
         let earlier = Input {
             machine,
             program,
             lines: &input.lines[..i],
         };
-        let next = label_of_line(alloc, &earlier, &labels, line, work)?;
+        let next = label_of_line(alloc, &earlier, &labels, line, &mut state, scratch)?;
         labels.push(next)?;
     }
     Ok(labels)

@@ -1,8 +1,8 @@
-use Rattle.std.proofs.Common.{◌≡◌, ◌+◌, ◌-◌, ◌^◌, ◌<◌, ◌≤◌, inl, inr, ◌∙◌, refl, length, ap, sym, arith, ℕ, List, Some}
+use Rattle.std.proofs.Common.{◌≡◌, ◌+◌, ◌-◌, ◌^◌, ◌<◌, inl, inr, ◌∙◌, refl, length, ap, sym, arith, ℕ, List, Some}
 use Rattle.std.proofs.Common.{slice_get}
 use Rattle.tree_machine.specs.declared.state.State.{State}
 use Rattle.book.specs.declared.entry.Mark.TheVariants.{Expanded}
-use Rattle.book.specs.Entries.{At, Entry}
+use Rattle.book.specs.Entries.{Entry}
 use Rattle.book.specs.Labels.{Kept, label_by}
 use Rattle.book.proofs.Labels.{known_mark}
 use Rattle.book.proofs.Putting.{book_entered, entered_few, enters, full_for, grown, here_enabled, is_taken_still}

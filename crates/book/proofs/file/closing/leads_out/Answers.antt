@@ -15,7 +15,7 @@ pub knows_step-requires-clause-room : goal.knows_step-requires-clause-room
 knows_step-requires-clause-room g c κs within =
     let input = c.args.input.now in
     let w = c.requires.stands c.requires.kept.states c.requires.kept.replayed in
-    let few : c.args.work.now.state.steps ≤ c.args.index = w.2.steps in
+    let few : c.args.state.now.steps ≤ c.args.index = w.2.steps in
     let below : c.args.index < length c.args.labels.now = c.requires.within in
     let most : length input.lines.now < 2000000 = c.requires.few in
     let all : length c.args.labels.now ≡ length input.lines.now + 1 =
@@ -30,7 +30,7 @@ loop-thread-preserved-then-has_step g c =
     let coding = g.met.M.Encode g.world.𝓛 g.world.𝓜 g.world.𝓡 ((λ s x. x), (λ x. x), (λ x. x), λ x. x) in
     let input = c.args.input.now in
     let rules = g.M.Machine.rules input.machine in
-    let state = c.args.work.now.state in
+    let state = c.args.state.now in
     let told = c.has_step.ensures c.if-has_step.true in (
       c.loop-thread.invariant.0,
       one_more_thread rules input.program.now
@@ -53,7 +53,7 @@ returns-clause-none g c =
     let many : length input.program.now.threads ≤ c.loop-thread.thread = omega arith in
     λ _. no_more_threads (g.M.Machine.rules input.machine) input.program.now (bound.lawful input.machine)
     c.threads.ensures.limits (named_by g.M.Encode.form_code (g.M.Machine.form_of input.machine)) c.args.labels.now
-    c.args.work.now.state c.loop-thread.thread many c.loop-thread.invariant.1
+    c.args.state.now c.loop-thread.thread many c.loop-thread.invariant.1
 
 pub returns-then-not-branch-clause-out : goal.returns-then-not-branch-clause-out
 returns-then-not-branch-clause-out g c =

@@ -1,7 +1,6 @@
-use Rattle.std.proofs.Common.{◌≡◌, Some, None, ap, sym, ◌∙◌}
+use Rattle.std.proofs.Common.{ap, refl, sym, ◌∙◌}
 use Rattle.book.specs.Findings.{machine_of}
 use Rattle.book.specs.Schedule.{after}
-use Rattle.book.proofs.Stopping.{stopped}
 use Rattle.book.proofs.BookFile.Twins.{read_stands_for, run_stands_for}
 use Rattle.book.proofs.file.recalling.recall.Goals as goal
 
@@ -16,8 +15,8 @@ returns g c =
     c.requires.kept c.in-Some.label.now c.in-Some-2.field-0 c.read_state.new.state c.in-Some.ensures
     (rw c.in-Some-2.is at c.in_ok-read_state.ensures)
 
-pub returns-in-Ok : goal.returns-in-Ok
-returns-in-Ok g c =
+pub returns-2 : goal.returns-2
+returns-2 g c =
     let bound = g.met.M.Machine g.world.𝓛 g.world.𝓜 g.world.𝓡 ((λ s x. x), (λ x. x), (λ x. x), λ x. x) in
     let input = c.args.input.now in
     let m =
@@ -25,18 +24,10 @@ returns-in-Ok g c =
     input.program.now in
     run_stands_for (g.M.Machine.rules input.machine) input.program.now (bound.lawful input.machine)
     c.initial.ensures.limits (g.M.Machine.form_of input.machine) (bound.forms input.machine) input.lines.now
-    c.args.index c.in_ok-way.way.items c.in-Ok.end.state c.in_ok-way.ensures
-    (ap (after m) (sym c.as_slice.ensures.value) ∙ c.in-Ok.ensures.state) c.in-Ok.ensures.fits
+    c.args.index c.in_ok-way.way.items c.in_ok-state.field-0 c.in_ok-way.ensures
+    (ap (after m) (sym c.as_slice.ensures.value) ∙ c.in_ok-state.ensures.state) c.in_ok-state.ensures.fits
 
-pub unreachable-requires : goal.unreachable-requires
-unreachable-requires g c =
-    let input = c.args.input.now in
-    let m =
-    machine_of {Machine = g.row.M.Denot} {Form = g.row.M-Form.Denot} (g.M.Machine.rules input.machine)
-    input.program.now in
+pub state_after-requires-clause-leads : goal.state_after-requires-clause-leads
+state_after-requires-clause-leads g c κs within =
     let leads = c.in_ok-way.ensures c.requires.kept.states c.requires.kept.replayed in
-    let stops = rw c.in-Err-NotEnabled.field-0-is at c.in-Err-NotEnabled.ensures.not_enabled in
-    let none : after m c.as_slice.result.now ≡ None =
-    stopped m m.start c.as_slice.result.now c.in-Err-NotEnabled.field-0-0 stops.3 in
-    let none_here : after m c.in_ok-way.way.items ≡ None = ap (after m) (sym c.as_slice.ensures.value) ∙ none in
-    absurd (let q : None ≡ Some leads.0 = sym none_here ∙ leads.2 in cc)
+    rw (c.as_slice.ensures.value, leads.2) refl

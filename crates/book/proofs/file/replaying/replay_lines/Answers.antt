@@ -9,8 +9,8 @@ pub loop-i-init : goal.loop-i-init
 loop-i-init g c =
     let input = c.args.input.now in
     labels_start (g.M.Machine.rules input.machine) input.program.now
-    (named_by g.M.Encode.form_code (g.M.Machine.form_of input.machine)) c.args.work.now.state
-    c.in_ok-label.field-0 c.push.new.self c.requires.start c.in_ok-test_state.ensures.shown
+    (named_by g.M.Encode.form_code (g.M.Machine.form_of input.machine)) c.in_ok-state.state
+    c.in_ok-label.field-0 c.push.new.self c.in_ok-state.ensures.start c.in_ok-test_state.ensures.shown
     c.in_ok-label.ensures
     (c.in_ok-push.ensures ∙ ap (λ xs. xs ++ c.in_ok-label.field-0 ∷ []) c.new-labels.ensures)
 
@@ -36,10 +36,10 @@ returns-in_err-next-clause-amiss g c =
 pub returns-in_err-test_state-clause-amiss : goal.returns-in_err-test_state-clause-amiss
 returns-in_err-test_state-clause-amiss g c =
     let input = c.args.input.now in
-    let p = err_from_is_err_and c.from_residual.result c.from_residual.ensures.1 in
+    let p = err_from_is_err_and c.from_residual-in_err-test_state.result c.from_residual-in_err-test_state.ensures.1 in
     rw (p.1, p.2)
-    (amiss_at_start (g.M.Machine.rules input.machine) input.program.now input.lines.now c.args.work.now.state
-    c.in_err-test_state.field-0.0 c.requires.start c.in_err-test_state.ensures.unshown)
+    (amiss_at_start (g.M.Machine.rules input.machine) input.program.now input.lines.now c.in_ok-state.state
+    c.in_err-test_state.field-0.0 c.in_ok-state.ensures.start c.in_err-test_state.ensures.unshown)
 
 pub returns-clause-kept : goal.returns-clause-kept
 returns-clause-kept g c = rw (take_all c.loop-i.i c.args.input.now.lines.now c.loop-i-test.false) at c.loop-i.invariant
@@ -52,11 +52,11 @@ label_of_line-requires-clause-few g c κs within =
     let input = c.args.input.now in
     labels_few (g.M.Machine.rules input.machine) input.program.now
     (named_by g.M.Encode.form_code (g.M.Machine.form_of input.machine)) input.lines.now c.loop-i.labels c.loop-i.i
-    c.loop-i.invariant c.loop-i-test.true c.requires.few
+    c.loop-i.invariant c.loop-i-test.true c.requires
 
 pub push-requires-in-loop-i : goal.push-requires-in-loop-i
 push-requires-in-loop-i g c =
     let input = c.args.input.now in
     labels_few (g.M.Machine.rules input.machine) input.program.now
     (named_by g.M.Encode.form_code (g.M.Machine.form_of input.machine)) input.lines.now c.loop-i.labels c.loop-i.i
-    c.loop-i.invariant c.loop-i-test.true c.requires.few
+    c.loop-i.invariant c.loop-i-test.true c.requires

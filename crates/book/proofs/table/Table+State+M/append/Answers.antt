@@ -1,11 +1,11 @@
-use Rattle.std.proofs.Common.{◌≡◌, ◌++◌, ◌+◌, ◌<◌, true, false, None, Some, Option, is_some, ℕ, not, length, map}
-use Rattle.std.proofs.Common.{position, sym, ap, ◌∙◌, arith, refl, subst, take, List, true≢false, inr}
+use Rattle.std.proofs.Common.{◌≡◌, ◌<◌, true, false, None, Some, Option, is_some, not, length, map}
+use Rattle.std.proofs.Common.{position, sym, ap, ◌∙◌, arith, refl, subst, List, true≢false, inr}
 use Rattle.tree_machine.specs.Step.{step}
 use Rattle.tree_machine.specs.declared.state.State.{State}
 use Rattle.book.specs.Entries.{Entry, At, opened, states}
 use Rattle.book.specs.Unknown.{unknown}
 use Rattle.book.specs.Findings.{is_sound}
-use Rattle.book.specs.Labels.{Kept, same_as, same_label, steps_of}
+use Rattle.book.specs.Labels.{same_label}
 use Rattle.book.specs.Slots.{entries_of, labels_of, keyed_of}
 use Rattle.book.proofs.SlotLemmas.{length-entries}
 use Rattle.book.proofs.Cursors.{all_sound, cursors_appended, fault-append}
