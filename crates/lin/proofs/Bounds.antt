@@ -1,10 +1,11 @@
 -- A linearization has no more operations than its program, and so twelve at most.
 use Rattle.std.proofs.Common.{◌≡◌, ◌≢◌, ℕ, zero, suc, ◌+◌, ◌<◌, ◌≤◌, inl, inr, true, false, true≢false, List, [], ◌∷◌}
-use Rattle.std.proofs.Common.{length, map, IsSome, IfSome, All, AllPairs, Contains, slice_get, refl, sym, ap, ap₂}
+use Rattle.std.proofs.Common.{length, map, Some, IsSome, IfSome, All, AllPairs, Contains, slice_get, refl, sym, ap, ap₂}
 use Rattle.std.proofs.Common.{arith, subst, eqb, eqb-true}
 use Rattle.std.specs.Prelude.{option_and_then, sum_by}
 use Rattle.std.specs.List.{list_any, AllByRecursion, IsDistinct}
 use Rattle.std.proofs.lemmas.Bool.{or_cases, false_from_ne_true}
+use Rattle.std.proofs.lemmas.List.{length-map}
 use Rattle.std.proofs.lemmas.List.Elements.{All-nil, All-head, All-tail, All-cons}
 use Rattle.std.proofs.lemmas.List.Sums.{sum_by-cons}
 use Rattle.std.proofs.lemmas.Map.Steps.{length-le_from_distinct_below}
@@ -65,15 +66,16 @@ module _ (program : Program) where
   abbrev IsNamed : OpId → Type 0
   IsNamed a = IsSome (op_at program a.thread a.index)
 
-  all_named : (history : History) (keys : Keys) (order : List OpId) → GivesReplies program history keys order
-      → All IsNamed order
-  all_named history keys [] given = All-nil IsNamed
-  all_named history keys (a ∷ rest) given =
+  -- what holds of each operation of the program holds of all in an order that gives the replies
+  pub all_given : (P : OpId → Type 0) → ((a : OpId) (o : Op) → op_at program a.thread a.index ≡ Some o → P a)
+      → (history : History) (keys : Keys) (order : List OpId) → GivesReplies program history keys order → All P order
+  all_given P each history keys [] given = All-nil P
+  all_given P each history keys (a ∷ rest) given =
       let op =
       IsSomeAnd-value (op_at program a.thread a.index)
       (λ (o : Op). IfSome (reply history a) (λ r. r ≡ reply_on o keys)
       × GivesReplies program history (keys_after o keys) rest) given in
-      All-cons IsNamed a rest (subst IsSome (sym op.1) refl) (all_named history (keys_after op.0 keys) rest op.2.1)
+      All-cons P a rest (each a op.0 op.1) (all_given P each history (keys_after op.0 keys) rest op.2.1)
 
   same_op : (a b : OpId) → IsNamed a → IsNamed b → rank_of a ≡ rank_of b → a ≡ b
   same_op a b h k e =
@@ -114,15 +116,12 @@ module _ (program : Program) where
         | inr later ↦ ranks_below rest (All-tail IsNamed a rest named) q later
       ]
 
-  map_length : (order : List OpId) → length (map rank_of order) ≡ length order
-  map_length [] = refl
-  map_length (a ∷ rest) = ap suc (map_length rest)
-
   pub at_most_twelve : IsWithinLimits program → (history : History) (order : List OpId)
       → IsLinearization program history order → length order ≤ 12
   at_most_twelve limits history order is =
-      let named = all_named history (keys_of program.initial) order is.replies in
+      let named =
+      all_given IsNamed (λ a o e. subst IsSome (sym e) refl) history (keys_of program.initial) order is.replies in
       let few : length (map rank_of order) ≤ sum_by length program.threads =
       length-le_from_distinct_below (map rank_of order) (sum_by length program.threads)
       (distinct_ranks order is.distinct named) (ranks_below order named) in
-      omega (arith, limits.total, map_length order)
+      omega (arith, limits.total, length-map order rank_of)

@@ -1,8 +1,9 @@
 -- Names of operations, and the values beside them.
-use Rattle.std.proofs.Common.{◌≡◌, ℕ, zero, suc, ◌+◌, ◌<◌, ◌≤◌, ◌⊎◌, inl, inr, Bool, true, false, cond, List, [], ◌∷◌}
-use Rattle.std.proofs.Common.{◌++◌, length, get_or, take, Option, Some, None, IsSome, refl, sym, ◌∙◌, ap₂, eqb}
-use Rattle.std.proofs.Common.{eqb-true, eq-eqb, arith, subst}
-use Rattle.std.proofs.lemmas.Bool.{and_parts}
+use Rattle.std.proofs.Common.{◌≡◌, ◌≢◌, ℕ, zero, suc, ◌+◌, ◌*◌, ◌<◌, ◌≤◌, ◌&&◌, ◌||◌, inl, inr, Bool, true, false}
+use Rattle.std.proofs.Common.{true≢false, cond, List, [], ◌∷◌, ◌++◌, length, get_or, take, Option, Some, None, IsSome}
+use Rattle.std.proofs.Common.{refl, sym, ◌∙◌, ap₂, eqb, eqb-true, eq-eqb, arith, subst}
+use Rattle.std.specs.Prelude.{is_some}
+use Rattle.std.proofs.lemmas.Bool.{and_parts, or_cases}
 use Rattle.std.proofs.lemmas.List.{take_more, take_all}
 use Rattle.sched_program.specs.declared.operation.OpId.{OpId}
 use Rattle.sched_program.specs.Name.{same_name, value_at}
@@ -18,19 +19,35 @@ same_name-is a b h =
     let make : ℕ → ℕ → OpId = λ t i. record { thread = t; index = i } in
     ap₂ make threads indices
 
+-- another operation has another place
+pub places_differ : (a b : OpId) → a.index < 8 → b.index < 8 → same_name a b ≡ false
+    → 8 * b.thread + b.index ≢ 8 * a.thread + a.index
+places_differ a b short below differs e =
+    let threads : a.thread ≡ b.thread = omega arith in
+    let indices : a.index ≡ b.index = omega arith in
+    let same : same_name a b ≡ true = ap₂ ◌&&◌ (eq-eqb a.thread b.thread threads) (eq-eqb a.index b.index indices) in
+    true≢false (sym same ∙ differs)
+
 module _ {V : Type 0} where
   kept : (v : V) (o : Option V) (b : Bool) → IsSome o → IsSome (cond b (Some v) o)
   kept v o true h = refl
   kept v o false h = h
 
-  one_of : (v : V) (o p : Option V) (P : Type 0) (b : Bool) → (IsSome o → IsSome p ⊎ P) → IsSome (cond b (Some v) o)
-      → IsSome (cond b (Some v) p) ⊎ P
-  one_of v o p P true rest h = inl refl
-  one_of v o p P false rest h = rest h
+  some_of : (v : V) (o p : Option V) (b c : Bool) → is_some p ≡ (is_some o || c)
+      → is_some (cond b (Some v) p) ≡ (is_some (cond b (Some v) o) || c)
+  some_of v o p true c h = refl
+  some_of v o p false c h = h
 
-  last : (v : V) (b : Bool) → IsSome {T = V} (cond b (Some v) None) → IsSome {T = V} None ⊎ (b ≡ true)
-  last v true h = inr refl
-  last v false h = inl h
+  last_of : (v : V) (b : Bool) → is_some {T = V} (cond b (Some v) None) ≡ (false || b)
+  last_of v true = refl
+  last_of v false = refl
+
+  -- a name has a value in a longer list exactly if it has one in the list or is the last name
+  pub is_some_push : (xs : List (OpId × V)) (x : OpId × V) (a : OpId)
+      → is_some (value_at (xs ++ x ∷ []) a) ≡ (is_some (value_at xs a) || same_name x.0 a)
+  is_some_push [] x a = last_of x.1 (same_name x.0 a)
+  is_some_push (y ∷ xs) x a =
+      some_of y.1 (value_at xs a) (value_at (xs ++ x ∷ []) a) (same_name y.0 a) (same_name x.0 a) (is_some_push xs x a)
 
   -- what stands at a place of a list has a value
   pub IsSome-value_at : (xs : List (OpId × V)) (i : ℕ) (d : OpId × V) → i < length xs
@@ -39,14 +56,6 @@ module _ {V : Type 0} where
   IsSome-value_at (x ∷ xs) zero d h = rw (same_name_self x.0) refl
   IsSome-value_at (x ∷ xs) (suc i) d h =
       kept x.1 (value_at xs (get_or xs i d).0) (same_name x.0 (get_or xs i d).0) (IsSome-value_at xs i d (omega arith))
-
-  -- a name with a value in a longer list has one in the list, or it is the last name
-  pub value_at_push : (xs : List (OpId × V)) (x : OpId × V) (a : OpId) → IsSome (value_at (xs ++ x ∷ []) a)
-      → IsSome (value_at xs a) ⊎ (same_name x.0 a ≡ true)
-  value_at_push [] x a h = last x.1 (same_name x.0 a) h
-  value_at_push (y ∷ xs) x a h =
-      one_of y.1 (value_at (xs ++ x ∷ []) a) (value_at xs a) (same_name x.0 a ≡ true) (same_name y.0 a)
-      (value_at_push xs x a) h
 
   -- not every name with a value passes a test that one of them fails
   pub one_fails : (test : OpId → Bool) (entries items : List (OpId × V)) (i : ℕ) (d : OpId × V) → items ≡ entries
@@ -63,7 +72,9 @@ module _ {V : Type 0} where
       → IsSome (value_at (take (i + 1) items) a) → Q a
   each_more Q items i d h here before a some =
       let some' = rw (take_more items i d h) at some in
-      elim (value_at_push (take i items) (get_or items i d) a some') [
+      let x = get_or items i d in
+      let either = sym (is_some_push (take i items) x a) ∙ some' in
+      elim (or_cases (is_some (value_at (take i items) a)) (same_name x.0 a) either) [
         | inl earlier ↦ before a earlier
         | inr same ↦ subst Q (same_name-is _ _ same) here
       ]

@@ -1,11 +1,12 @@
 -- The bits of sets of operations: bit 8 * thread + index says whether an operation is in the set.
 use Rattle.std.proofs.Common.{◌≡◌, ◌≢◌, ℕ, zero, suc, ◌+◌, ◌-◌, ◌*◌, ◌^◌, ◌/◌, ◌%◌, ◌<◌, ◌≤◌, max, min, ◌&&◌, ◌||◌}
 use Rattle.std.proofs.Common.{Bool, true, false, eqb, ltb, eqb-true, eq-eqb, lt-ltb, ltb-true, refl, sym, ◌∙◌, ap}
-use Rattle.std.proofs.Common.{subst, arith, true≢false}
+use Rattle.std.proofs.Common.{subst, arith}
 use Rattle.std.specs.Int.{bit_at}
 use Rattle.std.specs.Int.RustNames.{bit_or, bit_and}
 use Rattle.std.proofs.Math.Nat.{mod-eq_of_lt}
 use Rattle.std.proofs.Math.Pow.{pow-lt}
+use Rattle.std.proofs.lemmas.Bool.{eqb-false}
 use Rattle.std.proofs.lemmas.Bool.Decides.{nat_tests}
 use Rattle.std.proofs.lemmas.Nat.{pow_pos}
 use Rattle.std.proofs.lemmas.Nat.Bits.{bit_at_or, bit_at_and, bit_at-lt, same_from_bits, bit_at_above, bit_at_ones}
@@ -89,9 +90,6 @@ module _ (ones count : ℕ) (few : ones < 2 ^ 8) (are : (i : ℕ) → i < 8 → 
     abbrev shifted : ℕ
     shifted = ones * 2 ^ (8 * thread) + 0
 
-    differ : (t : ℕ) → eqb t thread ≡ false → t ≢ thread
-    differ t h e = true≢false (sym (eq-eqb t thread e) ∙ h)
-
     other : (t i : ℕ) (lower : Bool) → i < 8 → eqb t thread ≡ false → ltb t thread ≡ lower
         → eqb (bit_at shifted (8 * t + i)) 1 ≡ false
     other t i true below h l =
@@ -99,7 +97,7 @@ module _ (ones count : ℕ) (few : ones < 2 ^ 8) (are : (i : ℕ) → i < 8 → 
         ap (λ b. eqb b 1) (bit_at_cat_low ones (8 * thread) 0 (8 * t + i) (omega arith) ∙ bit_at-zero (8 * t + i))
     other t i false below h l =
         let not_less : thread ≤ t = grind (arith, nat_tests) in
-        let different : t ≢ thread = differ t h in
+        let different : t ≢ thread = eqb-false t thread h in
         ap (λ b. eqb b 1) (bit_at_cat_high ones (8 * thread) 0 (8 * t + i) (pow_pos (8 * thread)) (omega arith)
         ∙ bit_at_above ones 8 (8 * t + i - 8 * thread) few (omega arith))
 

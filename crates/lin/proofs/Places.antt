@@ -1,21 +1,21 @@
 -- Each operation of a program has a place, and so has each of a linearization, and each of which it is known what it
 -- replies.
 use Rattle.std.proofs.Common.{◌≡◌, ◌<◌, ◌≤◌, inl, inr, Bool, true, false, cond, List, [], ◌∷◌, Option, Some, None}
-use Rattle.std.proofs.Common.{length, IfSome, All, slice_get, sym, ◌∙◌, ap, arith, subst}
+use Rattle.std.proofs.Common.{length, All, slice_get, sym, ◌∙◌, ap, arith, subst}
 use Rattle.std.specs.Option.{option_map}
 use Rattle.std.specs.Prelude.{option_and_then}
-use Rattle.std.proofs.lemmas.List.Elements.{All-nil, All-cons, All-get_or}
+use Rattle.std.proofs.lemmas.List.Elements.{All-get_or}
 use Rattle.std.proofs.lemmas.Option.{slice_get_cases, slice_get_within}
 use Rattle.sched_program.specs.declared.operation.OpId.{OpId}
 use Rattle.sched_program.specs.declared.operation.Op.{Op}
 use Rattle.sched_program.specs.Name.{same_name}
 use Rattle.sched_program.specs.Program.{Program, IsWithinLimits, op_at}
-use Rattle.sched_program.specs.History.{History, reply}
+use Rattle.sched_program.specs.History.{History}
 use Rattle.lin.specs.Keys.{Keys, keys_of, keys_after, reply_on}
-use Rattle.lin.specs.Linearization.{GivesReplies, IsLinearization}
+use Rattle.lin.specs.Linearization.{IsLinearization}
 use Rattle.lin.specs.Timeline.{HasPlace}
 use Rattle.lin.specs.Reply.{reply_in}
-use Rattle.lin.proofs.Lists.{IsSomeAnd-value}
+use Rattle.lin.proofs.Bounds.{all_given}
 use Rattle.lin.proofs.Replies.{told_by}
 
 module _ (program : Program) (limits : IsWithinLimits program) where
@@ -38,19 +38,10 @@ module _ (program : Program) (limits : IsWithinLimits program) where
             let none = sym (ap (option_and_then (λ ops. slice_get ops a.index)) past.1) ∙ is in cc
       ]
 
-  all_placed : (history : History) (keys : Keys) (order : List OpId) → GivesReplies program history keys order
-      → All HasPlace order
-  all_placed history keys [] given = All-nil HasPlace
-  all_placed history keys (a ∷ rest) given =
-      let op =
-      IsSomeAnd-value (op_at program a.thread a.index)
-      (λ (o : Op). IfSome (reply history a) (λ r. r ≡ reply_on o keys)
-      × GivesReplies program history (keys_after o keys) rest) given in
-      All-cons HasPlace a rest (named_placed a op.0 op.1) (all_placed history (keys_after op.0 keys) rest op.2.1)
-
   pub linearization_placed : (history : History) (order : List OpId) → IsLinearization program history order
       → All HasPlace order
-  linearization_placed history order is = all_placed history (keys_of program.initial) order is.replies
+  linearization_placed history order is =
+      all_given program HasPlace named_placed history (keys_of program.initial) order is.replies
 
   -- it replies at its own place, or in what comes behind
   replies_placed : (keys : Keys) (rest : List OpId) (a : OpId) (r : Bool) (is_here : Bool) (next : Option Op)

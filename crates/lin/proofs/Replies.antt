@@ -5,10 +5,11 @@ use Rattle.std.proofs.Common.{AllPairs, Contains, slice_get, refl, sym, ◌∙�
 use Rattle.std.specs.Prelude.{option_and_then, IsSomeAnd, MatchOption, slice_index}
 use mathlib.Core.Bool.{beq}
 use Rattle.std.specs.Option.{option_map}
-use Rattle.std.proofs.lemmas.Bool.{or_cases, or_parts, or_right}
-use Rattle.std.proofs.lemmas.List.Elements.{All-push, Contains-push}
+use Rattle.std.proofs.lemmas.Bool.{or_parts}
+use Rattle.std.proofs.lemmas.List.Elements.{All-push, Contains-append_left, Contains-get_or, Contains-push}
+use Rattle.std.proofs.lemmas.List.Folds.{Any-from_list_any, list_any_at}
 use Rattle.std.proofs.lemmas.List.Quantifiers.{all_pairs_push}
-use Rattle.std.proofs.lemmas.Option.{slice_get_within, get_or_from_slice_get, slice_get-get_or}
+use Rattle.std.proofs.lemmas.Option.{slice_get_within, get_or_from_slice_get}
 use Rattle.sched_program.specs.declared.operation.OpId.{OpId}
 use Rattle.sched_program.specs.declared.operation.Op.{Op}
 use Rattle.sched_program.specs.Name.{same_name, value_at}
@@ -24,22 +25,16 @@ use Rattle.lin.proofs.Lists.{IsSomeAnd-value, IsSomeAnd-of, Contains-head, Conta
 
 -- ---- lists of names
 listed_here : (order : List OpId) (a : OpId) → listed_in order a ≡ true → Contains order a
-listed_here [] a h = absurd (true≢false (sym h))
-listed_here (b ∷ rest) a h =
-    elim (or_cases (same_name b a) (listed_in rest a) h) [
-      | inl same ↦ subst (Contains (b ∷ rest)) (same_name-is b a same) (Contains-head b rest)
-      | inr later ↦ Contains-tail b rest a (listed_here rest a later)
-    ]
+listed_here order a h =
+    let some = Any-from_list_any (λ b. same_name b a) order h in
+    subst (Contains order) (same_name-is some.1 a some.4) (some.0, some.2, some.3)
 
 not_among : (order : List OpId) (a b : OpId) → listed_in order a ≡ false → Contains order b → b ≢ a
 not_among order a b none among same =
-    true≢false (sym (is_listed order b among) ∙ subst (λ c. listed_in order c ≡ false) (sym same) none)
-  where
-    is_listed : (xs : List OpId) (c : OpId) → Contains xs c → listed_in xs c ≡ true
-    is_listed [] c h = absurd (omega (arith, h.1))
-    is_listed (x ∷ xs) c (zero, less, e) = subst (λ y. listed_in (x ∷ xs) y ≡ true) e (rw (same_name_self x) refl)
-    is_listed (x ∷ xs) c (suc k, less, e) =
-        or_right (same_name x c) (listed_in xs c) (is_listed xs c (k, omega arith, e))
+    let here : same_name (get_or order among.0 b) b ≡ true =
+    subst (λ c. same_name c b ≡ true) (sym among.2) (same_name_self b) in
+    true≢false (sym (list_any_at (λ c. same_name c b) order among.0 b among.1 here)
+    ∙ subst (λ c. listed_in order c ≡ false) (sym same) none)
 
 differ : (a b : OpId) → same_name b a ≡ false → a ≢ b
 differ a b other same = true≢false (sym (subst (λ c. same_name b c ≡ true) (sym same) (same_name_self b)) ∙ other)
@@ -246,10 +241,10 @@ module _ (program : Program) (old new : History) (a : OpId) (r : Bool) (is : Has
       begun = All-push (IsBegun new) order a (λ k d less. begun_still (get_or order k d) (was.begun k d less)) is.began;
       distinct =
           all_pairs_push (λ x y. x ≢ y) order a was.distinct
-          (λ k d less. not_among order a (get_or order k d) none (k, less, same_at k d less));
+          (λ k d less. not_among order a (get_or order k d) none (Contains-get_or order k d less));
       complete =
           λ b h. elim (finished b h) [
-            | inl among ↦ kept b among
+            | inl among ↦ Contains-append_left order (a ∷ []) b among
             | inr same
                 ↦ subst (Contains (order ++ a ∷ [])) same (Contains-push order a)
           ];
@@ -257,18 +252,6 @@ module _ (program : Program) (old new : History) (a : OpId) (r : Bool) (is : Has
       replies = gives_after (keys_of program.initial) order none was.replies told;
     }
       where
-        same_at : (k : ℕ) (d : OpId) → k < length order → get_or order k (get_or order k d) ≡ get_or order k d
-        same_at k d less =
-            get_or_from_slice_get order k (get_or order k d) (get_or order k d) (slice_get-get_or order k d less)
-
-        kept : (b : OpId) → Contains order b → Contains (order ++ a ∷ []) b
-        kept b among = longer order among
-          where
-            longer : (xs : List OpId) → Contains xs b → Contains (xs ++ a ∷ []) b
-            longer [] h = absurd (omega (arith, h.1))
-            longer (x ∷ xs) (zero, less, e) = (0, omega arith, e)
-            longer (x ∷ xs) (suc k, less, e) = Contains-tail x (xs ++ a ∷ []) b (longer xs (k, omega arith, e))
-
         places : (i j : ℕ) (x b : OpId) → slice_get (order ++ a ∷ []) i ≡ Some x
             → slice_get (order ++ a ∷ []) j ≡ Some b → EndedBefore new x b → i < j
         places i j x b at_i at_j ended =

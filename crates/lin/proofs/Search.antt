@@ -25,7 +25,7 @@ or_nothing true b = refl
 or_nothing false true = refl
 or_nothing false false = refl
 
-pub listed_push : (order : List OpId) (a : OpId) → listed_in (order ++ a ∷ []) ≡ with_name (listed_in order) a
+listed_push : (order : List OpId) (a : OpId) → listed_in (order ++ a ∷ []) ≡ with_name (listed_in order) a
 listed_push order a =
     fun_ext (λ b. list_any-append (λ c. same_name c b) order (a ∷ []) ∙ or_nothing (listed_in order b) (same_name a b))
 
@@ -77,44 +77,49 @@ module _ {V : Type 0} (listed : Listed) (a : OpId) where
           omega (arith, unlisted_le xs, before, after)
       by_name false e some rest = omega (arith, rest some, weight_falls (listed x.0) (same_name a x.0))
 
--- the same, after a push
-pub unlisted_push : {V : Type 0} (order pushed : List OpId) (a : OpId) (xs : List (OpId × V)) → pushed ≡ order ++ a ∷ []
-    → listed_in order a ≡ false → IsSome (value_at xs a)
-    → unlisted_count (listed_in pushed) xs < unlisted_count (listed_in order) xs
-unlisted_push order pushed a xs e new some =
-    subst (λ listed. unlisted_count listed xs < unlisted_count (listed_in order) xs)
-    (sym (ap listed_in e ∙ listed_push order a)) (unlisted_falls (listed_in order) a xs new some)
+-- an operation that stands next was pushed on the order
+module _ (program : Program) (history : History) (order before pushed : List OpId) (listed : Listed) (keys next : Keys)
+    (a : OpId) (are : listed ≡ listed_in order) (stands_next : StandsNext program history listed keys a next)
+    (same : before ≡ order) (push : pushed ≡ before ++ a ∷ []) where
+  stands : StandsNext program history (listed_in order) keys a next
+  stands = subst (λ l. StandsNext program history l keys a next) are stands_next
 
-module _ (program : Program) (history : History) where
-  -- what may follow with this operation in front may follow
-  pub found_more : (order pushed order' : List OpId) (keys next : Keys) (a : OpId)
-      → StandsNext program history (listed_in order) keys a next → pushed ≡ order ++ a ∷ []
-      → (rest : List OpId) × (order' ≡ pushed ++ rest) × Completes program history (listed_in pushed) next rest
-      → (rest : List OpId) × (order' ≡ order ++ rest) × Completes program history (listed_in order) keys rest
-  found_more order pushed order' keys next a s e found = (
-    a ∷ found.0,
-    found.1 ∙ ap (λ o. o ++ found.0) e ∙ append_assoc order (a ∷ []) found.0,
-    (
-      next,
-      s,
-      subst (λ listed. Completes program history listed next found.0) (ap listed_in e ∙ listed_push order a)
-          found.2,
-    ),
+  pushed_is : pushed ≡ order ++ a ∷ []
+  pushed_is = push ∙ ap (λ o. o ++ a ∷ []) same
+
+  listed_pushed : listed_in pushed ≡ with_name (listed_in order) a
+  listed_pushed = ap listed_in pushed_is ∙ listed_push order a
+
+  -- fewer entries have a name that is not listed, and these operations are listed
+  pub once_pushed : (after : Listed) → after ≡ with_name listed a
+      → (unlisted_count (listed_in pushed) history.begun < unlisted_count (listed_in order) history.begun)
+      × (after ≡ listed_in pushed)
+  once_pushed after is = (
+    subst (λ l. unlisted_count l history.begun < unlisted_count (listed_in order) history.begun) (sym listed_pushed)
+        (unlisted_falls (listed_in order) a history.begun stands.new stands.begun),
+    is ∙ ap (λ l. with_name l a) are ∙ sym listed_pushed,
   )
 
-  -- no list with this operation in front completes: nothing may follow it,
-  pub not_after : (order pushed : List OpId) (keys next : Keys) (a : OpId)
-      → StandsNext program history (listed_in order) keys a next → pushed ≡ order ++ a ∷ []
-      → IsHopeless program history (listed_in pushed) next → (rest : List OpId)
-      → Completes program history (listed_in order) keys (a ∷ rest) → ⊥
-  not_after order pushed keys next a s pushed_is none rest c =
-      let e = StandsNext-same program history (listed_in order) keys c.0 next a c.1 s in
-      let moved = subst (λ k. Completes program history (with_name (listed_in order) a) k rest) e c.2 in
-      none rest
-      (subst (λ listed. Completes program history listed next rest)
-      (sym (ap listed_in pushed_is ∙ listed_push order a)) moved)
+  -- what may follow with this operation in front may follow
+  pub found_more : (whole : List OpId)
+      → (rest : List OpId) × (whole ≡ pushed ++ rest) × Completes program history (listed_in pushed) next rest
+      → (rest : List OpId) × (whole ≡ order ++ rest) × Completes program history (listed_in order) keys rest
+  found_more whole found = (
+    a ∷ found.0,
+    found.1 ∙ ap (λ o. o ++ found.0) pushed_is ∙ append_assoc order (a ∷ []) found.0,
+    (next, stands, subst (λ l. Completes program history l next found.0) listed_pushed found.2),
+  )
 
-  -- or another must come first
+  -- no list with this operation in front completes if nothing may follow it
+  pub not_after : IsHopeless program history (listed_in pushed) next → (rest : List OpId)
+      → Completes program history (listed_in order) keys (a ∷ rest) → ⊥
+  not_after none rest c =
+      let e = StandsNext-same program history (listed_in order) keys c.0 next a c.1 stands in
+      let moved = subst (λ k. Completes program history (with_name (listed_in order) a) k rest) e c.2 in
+      none rest (subst (λ l. Completes program history l next rest) (sym listed_pushed) moved)
+
+module _ (program : Program) (history : History) where
+  -- no list with an operation in front completes if another must come first
   pub not_yet : (listed : Listed) (keys : Keys) (a : OpId) → MustWait history listed a → (rest : List OpId)
       → Completes program history listed keys (a ∷ rest) → ⊥
   not_yet listed keys a w rest c =

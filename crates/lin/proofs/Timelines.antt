@@ -1,9 +1,9 @@
 -- What stands in the table of a history.
 use Rattle.std.proofs.Common.{◌≡◌, ◌≢◌, ℕ, suc, ◌+◌, ◌-◌, ◌<◌, ◌≤◌, ◌&&◌, ◌||◌, Bool, true, false, eqb, ltb, eqb-true}
-use Rattle.std.proofs.Common.{cond, eq-eqb, lt-ltb, ltb-true, List, [], ◌∷◌, length, get_or, ◌++◌, set, take, drop}
+use Rattle.std.proofs.Common.{cond, lt-ltb, ltb-true, List, [], ◌∷◌, length, get_or, set, take, drop}
 use Rattle.std.proofs.Common.{Option, Some, None, IsSome, IsSomeAnd, ◌↔◌, IfSome, refl, sym, ◌∙◌, ap, ap₂, subst, arith}
 use Rattle.std.proofs.Common.{true≢false}
-use Rattle.std.specs.Prelude.{slice_index, is_some}
+use Rattle.std.specs.Prelude.{slice_index}
 use Rattle.std.proofs.lemmas.List.{get_or_default, get_or_past, get_or-set_other, drop_more, take_more}
 use Rattle.std.proofs.lemmas.Grind.{get_or-set_at}
 use Rattle.std.proofs.Math.Bool.{or-false}
@@ -17,7 +17,7 @@ use Rattle.lin.specs.Timeline.{HasPlace, place_of, counted, AreSetsBefore, finis
 use Rattle.sched_program.specs.History.{History, IsHistory, IsBegun, reply, EndedBefore}
 use Rattle.lin.specs.OpSet.{operations_in}
 use Rattle.lin.specs.declared.op_set.OpSet.{OpSet}
-use Rattle.lin.proofs.Names.{same_name-is}
+use Rattle.lin.proofs.Names.{is_some_push, places_differ, same_name-is}
 
 -- the operations of the first threads that a note counts
 abbrev pub counted_before : List ℕ → ℕ → Listed
@@ -66,14 +66,6 @@ module _ (note : List ℕ) where
   pub counted_all : (i : ℕ) → length note ≤ i → counted_before note i ≡ counted note
   counted_all i over = fun_ext (λ a. past i over a.thread a.index (ltb a.index 8) (ltb a.thread i) refl)
 
--- another operation has another place
-places_differ : (a b : OpId) → HasPlace a → HasPlace b → same_name a b ≡ false → place_of b ≢ place_of a
-places_differ a b p q differs e =
-    let threads : a.thread ≡ b.thread = omega (arith, p.0, p.1, q.0, q.1, e) in
-    let indices : a.index ≡ b.index = omega (arith, p.0, p.1, q.0, q.1, e) in
-    let same : same_name a b ≡ true = ap₂ ◌&&◌ (eq-eqb a.thread b.thread threads) (eq-eqb a.index b.index indices) in
-    true≢false (sym same ∙ differs)
-
 -- what holds of the value beside each name and of what stands at its place
 module _ {V T : Type 0} (P : Option V → T → Type 0) where
   abbrev pub HoldsAtPlaces : List (OpId × V) → List T → Type 0
@@ -92,7 +84,7 @@ module _ {V T : Type 0} (P : Option V → T → Type 0) where
           let at : place_of a ≡ place = sym (e ∙ ap place_of is) in
           subst (P (Some x.1)) (sym (get_or-set_at table place (place_of a) t d at within)) here
       by_name false differs =
-          let other : place_of a ≢ place = λ at. places_differ x.0 a has has_a differs (at ∙ e) in
+          let other : place_of a ≢ place = λ at. places_differ x.0 a has.1 has_a.1 differs (at ∙ e) in
           subst (P (value_at rest a)) (sym (get_or-set_other table place (place_of a) t d other)) (before a d has_a)
 
   -- the same at the last entry that is left of a list
@@ -138,25 +130,10 @@ module _ (history : History) (events : IsHistory history) where
       (of_each HasPlace history.begun (get_or history.finished i d).0 begun_places begun)
 
 -- one more entry is among the finished ones
-some_of : (v : Bool) (o p : Option Bool) (b c : Bool) → is_some p ≡ (is_some o || c)
-    → is_some (cond b (Some v) p) ≡ (is_some (cond b (Some v) o) || c)
-some_of v o p true c h = refl
-some_of v o p false c h = h
-
-last_of : (v b : Bool) → is_some {T = Bool} (cond b (Some v) None) ≡ (false || b)
-last_of v true = refl
-last_of v false = refl
-
-finished_push : (xs : List (OpId × Bool)) (x : OpId × Bool) (a : OpId)
-    → is_some (value_at (xs ++ x ∷ []) a) ≡ (is_some (value_at xs a) || same_name x.0 a)
-finished_push [] x a = last_of x.1 (same_name x.0 a)
-finished_push (y ∷ xs) x a =
-    some_of y.1 (value_at xs a) (value_at (xs ++ x ∷ []) a) (same_name y.0 a) (same_name x.0 a) (finished_push xs x a)
-
 pub finished_more : (items : List (OpId × Bool)) (i : ℕ) (d : OpId × Bool) → i < length items
     → with_name (finished_in (take i items)) (get_or items i d).0 ≡ finished_in (take (i + 1) items)
 finished_more items i d within =
-    fun_ext (λ a. sym (finished_push (take i items) (get_or items i d) a))
+    fun_ext (λ a. sym (is_some_push (take i items) (get_or items i d) a))
     ∙ ap finished_in (sym (take_more items i d within))
 
 says : (o : Option (List ℕ)) (set : OpSet) → IsSome o → IfSome o (λ note. operations_in set ≡ counted note) → (a : OpId)

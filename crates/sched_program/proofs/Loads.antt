@@ -14,15 +14,5 @@ pub told : (old new : Option (List ℕ)) (text : List ℕ) (f : ProgramFault) �
     → IsFirstFaultOf text f
     → (f ≢ fault.OutOfMemory → (program : Program) → ¬ IsJsonTextOf text program)
     → AnswersAllRead old new (Err (load.Program f))
-told old new text fault.NotJson all end first none = inr (text, all, end, (first, none (λ e. cc)))
-told old new text fault.NotObject all end first none = inr (text, all, end, (first, none (λ e. cc)))
-told old new text fault.Version all end first none = inr (text, all, end, (first, none (λ e. cc)))
-told old new text fault.Tree all end first none = inr (text, all, end, (first, none (λ e. cc)))
-told old new text fault.Initial all end first none = inr (text, all, end, (first, none (λ e. cc)))
-told old new text fault.InitialTwice all end first none = inr (text, all, end, (first, none (λ e. cc)))
-told old new text fault.Threads all end first none = inr (text, all, end, (first, none (λ e. cc)))
-told old new text fault.Ops all end first none = inr (text, all, end, (first, none (λ e. cc)))
-told old new text fault.Op all end first none = inr (text, all, end, (first, none (λ e. cc)))
-told old new text fault.Key all end first none = inr (text, all, end, (first, none (λ e. cc)))
-told old new text fault.After all end first none = inr (text, all, end, (first, none (λ e. cc)))
 told old new text fault.OutOfMemory all end first none = inl refl
+told old new text f all end first none = inr (text, all, end, (first, none (λ e. cc)))

@@ -3,19 +3,20 @@ use Rattle.std.proofs.Common.{◌≡◌, ◌≢◌, ℕ, ◌≤◌, List, [], �
 use Rattle.std.proofs.Common.{AllPairs, Bool, Option, true, false, MatchBool, codes}
 use Rattle.std.proofs.lemmas.List.Sums.{sum-map}
 use Rattle.std.specs.List.{AllByRecursion}
-use Rattle.serde_json.specs.Data.{Data, unsigned, number}
+use Rattle.serde_json.specs.Data.{Data, Members, unsigned, number, object}
 use Rattle.sched_program.specs.declared.reader.OpWord.{OpWord}
-use Rattle.sched_program.specs.declared.reader.OpWord.TheVariants.{Insert, Delete, Find}
+use Rattle.sched_program.specs.declared.reader.OpWord.TheVariants.{Insert}
 use Rattle.sched_program.specs.declared.operation.Op.{Op}
 use Rattle.sched_program.specs.declared.operation.Tree.{Tree}
 use Rattle.sched_program.specs.declared.operation.Turn.{Turn}
 use Rattle.sched_program.specs.declared.version.Version.{Version}
+use Rattle.sched_program.specs.declared.fault.ProgramFault.{ProgramFault}
 use Rattle.sched_program.specs.declared.fault.ProgramFault.TheVariants as fault
 use Rattle.sched_program.specs.Program.{IsUserKey, key_of, AreTurnsWithin, IsWithinLimits}
 use Rattle.sched_program.specs.Text.{IsListOf, HasMember, IsKey, HasKey, HasWord, IsOp, HasThreads, HasTurn, HasTurns}
-use Rattle.sched_program.specs.Text.{op_of, word_of}
+use Rattle.sched_program.specs.Text.{HasTree, HasVersion, op_of, word_of}
 use Rattle.sched_program.specs.Faults.{item_count, IsListOfCount, IsListWithin, IsListOfFewKeys, IsListOfDistinctKeys}
-use Rattle.sched_program.specs.Faults.{HasOpCounts, HasWords, HasKeys, AreOpCounts, Passes}
+use Rattle.sched_program.specs.Faults.{HasOpCounts, HasWords, HasKeys, AreOpCounts, Passes, earlier}
 use Rattle.sched_program.proofs.Values.{Each-All, of_map_All, same_items, of_member, list_counted, same_count}
 use Rattle.sched_program.proofs.Values.{same_list, list_map, list_both}
 
@@ -59,13 +60,11 @@ within StandsFor value xs least most list few =
 
 word_same : (word : OpWord) (key : ℕ) → word_of (op_of word key) ≡ word
 word_same Insert key = refl
-word_same Delete key = refl
-word_same Find key = refl
+word_same word key = refl
 
 key_same : (word : OpWord) (key : ℕ) → key_of (op_of word key) ≡ key
 key_same Insert key = refl
-key_same Delete key = refl
-key_same Find key = refl
+key_same word key = refl
 
 -- a word and a key are an operation
 pub op_joined : (value : Data) (word : OpWord) (key : ℕ) → HasWord value word → HasKey value key
@@ -167,3 +166,14 @@ limits_met value version tree initial threads turns keys count distinct ops some
 pub few_keys : (value : Data) (keys : List ℕ) → HasMember (codes "initial") (λ member. IsListOf IsKey member keys) value
     → length keys ≤ 12 → HasMember (codes "initial") IsListOfFewKeys value
 few_keys value keys has few = (has.0, has.1, (keys, has.2, few))
+
+-- a value whose keys are few and distinct passes the tests before those of its threads
+pub passes_to_threads : (value : Data) (version : Version) (tree : Tree) (keys : List ℕ)
+    → (members : Members) × (value ≡ object members) → HasVersion value version → HasTree value tree
+    → HasMember (codes "initial") (λ member. IsListOf IsKey member keys) value → length keys ≤ 12
+    → AllPairs (λ a b. a ≢ b) keys → (more : List ProgramFault) → AllByRecursion (Passes value) more
+    → AllByRecursion (Passes value) (earlier fault.Threads ++ more)
+passes_to_threads value version tree keys is of_version of_tree has few distinct more all =
+    let initial : Passes value fault.Initial = few_keys value keys has few in
+    let twice : Passes value fault.InitialTwice = (has.0, has.1, (keys, has.2, distinct)) in
+    (is, ((version, of_version), ((tree, of_tree), (initial, (twice, all)))))

@@ -1,19 +1,13 @@
 -- The numbers of a text that are keys, and that are none.
 use Rattle.std.proofs.Common.{◌≡◌, ℕ, ◌<◌, ◌≤◌, Some, sym, ◌∙◌, arith, option_and_then}
-use Rattle.serde_json.specs.Data.{Data, unsigned, negative, float, null, boolean, number, string, array, object}
+use Rattle.serde_json.specs.Data.{Data, unsigned, number}
 use Rattle.serde_json.specs.Find.{as_number, as_u64}
 use Rattle.sched_program.specs.Text.{IsKey}
 
 -- a value that is read as a number is that number
 number_is : (value : Data) (n : ℕ) → Some n ≡ option_and_then as_u64 (as_number value) → value ≡ number (unsigned n)
-number_is null n is = cc
-number_is (boolean b) n is = cc
 number_is (number (unsigned m)) n is = cc
-number_is (number (negative z)) n is = cc
-number_is (number (float x)) n is = cc
-number_is (string s) n is = cc
-number_is (array ds) n is = cc
-number_is (object ms) n is = cc
+number_is value n is = cc
 
 -- a small number is a key
 pub small_key : (value : Data) (n : ℕ) → Some n ≡ option_and_then as_u64 (as_number value) → n < 100 → IsKey value n

@@ -6,7 +6,7 @@ use Rattle.std.proofs.lemmas.List.Sums.{sum-map}
 use Rattle.std.proofs.lemmas.List.Elements.{All-map}
 use Rattle.serde_json.specs.Find.{get}
 use Rattle.serde_json.specs.Read.{read}
-use Rattle.serde_json.specs.Data.{Data, unsigned, item, no_items, null, boolean, number, string, array, object, Members}
+use Rattle.serde_json.specs.Data.{Data, unsigned, item, no_items, number, string, array, object, Members}
 use Rattle.sched_program.specs.declared.operation.Op.{Op}
 use Rattle.sched_program.specs.declared.operation.Op.TheVariants as op
 use Rattle.sched_program.specs.declared.operation.Tree.{Tree}
@@ -51,8 +51,7 @@ same_tree_name a b e = absurd (omega (arith, ap length e))
 -- an operation is its word and its key
 op_pieces : (op : Op) → op_of (word_of op) (key_of op) ≡ op
 op_pieces (op.Insert key) = refl
-op_pieces (op.Delete key) = refl
-op_pieces (op.Find key) = refl
+op_pieces o = refl
 
 same_op : (value : Data) (a b : Op) → IsOp value a → IsOp value b → a ≡ b
 same_op value a b is also =
@@ -131,12 +130,8 @@ same_program value p q is also =
 -- what has a member is an object
 has_members : (name : List ℕ) (value member : Data) → get name value ≡ Some member → (members : Members)
     × (value ≡ object members)
-has_members name null member is = cc
-has_members name (boolean b) member is = cc
-has_members name (number n) member is = cc
-has_members name (string s) member is = cc
-has_members name (array ds) member is = cc
 has_members name (object ms) member is = (ms, refl)
+has_members name value member is = cc
 
 -- a text's threads pass each test of theirs
 all_threads_pass : (value : Data) (program : Program) → IsTextOf value program → Passes value fault.Threads
@@ -168,17 +163,7 @@ passes_all value program is fault.OutOfMemory = tt
 -- what passes a test has not its fault
 not_both : (value : Data) (told : ProgramFault) → Passes value told → Stands value told → told ≡ fault.OutOfMemory
 not_both value fault.OutOfMemory passes stands = refl
-not_both value fault.NotJson passes stands = absurd (stands passes)
-not_both value fault.NotObject passes stands = absurd (stands passes)
-not_both value fault.Version passes stands = absurd (stands passes)
-not_both value fault.Tree passes stands = absurd (stands passes)
-not_both value fault.Initial passes stands = absurd (stands passes)
-not_both value fault.InitialTwice passes stands = absurd (stands passes)
-not_both value fault.Threads passes stands = absurd (stands passes)
-not_both value fault.Ops passes stands = absurd (stands passes)
-not_both value fault.Op passes stands = absurd (stands passes)
-not_both value fault.Key passes stands = absurd (stands passes)
-not_both value fault.After passes stands = absurd (stands passes)
+not_both value told passes stands = absurd (stands passes)
 
 -- a text has no first fault but a refusal of memory
 pub no_fault : (value : Data) (program : Program) (told : ProgramFault) → IsTextOf value program

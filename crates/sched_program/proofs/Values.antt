@@ -1,8 +1,9 @@
 -- Lists of values that stand for things, value by value.
 use Rattle.std.proofs.Common.{◌≡◌, ℕ, zero, suc, ◌+◌, ◌<◌, List, [], ◌∷◌, ◌++◌, length, map, get_or, take, arith, subst}
-use Rattle.std.proofs.Common.{sym, refl, ap, ◌∙◌, Some, All}
+use Rattle.std.proofs.Common.{sym, refl, ap, ap₂, ◌∙◌, Some, All}
 use Rattle.std.proofs.lemmas.Option.{same_Some}
 use Rattle.std.proofs.lemmas.List.{take_more}
+use Rattle.std.proofs.lemmas.List.Elements.{All-cons, All-nil}
 use Rattle.serde_json.specs.Find.{get, as_array}
 use Rattle.serde_json.specs.Data.{Data, array, Items, no_items, item}
 use Rattle.serde_json.specs.View.{view, items_view}
@@ -14,10 +15,6 @@ use Rattle.sched_program.specs.Faults.{item_count, IsListOfCount}
 pub items_view_count : (values : List Value) → item_count (items_view values) ≡ length values
 items_view_count [] = refl
 items_view_count (value ∷ values) = ap suc (items_view_count values)
-
-All-cons : {A : Type 0} (P : A → Type 0) (x : A) (xs : List A) → P x → All P xs → All P (x ∷ xs)
-All-cons P x xs h rest zero d below = h
-All-cons P x xs h rest (suc k) d below = rest k d (omega arith)
 
 -- what holds of each image
 pub of_map_All : {A : Type 0} (P : ℕ → Type 0) (f : A → ℕ) (xs : List A) → All P (map f xs) → All (λ x. P (f x)) xs
@@ -38,9 +35,8 @@ module _ {A : Type 0} (StandsFor : Data → A → Type 0) where
   Each-push : (values : List Value) (xs : List A) (value : Value) (x : A) → Each StandsFor (items_view values) xs
       → StandsFor (view value) x → Each StandsFor (items_view (values ++ value ∷ [])) (xs ++ x ∷ [])
   Each-push [] [] value x all here = (here, tt)
-  Each-push [] (y ∷ xs) value x all here = absurd all
-  Each-push (first ∷ values) [] value x all here = absurd all
   Each-push (first ∷ values) (y ∷ xs) value x all here = (all.0, Each-push values xs value x all.1 here)
+  Each-push values xs value x all here = absurd all
 
   -- one more value and its thing
   pub Each-more : (values : List Value) (xs ys : List A) (i : ℕ) (value : Value) (x : A) → i < length values
@@ -70,9 +66,8 @@ module _ {A : Type 0} (StandsFor : Data → A → Type 0) where
 
   Each-count : (values : Items) (xs : List A) → Each StandsFor values xs → item_count values ≡ length xs
   Each-count no_items [] all = refl
-  Each-count no_items (x ∷ xs) all = absurd all
-  Each-count (item value values) [] all = absurd all
   Each-count (item value values) (x ∷ xs) all = ap suc (Each-count values xs all.1)
+  Each-count values xs all = absurd all
 
   -- a list has as many items as the things that it stands for
   pub list_counted : (value : Data) (xs : List A) → IsListOf StandsFor value xs → IsListOfCount value (length xs)
@@ -86,9 +81,8 @@ module _ {A : Type 0} (StandsFor : Data → A → Type 0) where
   -- what holds of each thing that a value stands for holds of all
   pub Each-All : (P : A → Type 0) → ((value : Data) (x : A) → StandsFor value x → P x) → (values : Items) (xs : List A)
       → Each StandsFor values xs → All P xs
-  Each-All P f no_items [] h = λ k d below. absurd (omega arith)
+  Each-All P f values [] h = All-nil P
   Each-All P f no_items (x ∷ xs) h = absurd h
-  Each-All P f (item v vs) [] h = λ k d below. absurd (omega arith)
   Each-All P f (item v vs) (x ∷ xs) h = All-cons P x xs (f v x h.0) (Each-All P f vs xs h.1)
 
   -- where a value stands for one thing at most, so does a list
@@ -96,13 +90,10 @@ module _ {A : Type 0} (StandsFor : Data → A → Type 0) where
       → (values : Items) (xs ys : List A) → Each StandsFor values xs → Each StandsFor values ys → xs ≡ ys
   Each-same one no_items [] [] all also = refl
   Each-same one no_items [] (y ∷ ys) all also = absurd also
-  Each-same one no_items (x ∷ xs) ys all also = absurd all
-  Each-same one (item value values) [] ys all also = absurd all
   Each-same one (item value values) (x ∷ xs) [] all also = absurd also
   Each-same one (item value values) (x ∷ xs) (y ∷ ys) all also =
-      let here : x ≡ y = one value x y all.0 also.0 in
-      let there : xs ≡ ys = Each-same one values xs ys all.1 also.1 in
-      cc
+      ap₂ ◌∷◌ (one value x y all.0 also.0) (Each-same one values xs ys all.1 also.1)
+  Each-same one values xs ys all also = absurd all
 
   pub same_list : ((value : Data) (x y : A) → StandsFor value x → StandsFor value y → x ≡ y)
       → (value : Data) (xs ys : List A) → IsListOf StandsFor value xs → IsListOf StandsFor value ys → xs ≡ ys
@@ -120,9 +111,8 @@ module _ {A B : Type 0} (From : Data → A → Type 0) (To : Data → B → Type
     (each : (value : Data) (x : A) → From value x → To value (f x)) where
   Each-map : (values : Items) (xs : List A) → Each From values xs → Each To values (map f xs)
   Each-map no_items [] all = tt
-  Each-map no_items (x ∷ xs) all = absurd all
-  Each-map (item value values) [] all = absurd all
   Each-map (item value values) (x ∷ xs) all = (each value x all.0, Each-map values xs all.1)
+  Each-map values xs all = absurd all
 
   -- what each value of a list also stands for
   pub list_map : (value : Data) (xs : List A) → IsListOf From value xs → IsListOf To value (map f xs)

@@ -1,6 +1,6 @@
 -- What the operations of a text wait for, and where that is not within the limits.
 use Rattle.std.proofs.Common.{◌≡◌, ℕ, zero, suc, ◌<◌, ◌≤◌, List, [], ◌∷◌, length, get_or, slice_get, arith, subst, sym}
-use Rattle.std.proofs.Common.{ap, ◌∙◌, Option, Some, None, IfSome, IfNone, Result, Ok, Err, IfOk, All, codes}
+use Rattle.std.proofs.Common.{ap, ◌∙◌, Option, Some, None, IfSome, IfNone, Result, Ok, IfOk, All, codes}
 use Rattle.std.proofs.lemmas.Option.{same_Some, slice_get_within, get_or_from_slice_get}
 use Rattle.std.proofs.lemmas.List.{get_or_default}
 use Rattle.serde_json.specs.Find.{get, as_array}
@@ -52,8 +52,7 @@ none_listed version known value threads (Ok None) is at none =
     λ turns has. none turns
     (of_member (λ member. IsListOf (IsListOf (HasTurn known)) member turns) (codes "threads") value threads at
     (subst (λ v. HasTurns v value turns) is has))
-none_listed version known value threads (Ok (Some x)) is at none = tt
-none_listed version known value threads (Err e) is at none = tt
+none_listed version known value threads answer is at none = tt
 
 -- where the member with the threads is a list of turns, these are the value's
 pub listed : {Refusal : Type 0} (version known : Version) (value threads : Data)
@@ -61,10 +60,9 @@ pub listed : {Refusal : Type 0} (version known : Version) (value threads : Data)
     → Some threads ≡ get (codes "threads") value
     → IfOk answer (λ found. IfSome found (IsListOf (IsListOf (HasTurn known)) threads))
     → IfOk answer (λ found. IfSome found (HasTurns version value))
-listed version known value threads (Ok None) is at found = tt
 listed version known value threads (Ok (Some x)) is at found =
     subst (λ v. HasTurns v value x) (sym is) (threads, sym at, found)
-listed version known value threads (Err e) is at found = tt
+listed version known value threads answer is at found = tt
 
 -- a thread's row is as that thread may wait
 row_within : (threads : List (List Op)) (turns : List (List (Option Turn))) (t : ℕ) (row : List (Option Turn))

@@ -1,13 +1,13 @@
 use Rattle.std.proofs.Common.{refl, ◌≡◌, ℕ, ◌<◌, List, [], ◌∷◌, ◌++◌, ◌∙◌, sym, ap, subst, arith, true≢false}
 use Rattle.std.proofs.Common.{append-nil, All}
 use Rattle.sched_program.specs.declared.operation.OpId.{OpId}
-use Rattle.lin.specs.Completion.{Listed, listed_in, with_name, StandsNext, Completes, EveryFinishedIsListed, IsHopeless}
+use Rattle.lin.specs.Completion.{Listed, listed_in, Completes, EveryFinishedIsListed, IsHopeless}
 use Rattle.lin.specs.KeySet.{keys_in}
 use Rattle.lin.specs.OpSet.{operations_in}
 use Rattle.lin.specs.Configuration.{IsHopelessAt}
 use Rattle.lin.proofs.Configurations.{All-found, All-kept}
 use Rattle.lin.proofs.Names.{each_more_read, each_all, IsSome-value_at_read}
-use Rattle.lin.proofs.Search.{unlisted_count, unlisted_push, listed_push, nothing_left, found_more, not_after, popped}
+use Rattle.lin.proofs.Search.{unlisted_count, once_pushed, nothing_left, found_more, not_after, popped}
 use Rattle.lin.proofs.Steps.{every_listed}
 use Rattle.lin.proofs.searcher.+complete.Goals as goal
 use Rattle.lin.proofs.searcher.+complete.Goals.{in-Some+in_ok-push+in_ok-complete+else-branch, in_default}
@@ -39,42 +39,23 @@ step-requires-clause-begun t c =
 
 pub complete-requires : goal.complete-requires
 complete-requires t c =
-    let old = c.args.order.now.items in
-    let name = c.loop-name-item.result.0 in
-    let begun = c.args.timeline.now.begun in
-    let same = c.loop-name.invariant.same in
-    let stands =
-    subst (λ listed. StandsNext c.args.program.now c.args.timeline.now listed (keys_in c.args.from.at.keys) name
-    (keys_in c.in-Some.next.at.keys)) c.requires.listed c.in-Some.ensures.stands in
-    let pushed : c.push.new.self.items ≡ old ++ name ∷ [] =
-    c.in_ok-push.ensures.items ∙ ap (λ o. o ++ name ∷ []) same in
-    let falls : unlisted_count (listed_in c.push.new.self.items) begun < unlisted_count (listed_in old) begun =
-    unlisted_push old c.push.new.self.items name begun pushed stands.new stands.begun in (
-      subst (λ n. unlisted_count (listed_in c.push.new.self.items) begun < n) c.decreases falls,
-      (
-        c.requires.limits,
-        (
-          c.in-Some.ensures.listed ∙ ap (λ l. with_name l name) c.requires.listed
-              ∙ sym (ap listed_in pushed ∙ listed_push old name),
-          (c.in-Some.ensures.barred, c.loop-name.invariant.failed),
-        ),
-      ),
+    let pushed =
+    once_pushed c.args.program.now c.args.timeline.now c.args.order.now.items c.loop-name.order.items
+    c.push.new.self.items (operations_in c.args.from.at.listed) (keys_in c.args.from.at.keys)
+    (keys_in c.in-Some.next.at.keys) c.loop-name-item.result.0 c.requires.listed c.in-Some.ensures.stands
+    c.loop-name.invariant.same c.in_ok-push.ensures.items (operations_in c.in-Some.next.at.listed)
+    c.in-Some.ensures.listed in (
+      subst (λ n. unlisted_count (listed_in c.push.new.self.items) c.args.timeline.now.begun < n) c.decreases pushed.0,
+      (c.requires.limits, (pushed.1, (c.in-Some.ensures.barred, c.loop-name.invariant.failed))),
     )
 
 pub returns-then-branch-clause-answer : goal.returns-then-branch-clause-answer
 returns-then-branch-clause-answer t c =
-    let program = c.args.program.now in
-    let history = c.args.timeline.now in
-    let old = c.args.order.now.items in
-    let name = c.loop-name-item.result.0 in
-    let same = c.loop-name.invariant.same in
-    let stands =
-    subst (λ listed. StandsNext program history listed (keys_in c.args.from.at.keys) name
-    (keys_in c.in-Some.next.at.keys)) c.requires.listed c.in-Some.ensures.stands in
     let found = rw c.if-branch.true at c.in_ok-complete.ensures.answer in
-    found_more program history old c.push.new.self.items c.complete.new.order.items (keys_in c.args.from.at.keys)
-    (keys_in c.in-Some.next.at.keys) name stands
-    (c.in_ok-push.ensures.items ∙ ap (λ o. o ++ name ∷ []) same) found
+    found_more c.args.program.now c.args.timeline.now c.args.order.now.items c.loop-name.order.items
+    c.push.new.self.items (operations_in c.args.from.at.listed) (keys_in c.args.from.at.keys)
+    (keys_in c.in-Some.next.at.keys) c.loop-name-item.result.0 c.requires.listed c.in-Some.ensures.stands
+    c.loop-name.invariant.same c.in_ok-push.ensures.items c.complete.new.order.items found
 
 pub loop-name-preserved : goal.loop-name-preserved
 loop-name-preserved t c =
@@ -93,9 +74,6 @@ loop-name-preserved t c =
       | in-Some+in_ok-push+in_ok-complete+else-branch w ↦
           let pushed : w.push.new.self.items ≡ old ++ name ∷ [] =
           w.in_ok-push.ensures.items ∙ ap (λ o. o ++ name ∷ []) same in
-          let stands =
-          subst (λ listed. StandsNext program history listed keys name (keys_in w.in-Some.next.at.keys))
-          c.requires.listed w.in-Some.ensures.stands in
           let none = rw w.if-branch.false at w.in_ok-complete.ensures.answer in
           record {
             same = ap (λ v. v.items) w.order-is ∙ popped _ old _ name w.pop.result w.pop.ensures.items (none.0 ∙ pushed)
@@ -104,8 +82,9 @@ loop-name-preserved t c =
                 subst (λ s. All (IsHopelessAt program history) s.keys)
                 (sym w.failed-is) w.in_ok-complete.ensures.failed;
             tried = more
-                (not_after program history old w.push.new.self.items keys (keys_in w.in-Some.next.at.keys) name stands
-                pushed none.1);
+                (not_after program history old c.loop-name.order.items w.push.new.self.items
+                (operations_in c.args.from.at.listed) keys (keys_in w.in-Some.next.at.keys) name c.requires.listed
+                w.in-Some.ensures.stands same w.in_ok-push.ensures.items none.1);
           }
       | in_default w ↦ record {
         same = ap (λ v. v.items) w.order-is ∙ same;

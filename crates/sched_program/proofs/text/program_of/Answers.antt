@@ -1,6 +1,7 @@
-use Rattle.std.proofs.Common.{rules, ◌≢◌, AllPairs}
+use Rattle.std.proofs.Common.{rules, ◌≢◌, ◌∷◌, [], AllPairs}
 use Rattle.serde_json.specs.View.{view}
-use Rattle.sched_program.proofs.Members.{not_distinct, few_keys, limits_met, threads_pass}
+use Rattle.sched_program.specs.declared.fault.ProgramFault.TheVariants as fault
+use Rattle.sched_program.proofs.Members.{not_distinct, few_keys, limits_met, passes_to_threads, threads_pass}
 use Rattle.sched_program.proofs.text.program_of.Goals as goal
 
 pub returns-then-not-is_distinct-clause-err : goal.returns-then-not-is_distinct-clause-err
@@ -29,24 +30,12 @@ returns-in_default-2-clause-err c =
     let distinct : AllPairs (λ a b. a ≢ b) keys = search rules in
     let threads = c.in_ok-threads.ensures.ok in
     let pass = threads_pass value c.in_ok-threads.threads threads.0 threads.1 threads.2 threads.3 in
+    let more = fault.Threads ∷ fault.Ops ∷ fault.Op ∷ fault.Key ∷ [] in
     record {
       stands = rw c.in_default-2.is at c.in_ok-turns.ensures.none;
-      first = (
-        search rules,
-        (
-          (c.in-Some.version, c.in-Some.ensures.found),
-          (
-            (c.in-Some-tree_of.tree, c.in-Some-tree_of.ensures.found),
-            (
-              few_keys value keys initial.0 initial.1,
-              (
-                (initial.0.0, initial.0.1, (keys, initial.0.2, distinct)),
-                (pass.0, (pass.1, (pass.2, (pass.3, tt)))),
-              ),
-            ),
-          ),
-        ),
-      );
+      first = passes_to_threads value c.in-Some.version c.in-Some-tree_of.tree keys (search rules)
+          c.in-Some.ensures.found c.in-Some-tree_of.ensures.found initial.0 initial.1 distinct more
+          (pass.0, (pass.1, (pass.2, (pass.3, tt))));
     }
 
 pub new-requires : goal.new-requires
@@ -63,16 +52,6 @@ threads_of-requires c =
     let value = view c.args.value.now in
     let keys = c.in_ok-initial.initial in
     let initial = c.in_ok-initial.ensures.ok in
-    let distinct : AllPairs (λ a b. a ≢ b) keys = search rules in (
-      search rules,
-      (
-        (c.in-Some.version, c.in-Some.ensures.found),
-        (
-          (c.in-Some-tree_of.tree, c.in-Some-tree_of.ensures.found),
-          (
-            few_keys value keys initial.0 initial.1,
-            ((initial.0.0, initial.0.1, (keys, initial.0.2, distinct)), tt),
-          ),
-        ),
-      ),
-    )
+    let distinct : AllPairs (λ a b. a ≢ b) keys = search rules in
+    passes_to_threads value c.in-Some.version c.in-Some-tree_of.tree keys (search rules) c.in-Some.ensures.found
+    c.in-Some-tree_of.ensures.found initial.0 initial.1 distinct [] tt
