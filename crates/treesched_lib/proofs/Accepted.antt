@@ -198,10 +198,7 @@ module _ (c : List Rule) (again : Bool) (a : Rule) (regular : IsRegular c a) whe
   used_as_suits action.Append is values rows value suit =
       values_suit c a regular.own CommandLine values rows (λ set. absurd (cc)) suit
   used_as_suits action.Count is values rows value suit = counted_suits values rows (λ set. (cc)) suit
-  used_as_suits action.Help is values rows value suit = suit
-  used_as_suits action.HelpShort is values rows value suit = suit
-  used_as_suits action.HelpLong is values rows value suit = suit
-  used_as_suits action.Version is values rows value suit = suit
+  used_as_suits x is values rows value suit = suit
 
   pub used_suits : (values : List Text) (rows : List Row) → use_fault again a values rows ≡ [] → Suit c rows
       → Suit c (used a values rows)

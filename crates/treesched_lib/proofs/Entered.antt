@@ -13,7 +13,7 @@ use Rattle.clap.specs.Simple.{Shape}
 use Rattle.clap.specs.Walk.{Held, Names, Outcome, Rule, Step, Text, Waiting, Walk, after_flag, after_step, arg_by_id}
 use Rattle.clap.specs.Walk.{arg_by_index, arg_by_long, arg_by_short, attached_value, bundle, bundle_met, bundle_step}
 use Rattle.clap.specs.Walk.{done, flag_met, has_long, has_short, idle, is_pending, long_met, long_or_other, next}
-use Rattle.clap.specs.Walk.{option, option_met, option_word, plain, plain_word, positional, reacted, refused, settled}
+use Rattle.clap.specs.Walk.{option, option_met, option_word, plain, plain_word, reacted, settled}
 use Rattle.clap.specs.Walk.{short_met, short_or_plain, subcommand, subcommand_met, subcommand_or_other, takes_several}
 use Rattle.clap.specs.Walk.{takes_values, to_positional, trailing, value, waits, walked, walked_from, word_met}
 use Rattle.clap.specs.declared.error.kind.ErrorKind.TheVariants as kind
@@ -24,20 +24,18 @@ use Rattle.treesched_lib.proofs.Accepted.{used_suits}
 
 plain_rows : (c : List Rule) (waiting : Waiting) (word : Text) (h : Held)
     → (plain_word c waiting word h).0.rows ≡ h.rows
-plain_rows c idle word h = refl
-plain_rows c positional word h = refl
 plain_rows c (option id) word h = go (arg_by_id c id)
   where
     go : (o : Option Rule) → (option_word o id word h).0.rows ≡ h.rows
     go None = refl
     go (Some a) = refl
+plain_rows c waiting word h = refl
 
 flag_rows : (c : List Rule) (waiting : Waiting) (word : Text) (h : Held) (out : Outcome)
     → (after_flag c waiting word h out).0.rows ≡ h.rows
 flag_rows c waiting word h done = refl
 flag_rows c waiting word h (waits id) = refl
-flag_rows c waiting word h plain = plain_rows c waiting word h
-flag_rows c waiting word h refused = plain_rows c waiting word h
+flag_rows c waiting word h out = plain_rows c waiting word h
 
 module _ (c : List Rule) (again : Bool) (regular : AreRegular c c) where
   react_suits : (a : Rule) → IsRegular c a → (values : List Text) (h : Held) → react_fault c again a values h ≡ []
@@ -131,15 +129,13 @@ StepPasses p _ = ⊤
 module _ (p : Text → Bool) (c : List Rule) where
   plain_step : (waiting : Waiting) (word : Text) (h : Held) → StepPasses p (plain_word c waiting word h).1
   plain_step idle word h = tt
-  plain_step positional word h = tt
-  plain_step (option id) word h = tt
+  plain_step waiting word h = tt
 
   flag_step : (waiting : Waiting) (word : Text) (h : Held) (out : Outcome)
       → StepPasses p (after_flag c waiting word h out).1
   flag_step waiting word h done = tt
   flag_step waiting word h (waits id) = tt
-  flag_step waiting word h plain = plain_step waiting word h
-  flag_step waiting word h refused = plain_step waiting word h
+  flag_step waiting word h out = plain_step waiting word h
 
   other_step : (o : Option (Text × Option Text)) (waiting : Waiting) (word : Text) (h : Held)
       → StepPasses p (long_or_other c waiting word o h).1

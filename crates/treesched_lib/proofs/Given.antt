@@ -23,9 +23,7 @@ pub closed : {X S : Type 0} (m : StepMachine S) (book : Contents X S) (told : An
     → TellsClosed book told
     → told ≡ answer.Every → IsClosed book × AreSound book.entries
 closed m book answer.Every first is e = (is, all_sound book.entries None (sym first) refl)
-closed m book (answer.Holds _) first is e = absurd (cc)
-closed m book (answer.Fault _ _) first is e = absurd (cc)
-closed m book (answer.Stopped _ _) first is e = absurd (cc)
+closed m book told first is e = absurd (cc)
 
 module _ (Machine Form : Type 0) {Memory Place : Type 0} (rules : Rules Memory Place) (program : Program)
     (bytes : List ℕ) where

@@ -6,6 +6,7 @@ use Rattle.std.specs.Option.{option_map_or}
 use Rattle.std.specs.Str.{bytes_eq}
 use Rattle.std.specs.Str.Parse.{digits_value, without_leading_plus}
 use Rattle.std.proofs.lemmas.Slice.Eq.{bytes_eq-Decides}
+use Rattle.clap.specs.Facts.{unwrap_or_range}
 use Rattle.clap.specs.Faults.{entered_fault, fault_of, level_fault}
 use Rattle.clap.specs.Simple.{App, Shape, argument_words, built, built_leaf, entered, help_shape, inherited}
 use Rattle.clap.specs.Simple.{marked_built, names_of, rows_at, subcommand_of, with_leaf_noted}
@@ -23,7 +24,7 @@ use Rattle.crew.specs.Settings.{Settings}
 use Rattle.treesched_lib.specs.Command as line
 use Rattle.treesched_lib.specs.Command.{AreMerges, Choices, command_line}
 use Rattle.treesched_lib.specs.Reading.{AreRead, HasText, MergeIs, NumberIs, OptionsAre}
-use Rattle.treesched_lib.proofs.Accepted.{AreRegular}
+use Rattle.treesched_lib.proofs.Accepted.{AreRegular, IsRegular}
 use Rattle.treesched_lib.proofs.Entered.{is_help}
 use Rattle.treesched_lib.proofs.Subcommands.{HasValue, below_passed, default_value, no_help, required_value}
 
@@ -36,53 +37,28 @@ module _ (choices : Choices) where
   abbrev leaf : Shape → Shape
   leaf s = built_leaf (inherited (with_leaf_noted (marked_built (command_line choices).top)) s)
 
-  four : all.subs ≡ leaf (line.explore choices).top ∷ leaf line.replay.top ∷ leaf line.check.top ∷ leaf help_shape ∷ []
-  four = refl
-
   regular : AreRegular all.top.rules all.top.rules
   regular = (record { own = refl; valued = λ set. absurd (cc) }, tt)
 
+  -- an argument with one value, and a flag, before others
+  valued : {c : List Rule} {a : Rule} {Others : Type 0} → arg_by_id c a.id ≡ Some a
+      → (unwrap_or_range a.range).start_inclusive ≡ 1 → Others → IsRegular c a × Others
+  valued own one others = (record { own = own; valued = λ set. one }, others)
+
+  flag : {c : List Rule} {a : Rule} {Others : Type 0} → arg_by_id c a.id ≡ Some a → (action_of a ≡ Set → ⊥) → Others
+      → IsRegular c a × Others
+  flag own not others = (record { own = own; valued = λ set. absurd (not set) }, others)
+
   explore_regular : AreRegular (leaf (line.explore choices).top).rules (leaf (line.explore choices).top).rules
-  explore_regular = (
-    record { own = refl; valued = λ set. refl },
-    (
-      record { own = refl; valued = λ set. refl },
-      (
-        record { own = refl; valued = λ set. refl },
-        (
-          record { own = refl; valued = λ set. refl },
-          (
-            record { own = refl; valued = λ set. refl },
-            (
-              record { own = refl; valued = λ set. absurd (cc) },
-              (
-                record { own = refl; valued = λ set. refl },
-                (record { own = refl; valued = λ set. absurd (cc) }, tt),
-              ),
-            ),
-          ),
-        ),
-      ),
-    ),
-  )
+  explore_regular =
+      valued refl refl (valued refl refl (valued refl refl (valued refl refl (valued refl refl
+      (flag refl (λ set. cc) (valued refl refl (flag refl (λ set. cc) tt)))))))
 
   replay_regular : AreRegular (leaf line.replay.top).rules (leaf line.replay.top).rules
-  replay_regular = (
-    record { own = refl; valued = λ set. refl },
-    (
-      record { own = refl; valued = λ set. refl },
-      (record { own = refl; valued = λ set. absurd (cc) }, tt),
-    ),
-  )
+  replay_regular = valued refl refl (valued refl refl (flag refl (λ set. cc) tt))
 
   check_regular : AreRegular (leaf line.check.top).rules (leaf line.check.top).rules
-  check_regular = (
-    record { own = refl; valued = λ set. refl },
-    (
-      record { own = refl; valued = λ set. refl },
-      (record { own = refl; valued = λ set. absurd (cc) }, tt),
-    ),
-  )
+  check_regular = valued refl refl (valued refl refl (flag refl (λ set. cc) tt))
 
   -- ---- the subcommand that the words name
 

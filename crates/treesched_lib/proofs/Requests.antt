@@ -50,20 +50,17 @@ module _ (words : List Text) (name : Text) (rows : List Row) (are : AreRead word
       → MatchResult r (AskFor words) (AreRefused words)
   asked_or_refused own named (Ok q) is = asked own named q is
   asked_or_refused own named (Err (fault.Usage help text)) is = absurd is
-  asked_or_refused own named (Err fault.Schedule) is =
-      (rows, ((are.0, are.1, are.2, are.3 ∙ ap (λ (n : Text). Some (n, rows)) (sym named ∙ is.0)), is.1))
-  asked_or_refused own named (Err fault.BookMerge) is =
-      (rows, ((are.0, are.1, are.2, are.3 ∙ ap (λ (n : Text). Some (n, rows)) (sym named ∙ is.0)), is.1))
   asked_or_refused own named (Err fault.OutOfMemory) is = tt
+  asked_or_refused own named (Err f) is =
+      (rows, ((are.0, are.1, are.2, are.3 ∙ ap (λ (n : Text). Some (n, rows)) (sym named ∙ is.0)), is.1))
 
 module _ (words : List Text) (error : Error) (choices : Choices) (merges : AreMerges choices) where
   told_of : HasKind (fault_of (command_line choices) words) error → (e : WordsFault) → Tells (kind_of error) e
       → (kind_of error ≡ kind.OutOfMemory → e ≡ fault.OutOfMemory) → AreRefused words e
   told_of (inl out) e tells memory = subst (AreRefused words) (sym (memory out)) tt
   told_of (inr among) (fault.Usage help text) tells memory = (choices, merges, (kind_of error, among, tells))
-  told_of (inr among) fault.Schedule tells memory = absurd tells
-  told_of (inr among) fault.BookMerge tells memory = absurd tells
   told_of (inr among) fault.OutOfMemory tells memory = tt
+  told_of (inr among) e tells memory = absurd tells
 
 pub told : (words : List Text) (error : Error) (app : App) → IsCommandLine app
     → (is_simple_and_free app ≡ true → HasKind (fault_of app words) error)

@@ -42,9 +42,7 @@ pub fn run<R: AllocGlobal + Env + Files + Sync + Threads + Wait>(
     let alloc = rt.alloc();
     let args: Vec<String> = match std::env::args(rt) {
         Ok(args) => args.collect(alloc)?,
-        Err(error) if error.kind() == io::ErrorKind::OutOfMemory => return Err(
-            std::alloc::AllocError,
-        ),
+        Err(error) if error.kind() == io::ErrorKind::OutOfMemory => return Err(OutOfMemory),
         Err(_) => return refusal(alloc, 4, "the words are not UTF-8"),
     };
     let mut words = Vec::new(alloc);

@@ -16,10 +16,7 @@ use std::thread::Threads;
 
 /// The book file to check, if the request is to check one and it can be opened.
 fn open_book<R: Files>(rt: &R, request: &Request<'_>) -> Option<R::File> {
-    match request.book() {
-        Some(name) => File::open(rt, name).ok(),
-        None => None,
-    }
+    File::open(rt, request.book()?).ok()
 }
 
 /// The output for a request, once its files are opened.

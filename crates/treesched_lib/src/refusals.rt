@@ -45,7 +45,7 @@ pub fn refused(alloc: Global, fault: WordsFault) -> Result<Output, OutOfMemory>
         }),
         WordsFault::Schedule => refusal(alloc, 4, "bad schedule"),
         WordsFault::BookMerge => refusal(alloc, 4, "--book needs --merge names"),
-        WordsFault::OutOfMemory => Err(std::alloc::AllocError),
+        WordsFault::OutOfMemory => Err(OutOfMemory),
     }
 }
 

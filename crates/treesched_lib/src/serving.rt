@@ -177,7 +177,7 @@ fn replayed<M: Encode>(
     match replay(alloc, machine, program, schedule) {
         Ok(last) => replay_output(alloc, program, &last),
         Err(ReplayFault::NotEnabled(step)) => no_step(alloc, step, schedule[step - 1]),
-        Err(ReplayFault::OutOfMemory) => Err(std::alloc::AllocError),
+        Err(ReplayFault::OutOfMemory) => Err(OutOfMemory),
     }
 }
 
@@ -331,10 +331,10 @@ fn served_alone<R: Threads + Wait + Sync, F: Read>(
     }
 }
 
-/// Answers the request. That a file can't be read is told exactly where a read failed, as its reader counts it; the
-/// book file is read once FILE gave a program, and only to be checked. A reader that is none stands for a file that
-/// could not be opened, which is told as a failed read where it would be read. The runtime is for the workers of an
-/// exploration, which are joined before the answer. Nothing is written: the output has all text, and the book file's.
+/// Answers the request. It tells that a file can't be read exactly where a read failed, as the reader counts. It reads
+/// the book file only to check it, and once FILE gave a program. A reader that is none stands for a file that could
+/// not be opened, which counts as a failed read where the file would be read. An exploration runs its workers on the
+/// runtime and joins them before it answers. Nothing is written: the output holds all texts, the book file's too.
 ///
 /// # Errors
 /// Memory ran out.
