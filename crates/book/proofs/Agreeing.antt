@@ -1,4 +1,4 @@
--- What is so by one relation of states is so by another that holds of the same states of the machine.
+-- What holds by one relation of states holds by another that agrees with it on the states of the machine.
 use Rattle.std.proofs.Common.{ℕ, List}
 use Rattle.std.specs.Prelude.{◌↔◌}
 use Rattle.book.specs.declared.finding.Finding.{Finding}
@@ -45,7 +45,7 @@ module _ {S : Type 0} (m : StepMachine S) (machine : IsMachine m) (R Q : S → S
       → StandsFor m Q es s → StandsFor m R es s
   stands_back es fit s fits w = (w.0, w.1, w.2, (agree w.1.state s (fit w.0 w.1 w.2) fits).1 w.3, w.4)
 
-  -- and stand for as much of what is reached
+  -- and entries that stand for what is reached by one relation do so by the other
   pub reached_as : (es : List (Entry S)) → ((i : ℕ) (e : Entry S) → At es i e → m.Fits e.state)
       → StandsForReached m R es → StandsForReached m Q es
   reached_as es fit reached n done c r s fits here leads short =

@@ -1,4 +1,4 @@
--- States out of which no step leads stand for what every schedule leads to, and so does a book with no entry left.
+-- Closed states stand for every state that a schedule reaches, and so does a book with no entry left.
 use Rattle.std.proofs.Common.{◌≡◌, ℕ, Bool, true, not, Some, None, List, [], ◌∷◌, position, sym, ap, ◌∙◌, subst}
 use Rattle.std.proofs.lemmas.Bool.{true≢false}
 use Rattle.std.proofs.lemmas.Option.{option_and_then_some}
@@ -29,11 +29,11 @@ module _ {S : Type 0} (m : StepMachine S) (machine : IsMachine m) (Alike : S →
       covered_along c u s (machine.step_fits r u t fits first)
       (there.0, there.1, there.2, joined there.1 twin.0 u there.3 twin.2) rest)
 
-  -- whatever a schedule leads to, one of them is alike to
+  -- one of them is alike to each state that a schedule reaches
   pub covered : (c : List ℕ) (s : S) → after m c ≡ Some s → IsAlikeToOneOf Alike states s
   covered c s leads = covered_along c m.start s machine.start_fits closed.start leads
 
--- the first entry that is left tells whether one is
+-- the first entry that is left shows whether one is
 pub worked_out : {S : Type 0} (es : List (Entry S)) → position (λ e. not (is_expanded e.mark)) es ≡ None
     → IsWorkedOut es
 worked_out es none i e at =
@@ -67,7 +67,7 @@ module _ {S : Type 0} (m : StepMachine S) (same : S → S → Bool) (right : S �
         among_states r (stood.0, stood.1, stood.2, stood.3));
   }
 
-  -- where each of them is sound, every schedule of any length leads to a sound state
+  -- where each of them is sound, every schedule of any length reaches a sound state
   pub closed_holds : IsWorkedOut es → AreSound es → HoldsForEvery m right
   closed_holds out sound c s leads =
       let w = covered m machine (λ a b. same a b ≡ true) merges.joined merges.steps_alike (states es)

@@ -1,4 +1,4 @@
--- How many states the schedules lead to.
+-- How many states the schedules reach.
 use Rattle.std.proofs.Common.{◌≡◌, ℕ, zero, suc, ◌+◌, ◌<◌, ◌≤◌, inl, inr, Bool, true, false, Some, None, List, [], ◌∷◌}
 use Rattle.std.proofs.Common.{◌++◌, length, take, count_by, cond, refl, sym, ap, ◌∙◌, arith, slice_get, leb}
 use Rattle.std.specs.Option.{option_and_then}
@@ -134,7 +134,7 @@ module _ {X : Type 0} (p : X → Bool) where
       let b : cond {A = ℕ} (p x) 1 0 ≡ 0 = ap (λ b. cond {A = ℕ} b 1 0) (h 0 x refl) in
       let c : count_by p xs ≡ 0 = count_none xs (λ i y at. h (suc i) y at) in omega arith
 
-  -- where those that pass stand first, they are the first `count_by p xs`
+  -- where those that pass come first, they are the first `count_by p xs`
   pub count_first : (xs : List X)
       → ((i j : ℕ) (x y : X) → i ≤ j → slice_get xs i ≡ Some x → slice_get xs j ≡ Some y → p y ≡ true → p x ≡ true)
       → (i : ℕ) (x : X) → slice_get xs i ≡ Some x → (p x ≡ true → i < count_by p xs) × (i < count_by p xs → p x ≡ true)
@@ -187,8 +187,8 @@ count_upto {X} p (w ∷ xs) (suc k) within below above =
 module _ {S : Type 0} (m : StepMachine S) (same : S → S → Bool) (right : S → Finding → Type 0)
     (machine : IsMachine m) (merges : Merges m same) (es : List (Entry S))
     (law : IsLawful m (AreOneBy same) right es) where
-  -- the entries of at most n steps are as many as the states that schedules of at most n steps lead to, once all of
-  -- fewer are expanded
+  -- the number of entries of at most n steps is the number of states that schedules of at most n steps reach, once all
+  -- entries of fewer steps are expanded
   pub count_to_is : (n : ℕ) → ((i : ℕ) (e : Entry S) → At es i e → m.steps e.state < n → e.mark ≡ Expanded)
       → ((s : S) (c : List ℕ) → after m c ≡ Some s → m.steps s ≡ length c)
       → IsCount m (AreOneBy same) n (count_by (λ (e : Entry S). leb (m.steps e.state) n) es)

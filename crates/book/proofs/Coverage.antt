@@ -9,7 +9,7 @@ use Rattle.book.specs.Law.{StandsFor, StandsForReached, IsLawful}
 
 module _ {S : Type 0} (m : StepMachine S) (same : S → S → Bool) (right : S → Finding → Type 0)
     (machine : IsMachine m) (merges : Merges m same) where
-  -- where each entry of less than n steps is expanded, what a schedule of at most n steps leads to is stood for
+  -- where each entry of less than n steps is expanded, what a schedule of at most n steps reaches is stood for
   pub stands_along : (entries : List (Entry S)) → IsLawful m (AreOneBy same) right entries
       → StandsForReached m (AreOneBy same) entries
   stands_along entries law n done [] r s fits here leads short = let e : r ≡ s = cc in rw (← e) here
@@ -31,7 +31,7 @@ module _ {S : Type 0} (m : StepMachine S) (same : S → S → Bool) (right : S �
       ) in
       stands_along entries law n done c u s (machine.step_fits r u t fits first) stood rest (omega arith))
 
-  -- so a schedule of at most n steps leads to a state that is stood for
+  -- so a schedule of at most n steps reaches a state that is stood for
   pub stands_after : (entries : List (Entry S)) → IsLawful m (AreOneBy same) right entries → (n : ℕ)
       → ((i : ℕ) (e : Entry S) → At entries i e → m.steps e.state < n → e.mark ≡ Expanded)
       → (c : List ℕ) (s : S) → length c ≤ n → after m c ≡ Some s

@@ -49,7 +49,7 @@ below_next P xs n x at is before i y there less =
       | inr ge ↦ (let e : i ≡ n = omega arith in let same : x ≡ y = cc in subst P same is)
     ]
 
--- the marks do not tell which entries are sound
+-- a mark does not change which entry is the first that is not sound
 pub fault-with_mark : {S : Type 0} (es : List (Entry S)) (i : ℕ) (k : Mark)
     → position (λ (e : Entry S). not (is_sound e.finding)) (with_mark es i k)
     ≡ position (λ (e : Entry S). not (is_sound e.finding)) es

@@ -1,5 +1,5 @@
--- What follows for the entries of a book. The book tells its machine, which states it counts as one, and which findings
--- are right.
+-- What follows for the entries of a book. Its machine, which states count as one, and which findings are right are the
+-- book's own.
 use Rattle.std.proofs.Common.{◌≡◌, ℕ, ◌-◌, ◌<◌, ◌≤◌, ◌++◌, ◌∷◌, [], Bool, not, Option, Some, None, List, length}
 use Rattle.std.proofs.Common.{map, reverse, sym, ap, ◌∙◌, arith, slice_get, position, subst}
 use Rattle.std.specs.List.{range_with_len}
@@ -209,7 +209,7 @@ module _ {Machine Memory Place Form : Type 0} {rules : Machine → Rules Memory 
         at_c.0 at_a.1 at_c.1
         (λ (q : at_c.0.state.steps ≡ at_a.0.state.steps). other (sym at_c.2 ∙ q ∙ at_a.2))
 
-  -- what is left of so many steps
+  -- where no entry is left, all of at most n steps are expanded
   pub all_expanded_to : (n : ℕ) → position (λ (e : Entry (State Machine Memory Place Form)). not (is_expanded e.mark))
       b.entries ≡ None → IsExpandedTo (machine_in rules b).steps b.entries n
   all_expanded_to = all_expanded (machine_in rules b) same_in (right_in rules b) book.machine b.entries book.law.law
@@ -229,7 +229,7 @@ module _ {Machine Memory Place Form : Type 0} {rules : Machine → Rules Memory 
         none_left (machine_in rules b) same_in (right_in rules b) book.machine b.entries book.law.law a left at_a.0
         at_a.1 n (omega arith)
 
-  -- each state that a stood-for one leads to is stood for
+  -- each state that a stood-for one reaches is stood for
   pub stands_for_reached : StandsForReached (machine_in rules b) (AreOneBy same_in) b.entries
   stands_for_reached =
       stands_along (machine_in rules b) same_in (right_in rules b) book.machine book.merges b.entries book.law.law

@@ -1,4 +1,4 @@
--- What was found, or what stands where nothing was.
+-- What was found, or another value where nothing was.
 use Rattle.std.proofs.Common.{Option, Some, None}
 use Rattle.std.specs.Prelude.{IfSome, IfNone, unwrap_or}
 

@@ -1,4 +1,4 @@
--- What the tests of marks tell.
+-- What the tests of marks say.
 use Rattle.std.proofs.Common.{◌≡◌, ◌≢◌, true, false, not, refl, sym}
 use Rattle.std.proofs.lemmas.Bool.{true≢false}
 use Rattle.book.specs.declared.entry.Mark.{Mark}

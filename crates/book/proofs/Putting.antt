@@ -1,4 +1,4 @@
--- The steps of a taken entry are put in, and it is marked expanded: what follows for the book that they are put in.
+-- The steps of a taken entry are inserted, and it is marked expanded: what follows for the book.
 use Rattle.std.proofs.Common.{◌≡◌, ℕ, zero, suc, ◌+◌, ◌-◌, ◌^◌, ◌<◌, ◌≤◌, inl, inr, Bool, true, false, cond, Some, None}
 use Rattle.std.proofs.Common.{IsSome, Option, List, [], ◌∷◌, ◌++◌, length, map, refl, sym, ap, ◌∙◌, arith, slice_get}
 use Rattle.std.proofs.Common.{subst, true≢false}
@@ -113,7 +113,7 @@ module _ {Machine Memory Place Form : Type 0} {rules : Machine → Rules Memory 
     all_steps : n ≡ length ys
     all_steps = n_is ∙ sym (length-map xs _)
 
-    -- so many more entries there are as steps are unknown
+    -- the number of entries does not fall: one is added for each unknown step
     pub grown : was ≤ len
     grown =
         let more : length appended ≡ length b.entries + length news =

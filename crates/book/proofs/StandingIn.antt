@@ -80,7 +80,7 @@ module _ {Machine Memory Place Form : Type 0} (rules : Rules Memory Place) (prog
         ap (λ f. number_code 0 ++ content_code form_code f)
         ((forms_alike rules form_of forms program program r s r_fits s_fits).1 one)
 
-    -- the state c stands in for s: the step of a thread of c is put as that of s
+    -- the state c stands in for s: the step of a thread of c is appended as that of s
     module _ (merge : Merge) (s c : State Machine Memory Place Form) (t : ℕ) (s_fits : Fits rules program s)
         (c_fits : Fits rules program c) (one : CountsAsOne rules merge s c) where
       module _ (n : State Machine Memory Place Form) (leads : step rules program c t ≡ Some n) where

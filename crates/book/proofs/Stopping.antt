@@ -1,4 +1,4 @@
--- A schedule that stops within leads nowhere.
+-- A schedule of which a first part reaches no state reaches none.
 use Rattle.std.proofs.Common.{◌≡◌, ℕ, zero, suc, Option, Some, None, List, [], ◌∷◌, take, refl}
 use Rattle.std.specs.Option.{option_and_then}
 use Rattle.book.specs.Schedule.{StepMachine, run}

@@ -40,7 +40,7 @@ module _ {S : Type 0} (m : StepMachine S) (machine : IsMachine m) where
 
 module _ {S : Type 0} (m : StepMachine S) (same : S → S → Bool) (right : S → Finding → Type 0) (es : List (Entry S))
     (law : IsLawful m (AreOneBy same) right es) where
-  -- an entry that has an origin is the step that its origin tells
+  -- an entry that has an origin is the step that its origin names
   pub step_of : (k : ℕ) (e : Entry S) (o : Origin) → At es k e → e.origin ≡ Some o
       → (parent : Entry S) × At es o.parent parent × (o.parent < k) × (m.step parent.state o.thread ≡ Some e.state)
   step_of k e o at recorded =
@@ -95,7 +95,7 @@ module _ {S : Type 0} (m : StepMachine S) (same : S → S → Bool) (right : S �
       subst (λ (x : Entry S). m.step x.state t ≡ Some way.1.state) parent made.3 in
       ap (λ o. option_and_then (λ (r : S). run m r c) o) first ∙ way_leads c way.0 j way.1 f way.2 there way.4
 
-  -- from the start it leads to the entry's state, in as many steps as this has behind it
+  -- from the start it reaches the entry's state, in as many steps as this has behind it
   pub way_run : IsMachine m → (c : List ℕ) (j : ℕ) (f : Entry S) → At es j f → IsWay es 0 c j
       → (after m c ≡ Some f.state) × (length c ≡ m.steps f.state)
   way_run machine c j f there way =
@@ -140,7 +140,7 @@ module _ {S : Type 0} (m : StepMachine S) (same : S → S → Bool) (right : S �
       let thread : t ≡ u = ap (λ (q : Origin). q.thread) origin in
       cc
 
-  -- only one way leads from entry 0 to an entry
+  -- there is only one way from entry 0 to an entry
   pub one_way : (c d : List ℕ) (j : ℕ) → IsWay es 0 c j → IsWay es 0 d j → d ≡ c
   one_way c d j way also =
       let turned : reverse d ≡ reverse c = back_once (reverse d) (reverse c) j (back d 0 j also) (back c 0 j way) in

@@ -71,7 +71,7 @@ module _ {Machine Memory Place Form : Type 0} (rules : Machine → Rules Memory 
       HoldsOfKey key (λ state. AreStepsOf (machine_of (rules key.machine) key.program)
       (IsFindingOf (rules key.machine) key.program) (label_in key) state expanded.steps)
 
-  -- whichever state has the label, the step of a thread of it is put behind others
+  -- whichever state has the label, the step of a thread of it is appended to others
   abbrev pub PutsStepOf : Key Machine → ℕ → List (Successor (List ℕ)) → List (Successor (List ℕ)) → Type 0
   PutsStepOf key thread old new =
       HoldsOfKey key (λ state. PutsStep (machine_of (rules key.machine) key.program)

@@ -1,5 +1,5 @@
--- States out of which no step leads, a book in which every entry is worked off, and states that hold for every
--- schedule.
+-- Closed lists of states, which no step leads out of; books in which every entry is expanded; and machines whose every
+-- schedule reaches a sound state.
 use Rattle.std.specs.Prelude.{◌≡◌, ℕ, true, Some, List, slice_get}
 use Rattle.book.specs.declared.entry.Mark.TheVariants.{Expanded}
 use Rattle.book.specs.declared.book.Merge.TheVariants.{Names}
@@ -12,7 +12,7 @@ use Rattle.book.specs.Schedule.{StepMachine, after}
 abbrev pub IsAlikeToOneOf : {S : Type 0} → (S → S → Type 0) → List S → S → Type 0
 IsAlikeToOneOf {S} Alike states s = (i : ℕ) × (r : S) × (slice_get states i ≡ Some r) × Alike r s
 
--- states of a machine: one of them is alike to the start, and each enabled step of each leads to a state that one of
+-- states of a machine: one of them is alike to the start, and each enabled step of each reaches a state that one of
 -- them is alike to
 pub record AreClosed {S : Type 0} (m : StepMachine S) (Alike : S → S → Type 0) (states : List S) : Type 0 where
   pub fit : (i : ℕ) (s : S) → slice_get states i ≡ Some s → m.Fits s
@@ -31,6 +31,6 @@ IsClosed book = (book.merge ≡ Names) × IsWorkedOut book.entries
 abbrev pub AreSound : {S : Type 0} → List (Entry S) → Type 0
 AreSound {S} entries = (i : ℕ) (e : Entry S) → At entries i e → is_sound e.finding ≡ true
 
--- every schedule, of any length, leads to a sound state
+-- every schedule, of any length, reaches a sound state
 abbrev pub HoldsForEvery : {S : Type 0} → StepMachine S → (S → Finding → Type 0) → Type 0
 HoldsForEvery {S} m right = (c : List ℕ) (s : S) → after m c ≡ Some s → IsSound right s

@@ -1,4 +1,4 @@
--- States that are correct, and programs of which every schedule leads to one.
+-- Correct states, and programs whose every schedule reaches one.
 use Rattle.std.specs.Prelude.{◌≡◌, ℕ, Some, None, List}
 use Rattle.sched_program.specs.Program.{Program}
 use Rattle.tree_machine.specs.Rules.{Rules}

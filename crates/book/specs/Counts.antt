@@ -1,4 +1,4 @@
--- How many states schedules of at most so many steps lead to.
+-- How many states schedules of at most n steps reach.
 use Rattle.std.specs.Prelude.{◌≡◌, ℕ, ◌<◌, Some, List, length, slice_get}
 use Rattle.book.specs.Schedule.{StepMachine, IsReachableWithin}
 

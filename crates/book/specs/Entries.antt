@@ -14,7 +14,7 @@ use Rattle.sched_program.specs.Program.{Program}
 use Rattle.book.specs.declared.book.EnterFault.{EnterFault}
 use Rattle.book.specs.declared.book.EnterFault.TheVariants.{NotTaken, Stranger, Full, OutOfMemory}
 
--- an entry: its state, what was found of it, the entry and the thread whose step it is, and how far it is worked on
+-- an entry: its state, its finding, the entry and the thread of the step that reached it, and how far it is worked on
 pub record Entry (S : Type 0) : Type 0 where
   pub state : S
   pub finding : Finding
@@ -91,8 +91,8 @@ pub record Steps (X S : Type 0) : Type 0 where
   pub source : S
   pub successors : List (Successor S)
 
--- what a book shows: its machine and program, which states it counts as one, how many entries it may have,
--- its entries, and how many steps led to known states
+-- what a book shows: its machine and program, which states it counts as one, how many entries it may have, its entries,
+-- and how many steps reached known states
 pub record Contents (X S : Type 0) : Type 0 where
   pub machine : X
   pub program : Program
@@ -145,7 +145,7 @@ pub record IsOwn {X S : Type 0} (book : Contents X S) (i : ℕ) (x : X) (p : Pro
   pub program : p ≡ book.program
   pub source : (e : Entry S) → At book.entries i e → s ≡ e.state
 
--- the expansion of entry i was entered: so many of its states are new, in their order, and so many known
+-- the expansion of entry i was entered: `entered` of its states are new, in their order, and `met` are known
 pub record Enters {X S : Type 0} (Same : S → S → Type 0) (old new : Contents X S) (i : ℕ) (expansion : Steps X S)
     (entered met : ℕ) : Type 0 where
   pub taken : IsTaken old.entries i

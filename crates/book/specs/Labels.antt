@@ -35,11 +35,11 @@ abbrev pub HoldsOfLabel : {Machine Memory Place Form : Type 0} → Rules Memory 
 HoldsOfLabel {Machine} {Memory} {Place} {Form} rules program label_of label Holds =
     (state : State Machine Memory Place Form) → Fits rules program state → label_of state ≡ label → Holds state
 
--- a step with the label of the state that it leads to in place of the state
+-- a step with the label of the state that it reaches in place of the state
 abbrev pub labelled : {S : Type 0} → (S → List ℕ) → Successor S → Successor (List ℕ)
 labelled label_of x = record { thread = x.thread; state = label_of x.state; finding = x.finding }
 
--- the steps of a state by these threads, each with the finding that stands beside its label
+-- the steps of a state by these threads, each with the finding beside its label
 abbrev pub steps_of : {S : Type 0} → (S → ℕ → Option S) → S → List (Successor (List ℕ)) → List (Successor S)
 steps_of step s xs =
     map (λ x. record { thread = x.thread; state = unwrap_or (step s x.thread) s; finding = x.finding }) xs

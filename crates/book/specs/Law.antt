@@ -26,7 +26,7 @@ module _ {S : Type 0} (m : StepMachine S) (Same : S → S → Type 0) where
       × (m.steps e.state ≤ m.steps s)
 
   -- Where each entry of fewer than n steps is expanded, and a state is stood for, so is every state of at most n steps
-  -- that a schedule leads to from it
+  -- that a schedule reaches from it
   abbrev pub StandsForReached : List (Entry S) → Type 0
   StandsForReached entries = (n : ℕ) → IsExpandedBelow m.steps entries n
       → (c : List ℕ) (r s : S) → m.Fits r → StandsFor entries r → run m r c ≡ Some s → m.steps r + length c ≤ n
@@ -73,8 +73,8 @@ module _ {S : Type 0} (m : StepMachine S) where
   steps_entered e = if is_expanded e.mark then length (enabled_threads m e.state) else 0
 
 module _ {X S : Type 0} (m : StepMachine S) (Same : S → S → Type 0) (right : S → Finding → Type 0) where
-  -- a lawful book: its entries are, they are no more than its limit, and each step of an expanded entry
-  -- led to a new entry or to a known state
+  -- a lawful book: its entries are, they are no more than its limit, and each step of an expanded entry made a new
+  -- entry or reached a known state
   pub record IsLawfulBook (book : Contents X S) : Type 0 where
     pub law : IsLawful m Same right book.entries
     pub within : length book.entries ≤ book.limit

@@ -35,7 +35,7 @@ abbrev pub AreSteps : {S : Type 0} → (S → ℕ → Option S) → S → List (
 AreSteps {S} step s old new = (i : ℕ) (slot : List ℕ × Entry S) → length old ≤ i → slice_get new i ≡ Some slot
     → (o : Origin) × (slot.1.origin ≡ Some o) × (step s o.thread ≡ Some slot.1.state)
 
--- each number is that of an entry, whose state stands beside it
+-- each number is that of an entry, and the state beside it is the entry's
 abbrev pub AreStatesOf : {S A : Type 0} → List (Entry S) → List (ℕ × Arc S A) → Type 0
 AreStatesOf {S} {A} entries range = (k : ℕ) (p : ℕ × Arc S A) → slice_get range k ≡ Some p
     → (e : Entry S) × At entries p.0 e × (e.state ≡ p.1.value)

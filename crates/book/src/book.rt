@@ -36,7 +36,7 @@ pub enum Merge {
     /// Equal states, their step counts included.
     Exact,
     /// States that differ in nothing but the numbers of their nodes and records, their step counts, and what neither
-    /// the root nor a thread leads to.
+    /// the root nor a thread reaches.
     Names,
 }
 
@@ -63,13 +63,13 @@ pub struct Totals {
     pub taken: usize,
     /// The expanded entries.
     pub expanded: usize,
-    /// The steps that led to new entries: one for each entry but the start.
+    /// The steps that made new entries: one for each entry but the start.
     pub entered: usize,
-    /// The steps that led to known states.
+    /// The steps that reached known states.
     pub met: usize,
 }
 
-/// How many of an expansion's steps led to new entries, and how many to known states.
+/// How many of an expansion's steps made new entries, and how many reached known states.
 #[derive(Clone, Copy, Debug, PartialEq, Eq)]
 pub struct Entered {
     pub entered: usize,
@@ -89,7 +89,7 @@ pub enum EnterFault {
     OutOfMemory,
 }
 
-/// The states that were reached, each with the step that led to it and what was found of it.
+/// The states that were reached, each with the step that reached it and its finding.
 #[derive(Drop)]
 pub struct Book<M: Encode> {
     machine: M,
@@ -186,10 +186,10 @@ impl<M: Encode> Book<M> {
         })
     }
 
-    /// A book is lawful at every moment, and its machine is a step machine. States count as one exactly if they are
-    /// equal, with exact merging, or alike, by names, and a test decides which do. States that count as one step alike
-    /// and have the same findings. An entry that stands for a state stands for all that this reaches within the steps
-    /// that are worked out.
+    /// A book is lawful at every moment, and its machine is a step machine. With exact merging, states count as one
+    /// exactly if they are equal; by names, exactly if they are alike. A test decides which do. States that count as
+    /// one step alike and have the same findings. Where an entry stands for a state, some entry stands for each state
+    /// that this one reaches within the steps that are worked out.
     pub fn law(&self)
         ensures law { IsLawfulIn M.rules self.now }
         ensures machine { IsMachine (machine_in M.rules self.now) }
@@ -242,8 +242,9 @@ impl<M: Encode> Book<M> {
         Ok(Some((id, state)))
     }
 
-    /// Takes at once all entries that `take` would give one after the other: the open ones of the fewest steps of those
-    /// that are not expanded, each by its number and its state, in their order. After a refusal none is taken.
+    /// Takes at once all entries that `take` would return one after the other: the open ones among those of the fewest
+    /// steps that are not expanded. It returns the number and the state of each, in order. After a refusal none is
+    /// taken.
     pub fn take_layer(&mut self) -> Result<Vec<(usize, Arc<State<M>>)>, OutOfMemory>
         ensures taken { IfOk result
             (λ layer. TakesLayer (machine_in M.rules self.old).steps self.old.entries self.new.entries layer.items) }
@@ -261,7 +262,7 @@ impl<M: Encode> Book<M> {
         Ok(layer)
     }
 
-    /// How many steps lead to an entry, counted along its origin and those before it.
+    /// How many steps reach an entry, counted back along its origin and those before it.
     fn steps_to(&self, id: usize) -> u64
         requires { id < length self.now.entries }
         ensures { (e : Entry (State M M.Mem M.Loc M.Form)) × At self.now.entries id e × (e.state.steps ≡ result) }
@@ -275,7 +276,8 @@ impl<M: Encode> Book<M> {
         steps
     }
 
-    /// The number of the first entry of more than so many steps, or the number of entries. Step counts never fall.
+    /// The number of the first entry with more than `steps` steps, or the number of entries if there is none. Step
+    /// counts never fall from one entry to the next.
     fn first_above(&self, steps: u64) -> usize
         ensures below { (i : ℕ) (e : Entry (State M M.Mem M.Loc M.Form)) → At self.now.entries i e → i < result
             → e.state.steps ≤ steps }

@@ -7,8 +7,8 @@ use sched_program::OutOfMemory;
 use std::alloc::Global;
 use tree_machine::{CodeOffsets, Encode, State};
 
-/// A state that was decoded, with the label that it was decoded from and the places where the parts
-/// of that begin. The state stands in a box, since it is passed on for each entry.
+/// A decoded state, with the label that it was decoded from and the offsets of that label's parts.
+/// The state is in a box, since it is passed on for each entry.
 #[derive(Drop)]
 pub(crate) struct Decoded<M: Encode> {
     pub(crate) state: Box<State<M>>,
@@ -17,9 +17,9 @@ pub(crate) struct Decoded<M: Encode> {
     pub(crate) ghost read: { AreOffsetsOf M.front_code M.behind_code label.items offsets state.value },
 }
 
-/// Reads the code of a state in the place of another one. `last` is that one's own code with the
-/// places where its parts begin, if they are known: then its memory is decoded only where the new
-/// code has another one. States that are read one after the other mostly have one memory.
+/// Decodes the code of a state into the place of another one. `last` is that one's own code with
+/// the offsets of its parts, if they are known: then the memory is decoded only where the new code
+/// has a different one. States that are decoded one after the other mostly have the same memory.
 #[inline(always)]
 fn read_code<M: Encode>(
     alloc: Global,
@@ -38,9 +38,9 @@ fn read_code<M: Encode>(
     }
 }
 
-/// Decodes a label in the place of another state, whose own code may be known. What it reads counts
+/// Decodes a label into the place of another state, whose own code may be known. The result counts
 /// as one with each state that has this label in a book of either merge. It may always return none:
-/// then, and after a refusal of memory, that place is of no use but to be read into.
+/// then, and after a refusal of memory, that place may only be decoded into again.
 pub(crate) fn read_state<M: Encode>(
     alloc: Global,
     machine: M,
@@ -57,8 +57,8 @@ pub(crate) fn read_state<M: Encode>(
     Ok(read)
 }
 
-/// Decodes a label as `read_state` does, and copies it into the list that holds the other state's
-/// own code, if it is known where the parts of that begin.
+/// Decodes a label as `read_state` does, and copies it into `list`. If `known` is given, `list`
+/// holds the other state's own code, whose parts have these offsets.
 pub(crate) fn decode<M: Encode>(
     alloc: Global,
     machine: M,

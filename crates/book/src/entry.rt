@@ -18,7 +18,7 @@ pub enum Mark {
     Expanded,
 }
 
-/// The entry and the thread whose step an entry is.
+/// The step that reached an entry: the entry that it was taken from, and the thread that took it.
 #[derive(Clone, Copy, Debug, PartialEq, Eq)]
 pub struct Origin {
     /// The number of the entry.
@@ -27,7 +27,7 @@ pub struct Origin {
     pub thread: u8,
 }
 
-/// The number of a parent that stands for none.
+/// The parent number that means no parent.
 const NO_PARENT: u32 = u32::MAX;
 
 /// What a book keeps of an entry beside its label, in 20 bytes, since there is one for each state. Contracts see the
@@ -93,7 +93,7 @@ impl<S> Row<S> {
         &self.finding
     }
 
-    /// The step that the entry is, if it is one.
+    /// The step that reached the entry, if it has one.
     pub fn origin(&self) -> Option<Origin>
         ensures { result ≡ self.now.origin }
     {

@@ -52,8 +52,8 @@ impl<'a, M: Encode> Model for TakenEntry<'a, M> {
     }) };
 }
 
-/// An entry with all enabled steps of its state, in the order of the threads, each by the label of
-/// where it leads and with what was found there.
+/// An entry with all enabled steps of its state, in the order of the threads. Each has the label
+/// and the finding of the state that it reaches.
 #[derive(Drop)]
 pub struct ExpandedEntry<'a, M: Encode> {
     pub(crate) id: usize,
@@ -93,8 +93,8 @@ impl<'a, M: Encode> Model for ExpandedEntry<'a, M> {
 }
 
 impl<'a, M: Encode> TakenEntry<'a, M> {
-    /// Makes the steps of the entry's state in what is decoded from its label. None where the entry
-    /// is not sound, or its label can't be decoded.
+    /// Makes the steps of the entry's state in a state decoded from its label. None if the entry is
+    /// not sound, or its label can't be decoded.
     #[inline(always)]
     pub fn expand(
         self,

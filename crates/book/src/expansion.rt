@@ -18,8 +18,8 @@ use std::marker::Model;
 use tree_machine::{Bytes, Encode, EncodeBuffer, Naming, State, StepFault};
 
 /// A state with the step of each enabled thread, in the order of the threads, each with its
-/// finding. It has the bytes of the state besides, by which a book that merges exactly knows whose
-/// expansion it is without a request for memory.
+/// finding. It also holds the bytes of the state: by them a book that merges exactly knows whose
+/// expansion it is without allocating.
 #[derive(Drop)]
 pub struct Expansion<'a, M: Encode> {
     machine: M,
@@ -54,7 +54,8 @@ impl<'a, M: Encode> Model for Expansion<'a, M> {
         × (x.code ≡ state_code M.whole_code x.source.now) };
 }
 
-/// Puts the step of a thread, if it is enabled, behind those in a list. It is judged from nothing.
+/// Appends the step of a thread to a list, if the thread is enabled. The step is judged from
+/// scratch.
 fn put_step<M: Encode>(
     alloc: Global,
     machine: M,
@@ -86,8 +87,8 @@ fn put_step<M: Encode>(
 }
 
 impl<'a, M: Encode> Expansion<'a, M> {
-    /// Takes each enabled step of a state, and judges where it leads from nothing. A book labels
-    /// them when it enters the expansion.
+    /// Takes each enabled step of a state, and judges the state that it reaches from scratch. A
+    /// book labels the steps when it enters the expansion.
     pub fn of(
         alloc: Global,
         machine: M,
@@ -140,7 +141,7 @@ impl<'a, M: Encode> Expansion<'a, M> {
         self.is_with(machine, program) && self.code.as_slice() == code
     }
 
-    /// Its steps by the labels of where they lead, for a book that merges so.
+    /// Its steps, each with the label of the state that it reaches, for a book with this merge.
     pub(crate) fn labelled(
         &self,
         alloc: Global,

@@ -1,4 +1,4 @@
-//! Book files: the text of a closed book, and whether lines, whoever wrote them, show that every schedule leads to a
+//! Book files: the text of a closed book, and whether lines, whoever wrote them, show that every schedule reaches a
 //! correct state.
 
 mod check;

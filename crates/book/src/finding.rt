@@ -33,7 +33,7 @@ impl Finding {
     }
 }
 
-/// The fault that a state shows without its history, if it shows one.
+/// The fault that a state shows apart from its history, if it shows one.
 pub(crate) fn fault_in<M: Encode>(machine: M, state: &State<M>) -> Option<Finding>
     requires { (M.rules machine).IsInRange state.now.memory }
     ensures some { IfSome result (λ fault. (program : Program)
@@ -64,7 +64,8 @@ pub(crate) fn judge_anew<M: Encode>(
     judge_order(alloc, program, &history)
 }
 
-/// The finding of a state that shows no fault without its history, which is judged from nothing.
+/// The finding of a state that shows no fault apart from its history. The history is judged from
+/// scratch.
 pub(crate) fn judged<M: Encode>(
     alloc: Global,
     machine: M,
@@ -75,7 +76,7 @@ pub(crate) fn judged<M: Encode>(
     requires shown { (state.now.astray ≡ None) × (M.rules machine).IsOrdered state.now.memory }
     ensures { IfOk result (IsFindingOf (M.rules machine) program.now state.now) }
 {
-    // The machine is of use to contracts alone.
+    // Only contracts use the machine.
     let _ = machine;
     match judge_anew(alloc, program, state)? {
         None => Ok(Finding::History),
@@ -83,7 +84,7 @@ pub(crate) fn judged<M: Encode>(
     }
 }
 
-/// The finding of a state, judged from nothing.
+/// The finding of a state, judged from scratch.
 pub(crate) fn find<M: Encode>(
     alloc: Global,
     machine: M,

@@ -15,9 +15,9 @@ use std::alloc::Global;
 use std::snapshot::Snapshot;
 use tree_machine::{CodeOffsets, Encode, State, StepFault, StepOrigin};
 
-/// Puts the step of a thread, if it is enabled, behind those in a list, with its finding and its
-/// label. The step is made in what was decoded from a sound entry's label, and taken back. What is
-/// put is right for each state that has this label.
+/// Appends the step of a thread to a list, if the thread is enabled, with its finding and its label. The step is made
+/// in a state decoded from a sound entry's label, and taken back. The appended step is right for each state that has
+/// this label.
 #[inline(always)]
 fn put_step_here<M: Encode>(
     from: &TakenEntry<'_, M>,
@@ -67,9 +67,9 @@ fn put_step_here<M: Encode>(
     Ok(())
 }
 
-/// The enabled steps of a sound entry's state, in the order of the threads, each with its finding, and labelled as
-/// the entry is: those of each state that has its label. They are made in what was decoded from that, and taken
-/// back. After a refusal that place is of no use but to be decoded into.
+/// The enabled steps of a sound entry's state, in the order of the threads, each with its finding and with a label of
+/// the entry's merge. They are the steps of each state that has the entry's label. They are made in a state decoded
+/// from that label, and taken back. After a refusal that state may only be decoded into again.
 pub(crate) fn steps_here<M: Encode>(
     alloc: Global,
     from: &TakenEntry<'_, M>,

@@ -13,8 +13,8 @@ use std::hash::{FoldHasher, Hash, Hasher};
 use std::marker::Model;
 use tree_machine::Bytes;
 
-/// The label of a state: its bytes, with their hash. The hash is made once, by whoever makes the
-/// label, so that a map that looks for the label under a lock hashes one number. Contracts see the
+/// The label of a state: its bytes, with their hash. The hash is computed once, when the label is
+/// made, so that a map that looks for the label under a lock hashes one number. Contracts see the
 /// bytes.
 #[derive(Drop)]
 pub struct Label {

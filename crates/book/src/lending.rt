@@ -15,7 +15,7 @@ use sched_program::{OpId, OutOfMemory, Program};
 use std::alloc::Global;
 use tree_machine::{Encode, ShortNote, State, StepOrigin, Thread};
 
-/// The operation that a thread has ended since it stood so, with its reply, if it ended one.
+/// The operation that a thread has ended since `was`, with its reply, if it ended one.
 fn reply_since<M: Encode>(was: &Thread<M::Loc>, next: &State<M>, thread: u8) -> Option<(OpId, bool)>
     ensures { MatchOption result
         ((b : Standing M.Loc) → slice_get next.now.threads thread ≡ Some b
@@ -59,8 +59,8 @@ fn is_last<M: Encode>(state: &State<M>, name: OpId) -> bool
     true
 }
 
-/// The fault that a step shows without its history, if it shows one. Where it left the memory as it
-/// was, that keeps search order as before.
+/// The fault that a step shows apart from its history, if it shows one. If `reads`, the step left
+/// the memory as it was, which still keeps search order.
 fn fault_here<M: Encode>(machine: M, next: &State<M>, reads: bool) -> Option<Finding>
     requires range { (M.rules machine).IsInRange next.now.memory }
     requires ordered { IsTrue reads → (M.rules machine).IsOrdered next.now.memory }
@@ -77,10 +77,10 @@ fn fault_here<M: Encode>(machine: M, next: &State<M>, reads: bool) -> Option<Fin
     None
 }
 
-/// The finding of a step that was made in the place of a sound source, whose order is lent. None
-/// where the order stands as it is, since the step ended no operation. If it ended one, that order
-/// with the operation behind it serves, where the operation replied what it replies there. Only
-/// where it did not is the history made and judged anew.
+/// The finding of a step that was made in the place of a sound source, which lends its order. None
+/// if the step ended no operation, so that the order holds as it is. If it ended one, the order is
+/// reused with that operation in it, where the operation replied what it replies there. Only
+/// otherwise is the history built and judged from scratch.
 #[inline(always)]
 pub(crate) fn find_here<M: Encode>(
     alloc: Global,

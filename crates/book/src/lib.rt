@@ -1,5 +1,5 @@
-//! The book of the states of a bounded exploration, each with the step that led to it and what was found of it, the
-//! text of a closed book and the check of any such text, and the replay of a schedule.
+//! The book of the states of a bounded exploration, each with the step that reached it and its finding; the text of a
+//! closed book and the check of any such text; and the replay of a schedule.
 #![tactic(auto)]
 
 mod book;

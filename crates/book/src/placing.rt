@@ -1,4 +1,4 @@
-//! Steps put into the entries of a book.
+//! Steps inserted into the entries of a book.
 ghost use Rattle.std.specs.Prelude.{◌≡◌, ◌<◌, ◌++◌, ◌∷◌, [], map, IsSome, OnOk};
 ghost use Rattle.std.specs.List.{All};
 ghost use Rattle.tree_machine.specs.Step.{step};
@@ -18,7 +18,7 @@ use sched_program::Program;
 use std::alloc::AllocError;
 use tree_machine::{Encode, State};
 
-/// Puts in an open row for a step of an entry, if its label is new. Else the label is recycled.
+/// Inserts an open row for a step of an entry, if its label is new. Otherwise the label is recycled.
 fn put_step<M: Encode>(
     slots: &mut IndexMap<Label, Row<State<M>>>,
     machine: M,
@@ -49,8 +49,8 @@ fn put_step<M: Encode>(
     Ok(())
 }
 
-/// Puts in, in their order, open rows for the steps of an entry that lead to new states. The labels of the others are
-/// recycled, and so is the list that the steps lay in.
+/// Inserts, in order, open rows for the steps of an entry that reach new states. The labels of the other steps are
+/// recycled, and so is the list of the steps.
 pub(crate) fn put_steps<M: Encode>(
     slots: &mut IndexMap<Label, Row<State<M>>>,
     machine: M,

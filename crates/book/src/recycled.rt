@@ -1,4 +1,4 @@
-//! Memory that serves again.
+//! Memory that is reused.
 ghost use Rattle.std.specs.Prelude.{◌≡◌, ◌≤◌, [], IfOk, vec_capacity};
 
 use crate::label::Label;
@@ -6,14 +6,14 @@ use crate::successor::Successor;
 use sched_program::OutOfMemory;
 use std::alloc::Global;
 
-/// Lists that serve again: those in which the labels of known states lay, and those in which steps
-/// lay. Under the lock of a book nothing asks for memory but the book, and nothing is freed: what
-/// has no room here is dropped.
+/// Lists to reuse: those that held the labels of known states, and those that held steps. Under the
+/// lock of a book only the book allocates, and nothing is freed but lists that have no room here,
+/// which are dropped.
 #[derive(Drop)]
 pub struct Recycled {
-    /// Lists that labels lay in.
+    /// Lists that held labels.
     labels: Vec<Vec<u8>>,
-    /// Lists that steps lay in. Their memory alone is of use.
+    /// Lists that held steps. Only their memory is reused.
     lists: Vec<Vec<Successor<Label>>>,
 }
 
@@ -26,7 +26,7 @@ impl Recycled {
         }
     }
 
-    /// Asks for room for so many more labels and lists.
+    /// Reserves room for `labels` more labels and `lists` more lists.
     pub(crate) fn reserve(&mut self, labels: usize, lists: usize) -> Result<(), OutOfMemory> {
         self.labels.reserve(labels)?;
         self.lists.reserve(lists)?;
@@ -55,8 +55,7 @@ impl Recycled {
         }
     }
 
-    /// A list for steps, with nothing in it and room for so many: one that it keeps, or else a new
-    /// one.
+    /// An empty list with room for `steps` steps: one that it keeps, or else a new one.
     pub(crate) fn list(
         &mut self,
         alloc: Global,

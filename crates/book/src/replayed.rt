@@ -1,11 +1,11 @@
-//! What a replay answers.
+//! What a replay returns.
 ghost use Rattle.std.specs.Prelude.{◌≡◌};
 
 use crate::finding::Finding;
 use sched_program::OutOfMemory;
 use tree_machine::{Encode, State};
 
-/// What a schedule leads to.
+/// The state that a schedule reaches, with its finding.
 #[derive(Drop)]
 pub struct Replay<M: Encode> {
     /// The last state.

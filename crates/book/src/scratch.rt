@@ -1,4 +1,4 @@
-//! What steps are made in, used again from one state to the next.
+//! The memory that steps are made in, reused from one state to the next.
 ghost use Rattle.std.specs.Prelude.{IfOk, IfSome};
 ghost use Rattle.book.specs.Decoding.{IsRead};
 
@@ -8,8 +8,8 @@ use sched_program::{OutOfMemory, Program};
 use std::alloc::Global;
 use tree_machine::{Encode, EncodeBuffer, State, Undo};
 
-/// What one worker makes expansions in, or a check the steps of entries: a state to read others
-/// into, a buffer for labels, what takes steps back, and lists that serve again.
+/// What one worker makes expansions in, or a check the steps of entries: a state to decode others
+/// into, a buffer for labels, what takes steps back, and lists to reuse.
 #[derive(Drop)]
 pub struct Scratch<M: Encode> {
     pub(crate) buffer: EncodeBuffer,
@@ -56,8 +56,9 @@ impl<M: Encode> Scratch<M> {
         decode(alloc, machine, label, state, own, Some(offsets))
     }
 
-    /// What entering steps under a lock leaves over goes here: it asks for room for the labels of so
-    /// many more steps, and for the lists and the labels of so many entries.
+    /// Returns the place for what entering steps under a lock leaves over. It first reserves room
+    /// there for the labels of `steps` more steps, and for the lists and the labels of `entries`
+    /// entries.
     pub fn recycled(&mut self, steps: usize, entries: usize) -> Result<&mut Recycled, OutOfMemory> {
         self.spare.reserve(steps.saturating_add(entries), entries)?;
         Ok(&mut self.spare)

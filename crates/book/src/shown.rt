@@ -36,7 +36,7 @@ impl<S> Shown<S> {
         Shown::any(value)
     }
 
-    /// The same value.
+    /// Another `Shown` of this value.
     pub fn copy(&self) -> Shown<S>
         ensures { result.value ≡ self.now.value }
     {
@@ -55,7 +55,7 @@ impl<S> Drop for Shown<S> {
     }
 }
 
-/// The step that a thread of a shown state has.
+/// The state that the step of a thread reaches from a shown state.
 pub fn shown_step<M: Encode>(
     machine: M,
     program: &Program,

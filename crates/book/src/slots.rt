@@ -7,7 +7,7 @@ use indexmap::IndexMap;
 use std::alloc::AllocError;
 use std::hash::Hash;
 
-/// Puts a value in if its key is new. Else the key is given back.
+/// Inserts a value if its key is new. Otherwise it returns the key.
 pub fn put_new<K: Eq + Hash + Drop, V: Drop>(
     slots: &mut IndexMap<K, V>,
     key: K,

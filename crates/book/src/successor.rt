@@ -1,4 +1,4 @@
-//! Steps, and the labels by which a book looks for the states that they lead to.
+//! Steps, and the labels by which a book looks up the states that they reach.
 ghost use Rattle.std.specs.Prelude.{◌≡◌, IfOk};
 ghost use Rattle.tree_machine.specs.Step.{Fits};
 ghost use Rattle.book.specs.Labels.{label_by};
@@ -9,20 +9,19 @@ use crate::label::Label;
 use sched_program::{OutOfMemory, Program};
 use tree_machine::{Encode, EncodeBuffer, State};
 
-/// The step of a thread: the state that it leads to, or the label of that state, and what was found
-/// of it.
+/// The step of a thread: the state that it reaches, or the label of that state, and its finding.
 #[derive(Drop)]
 pub struct Successor<T> {
     /// The number of the thread.
     pub thread: u8,
-    /// Where the step leads.
+    /// The state that the step reaches, or its label.
     pub state: T,
-    /// What was found there.
+    /// The finding of that state.
     pub finding: Finding,
 }
 
-/// The label of a state of a program, for a book that merges so. It is written in the buffer and
-/// copied into the spare list.
+/// The label of a state of a program, for a book with this merge. It is encoded in `buffer` and
+/// copied into `spare`.
 pub(crate) fn label<M: Encode>(
     machine: M,
     program: &Program,

@@ -1,4 +1,4 @@
-//! The entries by number and by label, and the places among them that are looked for again and again.
+//! The entries by number and by label, and cursors to those that are looked for again and again.
 ghost use Rattle.std.specs.Prelude.{◌≡◌, ℕ, ◌+◌, ◌-◌, ◌^◌, ◌<◌, ◌≤◌, ◌++◌, ◌∷◌, ◌⊎◌, [], count_by, length, map, not};
 ghost use Rattle.std.specs.Prelude.{position, true, OnOk, OnErr, IfOk, IfErr, IfSome, Some, None, IsSome};
 ghost use Rattle.std.specs.Prelude.{List, slice_get};
@@ -154,8 +154,8 @@ impl<S> Table<S> {
         slot_at(&self.slots, index).0.as_slice()
     }
 
-    /// Looks for the labels of steps, one right after the other, so that what there is of them comes into the
-    /// processor's caches all at once. It returns how many there are, only so that the look-ups are made.
+    /// Looks up the labels of steps one right after the other, so that what the table has of them comes into the
+    /// processor's caches together. It returns how many it finds, only so that the look-ups are made.
     pub fn prefetch(&self, steps: &[Successor<Label>]) -> usize {
         let mut there = 0usize;
         for step in steps {
@@ -220,7 +220,7 @@ impl<S> Table<S> {
         self.next_open = end;
     }
 
-    /// The step that an entry is.
+    /// The parent and the thread of the step that reached an entry, if it has one.
     pub fn origin(&self, index: usize) -> Option<Origin>
         requires { index < length self.now.entries }
         ensures { (e : Entry S) × At self.now.entries index e × (e.origin ≡ result) }
@@ -228,7 +228,7 @@ impl<S> Table<S> {
         self.entry(index).origin()
     }
 
-    /// How many entries there are, and how many are marked each way, with so many steps that led to known states.
+    /// How many entries there are, and how many have each mark. `met` is the number of steps that reached known states.
     pub fn totals(&self, met: usize) -> Totals
         requires { 1 ≤ length self.now.entries }
         ensures { result ≡ record {
@@ -287,8 +287,8 @@ impl<S> Table<S> {
 }
 
 impl<M: Encode> Table<State<M>> {
-    /// Appends, in their order, open entries for the steps of an entry that lead to new states, or,
-    /// if they have no room or memory is refused, none.
+    /// Appends, in order, open entries for the steps of an entry that reach new states. If there is no room for them,
+    /// or memory is refused, it appends none.
     pub fn append(
         &mut self,
         machine: M,

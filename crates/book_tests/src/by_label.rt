@@ -31,7 +31,7 @@ pub fn steps_by_label<'a, M: Encode>(
     }
 }
 
-/// Enters an entry's steps. What is left over serves the scratch again.
+/// Enters an entry's steps. The scratch reuses what is left over.
 pub fn enter_steps<M: Encode>(
     book: &mut Book<M>,
     steps: ExpandedEntry<'_, M>,
@@ -79,7 +79,7 @@ fn expand_layer<M: Encode>(
     Ok(())
 }
 
-/// Expands so many layers, with one scratch.
+/// Expands `layers` layers, with one scratch.
 pub fn expand_layers<M: Encode>(
     alloc: Global,
     book: &mut Book<M>,

@@ -34,7 +34,7 @@ static PASSING: [Case; 4] = [
     ),
 ];
 
-/// Files of the two inserts in the form of which something is amiss.
+/// Files of the two inserts that are in the form, but are wrong.
 static AMISS: [Case; 10] = [
     (
         "treesched book 1 entries 5\n- - -\n0 0 0.0\n0 1 1.0\n1 1 1.0,0.0\n2 0 1.0,0.0\n",
@@ -176,7 +176,7 @@ static MISFORMED: [Case; 27] = [
 const ONE_INSERT: &str =
     r#"{"version":1,"tree":"nm","initial":[],"threads":[[{"op":"insert","key":5}]]}"#;
 
-/// Files of one insert on a tree: while it is pending, it may stand in the order or not.
+/// Files of one insert on a tree: while it is pending, it may be in the order or not.
 static OF_A_TREE: [Case; 3] = [
     ("treesched book 1 entries 3\n- - -\n0 0 -\n1 0 0.0\n", Ok(3)),
     (
@@ -195,7 +195,7 @@ static ASTRAY: [Case; 1] = [(
     Err(CheckFault::Fault(4)),
 )];
 
-/// A machine with the program of which files are judged.
+/// A machine, with the program whose files are judged.
 #[derive(Clone, Copy)]
 pub enum Subject {
     /// The two inserts.
@@ -222,14 +222,14 @@ impl Subject {
         }
     }
 
-    /// What the check of a text answers.
+    /// What the check of a text returns.
     fn answer(self, alloc: Global, text: &str) -> Result<Result<usize, CheckFault>, Broken> {
         let program = program_of(alloc, self.program())?;
         Ok(self.check(alloc, &program, text.as_bytes()))
     }
 }
 
-/// Whether the check of a text answers so.
+/// Whether the check of a text returns this answer.
 pub fn is_answer(
     alloc: Global,
     subject: Subject,

@@ -1,7 +1,7 @@
 //! Programs, their books, and steps that are entered into these.
 //!
-//! A book is held in a box: whoever lets it go makes one call, and not one for each of its lists,
-//! which keeps the proofs short.
+//! A book is held in a box: dropping it takes one call, and not one for each of its lists, which
+//! keeps the proofs short.
 ghost use Rattle.std.specs.Prelude.{◌≡◌, ◌+◌, ◌^◌, ◌<◌, ◌≤◌, IfOk};
 ghost use Rattle.book.specs.Findings.{IsFindingOf};
 ghost use Rattle.tree_machine.specs.Step.{Fits};
@@ -218,7 +218,7 @@ pub fn expand_next<M: Encode>(alloc: Global, book: &mut Book<M>) -> Result<Enter
     enter_under(alloc, book, id, &state)
 }
 
-/// Takes so many entries, one after the other, and enters the steps of each.
+/// Takes `entries` entries, one after the other, and enters the steps of each.
 pub fn expand<M: Encode>(alloc: Global, book: &mut Book<M>, entries: usize) -> Result<(), Broken> {
     for _entry in 0..entries {
         expand_next(alloc, book)?;
@@ -226,7 +226,7 @@ pub fn expand<M: Encode>(alloc: Global, book: &mut Book<M>, entries: usize) -> R
     Ok(())
 }
 
-/// The book of the two inserts, with the steps of so many entries.
+/// The book of the two inserts, with `entries` entries expanded.
 pub fn expanded(alloc: Global, merge: Merge, entries: usize) -> Result<Box<Book<Atomic>>, Broken> {
     let mut book = open(alloc, Atomic, TWO_INSERTS, 100, merge)?;
     expand(alloc, &mut *book, entries)?;
@@ -251,7 +251,7 @@ pub fn is_way<M: Encode>(
     Ok(way_of(alloc, book, entry)?.as_slice() == way)
 }
 
-/// What a schedule of a program leads to.
+/// What a schedule of a program reaches.
 pub fn replayed<M: Encode>(
     alloc: Global,
     machine: M,

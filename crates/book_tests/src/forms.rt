@@ -53,7 +53,7 @@ static MISFORMED: [&str; 32] = [
     "0 0 0.",
 ];
 
-/// Whether a file of two entries, the second of which has this line, is refused for this.
+/// Whether a file of two entries, where the second has this line, is refused for this.
 fn is_refused(alloc: Global, line: &str, fault: CheckFault) -> Result<bool, Broken> {
     let text = format!(in alloc; "treesched book 1 entries 2\n- - -\n{line}\n")?;
     is_answer(alloc, Subject::Inserts, text.as_str(), Err(fault))

@@ -14,8 +14,8 @@ use std::alloc::Global;
 use std::test::Fail;
 use tree_machine::{Atomic, Encode};
 
-/// What entering each entry of the two inserts comes to, in their order: the start leads to two
-/// states, each of these to one, which are not the same, and these to none.
+/// How many states each entry of the two inserts adds, in their order: the start adds two, each of
+/// these adds a different one, and the last two add none.
 const COUNTS: [usize; 5] = [2, 1, 1, 0, 0];
 
 /// The totals once all are expanded.
@@ -28,7 +28,7 @@ const ALL_EXPANDED: Totals = Totals {
     met: 0,
 };
 
-/// The linearization of each entry: each step's operation stands behind those of its source.
+/// The linearization of each entry: each step's operation comes behind those of its source.
 const ORDERS: [&[OpId]; 5] = [&[], &[ZERO], &[ONE], &[ZERO, ONE], &[ONE, ZERO]];
 
 /// Whether these are the linearizations of the entries, one by one.
@@ -42,8 +42,8 @@ fn have_orders(book: &Book<Atomic>) -> bool {
     book.len() == ORDERS.len()
 }
 
-/// Takes the next entry and enters its steps, made from its label: whether so many are new, and
-/// none known.
+/// Takes the next entry and enters its steps, made from its label. Whether `count` of them are new,
+/// and none is known.
 fn enters_next(
     alloc: Global,
     book: &mut Book<Atomic>,

@@ -16,7 +16,7 @@ const WHOLE: Totals = Totals {
     met: 0,
 };
 
-/// Whether a finding is a linearization of so many operations.
+/// Whether a finding is a linearization of `length` operations.
 fn is_order_of(finding: Option<&Finding>, length: usize) -> bool {
     let Some(finding) = finding else {
         return false;
@@ -72,7 +72,7 @@ const CLOSED: [(Merge, usize, bool); 3] = [
     (Merge::Exact, 5, false),
 ];
 
-/// Whether the book with the steps of so many entries is closed.
+/// Whether the book with `entries` entries expanded is closed.
 fn is_closed(alloc: Global, merge: Merge, entries: usize) -> Result<bool, Broken> {
     Ok(expanded(alloc, merge, entries)?.closed())
 }

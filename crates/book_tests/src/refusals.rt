@@ -1,5 +1,5 @@
-//! Entries with their steps that a book refuses. It is as it was then, and enters the steps of its
-//! own.
+//! Entries with their steps that a book refuses. The refusal leaves the book as it was, and it then
+//! enters the steps of its own.
 ghost use Rattle.std.specs.Prelude.{◌≡◌, OnOk};
 ghost use Rattle.book.specs.ByLabel.{IsOf};
 
@@ -15,7 +15,7 @@ use std::alloc::Global;
 use std::test::Fail;
 use tree_machine::{Atomic, Encode};
 
-/// Enters an entry's steps, with no room for what is left over.
+/// Enters an entry's steps, with no memory kept for reuse.
 fn enter<M: Encode>(
     alloc: Global,
     book: &mut Book<M>,
@@ -42,7 +42,8 @@ fn refuses<M: Encode>(
     Ok(is_broken(answer, fault)? && before.is_of(alloc, book)?)
 }
 
-/// Takes the start, makes its steps twice, and enters them: whether the others are refused then.
+/// Takes the start, makes its steps twice, and enters the first ones. Whether the second ones are
+/// refused then.
 fn enters_the_start_once(alloc: Global, book: &mut Book<Atomic>) -> Result<bool, Broken> {
     let mut scratch = Scratch::new(alloc);
     let id = take_number(book)?;
@@ -68,8 +69,8 @@ fn an_entry_with_its_steps_is_entered_once(rt: HostRuntime) -> Result<(), Fail> 
     Ok(())
 }
 
-/// Whether a book of the machine and the program of another one refuses the steps of that one's
-/// entry of this number for this.
+/// Whether a book refuses, for this fault, the steps of another book's entry of this number. Both
+/// books are of one machine and one program.
 fn refuses_of<M: Encode>(
     alloc: Global,
     book: &mut Book<M>,
@@ -197,7 +198,7 @@ fn steps_of_another_merge_or_label_are_refused(rt: HostRuntime) -> Result<(), Fa
 }
 
 /// How many entries the book of the two finds may have, how many of them are expanded, and what
-/// comes of the steps of the next. The step that leads to a known state needs no room.
+/// comes of the steps of the next. A step to a known state needs no room.
 const LIMITS: [(usize, usize, Result<Entered, Broken>); 4] = [
     (2, 0, Err(Broken::Full)),
     (3, 0, Ok(BOTH_NEW)),
@@ -221,7 +222,7 @@ fn comes_to(
     }
 }
 
-/// Expands so many entries, and takes the next: whether entering its steps comes to this.
+/// Expands `entries` entries, and takes the next one. Whether entering its steps comes to this.
 fn comes_to_next(
     alloc: Global,
     book: &mut Book<Ellen>,

@@ -46,7 +46,7 @@ pub fn is_order(finding: &Finding, order: &[OpId]) -> bool {
     }
 }
 
-/// Whether a replay of so many steps comes to this.
+/// Whether a replay of `steps` steps comes to this.
 fn has_end(replay: &Replay<Atomic>, steps: u64, end: End) -> bool {
     match end {
         Ok(order) => is_order(&replay.finding, order) && replay.state.steps() == steps,
@@ -54,7 +54,7 @@ fn has_end(replay: &Replay<Atomic>, steps: u64, end: End) -> bool {
     }
 }
 
-/// What a schedule of the two inserts leads to.
+/// What a schedule of the two inserts reaches.
 fn end_of(alloc: Global, schedule: &[u8]) -> Result<Box<Replay<Atomic>>, Broken> {
     let program = program_of(alloc, TWO_INSERTS)?;
     replayed(alloc, Atomic, &program, schedule)

@@ -29,7 +29,7 @@ enum Subject {
 const NO_MARK_PROGRAM: &str =
     r#"{"version":1,"tree":"ellen-no-mark","initial":[10],"threads":[[{"op":"delete","key":10}],[{"op":"insert","key":5},{"op":"find","key":5}]]}"#;
 
-/// A subject, how many states at most so many steps reach, and the number of steps of the first
+/// A subject, how many states at most `steps` steps reach, and the number of steps of the first
 /// with a fault.
 struct Row {
     subject: Subject,
@@ -73,7 +73,7 @@ fn is_fault<M: Encode>(book: &Book<M>, id: usize) -> bool {
     }
 }
 
-/// Whether the first fault of a book comes after so many steps.
+/// Whether the first fault of a book comes after `steps` steps.
 fn has_fault_after<M: Encode>(
     alloc: Global,
     book: &Book<M>,
@@ -85,7 +85,7 @@ fn has_fault_after<M: Encode>(
     }
 }
 
-/// Whether a book has as many states as the row says, where it merges exactly, and its fault.
+/// Whether a book has the number of states of the row, where it merges exactly, and the row's fault.
 fn is_as_said<M: Encode>(alloc: Global, book: &Book<M>, row: &Row) -> Result<bool, Broken> {
     let is_counted = book.merge() == Merge::Names || book.len() == row.states;
     Ok(is_counted && has_fault_after(alloc, book, row.fault)?)
@@ -103,7 +103,7 @@ fn is_by_states<M: Encode>(
 }
 
 /// Expands the layers of a book by the labels of its entries. Whether it becomes what the row says,
-/// and is as another that is expanded by their states.
+/// and shows the same as another that is expanded by their states.
 fn is_same_by_states<M: Encode>(
     alloc: Global,
     book: &mut Book<M>,
@@ -114,7 +114,7 @@ fn is_same_by_states<M: Encode>(
     Ok(is_as_said(alloc, book, row)? && is_by_states(alloc, book, other)?)
 }
 
-/// Whether the books of a machine and a program by labels and by states are one.
+/// Whether the books of a machine and a program by labels and by states are equal.
 fn are_one_on<M: Encode>(
     alloc: Global,
     machine: M,
@@ -127,7 +127,7 @@ fn are_one_on<M: Encode>(
     is_same_by_states(alloc, &mut *book, &mut *other, row)
 }
 
-/// Whether the books of a row by labels and by states are one.
+/// Whether the books of a row by labels and by states are equal.
 fn are_one(alloc: Global, merge: Merge, row: &Row) -> Result<bool, Broken> {
     match row.subject {
         Subject::Inserts => are_one_on(alloc, Atomic, TWO_INSERTS, merge, row),

@@ -83,7 +83,7 @@ fn takes_both_entries(
     Ok(!too_early && range == (1, 3) && both)
 }
 
-/// Takes neither the start, which is expanded, nor what there is not.
+/// Takes neither the start, which is expanded, nor an entry that does not exist.
 fn takes_no_other(
     alloc: Global,
     book: &mut Book<Atomic>,
@@ -132,7 +132,7 @@ static SUBJECTS: [(Ellen, &str, bool); 4] = [
     (ELLEN, OTHER_FINDS, false),
 ];
 
-/// Whether a book is of a machine and a program, as it says itself and as what it hands out says.
+/// Whether a book is of a machine and a program, as `is_of` says and as what it hands out says.
 fn is_book_of(book: &Book<Ellen>, machine: Ellen, program: &Program, is_of: bool) -> bool {
     let is_handed_out = book.machine() == machine && book.program().is_same(program);
     book.is_of(machine, program) == is_of && is_handed_out == is_of

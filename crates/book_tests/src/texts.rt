@@ -9,7 +9,7 @@ use tree_machine::Atomic;
 const TEXT: &str =
     "treesched book 1 entries 5\n- - -\n0 0 0.0\n0 1 1.0\n1 1 0.0,1.0\n2 0 1.0,0.0\n";
 
-/// Books of the two inserts, which are merged so and have the steps of so many entries, each with its text.
+/// Books of the two inserts: how states are merged, how many entries are expanded, and the text.
 static BOOKS: [(Merge, usize, Option<&str>); 3] = [
     (Merge::Names, 5, Some(TEXT)),
     (Merge::Names, 4, None),

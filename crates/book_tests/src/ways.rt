@@ -1,4 +1,4 @@
-//! The schedules that a book records, where several lead to one state.
+//! The schedules that a book records, where several reach one state.
 
 use crate::by_label::{enter_steps, steps_by_label};
 use crate::fixtures::{
@@ -13,20 +13,20 @@ use std::test::Fail;
 /// Entries and the ways to them, once the entries 0 and 1 are expanded.
 const FIRST_WAYS: &[(usize, &[u8])] = &[(0, &[]), (1, &[0]), (2, &[1]), (3, &[0, 0]), (4, &[0, 1])];
 
-/// The book of the two finds, with the steps of so many entries.
+/// The book of the two finds, with `entries` entries expanded.
 fn expanded(alloc: Global, merge: Merge, entries: usize) -> Result<Box<Book<Ellen>>, Broken> {
     let mut book = open(alloc, ELLEN, TWO_FINDS, 100, merge)?;
     expand(alloc, &mut *book, entries)?;
     Ok(book)
 }
 
-/// What a schedule of the two finds leads to.
+/// What a schedule of the two finds reaches.
 fn end_of(alloc: Global, schedule: &[u8]) -> Result<Box<Replay<Ellen>>, Broken> {
     let program = program_of(alloc, TWO_FINDS)?;
     replayed(alloc, ELLEN, &program, schedule)
 }
 
-/// Whether two schedules lead to one state.
+/// Whether two schedules reach one state.
 fn meet(alloc: Global, first: &[u8], second: &[u8]) -> Result<bool, Broken> {
     let one = end_of(alloc, first)?;
     let other = end_of(alloc, second)?;
@@ -48,7 +48,7 @@ fn records_first_ways(alloc: Global, merge: Merge) -> Result<bool, Broken> {
     has_first_ways(alloc, &book)
 }
 
-// The way to entry 4 turned round leads to the same state, and is not the one that was entered.
+// The reverse of the way to entry 4 reaches the same state, and is not the one that was entered.
 #[test]
 fn the_recorded_way_is_the_one_entered(rt: HostRuntime) -> Result<(), Fail> {
     let alloc = rt.alloc();
@@ -94,7 +94,7 @@ fn enters_by_state(
 }
 
 /// Takes the next entry and enters its steps, made from its label. Whether it is the entry of this
-/// number, they come to these counts, and the book knew as many states before.
+/// number, they come to these counts, and the prefetch finds the number of known states.
 fn enters_by_label(
     alloc: Global,
     book: &mut Book<Ellen>,
@@ -125,7 +125,7 @@ fn enters(
     }
 }
 
-/// A step of entry 2 leads to entry 4 again, and only the other one to a new entry.
+/// One step of entry 2 reaches entry 4 again, and only the other one a new entry.
 fn keeps_the_way(alloc: Global, book: &mut Book<Ellen>, making: Making) -> Result<bool, Broken> {
     for (number, counts) in [(0, BOTH_NEW), (1, BOTH_NEW), (2, ONE_NEW)] {
         if !enters(alloc, book, making, number, counts)? {

@@ -82,7 +82,7 @@ spent_at_most size (u ∷ us) h =
       spent_at_most size us (All-tail (FitsCounter size) u us h),
     )
 
--- a seat of several in one, not all of them told yet, leaves fewer told than there are seats
+-- where one view has fewer spent seats than seats, so have all views together
 spent_fewer : (size : Size) (views : List Draws) (id : ℕ) (v : Draws) → All (FitsCounter size) views
     → get_elem? views id ≡ some v → v.spent < v.seats → spent_of views < seats_of views
 spent_fewer size views id v h at less =
@@ -375,7 +375,7 @@ ends size id v s seen all =
       told = omega (arith, h.counted, drawn_length size n s.views h, whole.1);
     }
 
--- the same of a counter of that size, where the word was read
+-- what the last state says of that seat, for a counter of an equal size whose word was read
 pub ends_at : (key size : Size) (id : ℕ) (v : Draws) (s : State (Unit {0}) Draws) (word : ℕ)
     → Seen (TableHolds key) id v s → key ≡ size → v.seats ≡ size.seats → get_or s.words 0 0 ≡ word → Ended size word v
 ends_at key size id v s word seen is all read =

@@ -86,7 +86,7 @@ one_each claims (seat ∷ seats) h =
       one_each claims seats (All-tail (IsSeatOf claims) seat seats h),
     )
 
--- what a seat knows that was told that none is left
+-- a single seat that found none left, as its places and size give it
 pub told_seat : (seat : Draws) (size : Size) → seat.seats ≡ 1 → seat.spent ≡ 1 → seat.size ≡ size
     → seat ≡ draws 1 seat.places 1 size
 told_seat seat size single told knows =

@@ -9,7 +9,7 @@ use Rattle.claims.specs.declared.view.Size.{Size}
 abbrev pub places_of : List Draws → List ℕ
 places_of views = flat_map (λ seat. seat.places) views
 
--- how many seats were told that no place is left
+-- how many seats found no place left
 abbrev pub spent_of : List Draws → ℕ
 spent_of views = sum_by (λ seat. seat.spent) views
 
@@ -21,15 +21,15 @@ seats_of views = sum_by (λ seat. seat.seats) views
 abbrev pub below : ℕ → List ℕ
 below n = range_with_len 0 n
 
--- a seat that is several in one is told at most once for each, a seat that is none drew nothing, and a seat knows the
--- counter's size
+-- a seat that is several in one finds none left at most once for each, a seat that is none drew nothing, and a seat
+-- knows the counter's size
 pub record FitsCounter (size : Size) (seat : Draws) : Type 0 where
   pub told : seat.spent ≤ seat.seats
   pub idle : seat.seats ≡ 0 → seat.places ≡ []
   pub knows : 0 < seat.seats → seat.size ≡ size
 
 -- all lists together are the numbers below the smaller of the word and the length, each once, and the word counts the
--- places drawn and the seats told that none is left
+-- places drawn and the seats that found none left
 pub record ClaimsHold (size : Size) (word : ℕ) (views : List Draws) : Type 0 where
   pub drawn : IsPermutation (below (min word size.len)) (places_of views)
   pub counted : word ≡ length (places_of views) + spent_of views
@@ -40,11 +40,11 @@ pub record ClaimsHold (size : Size) (word : ℕ) (views : List Draws) : Type 0 w
 abbrev pub TableHolds : Size → State (Unit {0}) Draws → Type 0
 TableHolds size table = (length table.words ≡ 1) × ClaimsHold size (slice_index table.words 0) table.views
 
--- a seat that is so many in one and drew these places, and how many of them were told that none is left
+-- a seat that is `seats` in one, drew these places, and of which `spent` found none left
 abbrev pub draws : ℕ → List ℕ → ℕ → Size → Draws
 draws seats places spent size = record { seats = seats; places = places; spent = spent; size = size }
 
--- a seat that is so many in one and drew nothing
+-- a seat that is `seats` in one and drew nothing
 abbrev pub fresh : ℕ → Size → Draws
 fresh seats size = draws seats [] 0 size
 
@@ -52,8 +52,8 @@ fresh seats size = draws seats [] 0 size
 abbrev pub no_seat : Draws
 no_seat = fresh 0 (record { len = 0; seats = 0 })
 
--- a draw finds the number n: a place above all that the seat drew before, which goes to the end of its list, or the
--- seat is told that none is left
+-- a draw reads the number n: a place above all that the seat drew before, which goes to the end of its list, or a
+-- number that is no place, by which the seat finds none left
 pub record IsDraw (before : Draws) (n : ℕ) (after : Draws) : Type 0 where
   pub place : n < before.size.len → All (λ earlier. earlier < n) before.places
       × (after ≡ draws before.seats (before.places ++ n ∷ []) before.spent before.size)

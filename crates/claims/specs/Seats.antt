@@ -9,7 +9,7 @@ pub record IsSeatOf (claims : Counter) (seat : Seated) : Type 0 where
   pub size : seat.drew.size ≡ claims.size
   pub single : seat.drew.seats ≡ 1
 
--- the seat drew nothing, and was told nothing
+-- the seat drew nothing, and is not spent
 abbrev pub IsFresh : Seated → Type 0
 IsFresh seat = (seat.drew.places ≡ []) × (seat.drew.spent ≡ 0)
 
@@ -17,7 +17,7 @@ IsFresh seat = (seat.drew.places ≡ []) × (seat.drew.spent ≡ 0)
 abbrev pub places_drawn : List Seated → List ℕ
 places_drawn seats = flat_map (λ seat. seat.drew.places) seats
 
--- how many of the seats were told that no place is left
+-- how many of the seats found no place left
 abbrev pub seats_spent : List Seated → ℕ
 seats_spent seats = sum_by (λ seat. seat.drew.spent) seats
 

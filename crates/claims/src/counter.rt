@@ -18,7 +18,7 @@ impl TableRule<(), Draws, Size> for EachPlaceOnce {
     ghost first = { λ size. fresh size.seats size };
 }
 
-/// One place is drawn, or the seat is told that none is left.
+/// One place is drawn, or the seat finds none left.
 struct Draw;
 
 impl Play<(), Draws> for Draw {
@@ -85,7 +85,7 @@ impl Model for Claims {
         × (claims.size.len + claims.size.seats < 2 ^ 64) };
 }
 
-/// How many places were drawn, and how many seats were told that none is left.
+/// How many places were drawn, and how many seats found none left.
 #[derive(Clone, Copy, PartialEq, Eq, Debug)]
 pub struct Claimed {
     pub drawn: usize,
@@ -107,8 +107,8 @@ fn seated(token: atomic_table::Seat<(), Draws>) -> Seat
 impl Claims {
     ghost use Rattle.claims.specs.Seats.{IsSeatOf, IsFresh, places_drawn, seats_spent, seats_held};
 
-    /// A counter for a list of `len` places, and its `seats` seats, at least one, none of which drew a place yet.
-    /// `len` and `seats` sum to at most the greatest `u64`. A refused growth is answered by `OutOfMemory`.
+    /// A counter for a list of `len` places, and its `seats` seats, at least one, none of which drew a place yet. `len`
+    /// and `seats` sum to at most the greatest `u64`. A refused growth returns `OutOfMemory`.
     pub fn new(alloc: Global, len: usize, seats: usize) -> Result<(Claims, Vec<Seat>), OutOfMemory>
         requires some_seat { 0 < seats }
         requires room { len + seats < 2 ^ 64 }
@@ -126,8 +126,8 @@ impl Claims {
         Ok((Claims { table, size }, made))
     }
 
-    /// Draws the lowest place that no seat drew yet, by one `fetch_add`; none if all are drawn. A seat that was told
-    /// so is told so again, with no step. It takes no memory and waits for nobody.
+    /// Draws the lowest place that no seat drew yet, by one `fetch_add`; none if all are drawn. A seat that found none
+    /// left gets none again, with no step. It takes no memory and waits for nobody.
     pub fn claim(&self, seat: &mut Seat) -> Option<usize>
         requires own { IsSeatOf self.now seat.old }
         ensures own { IsSeatOf self.now seat.new }
@@ -174,9 +174,8 @@ impl Claims {
         whole
     }
 
-    /// Takes all seats of the counter back, and counts the places that they drew and those of them that were told
-    /// that none is left. No place stands in two of their lists, and if any seat was told that none is left, each
-    /// place stands in one.
+    /// Takes all seats of the counter back, and counts the places that they drew and those of them that found none
+    /// left. No place is in two of their lists, and if any seat found none left, each place is in one.
     pub fn close(self, seats: Vec<Seat>) -> Claimed
         requires own { All (λ seat. IsSeatOf self seat) seats.items }
         requires every { seats_held seats.items ≡ self.size.seats }

@@ -8,8 +8,8 @@ pub struct Size {
     pub seats: usize,
 }
 
-/// What is known of a seat: how many seats it is, the places that it drew, how many of them were told that none
-/// is left, and the size of its counter. Contracts alone see it, and no value of it is made.
+/// What is known of a seat: how many seats it is, the places that it drew, how many of them found none left, and the
+/// size of its counter. Contracts alone see it, and no value of it is made.
 pub struct Draws {
     pub seats: u64,
     pub places: LinkedList<usize>,

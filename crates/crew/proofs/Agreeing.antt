@@ -1,4 +1,4 @@
--- The answer that is due by one relation is due by another that is so of the same states of the machine.
+-- An answer that is due by one relation is due by another that holds of the same states of the machine.
 use Rattle.std.proofs.Common.{ℕ, ◌+◌, length}
 use Rattle.book.specs.declared.finding.Finding.{Finding}
 use Rattle.book.specs.declared.book.Merge.{Merge}

@@ -23,7 +23,7 @@ module _ {X S : Type 0} (m : StepMachine S) (same : S → S → Bool) (right : S
     (alike : (a b : S) → m.Fits a → m.Fits b → same a b ≡ true → IsSound right a → IsSound right b)
     (agree : (s : S) (f g : Finding) → right s f → right s g → is_sound f ≡ true → is_sound g ≡ true)
     (b : Contents X S) (book : IsLawfulBook m (AreOneBy same) right b) where
-  -- after so many steps every state is sound: then no shortest fault is within them
+  -- where every state of at most n steps is sound, no shortest fault is within n steps
   sound_no_fault : (n : ℕ) → SoundTo m right n → (F : ℕ) → IsLeastFault m right F → n < F
   sound_no_fault n sound F least =
       let l : n < length least.schedule = fault_longer m right agree n sound least.schedule least.faulty in

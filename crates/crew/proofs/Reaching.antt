@@ -1,4 +1,4 @@
--- For each number of steps there is a number of states that so many steps reach.
+-- For each number of steps there is a number of states that they reach.
 use Rattle.std.proofs.Common.{◌≡◌, ℕ, zero, suc, ◌+◌, ◌<◌, ◌≤◌, ◌⊎◌, inl, inr, Bool, true, false, Option, Some, None}
 use Rattle.std.proofs.Common.{List, [], ◌∷◌, ◌++◌, length, map, refl, sym, ap, ◌∙◌, arith, slice_get, subst}
 use Rattle.std.specs.Option.{option_and_then}
@@ -256,7 +256,7 @@ module _ {S : Type 0} (m : StepMachine S) (same : S → S → Bool) (machine : I
       ]);
     }
 
-  -- so many steps reach a number of states
+  -- n steps reach some number of states
   pub count_exists : (n : ℕ) → (k : ℕ) × IsCount m (AreOneBy same) n k
   count_exists zero = (1, count_start)
   count_exists (suc n) =
@@ -267,7 +267,7 @@ module _ {S : Type 0} (m : StepMachine S) (same : S → S → Bool) (machine : I
             (count_more n before.0 before.1),
       )
 
-  -- where more than so many states are reached, their number is above
+  -- where more than `limit` states are reached, their number is above `limit`
   pub more_above : (limit n : ℕ) → IsMoreThan m (AreOneBy same) n limit → IsAbove m (AreOneBy same) limit n
   more_above limit n more = let c = count_exists n in (c.0, c.1, count_above m same merges n c.0 limit c.1 more)
 

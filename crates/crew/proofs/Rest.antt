@@ -44,7 +44,7 @@ module _ {S : Type 0} (m : StepMachine S) (same : S → S → Bool) (right : S �
       one_count m same merges before _ _ here count in
       leb-true (m.steps e.state) before (every_counted (λ (e : Entry S). leb (m.steps e.state) before) es all i e at)
 
-  -- then every schedule leads to a sound state, if each entry is sound
+  -- then every schedule reaches a sound state, if each entry is sound
   pub rest_holds : first_fault es ≡ None → IsShallow m.steps es before → HoldsForEvery m right
   rest_holds none shallow =
       closed_holds m same right machine merges alike es law (rest_worked_out shallow) (none_unsound es none)

@@ -1,4 +1,4 @@
--- Which schedules lead to sound states, from the law of the book alone.
+-- Which schedules reach sound states, from the law of the book alone.
 use Rattle.std.proofs.Common.{◌≡◌, ◌≢◌, ℕ, ◌+◌, ◌<◌, ◌≤◌, ◌⊎◌, inl, inr, Bool, true, false, not, Option, Some, None}
 use Rattle.std.proofs.Common.{List, length, refl, sym, ap, ◌∙◌, arith, slice_get}
 use Rattle.std.proofs.lemmas.Bool.{true≢false, cases_lt, not-false, not-true}
@@ -22,11 +22,11 @@ mark_cases Open = inr (λ e. cc)
 mark_cases Taken = inr (λ e. cc)
 mark_cases Expanded = inl refl
 
--- every schedule of at most n steps leads to a sound state
+-- every schedule of at most n steps reaches a sound state
 abbrev pub SoundTo : {S : Type 0} → StepMachine S → (S → Finding → Type 0) → ℕ → Type 0
 SoundTo {S} m right n = (c : List ℕ) (s : S) → length c ≤ n → after m c ≡ Some s → IsSound right s
 
--- so a schedule that leads to a fault is longer
+-- so a schedule that reaches a fault is longer
 pub fault_longer : {S : Type 0} (m : StepMachine S) (right : S → Finding → Type 0)
     → ((s : S) (f g : Finding) → right s f → right s g → is_sound f ≡ true → is_sound g ≡ true)
     → (n : ℕ) → SoundTo m right n → (c : List ℕ) → IsFaulty m right c → n < length c

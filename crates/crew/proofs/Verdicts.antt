@@ -22,7 +22,7 @@ module _ {S : Type 0} (m : StepMachine S) (same : S → S → Bool) (merges : Me
         | inr le ↦ le
       ]
 
-  -- so many steps reach one number of states
+  -- n steps reach one number of states only
   pub one_count : (n k l : ℕ) → IsCount m (AreOneBy same) n k → IsCount m (AreOneBy same) n l → k ≡ l
   one_count n k l count other =
       let a : k ≤ l = no_less n k l count other in

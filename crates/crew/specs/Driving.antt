@@ -13,7 +13,7 @@ pub record IsInLayer {S : Type 0} (steps : S → ℕ) (entries : List (Entry S))
   pub fresh : IsFresh steps entries (d + 1)
   pub shallow : IsShallow steps entries (d + 1)
 
--- the share counts what stands in the book
+-- the share counts what is in the book
 pub record IsLedgerOf {X S : Type 0} (book : Contents X S) (share : Share) : Type 0 where
   pub expanded : share.expanded ≡ count_by (λ e. is_expanded e.mark) book.entries
   pub entered : share.entered + 1 ≡ length book.entries

@@ -1,4 +1,4 @@
--- The answer that is due.
+-- The due answer.
 use Rattle.std.specs.Prelude.{◌≡◌, ℕ, ◌+◌, ◌<◌, ◌≤◌, length}
 use Rattle.book.specs.declared.finding.Finding.{Finding}
 use Rattle.book.specs.declared.book.Merge.{Merge}
@@ -21,7 +21,7 @@ module _ {S : Type 0} (m : StepMachine S) (Same : S → S → Type 0) where
     pub first : (i : ℕ) → IsAbove limit i → j ≤ i
 
 -- The answer that is due for schedules of at most n steps and a limit of states, with the number of states that it
--- tells of; those that are the same count as one. Let F be the least length of a schedule that leads to a fault, and J
+-- reports; those that are the same count as one. Let F be the least length of a schedule that reaches a fault, and J
 -- the least number of steps, up to n, by which more states are reached than the limit; either may not exist. The first
 -- case that fits decides.
 module _ {S : Type 0} (m : StepMachine S) (Same : S → S → Type 0) (right : S → Finding → Type 0) (merge : Merge)
@@ -30,8 +30,8 @@ module _ {S : Type 0} (m : StepMachine S) (Same : S → S → Type 0) (right : S
   -- J exists, and F does not or J is at most F: stopped, one step before J
   IsDue count (answer.Stopped at holds_to) =
       (at ≡ limit) × IsFirstAbove m Same n limit (holds_to + 1) × ((F : ℕ) → IsLeastFault m right F → holds_to + 1 ≤ F)
-  -- F exists and is at most n: a schedule of F steps that leads to a fault, with the number of states that F steps
-  -- reach
+  -- F exists and is at most n: the answer is a schedule of F steps that reaches a fault, with the number of states that
+  -- F steps reach
   IsDue count (answer.Fault finding schedule) =
       LeadsToFault m right schedule.items finding × IsLeastFault m right (length schedule.items)
       × (length schedule.items ≤ n)
@@ -48,7 +48,7 @@ module _ {S : Type 0} (m : StepMachine S) (Same : S → S → Type 0) (right : S
       × IsCount m Same n count
       × (merge ≡ Names → (before : ℕ) → n ≡ before + 1 → IsCount m Same before count → ⊥)
 
--- The same answer but for the schedule of a fault: the verdict, its numbers, and how many states it tells of.
+-- One verdict, with equal numbers and state counts; a fault's finding and schedule may differ, but not its length.
 abbrev pub IsSameVerdict : ℕ → Answer → ℕ → Answer → Type 0
 IsSameVerdict count (answer.Stopped limit holds_to) other (answer.Stopped other_limit other_holds_to) =
     (limit ≡ other_limit) × (holds_to ≡ other_holds_to)

@@ -1,11 +1,11 @@
--- Schedules that lead to a fault.
+-- Schedules that reach a fault.
 use Rattle.std.specs.Prelude.{◌≡◌, ℕ, ◌≤◌, false, Some, List, length}
 use Rattle.book.specs.declared.finding.Finding.{Finding}
 use Rattle.book.specs.Findings.{is_sound}
 use Rattle.book.specs.Schedule.{StepMachine, after}
 
 module _ {S : Type 0} (m : StepMachine S) (right : S → Finding → Type 0) where
-  -- the schedule leads to a state of which the finding is right, and it is a fault
+  -- the schedule reaches a state, and the finding is right for it and is a fault
   pub record LeadsToFault (schedule : List ℕ) (finding : Finding) : Type 0 where
     pub state : S
     pub leads : after m schedule ≡ Some state
@@ -15,7 +15,7 @@ module _ {S : Type 0} (m : StepMachine S) (right : S → Finding → Type 0) whe
   abbrev pub IsFaulty : List ℕ → Type 0
   IsFaulty schedule = (finding : Finding) × LeadsToFault schedule finding
 
-  -- some schedule of n steps leads to a fault, and no shorter one does
+  -- some schedule of n steps reaches a fault, and no shorter one does
   pub record IsLeastFault (n : ℕ) : Type 0 where
     pub schedule : List ℕ
     pub long : length schedule ≡ n

@@ -17,7 +17,7 @@ module _ (Machine Form : Type 0) {Memory Place : Type 0} (rules : Rules Memory P
   HoldsTo n = (schedule : List ℕ) (state : State Machine Memory Place Form) → length schedule ≤ n
       → after (machine_of rules program) schedule ≡ Some state → IsCorrect rules program state
 
-  -- the schedule leads to the fault, and every shorter one keeps search order and leaves a linearizable history
+  -- the schedule reaches the fault, and every shorter one keeps search order and leaves a linearizable history
   pub record IsShortestFault (schedule : List ℕ) (finding : Finding) : Type 0 where
     pub fault : LeadsToFault {S = State Machine Memory Place Form} (machine_of rules program)
         (IsFindingOf rules program) schedule finding

@@ -69,7 +69,7 @@ module _ {X S : Type 0} (m : StepMachine S) (Same : S → S → Type 0) (right :
     pub layer : m.steps no_room.entry.state ≡ d
     pub through : IsThrough m.steps book.entries d
 
--- the fault that is told is that of the lowest-numbered entry that is not sound
+-- a reported fault is that of the lowest-numbered entry that is not sound
 abbrev pub TellsFirst : {S : Type 0} → StepMachine S → List (Entry S) → Answer → Type 0
 TellsFirst m entries answer.Every = first_fault entries ≡ None
 TellsFirst m entries (answer.Holds steps) = first_fault entries ≡ None
@@ -78,7 +78,7 @@ TellsFirst {S} m entries (answer.Fault finding schedule) =
     × (after m schedule.items ≡ Some e.state)
 TellsFirst m entries (answer.Stopped limit holds_to) = Unit {0}
 
--- where neither a fault nor the limit is told, every schedule holds exactly if the book is closed
+-- where neither a fault nor the limit is reported, every schedule holds exactly if the book is closed
 abbrev pub TellsClosed : {X S : Type 0} → Contents X S → Answer → Type 0
 TellsClosed book answer.Every = IsClosed book
 TellsClosed book (answer.Holds steps) = ¬ IsClosed book
@@ -95,8 +95,8 @@ module _ {X Memory Place Form : Type 0} (rules : X → Rules Memory Place)
   abbrev pub IsCutIn : ℕ → ℕ → Type 0
   IsCutIn = IsCutAt (machine_in rules book) (CountsAsOne (rules book.machine) book.merge) (right_in rules book) book
 
-  -- the answer is the due one for at most n steps and the book's limit, and true; and it tells the book's first fault,
-  -- and whether the book is closed
+  -- the answer is the due one for at most n steps and the book's limit, and true; and it reports the book's first
+  -- fault, and whether the book is closed
   pub record IsReadOff (n : ℕ) (answer : Answer) : Type 0 where
     pub due : IsDue (machine_in rules book) (CountsAsOne (rules book.machine) book.merge) (right_in rules book)
         book.merge n book.limit (length book.entries) answer

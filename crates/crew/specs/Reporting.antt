@@ -23,8 +23,8 @@ pub record IsBookOf {X S : Type 0} (asked : X) (text : Program) (settings : Sett
   pub limit : book.limit ≡ settings.limit
   pub merge : book.merge ≡ settings.merge
 
--- The answer is the due one and true of all schedules, and no other verdict is due; a fault that is told is the first
--- of the book; the book is the one that is asked for, its totals are told, and the workers' shares sum to them.
+-- The answer is the due one and true of all schedules, and no other verdict is due; a reported fault is the first of
+-- the book; the book is the one that is asked for, its totals are reported, and the workers' shares sum to them.
 pub record IsReport {X Memory Place Form : Type 0} (rules : X → Rules Memory Place) (machine : X) (program : Program)
     (settings : Settings) (answer : Answer) (told : Totals) (each : List Share)
     (book : Contents X (State X Memory Place Form)) : Type 0 where

@@ -1,4 +1,4 @@
--- What an exploration is asked for.
+-- The options of an exploration.
 use Rattle.std.specs.Prelude.{ℕ, ◌≤◌}
 use Rattle.book.specs.declared.book.Merge.{Merge}
 

@@ -7,7 +7,7 @@ use tree_machine::Encode;
 /// What holds of every schedule of a program.
 #[derive(Drop)]
 pub enum Answer {
-    /// Every schedule of at most so many steps keeps search order and leaves a linearizable
+    /// Every schedule of at most `steps` steps keeps search order and leaves a linearizable
     /// history.
     Holds {
         /// The number of steps that was asked for.
@@ -16,7 +16,7 @@ pub enum Answer {
     /// Every schedule of any length does: states are merged by names, and the steps that were asked
     /// for reach no more of them than one step fewer.
     Every,
-    /// A schedule leads to a fault, and no shorter one does.
+    /// A schedule reaches a fault, and no shorter one does.
     Fault {
         /// The fault.
         finding: Finding,
@@ -27,7 +27,7 @@ pub enum Answer {
     Stopped {
         /// How many entries the book may have.
         limit: u32,
-        /// Every schedule of at most so many steps keeps search order and leaves a linearizable
+        /// Every schedule of at most this many steps keeps search order and leaves a linearizable
         /// history.
         holds_to: u16,
     },
@@ -38,9 +38,9 @@ pub enum Answer {
 pub struct Share {
     /// The entries that it expanded.
     pub expanded: usize,
-    /// The steps of these that led to new entries.
+    /// The steps of these that made new entries.
     pub entered: usize,
-    /// The steps of these that led to known states.
+    /// The steps of these that reached known states.
     pub met: usize,
 }
 
@@ -56,7 +56,7 @@ impl Share {
         }
     }
 
-    /// Counts one more expanded entry. A count that has come to the greatest number stays there.
+    /// Counts one more expanded entry. The counts saturate at the greatest number.
     pub(crate) fn add(&mut self, counts: Entered)
         ensures { self.old.expanded + 1 < 2 ^ 64 → self.old.entered + counts.entered < 2 ^ 64
             → self.old.met + counts.met < 2 ^ 64

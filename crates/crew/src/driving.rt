@@ -12,8 +12,8 @@ use sched_program::{OutOfMemory, Program};
 use std::alloc::Global;
 use tree_machine::Encode;
 
-/// Takes the next entry of a layer, and enters its steps. Where the book has no room for them, the
-/// answer is the entry.
+/// Takes the next entry of a layer, and enters its steps. Returns the entry if the book has no room
+/// for them.
 fn expand_next<M: Encode>(
     alloc: Global,
     program: &Program,
@@ -51,7 +51,7 @@ fn expand_next<M: Encode>(
     }
 }
 
-/// Expands a layer. Where the book has no room for an entry's steps, the answer is that entry.
+/// Expands a layer. Returns the entry for whose steps the book has no room, if there is one.
 fn expand_layer<M: Encode>(
     alloc: Global,
     program: &Program,
@@ -78,8 +78,8 @@ fn expand_layer<M: Encode>(
     Ok(None)
 }
 
-/// Expands the layers below a number of steps, or those below the first layer with a fault. Where
-/// the book has no room for an entry's steps, the answer is that entry.
+/// Expands the layers below a number of steps, or those below the first layer with a fault. Returns
+/// the entry for whose steps the book has no room, if there is one.
 pub(crate) fn drive<M: Encode>(
     alloc: Global,
     program: &Program,

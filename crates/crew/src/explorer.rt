@@ -1,4 +1,4 @@
-//! The exploration by several workers, and anew on one thread where the book that they leave does
+//! The exploration by several workers, repeated on one thread where the book that they leave does
 //! not give the answer.
 ghost use Rattle.std.specs.Prelude.{◌≡◌, ℕ, ◌+◌, ◌<◌, IfOk, IfSome, length};
 ghost use Rattle.book.specs.Books.{machine_in, totals_of, CountsAsOne};
@@ -25,7 +25,7 @@ use std::sync::{Mutex, Wait};
 use std::thread::Threads;
 use tree_machine::Encode;
 
-/// A book of what is asked for, with the start alone.
+/// A book for these options, with the start alone.
 fn opened<M: Encode>(
     alloc: Global,
     machine: M,
@@ -42,8 +42,8 @@ fn opened<M: Encode>(
     Ok(book)
 }
 
-/// Lets as many workers as the options say expand the layers. The entry for whose steps one of them
-/// found no room, what each did, and the book, of which nothing is promised.
+/// Lets the options' number of workers expand the layers. Returns the entry for whose steps one of
+/// them found no room, what each did, and the book, of which nothing is promised.
 fn work_of_all<M: Encode, G: Gate, R: Threads + Wait + Sync>(
     alloc: Global,
     exploration: &Exploration<'_, M, G, R>,
@@ -98,7 +98,7 @@ fn shares_alone(alloc: Global, share: Share, workers: u8) -> Result<Vec<Share>, 
     Ok(shares)
 }
 
-/// What one thread tells of a book with the start alone, with all the work in the first worker's
+/// What one thread reports on a book with the start alone, with all the work in the first worker's
 /// share.
 fn told_alone<M: Encode>(
     alloc: Global,
@@ -153,18 +153,18 @@ fn explore_alone<M: Encode>(
     }
 }
 
-/// Explores every schedule of a program of at most so many steps as the options say, by so many
-/// workers as they say, unless more states are reached than the book may have entries.
+/// Explores every schedule of a program up to the options' number of steps, by the options' number
+/// of workers, unless more states are reached than the book may have entries.
 ///
 /// The answer is the due one, and true of all schedules; no answer with another verdict or other
-/// numbers is due. It is read off the book of the report, whose recorded schedules lead to its
+/// numbers is due. It is read off the book of the report, whose recorded schedules reach its
 /// entries' states. The workers' shares sum to the book's totals. Each worker has a thread of its
 /// own and calls the gate at each entry that it expands.
 ///
-/// A refused growth is answered by `OutOfMemory`, once all workers are joined. Where the answer
-/// cannot be read off the book that the workers leave, or their shares do not sum to its totals,
-/// one thread explores anew: all the work is in the first worker's share, and no gate is called. No
-/// worker here brings that about, but on a machine whose states cannot be decoded from their
+/// A refused growth returns `OutOfMemory`, once all workers are joined. Where the answer cannot be
+/// read off the book that the workers leave, or their shares do not sum to its totals, one thread
+/// explores from the start again: all the work is in the first worker's share, and no gate is
+/// called. The workers here cause that only on a machine whose states cannot be decoded from their
 /// labels.
 pub fn explore<M: Encode, G: Gate, R: Threads + Wait + Sync>(
     rt: &R,

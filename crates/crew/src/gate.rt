@@ -3,7 +3,7 @@
 /// A worker calls a gate after it drew a place of a layer and made the expansion there, and before
 /// it enters that into the book. It holds no lock meanwhile.
 pub trait Gate: Sync {
-    /// The worker, numbered from 1, stands at a place of the layer, numbered from 0.
+    /// The worker, numbered from 1, is at a place of the layer, numbered from 0.
     fn arrive(&self, worker: u8, layer: u16, place: usize);
 }
 

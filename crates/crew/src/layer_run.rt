@@ -66,9 +66,9 @@ pub struct LayerRun<'a, M: Encode, G: Gate, R: Wait> {
     pub exploration: Exploration<'a, M, G, R>,
     /// How many steps the layer's states have.
     pub number: u16,
-    /// The number of its first entry. The others stand behind it in a row.
+    /// The number of its first entry. The others have the numbers after it.
     pub start: usize,
-    /// The number behind its last entry.
+    /// The number after its last entry.
     pub end: usize,
     pub claims: Claims,
     /// How many places a worker draws in one round.
@@ -82,8 +82,7 @@ pub struct LayerRun<'a, M: Encode, G: Gate, R: Wait> {
 }
 
 impl<'a, M: Encode, G: Gate, R: Wait> LayerRun<'a, M, G, R> {
-    /// The book to read. Where the worker need not wait, it is none where another worker has it to
-    /// write.
+    /// The book to read. Unless `waits`, it is none while another worker has the book to write.
     pub fn read(&self, waits: bool) -> Option<RwLockReadGuard<'_, Book<M>>> {
         if waits {
             Some(read_soon(self.exploration.rt, &self.book))
@@ -92,7 +91,7 @@ impl<'a, M: Encode, G: Gate, R: Wait> LayerRun<'a, M, G, R> {
         }
     }
 
-    /// The book to write. Where the worker need not wait, it is none where another worker has it.
+    /// The book to write. Unless `waits`, it is none while another worker has the book.
     pub fn write(&self, waits: bool) -> Option<RwLockWriteGuard<'_, Book<M>>> {
         if waits {
             Some(write_soon(self.exploration.rt, &self.book))
@@ -148,7 +147,7 @@ impl<'a, M: Encode, G: Gate, R: Wait> LayerRun<'a, M, G, R> {
         Ok(entries)
     }
 
-    /// Draws the places of one round, and copies the entries there, all in one holding of the lock.
+    /// Draws the places of one round, and copies the entries there while it holds the lock once.
     pub fn draw(
         &self,
         seat: &mut Seat,

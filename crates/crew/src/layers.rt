@@ -19,14 +19,14 @@ const STRIDE: usize = 8;
 /// How many where none does: the steps of more entries are prefetched at once.
 const LONG_STRIDE: usize = 16;
 
-/// How many entries each of so many workers expands between two tests of the lock.
+/// How many entries each of `workers` workers expands between two tests of the lock.
 fn stride_of(workers: usize) -> usize
     ensures { 0 < result }
 {
     if workers == 1 { LONG_STRIDE } else { STRIDE }
 }
 
-/// Lets each worker work in a thread of its own, until all have come to their ends.
+/// Lets each worker work in a thread of its own, and returns once all are done.
 fn work_at_once<M: Encode, G: Gate, R: Threads + Wait + Sync>(
     rt: &R,
     run: &LayerRun<'_, M, G, R>,
@@ -35,7 +35,7 @@ fn work_at_once<M: Encode, G: Gate, R: Threads + Wait + Sync>(
     requires { All (λ w. IfSome w.seat (IsSeatOf run.now.claims)) workers.old }
     ensures { length workers.new ≡ length workers.old }
 {
-    // What it did stands in its share, and its clause says nothing of that.
+    // What it did is in its share, and its clause says nothing of that.
     let work = |worker: &mut Worker|
         requires { IfSome worker.old.seat (IsSeatOf run.now.claims) }
         ensures { Unit {0} }
@@ -44,7 +44,7 @@ fn work_at_once<M: Encode, G: Gate, R: Threads + Wait + Sync>(
 }
 
 impl<'a, M: Encode, G: Gate, R: Threads + Wait + Sync> Exploration<'a, M, G, R> {
-    /// The exploration once more, for a layer to own.
+    /// A copy of the exploration, for a layer to own.
     fn again(&self) -> Exploration<'a, M, G, R> {
         Exploration {
             rt: self.rt,
@@ -56,7 +56,7 @@ impl<'a, M: Encode, G: Gate, R: Threads + Wait + Sync> Exploration<'a, M, G, R> 
         }
     }
 
-    /// Expands a row of taken entries. The book comes back.
+    /// Expands the taken entries from `start` to below `end`. Returns the book.
     fn expand_taken(
         &self,
         number: u16,
@@ -91,8 +91,8 @@ impl<'a, M: Encode, G: Gate, R: Threads + Wait + Sync> Exploration<'a, M, G, R> 
         Ok(book.into_inner())
     }
 
-    /// Expands the next layer. Whether there was one to expand: none is where the book has an entry
-    /// that is not sound. The book comes back.
+    /// Expands the next layer. Returns whether there was one to expand, and the book. There is none
+    /// where the book has an entry that is not sound.
     fn expand_layer(
         &self,
         number: u16,
@@ -115,8 +115,8 @@ impl<'a, M: Encode, G: Gate, R: Threads + Wait + Sync> Exploration<'a, M, G, R> 
         Ok((true, book))
     }
 
-    /// Expands the layers below a number of steps, until one is empty or a worker had to stop. The
-    /// book comes back.
+    /// Expands the layers below a number of steps, until one is empty or a worker had to stop.
+    /// Returns the book.
     pub fn expand_layers(
         &self,
         steps: u16,

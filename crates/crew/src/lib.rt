@@ -1,6 +1,6 @@
 //! The exploration of every schedule of a program, up to a number of steps, by several workers, and
-//! the answer that is due. Workers promise nothing: the answer is read off the book that they
-//! leave, and where that does not give it, one thread explores anew.
+//! the due answer. Workers promise nothing: the answer is read off the book that they leave, and
+//! where that does not give it, one thread explores again.
 #![tactic(auto)]
 
 mod answer;

@@ -1,4 +1,4 @@
-//! What an exploration is asked for.
+//! The options of an exploration.
 ghost use Rattle.std.specs.Prelude.{◌≡◌, ◌↔◌, IsSome, IfSome};
 ghost use Rattle.crew.specs.Settings.{AreInRange};
 

@@ -37,9 +37,9 @@ impl<'a, M: Encode> Pending<'a, M> {
         steps
     }
 
-    /// Prefetches the entries for which this was not done yet. What the book has of their steps is
-    /// mostly not in the processor's caches: looked for one right after the other, they are not
-    /// waited for one by one. The sum of what it sees is of no use.
+    /// Prefetches the entries that were not prefetched yet. What the book has of their steps is
+    /// mostly not in the processor's caches. Looked up one right after the other, the steps are not
+    /// waited for one by one. The sum that it returns has no use.
     pub fn prefetch(&mut self, book: &Book<M>) -> usize
         ensures { self.new.entries ≡ self.old.entries }
     {
@@ -54,7 +54,8 @@ impl<'a, M: Encode> Pending<'a, M> {
     }
 
     /// Enters all of them into the book of their machine and program, and counts them in the
-    /// worker's share. The labels of known states are left for after the lock.
+    /// worker's share. The labels of known states are recycled, so that they are not freed under
+    /// the lock.
     pub fn enter_all(
         &mut self,
         machine: M,

@@ -46,7 +46,7 @@ fn is_last_layer<M: Encode>(book: &Book<M>, steps: u64) -> bool
     !is_left_below(book, steps) && book.count_to(steps) == book.len()
 }
 
-/// Whether states are merged by names, and no entry has so many steps or more.
+/// Whether states are merged by names, and no entry has `steps` steps or more.
 fn is_at_rest<M: Encode>(book: &Book<M>, steps: u64) -> bool
     ensures { IsTrue result ↔ IsAtRest (machine_in M.rules book.now).steps book.now.entries book.now.merge steps }
 {
@@ -59,7 +59,7 @@ fn is_at_rest<M: Encode>(book: &Book<M>, steps: u64) -> bool
     }
 }
 
-/// Whether every entry of at most so many steps is sound.
+/// Whether every entry of at most `steps` steps is sound.
 fn is_sound_to<M: Encode>(alloc: Global, book: &Book<M>, steps: usize) -> Result<bool, OutOfMemory>
     ensures { IfOk result (λ yes. IsTrue yes ↔ ((i : ℕ) (e : Entry (State M M.Mem M.Loc M.Form))
         → At book.now.entries i e → e.state.steps ≤ steps → is_sound e.finding ≡ true)) }
@@ -125,9 +125,8 @@ fn read_finished<M: Encode>(
     }
 }
 
-/// Whether the book has no room for the steps of an entry, which is taken and has this state. The
-/// steps are made anew, and entered where there is room, after which no answer is read off the
-/// book.
+/// Whether an entry, which has this state, is taken and the book has no room for its steps. The
+/// steps are rebuilt, and entered if there is room; after that no answer is read off the book.
 fn is_full_for<M: Encode>(
     alloc: Global,
     program: &Program,
@@ -154,8 +153,8 @@ fn is_full_for<M: Encode>(
     }
 }
 
-/// Whether the book has no room for the steps of an entry, which is taken, by the schedule that
-/// leads to it.
+/// Whether an entry is taken and the book has no room for its steps. The schedule reaches the
+/// entry's state.
 fn is_full_at<M: Encode>(
     alloc: Global,
     program: &Program,
@@ -210,8 +209,8 @@ fn read_stopped<M: Encode>(
     }))
 }
 
-/// The due answer, if it can be read off the book: where an entry is named, by this that the book
-/// has no room for its steps, else by this that the layers are expanded.
+/// The due answer, if it can be read off the book. If `cut` names an entry, it rests on the book
+/// having no room for that entry's steps, else on the layers being expanded.
 pub(crate) fn read_answer<M: Encode>(
     alloc: Global,
     program: &Program,

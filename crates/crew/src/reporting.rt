@@ -24,8 +24,8 @@ fn is_asked<M: Encode>(book: &Book<M>, machine: M, program: &Program, options: O
 }
 
 /// The answer and the totals of a book, where the answer can be read off it. None where it can't,
-/// or where the book is not the one that was asked for. Where an entry is named, the book is to
-/// have no room for its steps.
+/// or where the book is not the one that was asked for. If `cut` names an entry, the answer is that
+/// the book has no room for its steps.
 pub fn told_of<M: Encode>(
     alloc: Global,
     machine: M,
@@ -55,8 +55,8 @@ pub fn told_of<M: Encode>(
     }
 }
 
-/// Lets a book go. A function that does so itself is proved, at each of its exits, over all that
-/// the book holds.
+/// Drops a book. A function that does so itself is proved, at each of its exits, over all that the
+/// book holds.
 pub fn let_go<M: Encode>(_book: Book<M>) {}
 
 /// The sum of shares. None where a count of it is too large.

@@ -13,10 +13,10 @@ fn call<T, F: Fn(&mut T)>(f: &F, item: &mut T)
     f(item);
 }
 
-/// Calls `f` with each item, in a new thread for each where there are several, until all calls have
-/// returned. This thread starts all others, since a thread that a new one starts often waits for
-/// its processor while another is idle, and then only waits: a new thread is often put on the
-/// processor of the one that starts it, and begins once that one waits.
+/// Calls `f` with each item, in a new thread for each if there are several, and returns once all
+/// calls have returned. This thread starts all others and then only waits: a new thread is often
+/// put on the processor of the one that starts it, even while another processor is idle, and begins
+/// once that one waits.
 pub fn call_at_once<R: Threads + Sync, T: Send, F: Fn(&mut T) + Sync>(
     rt: &R,
     f: &F,

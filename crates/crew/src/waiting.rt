@@ -3,13 +3,13 @@ use std::hint::spin_loop;
 use std::sync::{RwLock, RwLockReadGuard, RwLockWriteGuard, Wait};
 use std::thread::yield_now;
 
-/// How often a worker that can't go on without the lock tries for it before it sleeps. To sleep and
-/// to be woken takes longer than most of the time for which another worker holds it, and whoever is
-/// woken often finds it taken once more.
+/// How often a worker that can't go on without the lock tries for it before it sleeps. Sleeping and
+/// waking take longer than another worker usually holds the lock, and a woken worker often finds it
+/// taken again.
 const TRIES: u32 = 2200;
 
-/// After how many of these it lets another thread have its processor before it tries again, if one
-/// waits for it.
+/// After how many of these tries it yields its processor to a waiting thread before each further
+/// one.
 const PATIENCE: u32 = 200;
 
 /// Waits a little before the next try.
@@ -21,7 +21,7 @@ fn pause(tries: u32) {
     }
 }
 
-/// What lies under a lock, to read, once nobody writes.
+/// The value under a lock, to read, once nobody writes.
 pub fn read_soon<'l, T>(rt: &impl Wait, lock: &'l RwLock<T>) -> RwLockReadGuard<'l, T> {
     for tries in 0..TRIES {
         if let Some(guard) = lock.try_read() {
@@ -32,7 +32,7 @@ pub fn read_soon<'l, T>(rt: &impl Wait, lock: &'l RwLock<T>) -> RwLockReadGuard<
     lock.read(rt)
 }
 
-/// What lies under a lock, to write, once nobody else has it.
+/// The value under a lock, to write, once nobody else has it.
 pub fn write_soon<'l, T>(rt: &impl Wait, lock: &'l RwLock<T>) -> RwLockWriteGuard<'l, T> {
     for tries in 0..TRIES {
         if let Some(guard) = lock.try_write() {

@@ -49,13 +49,13 @@ pub struct Worker {
     pub number: u8,
     /// What it did in all layers.
     pub share: Share,
-    /// With what it draws places of the layer.
+    /// The seat with which it draws places of the layer.
     pub seat: Option<Seat>,
     /// Why it draws no more, if so.
     pub stop: Option<Stop>,
 }
 
-/// So many workers.
+/// `count` workers, numbered from 1, which did nothing yet.
 pub fn workers_of(alloc: Global, count: u8) -> Result<Vec<Worker>, OutOfMemory>
     ensures { IfOk result (λ v. vec_len v ≡ count) }
 {

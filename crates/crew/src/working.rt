@@ -17,7 +17,7 @@ use tree_machine::Encode;
 const PILE: usize = 256;
 
 impl<'a, M: Encode, G: Gate, R: Wait> Exploration<'a, M, G, R> {
-    /// What some worker left of its scratch, if there is such.
+    /// A scratch that some worker left, or else a new one.
     fn scratch(&self) -> Scratch<M> {
         match self.scratches.lock(self.rt).pop() {
             Some(scratch) => scratch,
@@ -27,8 +27,8 @@ impl<'a, M: Encode, G: Gate, R: Wait> Exploration<'a, M, G, R> {
 }
 
 impl<'a, M: Encode, G: Gate, R: Wait> LayerRun<'a, M, G, R> {
-    /// Prefetches pending entries before they are entered, beside other workers that do so too, so
-    /// that to enter them takes the lock for less time. Whether it was done.
+    /// Prefetches pending entries before they are entered, while other workers may do so too, so
+    /// that entering them holds the lock for less time. Returns whether it was done.
     fn prefetch(&self, pending: &mut Pending<'a, M>, waits: bool) -> bool
         ensures { pending.new.entries ≡ pending.old.entries }
     {
@@ -41,8 +41,8 @@ impl<'a, M: Encode, G: Gate, R: Wait> LayerRun<'a, M, G, R> {
         }
     }
 
-    /// Enters the pending entries, where the worker waits for the lock or no other worker has it.
-    /// Else they stay.
+    /// Enters the pending entries if `waits`, or if no other worker has the lock. Otherwise they
+    /// stay.
     fn enter(
         &self,
         pending: &mut Pending<'a, M>,
@@ -70,7 +70,7 @@ impl<'a, M: Encode, G: Gate, R: Wait> LayerRun<'a, M, G, R> {
         }
     }
 
-    /// Expands an entry, and puts it behind those that are pending.
+    /// Expands an entry, and appends it to the pending ones.
     fn expand(
         &self,
         number: u8,

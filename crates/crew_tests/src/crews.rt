@@ -12,11 +12,11 @@ use std::sync::Wait;
 use std::thread::Threads;
 use tree_machine::{Atomic, Encode};
 
-/// The gate holds the first arrival in layer 1 until another worker has arrived at the other place, so a body that does
-/// all the work on one thread, or lets its workers work one after the other, is held to the limit, which the gate
-/// tells. One whose workers arrive and enter nothing, and that then explores anew on one thread, never comes to layer
-/// 1, and tells of three expansions by the first worker, though there was one arrival. One whose worker lays a fresh
-/// book under the lock tells of shares that are not the arrivals, or of an exploration anew.
+/// The gate holds the first arrival in layer 1 until another worker has arrived at the other place. So a body that does
+/// all the work on one thread, or runs its workers one after the other, is held to the limit, which the gate reports.
+/// One whose workers arrive and enter nothing, and that then explores again on one thread, never reaches layer 1, and
+/// reports three expansions by the first worker, though there was one arrival. One whose worker puts a fresh book under
+/// the lock reports shares that are not the arrivals, or a second exploration.
 fn meet_in_a_layer<R: Abort + Threads + Wait + Sync>(
     rt: &R,
     alloc: Global,
@@ -73,8 +73,8 @@ fn is_alone(shares: &[Share]) -> bool {
 }
 
 impl Row {
-    /// The answer and the number of states. If the exploration was not stopped, either each worker arrived as often as
-    /// its share says, or one thread explored anew, which it does where labels can't be decoded.
+    /// Compares the answer and the number of states. If the exploration was not stopped, either each worker arrived as
+    /// often as its share says, or one thread explored again, which it does where labels can't be decoded.
     fn compare(&self, rt: &impl Abort, workers: u8, gate: &Slow, told: &Told) {
         assert_eq!(rt; told.line, self.line);
         assert_eq!(rt; told.shares.len(), usize::from(workers));

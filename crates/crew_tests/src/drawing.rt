@@ -88,7 +88,7 @@ fn are_below(mut places: Vec<usize>, len: usize) -> Result<bool, OutOfMemory> {
     Ok(places.iter().copied().eq(0..len))
 }
 
-/// Threads with a seat each draw every place once, and a spent seat is told so again.
+/// Threads with a seat each draw every place once, and a spent seat draws none on a further try.
 #[tactic(auto, using(claims::proofs::Turns::one_each))]
 fn draw_each_once<R: Abort + Threads + Sync>(
     rt: &R,
@@ -124,7 +124,7 @@ fn eight_threads_draw_a_thousand_places(rt: HostRuntime) {
     passes!(rt; draw_each_once(&rt, rt.alloc(), 1_000, 8));
 }
 
-/// Two seats of a counter of no places are told so.
+/// Two seats of a counter of no places draw none.
 fn draw_of_none(rt: &impl Abort, alloc: Global) -> Result<(), OutOfMemory> {
     let (claims, mut seats) = Claims::new(alloc, 0, 2)?;
     assert!(rt; claims.claim(&mut seats[0]).is_none());

@@ -97,7 +97,7 @@ fn state_after(
     }
 }
 
-/// The schedules of one length whose threads are enabled, and the states that they and the shorter ones lead to.
+/// The schedules of one length whose threads are enabled, and the states that they and the shorter ones reach.
 #[derive(Drop)]
 struct Reached {
     schedules: Vec<Vec<u8>>,
@@ -120,7 +120,7 @@ impl Reached {
         Ok(())
     }
 
-    /// Puts a schedule down whose threads are enabled, and its state.
+    /// Adds a schedule and its state, if its threads are enabled.
     fn put(
         &mut self,
         rt: &impl Abort,
@@ -135,7 +135,7 @@ impl Reached {
         Ok(())
     }
 
-    /// Puts each schedule down with one more step, in the place of the shorter ones.
+    /// Replaces the schedules by those with one more step.
     fn put_longer(
         &mut self,
         rt: &impl Abort,
@@ -178,7 +178,7 @@ fn enumerate(
     Ok((Line::Holds(bounds.steps), reached.states.len()))
 }
 
-/// Compares the two on one program.
+/// Compares the exploration with the enumerator on one program.
 fn compare<R: Abort + Threads + Wait + Sync>(
     rt: &R,
     alloc: Global,
@@ -195,7 +195,7 @@ fn compare<R: Abort + Threads + Wait + Sync>(
     Ok(())
 }
 
-/// Compares the two on the program of a text, within several bounds.
+/// Compares the exploration with the enumerator on the program of a text, within several bounds.
 fn compare_within<R: Abort + Threads + Wait + Sync>(
     rt: &R,
     alloc: Global,
@@ -215,7 +215,8 @@ fn compare_within<R: Abort + Threads + Wait + Sync>(
     Ok(())
 }
 
-/// Compares the two on the next random program. The program after it comes of the numbers that are answered.
+/// Compares the exploration with the enumerator on the next random program. The program after it is made from the
+/// numbers that are returned.
 fn compare_next<R: Abort + Threads + Wait + Sync>(
     rt: &R,
     alloc: Global,

@@ -50,7 +50,7 @@ impl Arrivals {
         count(self.counts.as_slice(), usize::from(worker).wrapping_sub(1));
     }
 
-    /// Each worker arrived as often as it expanded an entry, and all did what the totals tell.
+    /// Each worker arrived as often as it expanded an entry, and the shares sum to the totals.
     pub fn compare(&self, rt: &impl Abort, told: &Told) {
         for (index, share) in told.shares.iter().enumerate() {
             assert_eq!(rt; share.expanded as u64, times(self.counts.as_slice(), index));
@@ -136,7 +136,7 @@ impl Both {
         }
     }
 
-    /// Two workers stood in layer 1 at once, one at place 0 and one at place 1, and no worker came to another place.
+    /// Two workers were in layer 1 at once, one at place 0 and one at place 1, and no worker came to another place.
     pub fn compare(&self, rt: &impl Abort) {
         assert_eq!(rt; self.late.load(Ordering::SeqCst), 0);
         for (place, arrivals) in [1, 1, 0].iter().enumerate() {

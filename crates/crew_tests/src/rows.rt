@@ -19,7 +19,7 @@ pub const DELETES: &[u8] =
 pub const FINDS: &[u8] =
     b"{\"version\":1,\"tree\":\"atomic\",\"initial\":[],\"threads\":[[{\"op\":\"find\",\"key\":1}],[{\"op\":\"find\",\"key\":1}]]}";
 
-/// A program, how far it is explored, and what is told of it.
+/// A program, how far it is explored, and what is reported of it.
 #[derive(Clone, Copy)]
 struct Row {
     text: &'static [u8],

@@ -1,4 +1,4 @@
-//! What an exploration tells, without its book, and how the tests run one.
+//! What an exploration reports, without its book, and how the tests run one.
 use book::{Finding, Merge, Totals};
 use crew::{Answer, Gate, Options, Report, Share, explore};
 use sched_program::{OutOfMemory, Program, ProgramFault};
@@ -74,7 +74,7 @@ pub fn program_of(
     }
 }
 
-/// An exploration within bounds that are in range. The book is let go here, so that no test holds one.
+/// An exploration within bounds that are in range. The book is dropped here, so that no test holds one.
 pub fn explored<M: Encode, G: Gate, R: Abort + Threads + Wait + Sync>(
     rt: &R,
     alloc: Global,
@@ -101,7 +101,7 @@ pub fn explored<M: Encode, G: Gate, R: Abort + Threads + Wait + Sync>(
     Ok(Box::new(alloc, told)?)
 }
 
-/// An exploration of the program of a text.
+/// What an exploration of the program of a text reports.
 pub fn told_of<M: Encode, G: Gate, R: Abort + Threads + Wait + Sync>(
     rt: &R,
     alloc: Global,

@@ -14,7 +14,7 @@ use Rattle.ellen.specs.Parts.{ellen_behind_code, ellen_front_code, held_part, no
 module _ (front : Front) (old more nodes : List Node) (kept others records : List Record)
     (few : front.nodes ≤ length old) (less : front.records ≤ length kept) (e : nodes ≡ take front.nodes old ++ more)
     (f : records ≡ take front.records kept ++ others) where
-  -- what stands behind a front that stays
+  -- what comes behind a front that stays
   pub behind_read : (threads : List (Thread EllenLoc)) (bytes rest : List ℕ)
       → bytes ≡ flat_map (λ thread. cell_code (part_content (held_part thread.place))) threads ++ rest
       → rest ≡ left_code (map node_part more) (map record_part others)
@@ -34,7 +34,7 @@ module _ (front : Front) (old more nodes : List Node) (kept others records : Lis
       ((ap (λ ns. take front.nodes (map node_part ns)) e ∙ take_front node_part front.nodes old more few) i)
       ((ap (λ ns. take front.records (map record_part ns)) f ∙ take_front record_part front.records kept others less) i)
 
--- nodes and records of which all stand in front
+-- nodes and records that all come in front
 pub graph_read : (more nodes : List Node) (others records : List Record) (count many : ℕ) → nodes ≡ more
     → records ≡ others → length more ≡ count → length others ≡ many
     → graph_code (map node_part more) (map record_part others)

@@ -38,13 +38,13 @@ AreWordsPaired R (word.Mark r) (word.Mark s) = R r s
 AreWordsPaired R _ _ = ⊥
 
 module _ (P R : ℕ → ℕ → Type 0) where
-  -- the same kind and key, and paired children, side by side
+  -- nodes of equal kind and key, whose children are paired side by side
   abbrev pub AreNodesPaired : Node → Node → Type 0
   AreNodesPaired (Leaf k) (Leaf j) = k ≡ j
   AreNodesPaired (Internal k u l r) (Internal j v m s) = (k ≡ j) × AreWordsPaired R u v × P l m × P r s
   AreNodesPaired _ _ = ⊥
 
-  -- the same kind, and nodes that are paired field by field
+  -- records of one kind, whose nodes are paired field by field
   abbrev pub AreRecordsPaired : Record → Record → Type 0
   AreRecordsPaired (Ins i) (Ins j) = P i.parent j.parent × P i.leaf j.leaf × P i.new j.new
   AreRecordsPaired (Del d) (Del e) = P d.grandparent e.grandparent × P d.parent e.parent × P d.leaf e.leaf
@@ -55,7 +55,7 @@ module _ (P R : ℕ → ℕ → Type 0) where
   abbrev pub AreAbovesPaired : Above → Above → Type 0
   AreAbovesPaired a b = P a.node b.node × AreWordsPaired R a.update b.update
 
-  -- the same place of a search, with paired nodes and records
+  -- places of a search of one kind, with paired nodes and records
   abbrev pub AreSearchesPaired : SearchLoc → SearchLoc → Type 0
   AreSearchesPaired (Update a p) (Update b q) = AreBoth AreAbovesPaired a b × P p q
   AreSearchesPaired (Child a p u) (Child b q v) = AreBoth AreAbovesPaired a b × P p q × AreWordsPaired R u v
@@ -64,7 +64,7 @@ module _ (P R : ℕ → ℕ → Type 0) where
   AreSearchesPaired (DFlag a p u l) (DFlag b q v m) = AreAbovesPaired a b × P p q × AreWordsPaired R u v × P l m
   AreSearchesPaired _ _ = ⊥
 
-  -- the same place of a help, with paired nodes and records and the same side
+  -- places of a help of one kind, with paired nodes and records and equal sides
   abbrev pub AreHelpsPaired : HelpLoc → HelpLoc → Type 0
   AreHelpsPaired (InsChild r) (InsChild s) = R r s
   AreHelpsPaired (InsClean r) (InsClean s) = R r s
@@ -80,7 +80,7 @@ module _ (P R : ℕ → ℕ → Type 0) where
   abbrev pub AreResumesPaired : Resume → Resume → Type 0
   AreResumesPaired y z = AllZip R y.stack z.stack × (y.base ≡ z.base)
 
-  -- the same place, with paired nodes and records, and equal other locals
+  -- places of one kind, with paired nodes and records, and equal other locals
   abbrev pub ArePlacesPaired : EllenLoc → EllenLoc → Type 0
   ArePlacesPaired (Search a) (Search b) = AreSearchesPaired a b
   ArePlacesPaired (Help a y) (Help b z) = AreHelpsPaired a b × AreResumesPaired y z

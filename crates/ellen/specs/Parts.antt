@@ -170,7 +170,7 @@ ellen_form memory held = canonical_code 1 (ellen_parts memory held)
 abbrev pub ellen_code : EllenMem → List (Option EllenLoc) → List ℕ
 ellen_code memory held = parts_code (all_front (ellen_parts memory held)) (ellen_parts memory held)
 
--- what stands in front, of the memory alone
+-- what comes in front, of the memory alone
 abbrev pub ellen_front_code : Front → EllenMem → List ℕ
 ellen_front_code front memory = front_code front (ellen_parts memory [])
 

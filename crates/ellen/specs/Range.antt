@@ -17,7 +17,7 @@ use Rattle.ellen.specs.declared.place.HelpLoc.{HelpLoc}
 use Rattle.ellen.specs.declared.place.HelpLoc.TheVariants.{InsChild, InsClean, Mark, Right, Other, Splice, DelClean}
 use Rattle.ellen.specs.declared.place.HelpLoc.TheVariants.{Back}
 
--- with so many records
+-- the number in an update word is below this one
 abbrev pub IsWordIn : ℕ → UpdateWord → Type 0
 IsWordIn records word.Untouched = Unit {0}
 IsWordIn records (word.Clean r) = r < records
@@ -28,7 +28,7 @@ IsWordIn records (word.Mark r) = r < records
 abbrev pub IsResumeIn : ℕ → Resume → Type 0
 IsResumeIn records resume = All (λ r. r < records) resume.stack
 
--- with so many nodes and records
+-- the numbers in a node are below these
 abbrev pub IsNodeIn : ℕ → ℕ → Node → Type 0
 IsNodeIn nodes records (Leaf k) = Unit {0}
 IsNodeIn nodes records (Internal k u l r) = IsWordIn records u × (l < nodes) × (r < nodes)

@@ -85,7 +85,7 @@ first_place = Search (Update None 0)
 abbrev pub with_base : Base → Resume
 with_base b = record { stack = []; base = b }
 
--- a record is put on the stack
+-- a record is pushed on the stack
 abbrev pub awaiting : ℕ → Resume → Resume
 awaiting r resume = record { stack = resume.stack ++ r ∷ []; base = resume.base }
 

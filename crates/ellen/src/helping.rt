@@ -94,7 +94,7 @@ fn help(
     }
 }
 
-/// No backtrack awaited, and what is done then.
+/// An empty stack of backtracks, and what is done behind it.
 pub fn with_base(alloc: Global, base: Base) -> Resume
     ensures { result ≡ with_base base }
 {
@@ -104,7 +104,7 @@ pub fn with_base(alloc: Global, base: Base) -> Resume
     }
 }
 
-/// Helps a word found in the way of a search, which begins again then.
+/// Helps what a word announces that a search found in its way. The search then begins again.
 pub fn help_first(
     alloc: Global,
     machine: Ellen,
@@ -288,7 +288,7 @@ fn splice_row(
     Ok(Outcome::Goes(goal))
 }
 
-/// Takes the flag of a delete back, which is done or not.
+/// Takes back the flag of a delete, whether it is done or not.
 fn unflag_row(
     alloc: Global,
     mem: &mut EllenMem,

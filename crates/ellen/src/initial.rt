@@ -24,7 +24,8 @@ fn empty_tree(alloc: Global) -> Result<EllenMem, OutOfMemory>
     })
 }
 
-/// Puts a key in: a new internal node takes the place of the leaf to which the key leads.
+/// Inserts a key: a new internal node takes the place of the leaf that a search for the key
+/// reaches.
 fn put_in(alloc: Global, memory: &mut EllenMem, key: u8) -> Result<(), OutOfMemory>
     ensures ok { IfOk result (λ _. memory.new ≡ put_in memory.old key) }
     ensures err { OnErr result (memory.new ≡ memory.old) }
@@ -36,7 +37,7 @@ fn put_in(alloc: Global, memory: &mut EllenMem, key: u8) -> Result<(), OutOfMemo
     Ok(())
 }
 
-/// The memory with these keys, put in in their order.
+/// The memory with these keys, inserted in this order.
 pub fn build(alloc: Global, initial: &[u8]) -> Result<EllenMem, OutOfMemory>
     ensures { IfOk result (λ memory. memory ≡ initial_memory initial.now) }
 {

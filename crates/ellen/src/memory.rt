@@ -41,7 +41,7 @@ pub enum Node {
     },
 }
 
-/// What an insert is about to do: to put the node `new` in the place of the leaf.
+/// What an insert is about to do: replace the leaf by the node `new`.
 #[derive(Clone, Copy, PartialEq, Eq, Hash)]
 pub struct InsertRecord {
     pub parent: u16,
@@ -49,7 +49,7 @@ pub struct InsertRecord {
     pub new: u16,
 }
 
-/// What a delete is about to do: to put the leaf's sibling in the place of the parent.
+/// What a delete is about to do: replace the parent by the leaf's sibling.
 #[derive(Clone, Copy, PartialEq, Eq, Hash)]
 pub struct DeleteRecord {
     pub grandparent: u16,
@@ -65,8 +65,8 @@ pub enum Record {
     Del(DeleteRecord),
 }
 
-/// The shared memory: nodes and records, by number. The root is node 0. It has at most 2^16 of
-/// each: more are refused as memory that there is not.
+/// The shared memory: nodes and records, by number. The root is node 0. It has at most 2^16 of each: more are refused
+/// with `OutOfMemory`.
 #[derive(Drop, PartialEq, Eq, Hash)]
 pub struct EllenMem {
     pub nodes: Sequence<Node>,
@@ -173,7 +173,7 @@ impl EllenMem {
         self.records.get(r as usize).copied()
     }
 
-    /// Puts an update word into a node, if there is such a node.
+    /// Sets the update word of a node, if there is such a node.
     #[tactic(auto, using(crate::proofs::Past::update_past))]
     pub(crate) fn set_update(&mut self, x: u16, word: UpdateWord)
         ensures { self.new ≡ set_update self.old x word }
@@ -197,7 +197,7 @@ impl EllenMem {
         }
     }
 
-    /// Puts a child into a node, if there is such a node.
+    /// Sets a child of a node, if there is such a node.
     #[tactic(auto, using(crate::proofs::Past::child_past))]
     pub(crate) fn set_child(&mut self, x: u16, side: Side, child: u16)
         ensures { self.new ≡ set_child self.old x side child }
@@ -257,8 +257,7 @@ impl EllenMem {
         Ok(nodes)
     }
 
-    /// Appends a new internal node for a key at a leaf, and returns its number. Where memory is refused nothing is
-    /// appended.
+    /// Appends a new internal node for a key at a leaf, and returns its number. After a refusal nothing is appended.
     pub(crate) fn add_internal(
         &mut self,
         alloc: Global,
@@ -284,7 +283,7 @@ impl EllenMem {
         if key < other { other } else { key }
     }
 
-    /// The side of a node on which a new internal node for a key at a leaf is put.
+    /// The side of `parent` on which a new internal node for a key at a leaf goes.
     pub(crate) fn side_of_new(&self, parent: u16, key: u8, leaf: u16) -> Side
         ensures { result ≡ side_of (key_at (with_internal self.now key leaf) (new_internal self.now))
             (key_at self.now parent) }
@@ -300,7 +299,7 @@ impl EllenMem {
         self.records.push(new)
     }
 
-    /// Appends a new internal node for a key at a leaf, and a record of that insert. Where memory is refused nothing is
+    /// Appends a new internal node for a key at a leaf, and a record of that insert. After a refusal nothing is
     /// appended.
     pub(crate) fn add_insert(
         &mut self,
@@ -331,7 +330,7 @@ impl EllenMem {
         Ok(EllenMem { nodes, records })
     }
 
-    /// Makes another memory equal to this one, in the room that it has as far as that is enough.
+    /// Makes another memory equal to this one. It reuses that one's buffers where they are large enough.
     #[inline(always)]
     pub(crate) fn copy_into(&self, alloc: Global, copy: &mut EllenMem) -> Result<(), OutOfMemory>
         ensures { OnOk result (copy.new ≡ self.now) }

@@ -1,4 +1,4 @@
-//! Where an operation stands: its next access to the memory, and the locals that it holds.
+//! The place of an operation: its next access to the memory, and the locals that it holds.
 ghost use Rattle.std.specs.Prelude.{◌≡◌, IfOk};
 
 use crate::memory::UpdateWord;
@@ -6,7 +6,7 @@ use sched_program::{OutOfMemory, Sequence};
 use std::alloc::Global;
 use tree_machine::Side;
 
-/// A node above the one to which a search has come, with the update word that was read of it.
+/// A node above the one that a search has reached, with the update word that was read of it.
 #[derive(Clone, Copy, PartialEq, Eq, Hash)]
 pub struct Above {
     pub node: u16,
@@ -50,7 +50,7 @@ pub enum SearchLoc {
 /// A place of an operation that carries out what a record says, its own or another's.
 #[derive(Clone, Copy, PartialEq, Eq, Hash)]
 pub enum HelpLoc {
-    /// Puts the new node of an insert below its parent.
+    /// Writes the new node of an insert as a child of its parent.
     InsChild(u16),
     /// Takes the flag of an insert back.
     InsClean(u16),
@@ -60,11 +60,11 @@ pub enum HelpLoc {
     Right(u16),
     /// Reads the child of that parent on the side where the leaf is not.
     Other { record: u16, side: Side },
-    /// Puts that other child in the place of the parent.
+    /// Replaces the parent by that other child.
     Splice { record: u16, other: u16 },
-    /// Takes the flag of a delete back, which is done.
+    /// Takes back the flag of a delete that is done.
     DelClean(u16),
-    /// Takes the flag of a delete back, which could not mark its parent.
+    /// Takes back the flag of a delete that could not mark its parent.
     Back(u16),
 }
 

@@ -50,9 +50,9 @@ pub(crate) fn read_behind(
     read
 }
 
-/// Reads a memory, and the place that each thread holds, into these, and uses their buffers as far as they are large
-/// enough. It returns the length of what stands in front, and the front, if the bytes are the code of what it read.
-/// Otherwise the memory and the places are of no use.
+/// Reads a memory, and the place that each thread holds, into these, and reuses their buffers where they are large
+/// enough. It returns the length of what comes in front, and the front, if the bytes are the code of what it read.
+/// Otherwise the memory and the places are unspecified.
 pub(crate) fn read_all(
     alloc: Global,
     bytes: &[u8],

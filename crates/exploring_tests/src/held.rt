@@ -10,8 +10,8 @@ use std::sync::atomic::{AtomicU64, Ordering};
 use tree_machine::{Atomic, Encode};
 use treesched_lib::put_report;
 
-/// Whether each number of held workers tells what is known of the exploration, and each worker expanded as many entries
-/// as it arrived at, unless the limit stopped it.
+/// Whether each number of held workers reports what is known of the exploration, and each worker expanded as many
+/// entries as it arrived at, unless the limit stopped it.
 pub fn explores_held<R: Runtime>(rt: &R, exploration: &Exploration) -> Result<bool, OutOfMemory> {
     match Program::from_json(rt.alloc(), exploration.file) {
         Ok(program) => all_explore(rt, &program, exploration),
@@ -79,7 +79,7 @@ fn explore_on<R: Runtime, M: Encode>(
     tells(rt, &report, &gate, exploration, workers)
 }
 
-/// Whether the lines of the report tell what is known of the exploration, and the shares agree with the gate, unless
+/// Whether the lines of the report show what is known of the exploration, and the shares agree with the gate, unless
 /// the limit stopped it.
 fn tells<R: Runtime, M: Encode>(
     rt: &R,
@@ -94,7 +94,7 @@ fn tells<R: Runtime, M: Encode>(
     Ok(is_met && is_told(rt, exploration, workers, out.as_str())?)
 }
 
-/// Whether the lines of so many workers tell what is known of the exploration. Others are printed.
+/// Whether the lines of `workers` workers show what is known of the exploration. Prints them where they do not.
 fn is_told<R: Runtime>(
     rt: &R,
     exploration: &Exploration,

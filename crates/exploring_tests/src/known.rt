@@ -1,5 +1,5 @@
-//! Explorations of which the outcome is known. Two explorers that have no code in common with this one tell the same
-//! numbers of states.
+//! Explorations whose outcome is known. Two explorers that have no code in common with this one report the same numbers
+//! of states.
 use book::Merge;
 use sched_program::OutOfMemory;
 use std::alloc::Global;
@@ -16,13 +16,13 @@ pub const AMPLE: u32 = 200_000;
 /// What an exploration comes to.
 #[derive(Clone, Copy)]
 pub enum Outcome {
-    /// No fault after any number of steps, and so many states.
+    /// No fault after any number of steps, and the number of states.
     Every { states: u32 },
-    /// No fault, and so many states.
+    /// No fault, and the number of states.
     Holds { states: u32 },
-    /// A history without an order, and so many states. The schedule is the first shortest one in the order of lists.
+    /// A history without an order, and the number of states. The schedule is the first shortest one in list order.
     Fault { schedule: &'static str, states: u32 },
-    /// More states than the limit. Schedules of so many steps hold.
+    /// More states than the limit. Schedules of `holds_to` steps hold.
     Stopped { holds_to: u16 },
 }
 
@@ -97,7 +97,7 @@ pub fn length_of(schedule: &str) -> usize {
 
 /// What is known of a program's schedules.
 enum Schedules {
-    /// None leads to a fault, and by names those of so many steps and more reach no further state.
+    /// None reaches a fault, and by names those of this number of steps and more reach no further state.
     Close(u16),
     /// The first shortest one to a fault in the order of lists.
     Fault(&'static str),
@@ -248,7 +248,7 @@ const FINDS: Known = Known(TWO_FINDS, 4, Schedules::Close(5), 13, 13);
 const APART: &[u8] =
     br#"{"version":1,"tree":"nm","initial":[10,20],"threads":[[{"op":"insert","key":5}],[{"op":"insert","key":25}]]}"#;
 
-/// The same, where the second insert waits for the first.
+/// `APART`, where the second insert waits for the first.
 const APART_IN_TURN: &[u8] =
     br#"{"version":2,"tree":"nm","initial":[10,20],"threads":[[{"op":"insert","key":5}],[{"op":"insert","key":25,"after":[0,1]}]]}"#;
 
@@ -289,12 +289,12 @@ pub static WHOLE: [Known; 3] = [
 pub struct Closing(&'static [u8], u16, u32);
 
 impl Closing {
-    /// One step fewer, and so many.
+    /// One step fewer, and this number of steps.
     pub fn steps(&self) -> RangeInclusive<u16> {
         self.1.saturating_sub(1)..=self.1
     }
 
-    /// The exploration by names to so many steps.
+    /// The exploration by names to `steps` steps.
     pub fn exploration(&self, steps: u16) -> Exploration {
         let Closing(file, from, states) = *self;
         Exploration {

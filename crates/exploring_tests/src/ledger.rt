@@ -36,8 +36,8 @@ impl Counts {
     }
 }
 
-/// What so many workers count in all. None where these lines with the ledger are not those of the text but for the
-/// schedule, of which the length alone counts, and then those of the workers and of the total that they sum to.
+/// What `workers` workers count in all. `None` unless the output has the lines of the text, then a line for each
+/// worker, and then the total, which is the sum of theirs. Of a schedule only the length has to agree.
 pub fn total_of(text: &str, workers: u8, out: &str) -> Option<Counts> {
     let count = text.lines().count();
     let sum = sum_of(out, count, workers)?;
@@ -48,7 +48,7 @@ pub fn total_of(text: &str, workers: u8, out: &str) -> Option<Counts> {
     is_met.then_some(sum)
 }
 
-/// Whether the first lines are those of the text, or tell a schedule of the same length.
+/// Whether each of the first lines is that of the text, or names a schedule of the same length.
 fn begins(out: &str, text: &str) -> bool {
     for (line, wanted) in out.lines().zip(text.lines()) {
         if !is_alike(line, wanted) {
@@ -68,7 +68,7 @@ fn is_alike(line: &str, wanted: &str) -> bool {
     }
 }
 
-/// What so many workers count in all, whose lines stand behind the first so many.
+/// What `workers` workers count in all. Their lines come behind the first `count` lines.
 fn sum_of(out: &str, count: usize, workers: u8) -> Option<Counts> {
     let mut sum = Counts::none();
     for worker in 0..workers {
@@ -78,7 +78,7 @@ fn sum_of(out: &str, count: usize, workers: u8) -> Option<Counts> {
     Some(sum)
 }
 
-/// What the worker behind so many others counts.
+/// What the worker behind `others` other ones counts.
 fn share_of(line: &str, others: u64) -> Option<Counts> {
     if number_behind(line, "worker ")? == others.saturating_add(1) {
         Counts::of(line)

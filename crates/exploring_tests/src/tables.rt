@@ -18,7 +18,7 @@ pub enum By {
     Alone,
     /// One worker, and each of these numbers of workers.
     Together(&'static [u8]),
-    /// Two workers, who count so much in all.
+    /// Two workers, who count this in all.
     Two(Counts),
     /// Each number of workers, whom a gate holds now and then.
     Held,

@@ -10,8 +10,8 @@ use std::test::Fail;
 use treesched_lib::Output;
 use treesched_tests::sources::TWO_INSERTS;
 
-/// Whether one worker, and each of these numbers of workers, tells what is known of the exploration and counts the same
-/// in all, unless the limit stops it.
+/// Whether one worker, and each of these numbers of workers, reports what is known of the exploration and counts the
+/// same in all, unless the limit stops it.
 pub fn explores_together<R: Runtime>(
     rt: &R,
     exploration: &Exploration,
@@ -29,7 +29,7 @@ pub fn explores_together<R: Runtime>(
     Ok(true)
 }
 
-/// What so many workers count in all, if they tell what is known of the exploration.
+/// What `workers` workers count in all, if they report what is known of the exploration.
 fn total<R: Runtime>(
     rt: &R,
     exploration: &Exploration,
@@ -41,7 +41,7 @@ fn total<R: Runtime>(
     total_in(rt, exploration, workers, &output)
 }
 
-/// What the output of so many workers counts in all, if it tells what is known of the exploration.
+/// What the output of `workers` workers counts in all, if it reports what is known of the exploration.
 fn total_in<R: Runtime>(
     rt: &R,
     exploration: &Exploration,
@@ -58,7 +58,7 @@ fn total_in<R: Runtime>(
     }
 }
 
-/// Whether two workers tell what is known of the exploration, and count so much in all.
+/// Whether two workers report what is known of the exploration, and count these in all.
 pub fn explores_by_two<R: Runtime>(
     rt: &R,
     exploration: &Exploration,

@@ -207,7 +207,7 @@ module _ (program : Program) (history : History) where
         replies = l.replies;
       }
 
-  -- an operation that stands next leaves one set of keys
+  -- an operation that comes next leaves one set of keys
   pub StandsNext-same : (listed : Listed) (keys next next' : Keys) (a : OpId)
       → StandsNext program history listed keys a next → StandsNext program history listed keys a next' → next ≡ next'
   StandsNext-same listed keys next next' a s t =
@@ -232,7 +232,7 @@ module _ (program : Program) (history : History) where
     pub listed_more : with_name (listed_in (take i order)) (get_or order i d) ≡ listed_in (take (i + 1) order)
     listed_more = fun_ext (λ a. sym (list_any_more (λ b. same_name b a) order i d within))
 
-    -- where the next operation stands next, what is left of the list completes exactly if the list after it does
+    -- where the next operation may come next, what is left of the list completes exactly if the list after it does
     pub Completes-more : (keys next : Keys) (A : Type 0)
         → StandsNext program history (listed_in (take i order)) keys (get_or order i d) next
         → A ↔ Completes program history (listed_in (take i order)) keys (drop i order)

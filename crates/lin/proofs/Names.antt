@@ -49,7 +49,7 @@ module _ {V : Type 0} where
   is_some_push (y ∷ xs) x a =
       some_of y.1 (value_at xs a) (value_at (xs ++ x ∷ []) a) (same_name y.0 a) (same_name x.0 a) (is_some_push xs x a)
 
-  -- what stands at a place of a list has a value
+  -- what is at a place of a list has a value
   pub IsSome-value_at : (xs : List (OpId × V)) (i : ℕ) (d : OpId × V) → i < length xs
       → IsSome (value_at xs (get_or xs i d).0)
   IsSome-value_at [] i d h = absurd (omega arith)
@@ -79,7 +79,7 @@ module _ {V : Type 0} where
         | inr same ↦ subst Q (same_name-is _ _ same) here
       ]
 
-  -- the same, where the last entry was read
+  -- what holds of each name with a value, with one more entry, where that entry was read
   pub each_more_read : (Q : OpId → Type 0) (items : List (OpId × V)) (i : ℕ) (x : OpId × V) → i < length items
       → x ≡ get_or items i x → Q x.0 → ((a : OpId) → IsSome (value_at (take i items) a) → Q a) → (a : OpId)
       → IsSome (value_at (take (i + 1) items) a) → Q a

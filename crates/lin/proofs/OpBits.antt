@@ -121,7 +121,7 @@ module _ (ones count : ℕ) (few : ones < 2 ^ 8) (are : (i : ℕ) → i < 8 → 
         mod-eq_of_lt (fits thread few_threads) ∙ omega arith in
         ap (λ n. ltb i 8 && eqb (bit_at n (8 * t + i)) 1) small ∙ cases t i (ltb i 8) (eqb t thread) refl refl
 
--- so many ones, for the first eight
+-- the first `count` bits are ones, among the first eight
 abbrev pub AreOnes : ℕ → ℕ → Type 0
 AreOnes ones count = (ones < 2 ^ 8) × ((i : ℕ) → i < 8 → eqb (bit_at ones i) 1 ≡ ltb i count)
 

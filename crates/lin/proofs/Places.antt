@@ -1,5 +1,5 @@
--- Each operation of a program has a place, and so has each of a linearization, and each of which it is known what it
--- replies.
+-- Each operation of a program has a place, and so has each one of a linearization, and each one whose reply after an
+-- order is known.
 use Rattle.std.proofs.Common.{◌≡◌, ◌<◌, ◌≤◌, inl, inr, Bool, true, false, cond, List, [], ◌∷◌, Option, Some, None}
 use Rattle.std.proofs.Common.{length, All, slice_get, sym, ◌∙◌, ap, arith, subst}
 use Rattle.std.specs.Option.{option_map}

@@ -39,7 +39,7 @@ not_among order a b none among same =
 differ : (a b : OpId) → same_name b a ≡ false → a ≢ b
 differ a b other same = true≢false (sym (subst (λ c. same_name b c ≡ true) (sym same) (same_name_self b)) ∙ other)
 
--- what stands at a place of a list with one name more
+-- what is at a place of a list with one name more
 push_cases : (order : List OpId) (a : OpId) (i : ℕ) (b : OpId) → slice_get (order ++ a ∷ []) i ≡ Some b
     → (slice_get order i ≡ Some b) ⊎ ((i ≡ length order) × (a ≡ b))
 push_cases [] a zero b h = inr (refl, cc)
@@ -104,7 +104,7 @@ module _ (program : Program) (old new : History) (a : OpId) (r : Bool) (is : Has
         rest_gives (keys_after op.0 keys) rest (λ c among. apart c (Contains-tail b rest c among)) op.2.1,
       )
 
-  -- where the operation stands in the order already
+  -- where the operation is in the order already
   gives_within : (keys : Keys) (order : List OpId) → AllPairs (λ x y. x ≢ y) order → listed_in order a ≡ true
       → GivesReplies program old keys order
       → reply_in program keys order a ≡ Some r → GivesReplies program new keys order

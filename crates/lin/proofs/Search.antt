@@ -77,7 +77,7 @@ module _ {V : Type 0} (listed : Listed) (a : OpId) where
           omega (arith, unlisted_le xs, before, after)
       by_name false e some rest = omega (arith, rest some, weight_falls (listed x.0) (same_name a x.0))
 
--- an operation that stands next was pushed on the order
+-- an operation that comes next was pushed on the order
 module _ (program : Program) (history : History) (order before pushed : List OpId) (listed : Listed) (keys next : Keys)
     (a : OpId) (are : listed ≡ listed_in order) (stands_next : StandsNext program history listed keys a next)
     (same : before ≡ order) (push : pushed ≡ before ++ a ∷ []) where

@@ -1,4 +1,4 @@
--- Whether an operation may stand next, from sets of operations.
+-- Whether an operation may come next, from sets of operations.
 use Rattle.std.proofs.Common.{◌≡◌, ◌&&◌, ◌||◌, Bool, true, false, true≢false, List, [], ◌∷◌, IsSome, MatchBool, ◌↔◌}
 use Rattle.std.proofs.Common.{Option, Some, IfSome, IsSomeAnd, inl, inr, refl, sym, ◌∙◌, ap, subst}
 use Rattle.std.proofs.lemmas.Bool.{or_cases, or_parts, or_left, or_right, and_parts}
@@ -36,7 +36,7 @@ module _ (history : History) (listed barred before : Listed) (name : OpId) (has 
 
   module _ (program : Program) (keys : Keys) (rest : List OpId)
       (c : Completes program history listed keys (name ∷ rest)) where
-    -- one that may stand next is in none of the sets,
+    -- one that may come next is in none of the sets,
     pub in_no_set : ((listed name || barred name) || before name) ≡ true → ⊥
     in_no_set some = elim (or_cases (listed name || barred name) (before name) some) [
       | inl first ↦ elim (or_cases (listed name) (barred name) first) [
@@ -105,7 +105,7 @@ pub every_listed : (history : History) (finished listed : Listed) → finished �
 every_listed history finished listed are =
     (λ within a some. within a (ap (λ f. f a) are ∙ some), λ every a among. every a (sym (ap (λ f. f a) are) ∙ among))
 
--- an operation that is new, in time, and replies as it did or is pending, may stand next
+-- an operation that is new, in time, and replies as it did or is pending, may come next
 pub stands : (program : Program) (history : History) (listed : Listed) (keys next : Keys) (name : OpId) (o : Op)
     (given : Option Bool) (told : Bool) → IsBegun history name
     → (listed name ≡ false) × ((b : OpId) → with_name listed name b ≡ true → EndedBefore history name b → ⊥)

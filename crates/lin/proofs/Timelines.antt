@@ -1,4 +1,4 @@
--- What stands in the table of a history.
+-- What is in the table of a history.
 use Rattle.std.proofs.Common.{◌≡◌, ◌≢◌, ℕ, suc, ◌+◌, ◌-◌, ◌<◌, ◌≤◌, ◌&&◌, ◌||◌, Bool, true, false, eqb, ltb, eqb-true}
 use Rattle.std.proofs.Common.{cond, lt-ltb, ltb-true, List, [], ◌∷◌, length, get_or, set, take, drop}
 use Rattle.std.proofs.Common.{Option, Some, None, IsSome, IsSomeAnd, ◌↔◌, IfSome, refl, sym, ◌∙◌, ap, ap₂, subst, arith}
@@ -66,7 +66,7 @@ module _ (note : List ℕ) where
   pub counted_all : (i : ℕ) → length note ≤ i → counted_before note i ≡ counted note
   counted_all i over = fun_ext (λ a. past i over a.thread a.index (ltb a.index 8) (ltb a.thread i) refl)
 
--- what holds of the value beside each name and of what stands at its place
+-- what holds of the value beside each name and of what is at its place
 module _ {V T : Type 0} (P : Option V → T → Type 0) where
   abbrev pub HoldsAtPlaces : List (OpId × V) → List T → Type 0
   HoldsAtPlaces entries table = (a : OpId) (d : T) → HasPlace a → P (value_at entries a) (get_or table (place_of a) d)
@@ -87,7 +87,7 @@ module _ {V T : Type 0} (P : Option V → T → Type 0) where
           let other : place_of a ≢ place = λ at. places_differ x.0 a has.1 has_a.1 differs (at ∙ e) in
           subst (P (value_at rest a)) (sym (get_or-set_other table place (place_of a) t d other)) (before a d has_a)
 
-  -- the same at the last entry that is left of a list
+  -- holds with the entry before those that are left of a list, once the table has its value
   pub holds_before : (entries : List (OpId × V)) (i : ℕ) (x d : OpId × V) (table : List T) (place : ℕ) (t : T) → 0 < i
       → i ≤ length entries → x ≡ get_or entries (i - 1) d
       → HasPlace x.0 → place ≡ place_of x.0 → place < length table → P (Some x.1) t
@@ -147,7 +147,7 @@ says (Some note) set some is a has =
       λ less. at ∙ ap₂ ◌&&◌ (lt-ltb a.index 8 has.1) (lt-ltb a.index (slice_index note a.thread) less),
     )
 
--- what stands at the place of an operation that began
+-- what is at the place of an operation that began
 pub set_says : (history : History) (sets : List OpSet) → AreSetsBefore history.begun sets → (name : OpId)
     → IsBegun history name → HasPlace name → (k : ℕ) (d : OpSet) → k ≡ place_of name → (a : OpId) → HasPlace a
     → (operations_in (get_or sets k d) a ≡ true) ↔ EndedBefore history a name

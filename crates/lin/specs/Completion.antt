@@ -24,7 +24,7 @@ with_name listed a = λ b. listed b || same_name a b
 abbrev pub EveryFinishedIsListed : History → Listed → Type 0
 EveryFinishedIsListed history listed = (a : OpId) → IsSome (reply history a) → listed a ≡ true
 
--- an operation may stand next, and leaves these keys
+-- an operation may come next, and leaves these keys
 pub record StandsNext (program : Program) (history : History) (listed : Listed) (keys : Keys) (a : OpId)
     (next : Keys) : Type 0 where
   pub begun : IsBegun history a

@@ -1,4 +1,4 @@
--- What an order of operations tells of a reply that comes after it.
+-- What an order of operations says of a reply that comes after it.
 use Rattle.std.specs.Prelude.{◌≡◌, ◌≢◌, ℕ, Bool, List, [], ◌∷◌, ◌++◌, Option, Some, option_and_then, if◌then◌else◌}
 use Rattle.std.specs.Option.{option_map}
 use Rattle.lin.specs.Keys.{Keys, reply_on, keys_after}
@@ -16,7 +16,7 @@ reply_in program keys (b ∷ rest) a =
     if same_name b a then option_map (λ o. reply_on o keys) (op_at program a.thread a.index)
     else option_and_then (λ o. reply_in program (keys_after o keys) rest a) (op_at program b.thread b.index)
 
--- the order with an operation at its end, unless it stands there already
+-- the order with an operation at its end, unless it is there already
 abbrev pub ending_with : List OpId → OpId → List OpId
 ending_with order a = if listed_in order a then order else order ++ a ∷ []
 

@@ -2,7 +2,7 @@
 //!
 //! A linearization is an order of operations that explains their replies and keeps to real time (Herlihy and Wing,
 //! "Linearizability: a correctness condition for concurrent objects", TOPLAS 1990). `check_order` decides whether a
-//! list is one, `judge` searches for one, and `order_with_reply` tells whether one explains one reply more.
+//! list is one, `judge` searches for one, and `order_with_reply` decides whether one explains one more reply.
 #![tactic(auto)]
 
 mod history;

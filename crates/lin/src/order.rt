@@ -26,7 +26,7 @@ pub fn check_order(program: &Program, history: &History, order: &[OpId]) -> bool
     lists_every_finished(history, order)
 }
 
-/// The keys after this operation, if it may stand next.
+/// The keys after this operation, if it may come next.
 fn keys_after_next(
     program: &Program,
     history: &History,

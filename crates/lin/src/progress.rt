@@ -30,8 +30,8 @@ pub struct Progress {
     pub barred: OpSet,
 }
 
-/// Whether an operation may stand next, as far as time goes: it is not listed, it ended neither before itself nor
-/// before a listed one began, and no finished operation that is missing ended before it began.
+/// Whether an operation may come next, as far as time goes: it is not listed, it ended neither before itself nor before
+/// a listed one began, and no finished operation that is missing ended before it began.
 fn is_due(timeline: &Timeline, from: Progress, name: OpId, before: OpSet) -> bool
     requires barred { AreBarred timeline.now (operations_in from.at.listed) (operations_in from.barred) }
     requires before { (a : Name) → HasPlace a → (operations_in before a ≡ true) ↔ EndedBefore timeline.now a name }

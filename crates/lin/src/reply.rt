@@ -14,11 +14,12 @@ use crate::short_name::ShortName;
 use crate::short_order::{Order, ending_with};
 use sched_program::{OpId, Program};
 
-/// An order after a reply: with the operation at its end, unless it stands in the order already, where it was placed
-/// while it was pending. None where it replies otherwise there.
+/// An order after a reply: with the operation at its end, unless the order already has it, from when it was pending.
+/// None where it replies otherwise there.
 ///
-/// So a linearization of the history before the reply is one of the history after it, or none. No history is asked for,
-/// and no memory.
+/// Let the given order be a linearization of the history before the reply. Then the returned order is one of the
+/// history after it; where none is returned, the order with the operation is not. It needs no history and takes no
+/// memory.
 pub fn order_with_reply(program: &Program, order: &Order, name: OpId, reply: bool) -> Option<Order>
     ensures { MatchOption result
         ((old new : History) → HasReplied old new name reply → IsLinearization program.now old order.now

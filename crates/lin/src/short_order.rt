@@ -1,4 +1,4 @@
-//! Orders that lie in the value itself.
+//! Orders that are stored in the value itself.
 
 ghost use Rattle.std.specs.Prelude.{◌≡◌, ◌≤◌, ◌+◌, length, All, IfOk, IfSome, IfNone, MatchOption};
 ghost use Rattle.lin.specs.Linearization.{IsLinearization, IsLinearizable};
@@ -32,7 +32,7 @@ pub fn judge_order(
     }
 }
 
-/// The same names.
+/// The names of a list, in its order, as an `Order`.
 fn order_of(names: &[OpId]) -> Order
     requires few { length names.now ≤ 12 }
     requires places { All HasPlace names.now }
@@ -57,7 +57,7 @@ fn lists(order: &Order, name: OpId) -> bool
     false
 }
 
-/// The order with an operation at its end, unless it stands there already. None where there is no room.
+/// The order with an operation at its end, unless it is there already. None where there is no room.
 pub(crate) fn ending_with(order: &Order, name: OpId) -> Option<Order>
     requires { HasPlace name }
     ensures { MatchOption result (13 ≤ length (ending_with order.now name))

@@ -78,7 +78,7 @@ impl<'a> Timeline<'a> {
     }
 }
 
-/// Where an operation stands in the table.
+/// The index of an operation in the table.
 fn place_of(name: OpId) -> usize
     requires { HasPlace name }
     ensures value { result ≡ place_of name }

@@ -55,7 +55,7 @@ pub enum Broken {
     NoHistory,
     /// This case is not as it should be.
     Wrong(Case),
-    /// So much was counted where the case wants another number.
+    /// This was counted where the case expects another number.
     Count(u64),
 }
 

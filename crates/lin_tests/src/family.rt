@@ -48,7 +48,7 @@ struct Event {
     reply: bool,
 }
 
-/// Six events: a base 3 digit is the thread of one, a bit its reply.
+/// Six events. Each base 3 digit of `threads` is the thread of an event, each bit of `replies` its reply.
 fn events_of(threads: u32, replies: u32) -> [Event; 6] {
     let mut events = [Event {
         thread: 0,
@@ -81,7 +81,7 @@ fn event_of(events: &[Event], thread: u8, number: u8) -> Option<(usize, Event)> 
     None
 }
 
-/// How many operations a thread had finished after so many events.
+/// How many operations a thread had finished after the first `place` events.
 fn finished_by(events: &[Event], place: usize, thread: u8) -> u8 {
     let mut count: u8 = 0;
     for event in events.iter().take(place) {
@@ -130,7 +130,7 @@ fn history_after(
     history_of(alloc, program, begun, finished)
 }
 
-/// The searchers agree on the history of these events; whether they found an order.
+/// The searchers agree on the history of these events. Returns whether they found an order.
 fn agree_after(alloc: Global, program: &Program, events: &[Event]) -> Result<bool, Broken> {
     let history = history_after(alloc, program, events)?;
     agree(alloc, program, &history)
@@ -189,7 +189,7 @@ fn gives_reply(
     }
 }
 
-/// The same of the history that six events leave.
+/// Checks `gives_reply` for the history that six events leave.
 fn gives_last_reply(
     alloc: Global,
     program: &Program,
@@ -201,7 +201,7 @@ fn gives_last_reply(
     gives_reply(program, order, &after, name, reply)
 }
 
-/// The same, where the last event finishes an operation and the history before it has an order.
+/// Checks the reply of the last event, if it finishes an operation and the history before it has an order.
 fn last_reply_agrees(alloc: Global, program: &Program, events: &[Event; 6]) -> Result<(), Broken> {
     let Some(last) = finished_last(events) else {
         return Ok(());

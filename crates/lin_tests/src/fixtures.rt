@@ -1,6 +1,6 @@
 //! What several tests use: programs, histories and answers.
 //!
-//! A program and a history come in a box each: whoever lets one go makes one call, and not one for each of its lists.
+//! A program and a history come in a box each: dropping one takes one call, and not one for each of its lists.
 
 use crate::broken::Broken;
 use lin::{Order, ShortName};
@@ -46,7 +46,7 @@ pub fn note(counts: &[u8]) -> Note {
     note
 }
 
-/// Whether the judge answered this order, or that there is none.
+/// Whether the judge returned this order, or that there is none.
 pub fn is_answer(answer: &Option<Vec<OpId>>, expected: Option<&[OpId]>) -> bool {
     match (answer, expected) {
         (Some(order), Some(names)) => order.as_slice() == names,
@@ -55,7 +55,7 @@ pub fn is_answer(answer: &Option<Vec<OpId>>, expected: Option<&[OpId]>) -> bool 
     }
 }
 
-/// Puts a name at the end of an order, where there is room and the name has a place.
+/// Appends a name to an order, where there is room and the name has a place.
 pub fn push_name(order: &mut Order, name: OpId) {
     if order.len() < 12 && name.thread < 4 && name.index < 8 {
         order.push(ShortName::of(name));

@@ -18,7 +18,7 @@ pub fn judge_plain(
     }
 }
 
-/// Extends the list to a linearization by at most so many operations, if one begins with it.
+/// Extends the list to a linearization by at most `left` operations, if one begins with it.
 fn extend(
     program: &Program,
     history: &History,

@@ -17,7 +17,7 @@ pub fn judge_pruned(
     }
 }
 
-/// Completes the list to a linearization by at most so many operations, if that is possible.
+/// Completes the list to a linearization by at most `left` operations, if that is possible.
 fn complete(
     program: &Program,
     history: &History,

@@ -1,4 +1,4 @@
-//! Orders that one reply more is put to.
+//! Orders to which one more reply is put.
 
 use crate::broken::{Broken, Case, ensure};
 use crate::fixtures::{is_order, order_of, program_of};
@@ -55,7 +55,7 @@ const SMALL_QUESTIONS: &[Question] = &[
         reply: false,
         longer: Some(&[A, C, B, D]),
     },
-    // A concurrent one stands before it.
+    // A concurrent one comes before it.
     Question {
         case: Case::InsertTrueAfterAFind,
         order: &[C],
@@ -139,7 +139,7 @@ fn is_answered(program: &Program, question: &Question) -> Result<(), Broken> {
     )
 }
 
-/// The same of several orders of a program.
+/// The orders of a program give the replies that its questions expect.
 fn are_answered(alloc: Global, text: &str, questions: &[Question]) -> Result<(), Broken> {
     let program = program_of(alloc, text)?;
     for question in questions {
@@ -182,7 +182,7 @@ fn judged_anew(alloc: Global) -> Result<(), Broken> {
     is_judged(alloc, &program, &history)
 }
 
-/// All twelve operations stand in the order, the last one pending.
+/// All twelve operations are in the order, the last one pending.
 const FULL_QUESTIONS: &[Question] = &[
     Question {
         case: Case::LastOfTwelvePlacedAsItReplied,

@@ -95,7 +95,7 @@ pub fn history_of_row(alloc: Global, program: &Program, row: &Row) -> Result<Box
     history_of(alloc, program, begun, finished)
 }
 
-/// The judge answers what the row says.
+/// The judge returns what the row says.
 fn judges(alloc: Global, program: &Program, row: &Row) -> Result<(), Broken> {
     let history = history_of_row(alloc, program, row)?;
     let answer = judge(alloc, program, &history)?;

@@ -65,7 +65,7 @@ fn is_taken(
     }
 }
 
-/// The searchers answer this. The one that tries every list is asked where at most four operations began.
+/// The searchers return this answer. The one that tries every list runs only where at most four operations began.
 fn is_answer_of_all(
     alloc: Global,
     program: &Program,
@@ -81,7 +81,7 @@ fn is_answer_of_all(
     Ok(())
 }
 
-/// The searchers answer alike; whether they found an order.
+/// The searchers return equal answers. Returns whether they found an order.
 pub fn agree(alloc: Global, program: &Program, history: &History) -> Result<bool, Broken> {
     let answer = judge(alloc, program, history)?;
     is_answer_of_all(alloc, program, history, &answer)?;

@@ -100,7 +100,7 @@ fn history_with(alloc: Global, program: &Program, last: bool) -> Result<Box<Hist
     history_of(alloc, program, begun, finished)
 }
 
-/// The judge answers this order, or that there is none.
+/// The judge returns this order, or that there is none.
 fn judges(
     alloc: Global,
     program: &Program,
@@ -111,7 +111,7 @@ fn judges(
     ensure(is_answer(&answer, order), Broken::Wrong(Case::TwelveJudged))
 }
 
-/// Whether the judge's counting twin answers this order, or that there is none, and what it counted.
+/// Whether the judge's counting twin returns this order, or that there is none, and what it counted.
 fn counted(
     alloc: Global,
     program: &Program,
@@ -122,7 +122,7 @@ fn counted(
     Ok((is_answer(&answer, order), sought))
 }
 
-/// The twin answers this order, or that there is none, and tells this count.
+/// The twin returns this order, or that there is none, and this count.
 fn counts(
     alloc: Global,
     program: &Program,
@@ -142,7 +142,7 @@ fn none_if_true(alloc: Global, program: &Program) -> Result<(), Broken> {
     counts(alloc, program, &history, None, 192)
 }
 
-/// The first order is found with no way back, and the searchers find it too.
+/// The first order is found without backtracking, and the searchers find it too.
 fn is_first_order(alloc: Global, program: &Program, history: &History) -> Result<(), Broken> {
     judges(alloc, program, history, Some(NAMES))?;
     counts(alloc, program, history, Some(NAMES), 12)?;

@@ -31,8 +31,8 @@ const NO_TAG: NatMit = NatMit { tag: false };
 /// The threads of at most twenty steps.
 type Schedule = ShortList<u8, 20>;
 
-/// A program of two threads, how many states at most so many steps reach, and after how many the first history without
-/// an order comes.
+/// A program of two threads, how many states at most `steps` steps reach, and after how many steps the first history
+/// without an order comes.
 struct Row {
     text: &'static str,
     steps: usize,
@@ -75,8 +75,8 @@ struct End {
     history: History,
 }
 
-/// The ends that were reached, one for each state, in the order in which they were; and the least number of steps of a
-/// state whose history has no order.
+/// The ends, one for each state, in the order in which they were reached; and the least number of steps of a state
+/// whose history has no order.
 #[derive(Drop)]
 struct Reached {
     ends: Vec<Box<End>>,
@@ -117,7 +117,7 @@ fn code_of<M: Encode>(
     state.label(alloc, machine, Naming::Own, &mut buffer, Vec::new(alloc))
 }
 
-/// An end in a box: whoever lets it go makes one call, and not one for each of its lists.
+/// An end in a box: dropping it takes one call, and not one for each of its lists.
 fn boxed(
     alloc: Global,
     schedule: Schedule,
@@ -134,7 +134,7 @@ fn boxed(
     )?)
 }
 
-/// Where a schedule ends, which led to this state.
+/// Where a schedule ends that reached this state.
 fn end_at<M: Encode>(
     alloc: Global,
     machine: M,
@@ -191,7 +191,7 @@ fn is_known(ends: &[Box<End>], code: &Bytes) -> bool {
     false
 }
 
-/// Puts an end behind those that were reached, if its state is new.
+/// Appends an end to those that were reached, if its state is new. Returns whether it is.
 fn add(reached: &mut Reached, end: Box<End>) -> Result<bool, OutOfMemory> {
     let is_new = !is_known(reached.ends.as_slice(), &end.code);
     if is_new {
@@ -200,7 +200,7 @@ fn add(reached: &mut Reached, end: Box<End>) -> Result<bool, OutOfMemory> {
     Ok(is_new)
 }
 
-/// Looks at the history of a new state, on which the searchers are to agree.
+/// Checks that the searchers agree on the history of a new state.
 fn look(alloc: Global, program: &Program, reached: &mut Reached) -> Result<(), Broken> {
     let Some(end) = reached.ends.as_slice().last() else {
         return Ok(());
@@ -212,7 +212,7 @@ fn look(alloc: Global, program: &Program, reached: &mut Reached) -> Result<(), B
     Ok(())
 }
 
-/// Reaches a state, which is looked at if it is new.
+/// Adds a state that was reached, and looks at it if it is new.
 fn reach(
     alloc: Global,
     program: &Program,
@@ -256,8 +256,8 @@ fn schedule_to(reached: &Reached, number: usize, steps: usize) -> Option<Schedul
     }
 }
 
-/// Takes a step of each of the two threads from the state of this number, if there is one and it has fewer steps than
-/// this.
+/// Takes a step of each of the two threads from the state of this number, if there is one and it has fewer than `steps`
+/// steps.
 fn step_from(
     alloc: Global,
     program: &Program,
@@ -272,7 +272,7 @@ fn step_from(
     Ok(())
 }
 
-/// Reaches all states of at most so many steps, which are fewer than a thousand: those of fewer steps first.
+/// Reaches all states of at most `steps` steps, which are fewer than a thousand: those of fewer steps first.
 fn reach_all(
     alloc: Global,
     program: &Program,
@@ -286,7 +286,7 @@ fn reach_all(
     Ok(())
 }
 
-/// How many states at most so many steps reach, and after how many the first history without an order comes.
+/// How many states at most `steps` steps reach, and after how many steps the first history without an order comes.
 fn count_of(
     alloc: Global,
     program: &Program,
@@ -300,7 +300,7 @@ fn count_of(
     Ok((reached.ends.len(), reached.fault))
 }
 
-/// The states of a row are as many as it says, and so are the steps to the first history without an order.
+/// The number of states, and the number of steps to the first history without an order, are those of the row.
 fn is_walked(alloc: Global, row: &Row) -> Result<(), Broken> {
     let program = program_of(alloc, row.text)?;
     let (states, fault) = count_of(alloc, &program, row.steps)?;

@@ -10,7 +10,7 @@ use Rattle.natmit.specs.declared.memory.Node.{Node}
 use Rattle.natmit.specs.declared.place.NatMitLoc.{NatMitLoc}
 use Rattle.natmit.specs.Parts.{held_part, natmit_behind_code, natmit_front_code, node_part}
 
--- what stands behind a front that stays
+-- what comes behind a front that stays
 pub behind_read : (front : Front) (old more nodes : List Node) (threads : List (Thread NatMitLoc)) (bytes rest : List ℕ)
     → front.nodes ≤ length old → nodes ≡ take front.nodes old ++ more
     → bytes ≡ flat_map (λ thread. cell_code (part_content (held_part thread.place))) threads ++ rest

@@ -11,12 +11,12 @@ empty_tree = record {
   nodes = Internal 102 (plain 1) (plain 2) ∷ Internal 101 (plain 3) (plain 4) ∷ Leaf 102 ∷ Leaf 100 ∷ Leaf 101 ∷ [];
 }
 
--- key k is put in at the leaf to which it leads
+-- key k is inserted at the leaf that a search for it reaches
 abbrev pub put_in : NatMitMem → ℕ → NatMitMem
 put_in memory k =
     let end = end_of (shapes memory) k (length memory.nodes) 0 0 in
     put_at memory k end.parent end.leaf
 
--- the memory with these keys, put in in their order
+-- the memory with these keys, inserted in this order
 abbrev pub initial_memory : List ℕ → NatMitMem
 initial_memory keys = fold put_in empty_tree keys

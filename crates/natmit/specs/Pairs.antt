@@ -17,7 +17,7 @@ module _ (P : ℕ → ℕ → Type 0) where
   abbrev pub AreWordsPaired : Word → Word → Type 0
   AreWordsPaired v w = (v.flag ≡ w.flag) × (v.tag ≡ w.tag) × P v.node w.node
 
-  -- the same kind and key, and children that are paired side by side
+  -- nodes of equal kind and key, whose children are paired side by side
   abbrev pub AreNodesPaired : Node → Node → Type 0
   AreNodesPaired (Leaf k) (Leaf j) = k ≡ j
   AreNodesPaired (Internal k l r) (Internal j m s) = (k ≡ j) × AreWordsPaired l m × AreWordsPaired r s
@@ -28,7 +28,7 @@ module _ (P : ℕ → ℕ → Type 0) where
   AreModesPaired (Owner o) (Owner q) = P o q
   AreModesPaired _ _ = ⊥
 
-  -- the same place, with paired nodes and equal other locals; a s p l as in the place table, b u q k for the twin
+  -- places of one kind, with paired nodes and equal other locals; a s p l as in the place table, b u q k for the twin
   abbrev pub ArePlacesPaired : NatMitLoc → NatMitLoc → Type 0
   ArePlacesPaired (Begin m) (Begin o) = AreModesPaired m o
   ArePlacesPaired (Down a s p l t m) (Down b u q k v o) = P a b × P s u × P p q × P l k × (t ≡ v) × AreModesPaired m o

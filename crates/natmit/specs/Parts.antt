@@ -1,4 +1,4 @@
--- The nodes and what the threads hold in parts: the numbers of nodes stand apart from all else.
+-- The nodes and what the threads hold in parts: the numbers of nodes are apart from all else.
 use Rattle.std.specs.Prelude.{ℕ, ◌+◌, ◌*◌, Bool, if◌then◌else◌, List, [], ◌∷◌, map, Option, Some, None}
 use Rattle.tree_machine.specs.declared.search_order.Side.{Side}
 use Rattle.tree_machine.specs.declared.search_order.Side.TheVariants.{Left, Right}
@@ -62,8 +62,8 @@ held_part (Some place) = place_part place
 abbrev pub natmit_parts : NatMitMem → List (Option NatMitLoc) → Parts
 natmit_parts memory held = record { nodes = map node_part memory.nodes; records = []; held = map held_part held }
 
--- the form of a memory with what the threads hold: the bytes of what nodes 0 and 1 and the threads lead to, in the
--- order in which a walk from these meets it
+-- the form of a memory with what the threads hold: the bytes of what nodes 0 and 1 and the threads reach, in the order
+-- in which a walk from these meets it
 abbrev pub natmit_form : NatMitMem → List (Option NatMitLoc) → List ℕ
 natmit_form memory held = canonical_code 2 (natmit_parts memory held)
 
@@ -71,7 +71,7 @@ natmit_form memory held = canonical_code 2 (natmit_parts memory held)
 abbrev pub natmit_code : NatMitMem → List (Option NatMitLoc) → List ℕ
 natmit_code memory held = parts_code (all_front (natmit_parts memory held)) (natmit_parts memory held)
 
--- what stands in front, of the memory alone
+-- what comes in front, of the memory alone
 abbrev pub natmit_front_code : Front → NatMitMem → List ℕ
 natmit_front_code front memory = front_code front (natmit_parts memory [])
 

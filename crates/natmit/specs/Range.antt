@@ -9,7 +9,7 @@ use Rattle.natmit.specs.declared.place.NatMitLoc.{NatMitLoc}
 use Rattle.natmit.specs.declared.place.NatMitLoc.TheVariants.{Begin, Down, Put, Flag, Look, CleanRead, Tag, Sibling}
 use Rattle.natmit.specs.declared.place.NatMitLoc.TheVariants.{Swing}
 
--- with so many nodes
+-- the numbers in a node are below this one
 abbrev pub IsNodeIn : ℕ → Node → Type 0
 IsNodeIn n (Leaf k) = Unit {0}
 IsNodeIn n (Internal k l r) = (l.node < n) × (r.node < n)

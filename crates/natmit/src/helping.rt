@@ -42,7 +42,7 @@ fn tagging(machine: NatMit, path: Path, side: Side, mode: Mode) -> NatMitLoc
     }
 }
 
-/// Where the cleanup goes that has read this word of the parent, on the side of the key.
+/// Where the cleanup goes from this word of the parent, on the side of the key.
 fn clean_read(machine: NatMit, path: Path, side: Side, mode: Mode, word: Word) -> Outcome<NatMitLoc>
     ensures { result ≡ clean_read machine path.ancestor path.successor path.parent side mode word }
 {
@@ -53,7 +53,7 @@ fn clean_read(machine: NatMit, path: Path, side: Side, mode: Mode, word: Word) -
     }
 }
 
-/// Where the cleanup goes that has cut the parent off.
+/// Where the cleanup goes once it has cut off the parent.
 fn swung(mode: Mode) -> Outcome<NatMitLoc>
     ensures { result ≡ swung mode }
 {
@@ -128,7 +128,7 @@ impl NatMit {
         }
     }
 
-    /// The word of the ancestor leads to the sibling then, and all between them is cut off.
+    /// The word of the ancestor then points to the sibling, and all between them is cut off.
     fn swing_row(
         self,
         op: Op,

@@ -31,7 +31,7 @@ fn empty_tree(alloc: Global) -> Result<NatMitMem, OutOfMemory>
     })
 }
 
-/// Puts a key in at the leaf to which it leads.
+/// Inserts a key at the leaf that a search for it reaches.
 fn put_in(alloc: Global, mem: &mut NatMitMem, key: u8) -> Result<(), OutOfMemory>
     ensures { IfOk result (λ _. mem.new ≡ put_in mem.old key) }
 {
@@ -39,7 +39,7 @@ fn put_in(alloc: Global, mem: &mut NatMitMem, key: u8) -> Result<(), OutOfMemory
     mem.put_at(alloc, key, end.parent, end.leaf)
 }
 
-/// The memory with these keys, put in in their order.
+/// The memory with these keys, inserted in this order.
 pub(crate) fn build(alloc: Global, initial: &[u8]) -> Result<NatMitMem, OutOfMemory>
     ensures { IfOk result (λ memory. memory ≡ initial_memory initial.now) }
 {

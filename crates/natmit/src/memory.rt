@@ -28,8 +28,8 @@ pub enum Node {
     Internal { key: u8, left: Word, right: Word },
 }
 
-/// The shared memory: the nodes, by number. The root is node 0, and each search begins at
-/// node 1. It has at most 2^16 nodes: more are refused as memory that there is not.
+/// The shared memory: the nodes, by number. The root is node 0, and each search begins at node 1. It has at most 2^16
+/// nodes: more are refused with `OutOfMemory`.
 #[derive(Drop, PartialEq, Eq, Hash)]
 pub struct NatMitMem {
     /// The nodes. Those that were cut off stay in the list.
@@ -138,8 +138,8 @@ fn internal_over(key: u8, other: u8, new: u16, leaf: u16) -> Node
     }
 }
 
-/// Puts nodes behind those of a list, in the room that it has as far as that is enough. Where memory is refused the
-/// list is as it was.
+/// Appends nodes to a list. It reuses the list's buffer where that is large enough. After a refusal the list is
+/// unchanged.
 fn lengthen(alloc: Global, nodes: &mut Sequence<Node>, more: &[Node]) -> Result<(), OutOfMemory>
     ensures ok { OnOk result (nodes.new ≡ nodes.old ++ more.now) }
     ensures err { OnErr result (nodes.new ≡ nodes.old) }
@@ -162,7 +162,7 @@ impl NatMitMem {
         }
     }
 
-    /// Puts a child word into a node, if there is such a node.
+    /// Sets a child word of a node, if there is such a node.
     #[tactic(auto, using(crate::proofs::Past::set_past))]
     pub(crate) fn set_word(&mut self, x: u16, side: Side, word: Word)
         ensures { self.new ≡ set_word self.old x side word }
@@ -173,8 +173,8 @@ impl NatMitMem {
         }
     }
 
-    /// Appends a new internal node for a key at a leaf, behind its new leaf, and answers its number. Where memory is
-    /// refused nothing is appended.
+    /// Appends a new internal node for a key at a leaf, behind its new leaf, and returns its number. After a refusal
+    /// nothing is appended.
     fn add_internal(&mut self, alloc: Global, key: u8, leaf: u16) -> Result<u16, OutOfMemory>
         ensures ok { IfOk result (λ new. self.new ≡ with_internal self.old key leaf) }
         ensures number { IfOk result (λ new. new ≡ new_internal self.old) }
@@ -192,8 +192,7 @@ impl NatMitMem {
         Ok(new)
     }
 
-    /// Puts a new internal node for a key in the place of a leaf, below its parent. Where memory is refused nothing
-    /// is changed.
+    /// Replaces a leaf, below its parent, by a new internal node for a key. After a refusal nothing is changed.
     pub(crate) fn put_at(
         &mut self,
         alloc: Global,
@@ -219,7 +218,7 @@ impl NatMitMem {
         Ok(NatMitMem { nodes })
     }
 
-    /// Makes another memory equal to this one, in the room that it has as far as that is enough.
+    /// Makes another memory equal to this one. It reuses that one's buffer where it is large enough.
     #[inline(always)]
     pub(crate) fn copy_into(&self, alloc: Global, copy: &mut NatMitMem) -> Result<(), OutOfMemory>
         ensures { OnOk result (copy.new ≡ self.now) }

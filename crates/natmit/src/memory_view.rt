@@ -1,4 +1,4 @@
-//! Shows a memory, and what the threads hold, to visitors as parts: the numbers of nodes stand apart from all else.
+//! Shows a memory, and what the threads hold, to visitors as parts, with the numbers of nodes apart from all else.
 ghost use Rattle.std.specs.Prelude.{◌≡◌, ◌<◌, ◌∷◌, [], Some, OnOk};
 ghost use Rattle.tree_machine.specs.Alike.{places_of};
 ghost use Rattle.tree_machine.specs.Parts.{IsPartBelow};

@@ -1,4 +1,4 @@
-//! Where an operation stands: its next access to the memory, and its locals.
+//! The place of an operation: its next access to the memory, and its locals.
 ghost use Rattle.std.specs.Prelude.{◌≡◌};
 
 use tree_machine::Side;
@@ -12,7 +12,7 @@ pub enum Mode {
     Owner(u16),
 }
 
-/// The nodes above the one to which a search has come: the ancestor and its successor, the ends of the last word above
+/// The nodes above the one that a search has reached: the ancestor and its successor, the ends of the last word above
 /// the parent that was read untagged; and the parent.
 #[derive(Clone, Copy)]
 pub(crate) struct Path {
@@ -38,7 +38,7 @@ pub enum NatMitLoc {
         tag: bool,
         mode: Mode,
     },
-    /// An insert exchanges the leaf for a new internal node.
+    /// An insert replaces the leaf by a new internal node.
     Put {
         ancestor: u16,
         successor: u16,
@@ -52,14 +52,14 @@ pub enum NatMitLoc {
         parent: u16,
         leaf: u16,
     },
-    /// An insert or delete whose exchange failed looks whether another delete is in its way.
+    /// An insert or delete whose exchange failed checks whether another delete is in its way.
     Look {
         ancestor: u16,
         successor: u16,
         parent: u16,
         leaf: u16,
     },
-    /// The cleanup reads on which side of the parent the leaf is that goes.
+    /// The cleanup reads on which side of the parent the leaf to remove is.
     CleanRead {
         ancestor: u16,
         successor: u16,
@@ -82,7 +82,7 @@ pub enum NatMitLoc {
         side: Side,
         mode: Mode,
     },
-    /// The cleanup puts the sibling, with its flag, in the place of the successor.
+    /// The cleanup replaces the successor by the sibling, with its flag.
     Swing {
         ancestor: u16,
         successor: u16,

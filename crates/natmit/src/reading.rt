@@ -1,5 +1,5 @@
-//! Memories, and the places that threads hold, read back from their bytes, where the nodes are so few that each number
-//! is one byte. Where a reader answers, the bytes are those of what it read, and what it gives back behind them.
+//! Decodes memories, and the places that threads hold, where the nodes are so few that each number is one byte. Where a
+//! reader returns a value, the bytes it got are those of that value, with the bytes it returns behind them.
 ghost use Rattle.std.specs.Prelude.{◌≡◌, ◌<◌, ◌≤◌, ◌++◌, ◌∷◌, [], List, Some, map, length, take, IsTrue, IfSome, IfOk};
 ghost use Rattle.tree_machine.specs.Alike.{places_of, replies_of, notes_of};
 ghost use Rattle.tree_machine.specs.Flat.{cell_code, graph_code, left_code, part_codes, part_content};
@@ -66,7 +66,7 @@ fn read_node(bytes: &[u8]) -> Option<(Node, &[u8])>
     }
 }
 
-/// Appends as many nodes as are asked for to a list, and returns the bytes behind them. It allocates once at most.
+/// Appends `count` nodes to a list, and returns the bytes behind them. It allocates once at most.
 fn read_nodes<'a>(
     bytes: &'a [u8],
     count: usize,
@@ -126,7 +126,7 @@ fn read_left(bytes: &[u8], nodes: &mut Vec<Node>) -> Result<bool, OutOfMemory>
     }
 }
 
-/// Reads what each thread holds, and what is left of the memory behind so many nodes, which stay.
+/// Reads what each thread holds, and what is left of the memory behind the nodes of the front, which stay.
 pub(crate) fn read_behind(
     alloc: Global,
     bytes: &[u8],
@@ -154,9 +154,9 @@ pub(crate) fn read_behind(
     read
 }
 
-/// Reads a memory, and the place that each thread holds, into these, and uses their buffers as far as they are large
-/// enough. It returns the length of what stands in front, and the front, if the bytes are the code of what it read.
-/// Otherwise the memory and the places are of no use.
+/// Reads a memory, and the place that each thread holds, into these, and reuses their buffers where they are large
+/// enough. It returns the length of what comes in front, and the front, if the bytes are the code of what it read.
+/// Otherwise the memory and the places are unspecified.
 pub(crate) fn read_all(
     alloc: Global,
     bytes: &[u8],

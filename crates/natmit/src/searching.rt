@@ -72,7 +72,7 @@ fn decide(op: Op, path: Path, leaf: u16, mode: Mode, key: u8) -> Outcome<NatMitL
     }
 }
 
-/// Where a search goes that has come to the node `leaf`.
+/// Where a search goes from the node `leaf`, which it has reached.
 fn arrived(op: Op, path: Path, leaf: u16, tag: bool, mode: Mode, node: Node) -> Outcome<NatMitLoc>
     ensures { result ≡ arrived op path.ancestor path.successor path.parent leaf tag mode node }
 {
@@ -89,7 +89,7 @@ fn arrived(op: Op, path: Path, leaf: u16, tag: bool, mode: Mode, node: Node) -> 
     }
 }
 
-/// Where a search goes that has read this word of the node `leaf`, to which a word with this tag led.
+/// Where a search goes from this word of the node `leaf`. The tag is that of the word that led to the node.
 fn went_down(
     op: Op,
     path: Path,
@@ -111,7 +111,7 @@ fn went_down(
     }
 }
 
-/// Where an insert or delete goes whose exchange has failed, and that has found this word.
+/// Where an insert or delete goes after a failed exchange, from the word that it found.
 fn looked(path: Path, leaf: u16, word: Word) -> Outcome<NatMitLoc>
     ensures { result ≡ looked path.ancestor path.successor path.parent leaf word }
 {
@@ -133,7 +133,7 @@ pub(crate) type Access = Result<Outcome<NatMitLoc>, OutOfMemory>;
 // ---- the rows of the table
 
 impl NatMit {
-    /// A search begins at node 1, whose left word leads to all user keys.
+    /// A search begins at node 1: all user keys are below its left word.
     fn begin_row(self, op: Op, mem: &NatMitMem, mode: Mode) -> Outcome<NatMitLoc>
         ensures { act self op (place.Begin mode) mem.now ≡ (mem.now, result) }
     {
@@ -146,7 +146,7 @@ impl NatMit {
         }
     }
 
-    /// A search goes down by a word of the node to which it has come.
+    /// A search goes down by a word of the node that it has reached.
     fn down_row(
         self,
         op: Op,
@@ -165,8 +165,8 @@ impl NatMit {
         }
     }
 
-    /// An insert puts its key in the place of the leaf, if the word of the parent leads there and no delete is under
-    /// way.
+    /// An insert adds its key in the place of the leaf, if the word of the parent points to the leaf and no delete is
+    /// under way.
     fn put_row(self, alloc: Global, op: Op, mem: &mut NatMitMem, path: Path, leaf: u16) -> Access
         ensures ok { IfOk result (λ outcome.
             act self op (place.Put path.ancestor path.successor path.parent leaf) mem.old ≡ (mem.new, outcome)) }
@@ -188,7 +188,7 @@ impl NatMit {
         Ok(Outcome::Replies(true))
     }
 
-    /// A delete flags the word of its leaf: the key is gone once the leaf is cut off, by whom ever.
+    /// A delete flags the word of its leaf: the key is gone once the leaf is cut off, by whichever operation.
     fn flag_row(self, op: Op, mem: &mut NatMitMem, path: Path, leaf: u16) -> Outcome<NatMitLoc>
         ensures { act self op (place.Flag path.ancestor path.successor path.parent leaf) mem.old ≡ (mem.new, result) }
     {
@@ -224,7 +224,7 @@ impl NatMit {
         }
     }
 
-    /// One access to the memory, by the row of its place. Where memory is refused the memory is unchanged.
+    /// One access to the memory, by the row of its place. After a refusal the memory is unchanged.
     pub(crate) fn access(self, alloc: Global, op: Op, loc: NatMitLoc, mem: &mut NatMitMem) -> Access
         ensures ok { IfOk result (λ outcome. act self op loc mem.old ≡ (mem.new, outcome)) }
         ensures err { OnErr result (mem.new ≡ mem.old) }

@@ -28,7 +28,7 @@ few_keys_within value few = (length few.0, list_counted IsKey value few.0 few.1,
 pub same_key : (value : Data) (a b : ℕ) → IsKey value a → IsKey value b → a ≡ b
 same_key value a b is also = let e : number (unsigned a) ≡ number (unsigned b) = sym is.0 ∙ also.0 in cc
 
--- the keys of a list stand there twice or not
+-- a list of keys that are not distinct is no list of distinct keys
 pub twice : (value : Data) (keys : List ℕ) → IsListOf IsKey value keys → ¬ AllPairs (λ a b. a ≢ b) keys
     → ¬ IsListOfDistinctKeys value
 twice value keys list not other =
@@ -77,7 +77,7 @@ op_joined value word key has also = (
   },
 )
 
--- where no operations stand but words do, keys do not
+-- where there are words but no operations, there are no keys
 pub no_keys : (value : Data) → HasWords value → ((threads : List (List Op)) → ¬ IsListOf (IsListOf IsOp) value threads)
     → ¬ HasKeys value
 no_keys value words none keys =
@@ -99,7 +99,7 @@ pub counts_fit : (value : Data) (counts : List ℕ) (fit : Bool) → IsListOf Is
 counts_fit value counts true list are = (counts, list, are)
 counts_fit value counts false list are = no_op_counts value counts list are
 
--- a key stands twice
+-- where keys are not distinct, the member is no list of distinct keys
 pub not_distinct : (value : Data) (keys : List ℕ)
     → HasMember (codes "initial") (λ member. IsListOf IsKey member keys) value → ¬ AllPairs (λ a b. a ≢ b) keys
     → ¬ HasMember (codes "initial") IsListOfDistinctKeys value
@@ -125,7 +125,7 @@ threads_pass value threads has some few counts =
       (has.0, has.1, (map (map key_of) threads, keys)),
     )
 
--- the turns of a value stand beside its operations
+-- each thread of a value has as many turns as operations
 same_counts : (value : Data) (version : Version) (threads : List (List Op)) (turns : List (List (Option Turn)))
     → HasThreads value threads → HasTurns version value turns → map length turns ≡ map length threads
 same_counts value version threads turns has also =

@@ -11,7 +11,7 @@ module _ (old mid new : Option (List ℕ)) (bytes chunk : List ℕ) (n : ℕ) (b
       subst (Consumes old new) (ap (λ k. bytes ++ take k chunk) none ∙ append-nil bytes)
       (Consumes-trans old mid new bytes (take n chunk) before here)
 
-  -- a read whose bytes stand behind those before
+  -- a read whose bytes follow those before
   pub some_more : (all : List ℕ) → all ≡ bytes ++ take n chunk → Consumes old new all
   some_more all is =
       subst (Consumes old new) (sym is) (Consumes-trans old mid new bytes (take n chunk) before here)

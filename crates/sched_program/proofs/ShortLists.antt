@@ -10,7 +10,7 @@ use Rattle.std.proofs.Math.Seq.{set-append_seam, take-append_seam}
 step : (n m : ℕ) → n ≡ m + 1 → n ≡ suc m
 step n m h = omega arith
 
--- a blank cell stands before the others
+-- a blank cell comes before the others
 more_blanks : {A : Type 0} → (filler : A) (n m : ℕ) → n ≡ m + 1 → replicate n filler ≡ filler ∷ replicate m filler
 more_blanks filler n m h = ap (λ k. replicate k filler) (step n m h)
 

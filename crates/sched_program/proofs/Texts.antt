@@ -28,7 +28,7 @@ use Rattle.sched_program.specs.Faults.{AreOpCounts, Passes, Stands, IsFirstFault
 use Rattle.sched_program.proofs.Values.{same_list, same_member}
 use Rattle.sched_program.proofs.Members.{same_key, threads_pass}
 
--- one text stands at a name
+-- a name has one text
 same_text : (name : List ℕ) (value : Data) (a b : List ℕ) → get name value ≡ Some (string a)
     → get name value ≡ Some (string b) → a ≡ b
 same_text name value a b is also = let e : string a ≡ string b = same_Some _ _ (sym is ∙ also) in cc

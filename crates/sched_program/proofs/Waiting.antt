@@ -89,7 +89,7 @@ small_turn threads turns t i row turn counts within at_t at_i =
     (all i None (slice_get_within row i (Some turn) at_i)) in
     (is.lower, omega (arith, is.few, few_ops threads turn.thread counts))
 
--- the same of a row at its place
+-- each turn of a row at its place is within the limits
 pub row_at : (threads : List (List Op)) (turns : List (List (Option Turn))) (t : ℕ) (row : List (Option Turn))
     → t < length turns → row ≡ get_or turns t row → AreTurnsWithin threads turns
     → All (λ turn. IfSome turn (IsTurnWithin threads t)) row

@@ -1,4 +1,4 @@
--- The faults of a text, in the order in which they are told.
+-- The faults of a text, in the order in which they are reported.
 use Rattle.std.specs.Prelude.{◌≡◌, ◌≢◌, ℕ, suc, ◌≤◌, List, [], ◌∷◌, codes, length, Option, All, AllPairs, sum}
 use Rattle.std.specs.List.{AllByRecursion}
 use Rattle.serde_json.specs.Data.{Data, array, object, Items, no_items, item, Members}
@@ -17,7 +17,7 @@ abbrev pub item_count : Items → ℕ
 item_count no_items = 0
 item_count (item value values) = suc (item_count values)
 
--- the value is a list of so many items
+-- the value is a list of `count` items
 abbrev pub IsListOfCount : Data → ℕ → Type 0
 IsListOfCount value count = (values : Items) × (value ≡ array values) × (item_count values ≡ count)
 
@@ -53,7 +53,7 @@ abbrev pub HasTurnsWithin : Data → Type 0
 HasTurnsWithin value = (version : Version) × (threads : List (List Op)) × (turns : List (List (Option Turn)))
     × HasVersion value version × HasThreads value threads × HasTurns version value turns × AreTurnsWithin threads turns
 
--- the value passes the test that this fault is told for. A test of a member asks also that the member is there
+-- the value passes the test of this fault. A test of a member also requires that the member is there
 abbrev pub Passes : Data → ProgramFault → Type 0
 Passes value fault.NotJson = Unit {0}
 Passes value fault.NotObject = (members : Members) × (value ≡ object members)
@@ -68,12 +68,12 @@ Passes value fault.Key = HasMember (codes "threads") HasKeys value
 Passes value fault.After = HasTurnsWithin value
 Passes value fault.OutOfMemory = Unit {0}
 
--- the fault stands in the value. A refusal of memory may come of any value
+-- the value has the fault. A refusal of memory may come of any value
 abbrev pub Stands : Data → ProgramFault → Type 0
 Stands value fault.OutOfMemory = Unit {0}
 Stands value fault = ¬ Passes value fault
 
--- the faults of a value that are told before this one
+-- the faults of a value that are reported before this one
 abbrev pub earlier : ProgramFault → List ProgramFault
 earlier fault.NotJson = []
 earlier fault.NotObject = []
@@ -93,7 +93,7 @@ earlier fault.After =
     ∷ fault.Op ∷ fault.Key ∷ []
 earlier fault.OutOfMemory = []
 
--- the fault stands in the value, and none that is told before it does
+-- the value has the fault, and none that is reported before it
 pub record IsFirstFault (value : Data) (fault : ProgramFault) : Type 0 where
   pub stands : Stands value fault
   pub first : AllByRecursion (Passes value) (earlier fault)

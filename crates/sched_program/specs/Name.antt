@@ -7,7 +7,7 @@ use Rattle.sched_program.specs.declared.operation.OpId.{OpId}
 abbrev pub same_name : OpId → OpId → Bool
 same_name a b = a.thread == b.thread && a.index == b.index
 
--- the value that stands beside a name
+-- the value beside a name
 abbrev pub value_at : {V : Type 0} → List (OpId × V) → OpId → Option V
 value_at [] a = None
 value_at (entry ∷ rest) a = if same_name entry.0 a then Some entry.1 else value_at rest a

@@ -19,7 +19,7 @@ use Rattle.sched_program.specs.Program.{Program, IsUserKey, key_of, IsWithinLimi
 abbrev pub HasMember : List ℕ → (Data → Type 0) → Data → Type 0
 HasMember name Is value = (member : Data) × (get name value ≡ Some member) × Is member
 
--- as many values as things, and each value stands for the thing at its place
+-- one value for each thing, which stands for the thing at its place
 abbrev pub Each : {A : Type 0} → (Data → A → Type 0) → Items → List A → Type 0
 Each StandsFor no_items [] = Unit {0}
 Each StandsFor (item value values) (x ∷ xs) = StandsFor value x × Each StandsFor values xs

@@ -9,7 +9,7 @@ use std::alloc::{AllocError, Global};
 use std::io::Read;
 use thiserror::Error;
 
-/// How many bytes one read asks for.
+/// The most bytes that one read takes.
 const CHUNK: usize = 4096;
 
 /// Why not all bytes were read.
@@ -39,7 +39,7 @@ pub struct Counted<R> {
 }
 
 impl<R: Read> Counted<R> {
-    /// Wraps a reader of which no read has failed yet.
+    /// Wraps a reader, with no failed read counted yet.
     pub fn new(reader: R) -> Counted<R>
         ensures { (result.reader ≡ reader) × (result.failures ≡ 0) }
     {
@@ -73,12 +73,12 @@ impl<R: Read> Counted<R> {
         }
     }
 
-    /// All bytes from where the reader stands to its end.
+    /// All bytes from the reader's position to its end.
     ///
     /// # Errors
     ///
     /// `Device` exactly where a read failed, which is counted and ends the call, whatever its cause: a read that was
-    /// interrupted is not tried again. `OutOfMemory` where a growth was refused. What the reader gave is gone.
+    /// interrupted is not tried again. `OutOfMemory` where a growth was refused. Bytes that were read already are lost.
     pub fn read_all(&mut self, alloc: Global) -> Result<Vec<u8>, ReadFault>
         requires { self.old.failures < 2 ^ 64 - 1 }
         ensures bytes { IfOk result (λ bytes. Consumes (R.remaining self.old.reader)
@@ -95,7 +95,7 @@ impl<R: Read> Counted<R> {
             }
             bytes.extend_from_slice(&chunk[..count])?;
         }
-        // No vector has so many bytes.
+        // No vector has `u64::MAX` bytes.
         Err(ReadFault::OutOfMemory)
     }
 }

@@ -5,7 +5,7 @@ use crate::OutOfMemory;
 use thiserror::Error;
 
 /// Why a text is no program. The faults are tested one after the other, in this order and each over the whole text, and
-/// the first that stands is told. Shown as its number and name.
+/// the first one found is reported. Shown as its number and name.
 #[derive(Clone, Copy, Debug, PartialEq, Eq, Error)]
 pub enum ProgramFault {
     /// The bytes are no JSON text, nest deeper than 127, or are not UTF-8.
@@ -23,7 +23,7 @@ pub enum ProgramFault {
     /// `initial` is absent, no list, longer than 12, or has an item that is no key.
     #[error("P5 Initial")]
     Initial,
-    /// A key stands twice in `initial`.
+    /// A key is in `initial` twice.
     #[error("P6 InitialTwice")]
     InitialTwice,
     /// `threads` is absent, no list, or has not 1 to 4 items.

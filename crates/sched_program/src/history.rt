@@ -30,7 +30,7 @@ impl Model for History {
     ghost invariant = { λ h. IsHistory (record { begun = h.begun.items; finished = h.finished.items }) };
 }
 
-/// Whether the first name stands before the second: by thread, and then by index.
+/// Whether the first name comes before the second: by thread, and then by index.
 fn is_before(a: OpId, b: OpId) -> bool
     ensures { IsTrue result ↔ IsBefore a b }
 {
@@ -68,7 +68,7 @@ fn are_of(program: &Program, begun: &[(OpId, Note)]) -> bool
     begun.iter().all(|(name, _)| program.op(*name).is_some())
 }
 
-/// Whether each note has so many counts.
+/// Whether each note has `count` counts.
 fn notes_have(count: usize, begun: &[(OpId, Note)]) -> bool
     ensures { IsTrue result ↔ All (λ e. length e.1 ≡ count) begun.now }
 {

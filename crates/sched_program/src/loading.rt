@@ -13,7 +13,7 @@ use thiserror::Error;
 /// Why a reader gives no program.
 #[derive(Clone, Copy, Debug, PartialEq, Eq, Error)]
 pub enum LoadFault {
-    /// A read failed. Told before any fault of the text.
+    /// A read failed. Reported before any fault of the text.
     #[error("a read failed")]
     Device,
     /// All was read, and it is no program; or a growth was refused.
@@ -35,14 +35,14 @@ impl From<ReadFault> for LoadFault {
 }
 
 impl Program {
-    /// The program that all the bytes of a reader describe, from where it stands to its end, as [`Program::from_json`]
+    /// The program that all the bytes of a reader describe, from its position to its end, as [`Program::from_json`]
     /// reads them.
     ///
     /// # Errors
     ///
     /// `Device` exactly where a read failed, which the reader counts and which ends the call, whatever the failure: a
     /// read that was interrupted is not tried again. Else the fault of the bytes, or the fault `OutOfMemory` where a
-    /// growth was refused. What the reader gave is gone.
+    /// growth was refused. Bytes that were read already are lost.
     pub fn from_reader<R: Read>(
         alloc: Global,
         reader: &mut Counted<R>,

@@ -48,7 +48,7 @@ impl<T> Sequence<T> {
         }
     }
 
-    /// The empty list, with room for so many values.
+    /// The empty list, with room for `capacity` values.
     pub fn with_capacity(alloc: Global, capacity: usize) -> Result<Self, AllocError>
         ensures { IfOk result (λ list. list ≡ []) }
     {
@@ -68,24 +68,28 @@ impl<T> Sequence<T> {
         })
     }
 
+    /// The number of values.
     pub fn len(&self) -> usize
         ensures { result ≡ length self.now }
     {
         self.items.len()
     }
 
+    /// The values in order.
     pub fn as_slice(&self) -> &[T]
         ensures { result.now ≡ self.now }
     {
         self.items.as_slice()
     }
 
+    /// The value at an index, if there is one.
     pub fn get(&self, index: usize) -> Option<&T>
         ensures { option_copied result ≡ slice_get self.now index }
     {
         self.items.get(index)
     }
 
+    /// Appends a value. After a refusal the list is unchanged.
     pub fn push(&mut self, value: T) -> Result<(), AllocError>
     where
         T: Drop,
@@ -96,7 +100,7 @@ impl<T> Sequence<T> {
         Ok(())
     }
 
-    /// Puts a value before the one at an index, or at the end.
+    /// Inserts a value before the one at an index, or at the end. After a refusal the list is unchanged.
     pub fn insert(&mut self, index: usize, value: T) -> Result<(), AllocError>
     where
         T: Drop,
@@ -108,7 +112,7 @@ impl<T> Sequence<T> {
         Ok(())
     }
 
-    /// Puts a value in the place of another.
+    /// Replaces the value at an index.
     pub fn set(&mut self, index: usize, value: T)
     where
         T: Drop,

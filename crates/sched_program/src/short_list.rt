@@ -31,7 +31,7 @@ impl Blank for bool {
     }
 }
 
-/// A list of at most `CAP` values, which lie in the value itself: it takes no memory and is copied as a whole.
+/// A list of at most `CAP` values, which are stored in the value itself: it takes no memory and is copied as a whole.
 ///
 /// Cells that are not in use are blank, so that equal lists are equal values.
 #[derive(Copy)]

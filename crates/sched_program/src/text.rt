@@ -80,7 +80,7 @@ fn initial_of(alloc: Global, value: &Value) -> Result<Sequence<u8>, ProgramFault
     }
 }
 
-/// Whether the key at an index stands before it too.
+/// Whether the key at an index occurs before it too.
 fn stands_before(keys: &[u8], i: usize) -> bool
     requires { i < length keys.now }
     ensures { MatchBool result
@@ -95,7 +95,7 @@ fn stands_before(keys: &[u8], i: usize) -> bool
     false
 }
 
-/// Whether no key stands twice.
+/// Whether no key occurs twice.
 #[tactic(auto, using(crate::proofs::Distinct::pairs))]
 fn is_distinct(keys: &[u8]) -> bool
     ensures { MatchBool result (AllPairs (λ a b. a ≢ b) keys.now) (¬ AllPairs (λ a b. a ≢ b) keys.now) }
@@ -198,7 +198,7 @@ impl Program {
     ///
     /// The text is one object with the members `version`, `tree`, `initial` and `threads`, and other members are
     /// ignored. Keys are written as digits alone, from 0 to 99, and `version` as the digit 1 or 2. In version 2 an
-    /// operation may have a member `after`, which tells what it waits for.
+    /// operation may have a member `after`, which says what it waits for.
     ///
     /// # Errors
     ///

@@ -81,7 +81,7 @@ fn turns_of(alloc: Global, value: &Value, version: Version) -> Result<Option<Tur
     }
 }
 
-/// Whether an operation of a thread may wait so.
+/// Whether an operation of a thread may wait for this turn.
 fn is_turn_within(threads: &[Sequence<Op>], thread: usize, turn: Turn) -> bool
     ensures { MatchBool result (IsTurnWithin threads.now thread turn) (¬ IsTurnWithin threads.now thread turn) }
 {

@@ -168,7 +168,7 @@ module _ {Machine Memory Place Form : Type 0} (rules : Rules Memory Place) where
         λ i. if (if held i then true else is_met (c i) (after_at program t (length (replies i)))) then op_at program t
         (length (replies i)) else None
 
-    -- the same threads have a step, each of the same operation
+    -- in alike states the threads that have a step are the same, each with the same operation
     ready_alike : (alike : AreStatesAlike rules state twin) → (program : Program) (t : ℕ)
         → AreHeldPaired
         (λ (x y : Thread Place × Op). AreThreadsPaired (rules.pairs.places alike.paired.0) x.0 y.0 × (x.1 ≡ y.1))
@@ -185,7 +185,7 @@ module _ {Machine Memory Place Form : Type 0} (rules : Rules Memory Place) where
         (slice_get state.threads t) (slice_get twin.threads t)
         (zip_get _ state.threads twin.threads t (threads_paired alike)))
 
-    -- the same threads have steps, and these are alike
+    -- in alike states the threads that have steps are the same, and the states behind these are alike
     pub alike_steps : AreLawful rules → AreStatesAlike rules state twin → (program : Program) (t : ℕ)
         → AreHeldPaired (AreStatesAlike rules) (step rules program state t) (step rules program twin t)
     alike_steps lawful alike program t =
@@ -211,7 +211,7 @@ module _ {Machine Memory Place Form : Type 0} (rules : Rules Memory Place) where
         held_some_and _ (step rules program state t) (step rules program twin t) next
         (alike_steps lawful alike program t) h
 
-    -- the same threads are enabled
+    -- in alike states the enabled threads are the same
     pub alike_enabled : AreStatesAlike rules state twin → (program : Program) (t : ℕ) → IsEnabled program state t
         ↔ IsEnabled program twin t
     alike_enabled alike program t =

@@ -36,7 +36,7 @@ module _ {X : Type 0} where
 module _ {Place : Type 0} (threads : List (Thread Place)) (t : ℕ) (there here : Thread Place)
     (at_t : slice_get threads t ≡ Some there) (as_many : length here.replies ≡ length there.replies)
     (as_many_notes : length here.notes ≡ length there.notes) where
-  -- the thread is put back with what it did, and maybe more
+  -- the thread is replaced by one that did what it did, and maybe more
   put_same : (after : Thread Place) (more : List Bool) (more_notes : List (List ℕ))
       → slice_get (slice_set threads t after) t ≡ Some here → after.replies ≡ there.replies ++ more
       → after.notes ≡ there.notes ++ more_notes → (replies_of (slice_set threads t after) ≡ replies_of threads)
@@ -113,7 +113,7 @@ module _ {Machine Memory Place Form : Type 0} (rules : Rules Memory Place) (prog
           ap (λ (s : State Machine Memory Place Form). notes_of s.threads) stepped_is ∙ kept.1,
         ))
 
-  -- the same of its bytes
+  -- the bytes of what the threads did are as they were
   pub deeds_as_before : (there here : Thread Place) → slice_get state.threads t ≡ Some there
       → slice_get next.threads t ≡ Some here → next.astray ≡ None → length here.replies ≡ length there.replies
       → length here.notes ≡ length there.notes → deeds_of next ≡ deeds_of state

@@ -99,7 +99,7 @@ resized old new n len e z h =
     let all : n - len ≡ n = omega (arith, z) in
     h ∙ (ap (λ l. take n l ++ zeros (n - len)) e ∙ (nothing n (zeros (n - len)) ∙ ap zeros all))
 
--- nothing is met in a list that was made anew
+-- nothing is met in a list that was rebuilt
 pub made_anew : (order old new : List ℕ) (n len : ℕ) → order ≡ [] → old ≡ [] → len ≡ 0
     → new ≡ take n old ++ replicate (n - len) 0 → HasNumbers order new
 made_anew order old new n len is_none e z h =

@@ -92,7 +92,7 @@ pub place_seen : (order : List ℕ) (numbers : List (Option ℕ)) (x k : ℕ) (r
 place_seen order numbers x k r h l e at =
     ap (λ o. place_in o x) (sym (met_present order numbers x k r h l e at)) ∙ place_present order numbers x k r h l e at
 
--- a cell that is met for the first time stands at the end
+-- a cell that is met for the first time is at the end
 pub place_new : (order : List ℕ) (x n : ℕ) → place_in order x ≡ None → n ≡ length order
     → place_in (met order x) x ≡ Some n
 place_new order x n e is_length =

@@ -23,7 +23,7 @@ front_put buffer lent deeds piece front first second f s l p =
     s ∙ (ap (λ xs. xs ++ piece) (f ∙ ap (λ xs. buffer ++ xs) l)
     ∙ (append_assoc buffer deeds piece ∙ ap (λ xs. buffer ++ (deeds ++ xs)) p))
 
--- what stands between two places of a list in three pieces
+-- what is between two places of a list in three pieces
 pub piece_between : {X : Type 0} (a b c xs : List X) (from to : ℕ) → xs ≡ a ++ (b ++ c) → from ≡ length a
     → to ≡ from + length b → take (to - from) (drop from xs) ≡ b
 piece_between a b c xs from to e f t =
@@ -33,7 +33,7 @@ piece_between a b c xs from to e f t =
     ∙ (ap (λ l. take (length b) (drop (length a) l)) e
     ∙ (ap (take (length b)) (drop-append_seam a (b ++ c)) ∙ take-append_seam b c)))
 
--- pieces that are put one behind the other
+-- pieces that are appended one behind the other
 pub three_put : {X : Type 0} (a b c none first second third lent copy : List X) → none ≡ [] → first ≡ none ++ a
     → second ≡ first ++ b → third ≡ second ++ c → lent ≡ third → copy ≡ lent → copy ≡ a ++ (b ++ c)
 three_put a b c none first second third lent copy n f s t l p =
@@ -72,7 +72,7 @@ module _ {Memory Place : Type 0} (front_code : Front → Memory → List ℕ)
   abbrev cut : Front → Memory → List (Option Place) → List ℕ
   cut = cut_code front_code behind_code
 
-  -- bytes that were read as the number of steps, how many threads there are, and all that stands behind that
+  -- bytes that were read as the number of steps, how many threads there are, and all that comes behind that
   module _ {Machine Form : Type 0} (state : State Machine Memory Place Form) (threads : List (Thread Place))
       (bytes rest : List ℕ) (count behind end : ℕ) (front : Front) (same : state.threads ≡ threads)
       (head : bytes ≡ number_code state.steps ++ count ∷ rest)
@@ -156,7 +156,7 @@ module _ {Memory Place : Type 0} (front_code : Front → Memory → List ℕ)
         ++ (front_code offsets.front source.memory ++ behind_code offsets.front source.memory (places_of source.threads)))
     told_parts = are.written
 
-    -- the cuts stand in order, within the bytes
+    -- the cuts are in order, within the bytes
     cuts_within : offsets.held ≤ length told
     cuts_within =
         let steps = number_code source.steps in

@@ -63,7 +63,7 @@ module _ (n : ℕ) (counts : List ℕ) (whole : note_number (counts_in n) ≡ n)
       subst (λ k. (k % 8 ≡ get_or counts 0 0) × (k / 8 % 8 ≡ get_or counts 1 0) × (k / 64 % 8 ≡ get_or counts 2 0)
       × (k / 512 % 8 ≡ get_or counts 3 0)) (sym is_number) (counts_at counts are_short)
 
-  -- the count of a thread, and that of one that there is none of
+  -- the count of a thread: 0 for one that the program does not have
   pub digit_at : (t : ℕ) → t < 4 → n / 2 ^ (3 * t) % 8 ≡ get_or counts t 0
   digit_at zero few = let digit = digits_are.0 in omega arith
   digit_at (suc zero) few = digits_are.1

@@ -38,7 +38,7 @@ module _ {A : Type 0} where
   if_paired P false true held twin h k = cc
   if_paired P false false held twin h k = k
 
-  -- what stands in two options that are paired
+  -- what is in two options that are paired
   pub held_some : (P : A → A → Type 0) (held twin : Option A) (x : A) → AreHeldPaired P held twin → held ≡ Some x
       → (y : A) × (twin ≡ Some y) × P x y
   held_some P None None x k h = cc

@@ -169,7 +169,7 @@ from_none f n xs =
     none [] = refl
     none (x ∷ xs) = refl
 
--- a front, and what stands behind it
+-- a front, and what comes behind it
 pub whole_written : (n r fn fr : ℕ) (node_order record_order b after : List ℕ) (s : Parts) (w0 w1 w2 : Written)
     → w0 ≡ record { nodes = n; records = r; node_order = node_order; record_order = record_order; bytes = b }
     → w1 ≡ with_bytes w0 (graph_code
@@ -200,7 +200,7 @@ whole_written n r fn fr node_order record_order b after s w0 w1 w2 h0 h1 h2 done
     (from_none (λ x. renamed_by start (part_at s.nodes x)) fn node_order i)
     (from_none (λ y. renamed_by start (part_at s.records y)) fr record_order i) ++ B))
 
--- what stands behind a front
+-- what comes behind a front
 pub behind_written : (n r fn fr : ℕ) (node_order record_order b after : List ℕ) (s : Parts) (w0 w2 : Written)
     → w0 ≡ record { nodes = n; records = r; node_order = node_order; record_order = record_order; bytes = b }
     → w2 ≡ with_bytes w0 (part_codes (parts_by w0.node_order w0.record_order s).held

@@ -31,7 +31,7 @@ fresh y (x ∷ xs) h = ap (λ t. t || list_any (nat_eq y) xs) (apart (eqb_tells 
     apart (inl e) = let same : y ≡ x = e.1 in let less : x < y = h.0 in absurd (omega arith)
     apart (inr e) = e.0
 
--- a cell behind all that are met is put at the end
+-- a cell behind all that are met is appended
 pub run_next : (old : List ℕ) (first i : ℕ) → All (λ x. x < first) old
     → met (old ++ numbers_from first i) (first + i) ≡ old ++ numbers_from first (i + 1)
 run_next old first i h =
@@ -75,7 +75,7 @@ places_code_append order refs sefs =
     ∙ flat_map-append number_code (map reference_number (map (option_and_then (place_in order)) refs))
     (map reference_number (map (option_and_then (place_in order)) sefs)))
 
--- what is put behind what was put
+-- what is appended to what was appended
 joined : (x y z a b : List ℕ) → y ≡ x ++ a → z ≡ y ++ b → z ≡ x ++ (a ++ b)
 joined x y z a b e f = f ∙ (ap (λ l. l ++ b) e ∙ append_assoc x a b)
 

@@ -1,4 +1,4 @@
--- What was put behind other values piece by piece.
+-- What was appended to other values piece by piece.
 use Rattle.std.proofs.Common.{◌≡◌, List, [], ◌++◌, ap, ◌∙◌, append_assoc}
 
 module _ {X : Type 0} where

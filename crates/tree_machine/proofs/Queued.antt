@@ -25,7 +25,7 @@ met_new order x h = ap (λ t. cond t order (order ++ x ∷ [])) (is_false _ h)
 
 module _ (n : ℕ) (queue : List ℕ) where
   module _ (r : ℕ) where
-    -- a record is met where it stands among the records
+    -- a record is met where it is among the records
     module _ (records : List ℕ) (is : records ≡ records_met n r queue) (y : ℕ) (l : y < r) where
       pub record_old : list_any (nat_eq y) records ≡ true → met queue (n + y) ≡ queue
       record_old h = met_old queue (n + y) (record_has n queue r y (subst (λ o. Has o y) is h)).0
@@ -35,7 +35,7 @@ module _ (n : ℕ) (queue : List ℕ) where
           met_new queue (n + y) (λ g.
           let here : Has records y = subst (λ o. Has o y) (sym is) (has_record n queue r y g l) in cc)
 
-  -- a node is met where it stands among the nodes
+  -- a node is met where it is among the nodes
   module _ (nodes : List ℕ) (is : nodes ≡ nodes_met n queue) (x : ℕ) (l : x < n) where
     pub node_old : list_any (nat_eq x) nodes ≡ true → met queue x ≡ queue
     node_old h = met_old queue x (node_has n queue x (subst (λ o. Has o x) is h)).0
@@ -44,7 +44,7 @@ module _ (n : ℕ) (queue : List ℕ) where
     node_new h =
         met_new queue x (λ g. let here : Has nodes x = subst (λ o. Has o x) (sym is) (has_node n queue x g l) in cc)
 
-  -- what threads hold stands behind all of them
+  -- what threads hold comes behind all of them
   module _ (m k : ℕ) where
     pub nodes_left_by_held : n ≤ m → nodes_met n (queue ++ numbers_from m k) ≡ nodes_met n queue
     nodes_left_by_held l =
@@ -66,7 +66,7 @@ module _ (n : ℕ) (queue : List ℕ) where
         (recursion_from_All _ _ (numbers_all (λ x. p x ≡ false) m k (λ x g h. test_behind n r x (omega arith)))))
         ∙ append-nil (filter p queue))
 
--- nodes and records that stand first
+-- nodes and records that come first
 module _ (n r : ℕ) (nodes records : List ℕ) (below : All (λ x. x < n) nodes) where
   pub nodes_of : nodes_met n (as_cells n nodes records) ≡ nodes
   nodes_of =

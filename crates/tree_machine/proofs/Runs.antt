@@ -21,7 +21,7 @@ both_same : (a b c d : ℕ) → a ≡ b → c ≡ d → (a == b && c == d) ≡ t
 both_same a b c d h i = let p = eq-eqb a b h in let q = eq-eqb c d i in cc
 
 module _ {A : Type 0} where
-  -- what stands in the list of a thread's operations
+  -- what is in the list of a thread's operations
   named_at : (t i : ℕ) (xs : List A) (k : ℕ) (e : OpId × A) → slice_get (named t i xs) k ≡ Some e
       → (slice_get xs k ≡ Some e.1) × (e.0.thread ≡ t) × (e.0.index ≡ i + k)
   named_at t i [] k e h = cc
@@ -45,7 +45,7 @@ module _ {A : Type 0} where
       let rest = named_there t (i + 1) xs k x h in
       (rest.0, rest.1, rest.2, (let at : rest.0.0.index ≡ (i + 1) + k = rest.3 in omega arith))
 
-  -- what stands in the list of all threads' operations
+  -- what is in the list of all threads' operations
   pub all_named_at : (t : ℕ) (all : List (List A)) (k : ℕ) (e : OpId × A) → slice_get (all_named t all) k ≡ Some e
       → (u i : ℕ) × (xs : List A) × (slice_get all u ≡ Some xs) × (slice_get xs i ≡ Some e.1) × (e.0.thread ≡ t + u)
       × (e.0.index ≡ i)
@@ -133,7 +133,7 @@ module _ {A : Type 0} where
       let second = all_named_at (t + 1) all j b at_b in
       inl (let p : a.0.thread ≡ t = first.1 in let q : b.0.thread ≡ (t + 1) + second.0 = second.5 in omega arith))
 
-  -- a name that stands in a list has a value there
+  -- a name that is in a list has a value there
   value_or_later : (b : Bool) (v : A) (later : Option A) → (b ≡ true) ⊎ (IsSome later)
       → IsSome (if b then Some v else later)
   value_or_later true v later h = refl
@@ -182,7 +182,7 @@ module _ {Machine Memory Place Form : Type 0} (rules : Rules Memory Place) (prog
   abbrev all_replies : List (List Bool)
   all_replies = map (λ thread. thread.replies) state.threads
 
-  -- what stands at a place among the begun operations
+  -- what is at a place among the begun operations
   begun_at : (k : ℕ) (e : OpId × List ℕ) → slice_get (all_named 0 all_notes) k ≡ Some e
       → (thread : Thread Place) × (slice_get state.threads e.0.thread ≡ Some thread)
       × (slice_get thread.notes e.0.index ≡ Some e.1)

@@ -92,7 +92,7 @@ module _ {Machine Memory Place Form : Type 0} (state : State Machine Memory Plac
       ∙ (ap (after_access state t (at place)) (sym acted)
       ∙ ap (λ p. after_access state t (at p) (rules.act op p state.memory)) is))
 
--- an operation that waits for another is due where enough of that one's thread are finished
+-- an operation that waits for another thread may begin once that thread has finished enough of its own
 pub due_by : {Place : Type 0} (program : Program) (threads : List (Thread Place)) (t : ℕ) (thread found : Thread Place)
     (index other from count asked finished : ℕ) → false ≡ is_some thread.place → index ≡ length thread.replies
     → Some (other, count) ≡ after_at program t index → from ≡ other → slice_get threads from ≡ Some found

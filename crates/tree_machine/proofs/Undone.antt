@@ -12,7 +12,7 @@ use Rattle.tree_machine.specs.declared.state.State.{State}
 use Rattle.tree_machine.proofs.Deeds.{source_not_astray}
 use Rattle.tree_machine.proofs.States.{step_parts}
 
--- an element put back where another one was put
+-- an element restored where another one had replaced it
 set_back : {X : Type 0} (xs : List X) (i : ℕ) (v x : X) → slice_get xs i ≡ Some v
     → slice_set (slice_set xs i x) i v ≡ xs
 set_back [] i v x h = cc
@@ -20,7 +20,7 @@ set_back (y ∷ ys) zero v x h = ap (λ z. z ∷ ys) (sym (same_Some _ _ h))
 set_back (y ∷ ys) (suc i) v x h = ap (λ zs. y ∷ zs) (set_back ys i v x h)
 
 module _ {Machine Memory Place Form : Type 0} where
-  -- an access puts one thread, and counts one step
+  -- an access replaces one thread, and counts one step
   access_parts : (state : State Machine Memory Place Form) (t : ℕ) (at : Thread Place)
       (acted : Memory × Outcome Place)
       → ((x : Thread Place) × ((after_access state t at acted).threads ≡ slice_set state.threads t x))

@@ -22,7 +22,7 @@ not_before (x ∷ xs) (suc i) d h l =
     ap (λ t. t || list_any (nat_eq (get_or xs i d)) (take i xs)) apart
     ∙ not_before xs i d (IsDistinct-tail nat_eq x xs h) within
 
--- a root that is met after those before it stands behind them
+-- a root that is met after those before it is behind them
 pub root_next : (roots : List ℕ) (i d : ℕ) → IsDistinct nat_eq roots → i < length roots
     → met (take i roots) (get_or roots i d) ≡ take (i + 1) roots
 root_next roots i d h l =
@@ -65,7 +65,7 @@ met_in_next cells roots order after n x e at h =
     h ∙ (ap (visited cells order) (sym at)
     ∙ (ap (λ o. visited cells o (slice_get o n)) e ∙ ap (met_in cells roots) (sym (add-one n))))
 
--- what stands at a cell's number is its content
+-- the content of a cell is what is at its number
 pub content_is : (cells : List Content) (x : ℕ) (c : Content) → x < length cells → c ≡ get_or cells x c
     → content_at cells x ≡ c
 content_is cells x c l e =

@@ -1,13 +1,13 @@
 -- Alike states, which differ in nothing but the numbers of nodes, of records and of steps taken, and in what neither
--- the root nor a thread leads to; and the forms of states.
+-- the root nor a thread reaches; and the forms of states.
 use Rattle.std.specs.Prelude.{◌≡◌, Bool, ℕ, List, map, Option}
 use Rattle.tree_machine.specs.Pairing.{AreAlike}
 use Rattle.tree_machine.specs.Rules.{Rules}
 use Rattle.tree_machine.specs.declared.state.Thread.{Thread}
 use Rattle.tree_machine.specs.declared.state.State.{State}
 
--- what the form of a state tells: the machine's form of the memory and of what the threads hold, what the threads did,
--- and who went astray
+-- the content of the form of a state: the machine's form of the memory and of what the threads hold, what the threads
+-- did, and who went astray
 pub record FormContent (Form : Type 0) : Type 0 where
   pub form : Form
   pub replies : List (List Bool)
@@ -36,7 +36,7 @@ module _ {Machine Memory Place Form : Type 0} where
     pub notes : notes_of state.threads ≡ notes_of twin.threads
     pub astray : state.astray ≡ twin.astray
 
-  -- what the form of this state tells
+  -- the content of the form of this state
   abbrev pub state_form : (Memory → List (Option Place) → Form) → State Machine Memory Place Form → FormContent Form
   state_form form_of state =
       record {

@@ -1,4 +1,4 @@
--- Canonical parts: what the fixed nodes lead to, in the order met, and behind it what the threads lead to besides.
+-- Canonical parts: what the fixed nodes reach, in the order met, and behind it what only the threads reach.
 use Rattle.std.specs.Prelude.{◌≡◌, ℕ, ◌+◌, ◌-◌, ◌&&◌, nat_lt, nat_le, List, ◌++◌, map, length, take}
 use Rattle.std.specs.List.{filter}
 use Rattle.std.specs.Option.{option_and_then}
@@ -34,11 +34,11 @@ parts_by nodes records s = record {
   held = map (renamed_part nodes records) s.held;
 }
 
--- what the fixed nodes lead to, in the order in which a walk from them meets it
+-- what the fixed nodes reach, in the order in which a walk from them meets it
 abbrev pub front_order : ℕ → Parts → List ℕ
 front_order fixed s = order_of (parts_graph s) (numbers_from 0 fixed)
 
--- the nodes and the records in front: those that the fixed nodes lead to
+-- the nodes and the records in front: those that the fixed nodes reach
 abbrev pub front_nodes : ℕ → Parts → List ℕ
 front_nodes fixed s = nodes_met (length s.nodes) (front_order fixed s)
 
@@ -55,7 +55,7 @@ order_behind nodes records s =
     order_of (parts_graph s ++ parts_held s)
     (as_cells (length s.nodes) nodes records ++ numbers_from (length (parts_graph s)) (length (parts_held s)))
 
--- the order of all that is met: first what the fixed nodes lead to, then what is held and what that leads to besides
+-- the order of all that is met: first what the fixed nodes reach, then what is held, and what only that reaches
 abbrev pub parts_order : ℕ → Parts → List ℕ
 parts_order fixed s = order_behind (front_nodes fixed s) (front_records fixed s) s
 
@@ -71,7 +71,7 @@ met_records fixed s = records_met (length s.nodes) (length s.records) (parts_ord
 abbrev pub canonical_parts : ℕ → Parts → Parts
 canonical_parts fixed s = parts_by (met_nodes fixed s) (met_records fixed s) s
 
--- how many nodes and records the fixed nodes lead to
+-- how many nodes and records the fixed nodes reach
 abbrev pub canonical_front : ℕ → Parts → Front
 canonical_front fixed s = record { nodes = length (front_nodes fixed s); records = length (front_records fixed s) }
 
@@ -84,12 +84,12 @@ pub record IsMetInOrder (fixed : ℕ) (front : Front) (s : Parts) : Type 0 where
   pub nodes : front_nodes fixed s ≡ numbers_from 0 front.nodes
   pub records : front_records fixed s ≡ numbers_from 0 front.records
 
--- as many nodes and records of a front as there are
+-- a front, cut to the nodes and records that there are
 abbrev pub cut_front : Front → Parts → Front
 cut_front front s =
     record { nodes = length (take front.nodes s.nodes); records = length (take front.records s.records) }
 
--- nodes and records that were read, with what some threads held, from the code of some parts, which was cut at this front
+-- nodes and records that were read, with what some threads held, from the code of some parts, cut at this front
 pub record ArePartsRead (naming : Naming) (fixed : ℕ) (front : Front) (s : Parts) : Type 0 where
   pub other : Parts
   pub twins : List Part

@@ -15,7 +15,7 @@ pub record Content : Type 0 where
 abbrev pub content_at : List Content → ℕ → Content
 content_at cells x = unwrap_or (slice_get cells x) (record { facts = []; refs = [] })
 
--- each root is a cell and stands once among the roots, and each ref is none or a cell
+-- each root is a cell, no two roots are equal, and each ref is none or a cell
 pub record IsRooted (cells : List Content) (roots : List ℕ) : Type 0 where
   pub roots_in_range : All (λ x. x < length cells) roots
   pub roots_distinct : IsDistinct nat_eq roots
@@ -41,7 +41,7 @@ pub record IsPairing (P : ℕ → ℕ → Type 0) (cells : List Content) (roots 
 abbrev pub CanBePaired : List Content → List ℕ → List Content → List ℕ → Type 0
 CanBePaired cells roots others targets = (pairs : List (ℕ × ℕ)) × IsPairing (IsAmong pairs) cells roots others targets
 
--- the place of x in a list, if it stands there
+-- the place of x in a list, if it is there
 abbrev pub place_in : List ℕ → ℕ → Option ℕ
 place_in [] x = None
 place_in (y ∷ ys) x = if x == y then Some 0 else option_map suc (place_in ys x)
@@ -50,13 +50,13 @@ place_in (y ∷ ys) x = if x == y then Some 0 else option_map suc (place_in ys x
 abbrev pub met : List ℕ → ℕ → List ℕ
 met order x = if list_any (nat_eq x) order then order else order ++ x ∷ []
 
--- the same, once the cells that refs name are met, in their order
+-- the cells met, once the cells that refs name are met too, in their order
 abbrev pub met_all : List ℕ → List (Option ℕ) → List ℕ
 met_all order [] = order
 met_all order (None ∷ refs) = met_all order refs
 met_all order (Some x ∷ refs) = met_all (met order x) refs
 
--- the same, once this cell, if there is one, is visited
+-- the cells met, once this cell, if there is one, is visited
 abbrev pub visited : List Content → List ℕ → Option ℕ → List ℕ
 visited cells order None = order
 visited cells order (Some x) = met_all order (content_at cells x).refs

@@ -42,7 +42,7 @@ cell_code c = facts_code c.facts (length c.refs) ++ flat_map number_code (map re
 abbrev pub flat : List Content → List ℕ
 flat cells = flat_map cell_code cells
 
--- a part as a cell that names nodes and records by their numbers: how many nodes it names stands before its facts
+-- a part as a cell that names nodes and records by their numbers: how many nodes it names comes before its facts
 abbrev pub part_content : Part → Content
 part_content p = record { facts = length p.nodes ∷ p.facts; refs = p.nodes ++ p.records }
 

@@ -1,4 +1,4 @@
--- What the form of a state tells, and whole states, in bytes.
+-- The contents of forms of states, and whole states, in bytes.
 use Rattle.std.specs.Prelude.{◌≡◌, ℕ, ◌/◌, ◌%◌, Bool, if◌then◌else◌, List, [], ◌∷◌, ◌++◌, length, Option, Some, None}
 use Rattle.std.specs.List.{flat_map}
 use Rattle.tree_machine.specs.Alike.{FormContent, places_of, replies_of, notes_of, state_form}
@@ -17,8 +17,8 @@ list_code code xs = length xs ∷ flat_map code xs
 unfoldable pub replies_code : List Bool → List ℕ
 replies_code replies = number_code (replies_number replies)
 
--- a note: its number in two bytes if it is short, and else how many counts there are, and the counts, behind a byte that no
--- such number begins with
+-- a note: its number in two bytes if it is short, and else how many counts there are, and the counts, behind a byte
+-- that no such number begins with
 unfoldable pub note_code : List ℕ → List ℕ
 note_code counts =
     if is_short counts then note_number counts / 256 ∷ note_number counts % 256 ∷ [] else 255 ∷ length counts ∷ counts
@@ -32,7 +32,7 @@ abbrev pub deeds_code : List (List Bool) → List (List (List ℕ)) → Option �
 deeds_code replies notes astray =
     list_code replies_code replies ++ (list_code (list_code note_code) notes ++ astray_code astray)
 
--- all of it: the machine's form stands last, since nothing tells where its bytes end
+-- all of it: the machine's form comes last, since nothing shows where its bytes end
 abbrev pub content_code : {Form : Type 0} → (Form → List ℕ) → FormContent Form → List ℕ
 content_code code content = deeds_code content.replies content.notes content.astray ++ code content.form
 
@@ -52,7 +52,7 @@ TellsWholly {Memory} {Place} code twin_code =
     (memory other : Memory) (held others : List (Option Place)) → length held ≡ length others
     → code memory held ≡ twin_code other others → (memory ≡ other) × (held ≡ others)
 
--- a memory with places held, cut at a front: what stands in front, which is of the memory alone, and what stands behind
+-- a memory with places held, cut at a front: what comes in front, which is of the memory alone, and what comes behind
 abbrev pub cut_code : {Memory Place : Type 0} → (Front → Memory → List ℕ)
     → (Front → Memory → List (Option Place) → List ℕ) → Front → Memory → List (Option Place) → List ℕ
 cut_code front_code behind_code front memory held = front_code front memory ++ behind_code front memory held

@@ -12,9 +12,9 @@ use Rattle.tree_machine.specs.declared.state.State.{State}
 abbrev pub deeds_of : {Machine Memory Place Form : Type 0} → State Machine Memory Place Form → List ℕ
 deeds_of state = deeds_code (replies_of state.threads) (notes_of state.threads) state.astray
 
--- The bytes are the code of the state, cut at the front. The number of steps takes as many of them as stand before what the
--- threads did, what these did takes as many as stand from there to the memory, and what stands in front of what the
--- threads hold takes as many as stand from there to that.
+-- The bytes are the code of the state, cut at the front. The offsets are where three parts of the code begin: what the
+-- threads did, behind the number of steps; the memory, behind that; and what the threads hold, behind what comes in
+-- front of it.
 pub record AreOffsetsOf {Machine Memory Place Form : Type 0} (front_code : Front → Memory → List ℕ)
     (behind_code : Front → Memory → List (Option Place) → List ℕ) (bytes : List ℕ) (offsets : CodeOffsets)
     (state : State Machine Memory Place Form) : Type 0 where

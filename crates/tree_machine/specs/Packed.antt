@@ -7,12 +7,12 @@ abbrev pub replies_number : List Bool → ℕ
 replies_number [] = 1
 replies_number (reply ∷ replies) = (if reply then 1 else 0) + 2 * replies_number replies
 
--- the binary digits below the leading one of a number, so many at most
+-- the binary digits of a number below its leading one, at most this many
 abbrev pub digits_of : ℕ → ℕ → List Bool
 digits_of zero number = []
 digits_of (suc most) number = if nat_le number 1 then [] else nat_eq (number % 2) 1 ∷ digits_of most (number / 2)
 
--- the replies, six at most, of which this is the number
+-- the replies, six at most, that have this number
 unfoldable pub replies_in : ℕ → List Bool
 replies_in number = digits_of 6 number
 
@@ -25,7 +25,7 @@ octal (count ∷ counts) = count + 8 * octal counts
 abbrev pub note_number : List ℕ → ℕ
 note_number counts = 4096 * length counts + octal counts
 
--- the counts, four at most, of which this is the number
+-- the counts, four at most, that have this number
 unfoldable pub counts_in : ℕ → List ℕ
 counts_in number =
     take (number / 4096) (number % 8 ∷ number / 8 % 8 ∷ number / 64 % 8 ∷ number / 512 % 8 ∷ [])

@@ -23,7 +23,7 @@ pub record Extends (p q : Pairing) : Type 0 where
   pub nodes : (x y : ℕ) → IsAmong p.nodes x y → IsAmong q.nodes x y
   pub records : (x y : ℕ) → IsAmong p.records x y → IsAmong q.records x y
 
--- the same outcome, with paired places or equal replies
+-- outcomes of one kind, with paired places or equal replies
 abbrev pub AreOutcomesPaired : {Place : Type 0} → (Place → Place → Type 0) → Outcome Place → Outcome Place → Type 0
 AreOutcomesPaired P (Goes place) (Goes twin) = P place twin
 AreOutcomesPaired P (Replies b) (Replies c) = b ≡ c

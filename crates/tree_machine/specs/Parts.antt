@@ -55,7 +55,7 @@ pub record ArePartsInRange (fixed : ℕ) (s : Parts) : Type 0 where
   pub records : All (IsPartBelow (length s.nodes) (length s.records)) s.records
   pub held : All (IsPartBelow (length s.nodes) (length s.records)) s.held
 
--- a part as a cell, where records stand behind n nodes: how many nodes it names stands before its facts
+-- a part as a cell, where records come behind n nodes: how many nodes it names comes before its facts
 abbrev pub part_cell : ℕ → Part → Content
 part_cell n p =
     record { facts = length p.nodes ∷ p.facts; refs = p.nodes ++ map (option_map (λ x. n + x)) p.records }

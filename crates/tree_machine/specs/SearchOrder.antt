@@ -17,7 +17,7 @@ IsNodeOrdered IsOrderedBelow low high (Some (Leaf k)) = (low ≤ k) × (k < high
 IsNodeOrdered IsOrderedBelow low high (Some (Internal m l r)) =
     IsOrderedBelow low (min m high) l × IsOrderedBelow (max m low) high r
 
--- node x is in order between low and high within so many levels
+-- node x is in order between low and high within this many levels
 abbrev pub IsOrderedWithin : (ℕ → Option Shape) → ℕ → ℕ → ℕ → ℕ → Type 0
 IsOrderedWithin shapes zero low high x = ⊥
 IsOrderedWithin shapes (suc levels) low high x = IsNodeOrdered (IsOrderedWithin shapes levels) low high (shapes x)
@@ -37,7 +37,7 @@ went_down k below here None = here
 went_down k below here (Some (Leaf j)) = here
 went_down k below here (Some (Internal m l r)) = below (if nat_lt k m then l else r)
 
--- where a search for key k ends that stands at node x below a parent, and goes down so many levels at most
+-- where a search for key k ends that is at node x below a parent, and goes down this many levels at most
 abbrev pub end_of : (ℕ → Option Shape) → ℕ → ℕ → ℕ → ℕ → End
 end_of shapes k zero parent x = record { parent = parent; leaf = x }
 end_of shapes k (suc levels) parent x =

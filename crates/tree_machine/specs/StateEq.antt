@@ -1,4 +1,4 @@
--- How threads, states and what forms of states tell are compared.
+-- How threads, states and contents of forms are compared.
 use Rattle.std.specs.Prelude.{Bool, nat_eq, ◌&&◌}
 use Rattle.std.specs.Option.{option_eq}
 use Rattle.std.specs.Cmp.Lexicographic.{pointwise}

@@ -10,6 +10,6 @@ pub record Walked : Type 0 where
   pub held : ℕ
   pub order : List ℕ
 
--- the same once a part is visited: what it names is met
+-- the walk once a part is visited: what the part names is met
 abbrev pub with_visit : Walked → Part → Walked
 with_visit w p = record w { order = met_all w.order (part_cell w.nodes p).refs }

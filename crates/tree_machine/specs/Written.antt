@@ -22,10 +22,10 @@ name_code order r = number_code (reference_number (option_and_then (place_in ord
 abbrev pub renamed_by : Written → Part → Part
 renamed_by w p = renamed_part w.node_order w.record_order p
 
--- the same once a part is written
+-- what is written, once a part is written behind it
 abbrev pub with_part : Written → Part → Written
 with_part w p = record w { bytes = w.bytes ++ cell_code (part_content (renamed_by w p)) }
 
--- the same once more bytes are
+-- what is written, once more bytes are written behind it
 abbrev pub with_bytes : Written → List ℕ → Written
 with_bytes w more = record w { bytes = w.bytes ++ more }

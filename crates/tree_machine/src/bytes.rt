@@ -11,8 +11,8 @@ use std::hash::{Hash, Hasher};
 use std::marker::Model;
 
 /// A list of bytes, over a `Vec`, which contracts see as the list itself. It is hashed eight bytes at a time: a write
-/// of so many is a few instructions where it is known to be of so many, and one of all bytes puts numbers together byte
-/// by byte.
+/// whose length is known to be eight takes a few instructions, and one write of all bytes would put numbers together
+/// byte by byte.
 #[derive(Drop)]
 pub struct Bytes {
     items: Vec<u8>,
@@ -27,16 +27,16 @@ impl Model for Bytes {
 }
 
 impl Bytes {
-    /// The list of a `Vec`'s bytes. It takes no memory.
+    /// The list of a `Vec`'s bytes. It allocates nothing.
     pub fn from_vec(items: Vec<u8>) -> Self
         ensures { result ≡ items.items }
     {
         Bytes { items }
     }
 
-    /// Equal bytes, in the memory of a list that is of no further use, as far as that is enough: only where it is not,
-    /// and then no more than they have, is memory asked for. It is asked for anew: to let a list grow would copy what
-    /// stands in it, and would wait for the thread that made it where that one asks for memory too.
+    /// Copies bytes into the buffer of `spare`, if that is large enough. Otherwise it allocates a new buffer, of just
+    /// their length. It does not grow `spare`: that would copy what `spare` holds, and would wait for the thread that
+    /// allocated it while that thread allocates too.
     pub fn copied_in(bytes: &[u8], mut spare: Vec<u8>) -> Result<Self, OutOfMemory>
         ensures { IfOk result (λ copy. copy ≡ bytes.now) }
     {
@@ -49,7 +49,7 @@ impl Bytes {
         Ok(Bytes { items: spare })
     }
 
-    /// The list, for whoever needs its memory. It takes none.
+    /// The list, for a caller that needs its buffer. It allocates nothing.
     pub fn into_vec(self) -> Vec<u8>
         ensures { result.items ≡ self }
     {

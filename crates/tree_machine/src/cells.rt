@@ -24,7 +24,7 @@ impl Model for Cell {
 }
 
 impl Cell {
-    /// The cell of these facts and references. It takes no memory.
+    /// The cell of these facts and references. It allocates nothing.
     pub fn new(facts: Vec<u64>, refs: Vec<Option<usize>>) -> Self
         ensures { result ≡ record { facts = facts.items; refs = refs.items } }
     {
@@ -41,7 +41,7 @@ struct Order {
 }
 
 impl Order {
-    /// No cell of so many is met yet.
+    /// The order of a walk over `cells` cells that has met none of them.
     fn new(alloc: Global, cells: usize) -> Result<Self, OutOfMemory>
         ensures nothing { IfOk result (λ n. n.order.items ≡ []) }
         ensures range { IfOk result (λ n. length n.numbers.items ≡ cells) }
@@ -54,7 +54,7 @@ impl Order {
         })
     }
 
-    /// Meets a cell, and tells its place.
+    /// Meets a cell, and returns its place.
     #[inline(always)]
     fn meet(&mut self, cell: usize) -> Result<usize, OutOfMemory>
         requires { cell < length self.old.numbers.items }
@@ -98,7 +98,7 @@ impl Order {
         self.meet_all(&visited.refs)
     }
 
-    /// The cell that was met after so many others, if so many were met.
+    /// The cell at this place of the order. `None` if fewer cells were met.
     fn cell_at(&self, place: usize) -> Option<usize>
         ensures { result ≡ slice_get self.now.order.items place }
     {
@@ -160,9 +160,9 @@ fn walk(alloc: Global, cells: &[Cell], roots: &[usize]) -> Result<Order, OutOfMe
 
 /// The cells that the roots reach, in the order in which a walk meets them, with their places in it as references.
 ///
-/// Roots and references are numbers of cells, and the roots are distinct. Two answers, from equally many roots, are
-/// equal exactly if some one-to-one set of pairs of cells pairs the roots place by place, and cells of equal facts
-/// whose references it pairs place by place. The walk is breadth first: the list of the cells met is its queue.
+/// Roots and references are numbers of cells, and the roots are distinct. Two results, from equally many roots, are
+/// equal exactly if some one-to-one set of pairs of cells pairs the roots place by place, and pairs only cells of equal
+/// facts whose references it pairs place by place. The walk is breadth first: the list of the cells met is its queue.
 ///
 /// # Errors
 /// `OutOfMemory` where a growth was refused.

@@ -3,8 +3,8 @@ ghost use Rattle.std.specs.Prelude.{◌≡◌, if◌then◌else◌};
 
 use crate::front::Front;
 
-/// Where in the code of a state what its threads did begins, where its memory begins, and where what its threads hold
-/// begins, with the front at which the code is cut.
+/// Where three parts of the code of a state begin: what its threads did, its memory, and what its threads hold; with
+/// the front at which the code is cut.
 #[derive(Clone, Copy, Debug, PartialEq, Eq)]
 pub struct CodeOffsets {
     pub(crate) op_log: usize,

@@ -8,11 +8,11 @@ use crate::short_note::ShortNote;
 use crate::state::Thread;
 use sched_program::{OutOfMemory, ShortList};
 
-/// As many zeros as what threads did takes bytes at most: the replies take 1 + 4 of them, the notes 1 + 4 * 13, and who
-/// went astray 2.
+/// Zeros, one for each byte that what the threads did can take: at most 1 + 4 for the replies, 1 + 4 * 13 for the
+/// notes, and 2 for who went astray.
 static ZEROS: [u8; 60] = [0; 60];
 
-/// Puts the replies of each thread at a place of a slice, and tells the place behind them.
+/// Writes the replies of each thread at a place of a slice, and returns the place behind them.
 fn put_all_replies<L>(bytes: &mut [u8], start: usize, threads: &[Thread<L>]) -> usize
     requires few { length threads.now ≤ 4 }
     requires room { start + 5 ≤ length bytes.old }
@@ -28,7 +28,7 @@ fn put_all_replies<L>(bytes: &mut [u8], start: usize, threads: &[Thread<L>]) -> 
     at
 }
 
-/// The same for a note.
+/// Writes a note at a place of a slice, and returns the place behind it.
 #[inline(always)]
 fn put_note(bytes: &mut [u8], start: usize, note: &ShortNote) -> usize
     requires { start + 2 ≤ length bytes.old }
@@ -41,7 +41,7 @@ fn put_note(bytes: &mut [u8], start: usize, note: &ShortNote) -> usize
     put_byte(bytes, at, low)
 }
 
-/// The same for the notes of a thread.
+/// Writes the notes of a thread at a place of a slice, and returns the place behind them.
 #[inline(always)]
 fn put_notes(bytes: &mut [u8], start: usize, notes: &ShortList<ShortNote, 6>) -> usize
     requires { start + 13 ≤ length bytes.old }
@@ -56,7 +56,7 @@ fn put_notes(bytes: &mut [u8], start: usize, notes: &ShortList<ShortNote, 6>) ->
     at
 }
 
-/// The same for the notes of each thread.
+/// Writes the notes of each thread at a place of a slice, and returns the place behind them.
 fn put_all_notes<L>(bytes: &mut [u8], start: usize, threads: &[Thread<L>]) -> usize
     requires few { length threads.now ≤ 4 }
     requires room { start + 53 ≤ length bytes.old }
@@ -72,7 +72,7 @@ fn put_all_notes<L>(bytes: &mut [u8], start: usize, threads: &[Thread<L>]) -> us
     at
 }
 
-/// The same for which thread went astray, if one did.
+/// Writes which thread went astray, if one did, at a place of a slice, and returns the place behind that.
 #[inline(always)]
 fn put_astray(bytes: &mut [u8], start: usize, astray: Option<u8>) -> usize
     requires { start + 2 ≤ length bytes.old }
@@ -88,8 +88,8 @@ fn put_astray(bytes: &mut [u8], start: usize, astray: Option<u8>) -> usize
     }
 }
 
-/// Puts what the threads did, and who went astray, behind bytes: these are lengthened once by as many as it takes at
-/// most, and cut to what was put.
+/// Appends what the threads did, and who went astray. The bytes are lengthened once, by the most that this can take,
+/// and then cut to what was written.
 pub(crate) fn put_deeds<L>(
     bytes: &mut Vec<u8>,
     threads: &[Thread<L>],

@@ -34,7 +34,7 @@ fn read_note(bytes: &[u8]) -> Option<(ShortNote, &[u8])>
     }
 }
 
-/// Reads the notes of a thread to where they are to stand.
+/// Reads the notes of a thread into a list, and returns the bytes behind them.
 #[inline(always)]
 fn read_notes<'a>(bytes: &'a [u8], notes: &mut ShortList<ShortNote, 6>) -> Option<&'a [u8]>
     ensures { IfSome result (λ rest. bytes.now ≡ list_code note_code notes.new ++ rest.now) }
@@ -54,7 +54,7 @@ fn read_notes<'a>(bytes: &'a [u8], notes: &mut ShortList<ShortNote, 6>) -> Optio
     Some(rest)
 }
 
-/// Reads the replies of as many threads as there are, and tells the bytes behind them.
+/// Reads the replies of each of these threads, and returns the bytes behind them.
 #[inline(always)]
 pub(crate) fn read_all_replies<'a, L>(
     bytes: &'a [u8],
@@ -75,7 +75,7 @@ pub(crate) fn read_all_replies<'a, L>(
     Some(rest)
 }
 
-/// Reads the notes of as many threads as there are, and tells the bytes behind them.
+/// Reads the notes of each of these threads, and returns the bytes behind them.
 #[inline(always)]
 pub(crate) fn read_all_notes<'a, L>(bytes: &'a [u8], threads: &mut [Thread<L>]) -> Option<&'a [u8]>
     ensures read { IfSome result

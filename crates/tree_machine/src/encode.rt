@@ -17,10 +17,10 @@ use std::alloc::Global;
 /// A step machine whose states an explorer keeps as bytes, and whose steps it makes in place.
 ///
 /// A memory with the place that each thread holds has two codes: its own, by the numbers of its nodes and records, and
-/// that of its form. Both are codes cut at a front: what stands in front is of the memory alone, so that the code of a
-/// step that left the memory as it was begins as that of its source. One reader decodes both.
-/// `copy_mem_into` and `only_reads` are the two shortcuts for steps in place: an explorer keeps a
-/// copy of the memory in a buffer that it uses again, and none where an access only reads.
+/// that of its form. Both are codes cut at a front: what comes in front is of the memory alone. So after a step that
+/// left the memory as it was, the code begins as that of the step's source. One reader decodes both. `copy_mem_into`
+/// and `only_reads` are the two shortcuts for steps in place: an explorer keeps a copy of the memory in a buffer that
+/// it reuses, and none where an access only reads.
 pub trait Encode: Machine {
     ghost use Rattle.tree_machine.specs.declared.front.Front.{Front};
 
@@ -31,14 +31,14 @@ pub trait Encode: Machine {
     /// records.
     ghost whole_code: { Self.Mem → List (Option Self.Loc) → List ℕ };
 
-    /// What stands in front, in the code of a memory with the place that each thread holds, cut at a front.
+    /// What comes in front, in the code of a memory with the place that each thread holds, cut at a front.
     ghost front_code: { Front → Self.Mem → List ℕ };
 
-    /// What stands behind it: the place that each thread holds, and what is left of the memory.
+    /// What comes behind it: the place that each thread holds, and what is left of the memory.
     ghost behind_code: { Front → Self.Mem → List (Option Self.Loc) → List ℕ };
 
-    /// Makes `copy` equal to `mem`. It uses the buffers of `copy` as far as they are large enough.
-    /// After a refusal `copy` is of no use.
+    /// Makes `copy` equal to `mem`. It reuses the buffers of `copy` where they are large enough. After a refusal `copy`
+    /// is unspecified.
     fn copy_mem_into(
         &self,
         alloc: Global,
@@ -54,7 +54,7 @@ pub trait Encode: Machine {
             → (op : Op) (memory : Self.Mem) → ((Self.rules self.now).act op loc.now memory).0 ≡ memory };
 
     /// Appends the code of the memory with the place that each thread holds, by own numbers or canonical. After a
-    /// refusal the bytes in the buffer are of no use.
+    /// refusal the bytes in the buffer are unspecified.
     fn write_code(
         &self,
         alloc: Global,
@@ -69,8 +69,8 @@ pub trait Encode: Machine {
             ++ code_by naming (whole_code mem.now (places_of threads.now))
             (form_code (Self.form_of self.now mem.now (places_of threads.now)))) };
 
-    /// Completes such a code behind what stands in front of it. The memory was read from such a code, which was cut at
-    /// this front. After a refusal the bytes in the buffer are of no use.
+    /// Appends the rest of such a code, behind its front. The memory was read from such a code, which was cut at this
+    /// front. After a refusal the bytes in the buffer are unspecified.
     fn write_behind(
         &self,
         alloc: Global,
@@ -89,10 +89,10 @@ pub trait Encode: Machine {
             → buffer.new ≡ before ++ code_by naming (whole_code mem.now (places_of threads.now))
             (form_code (Self.form_of self.now mem.now (places_of threads.now)))) };
 
-    /// Decodes a memory, and the place that each thread holds, into these, and uses their buffers as far as they are
-    /// large enough. If the bytes are the code of what it read, cut at a front, it returns the length of what stands in
+    /// Decodes a memory, and the place that each thread holds, into these, and reuses their buffers where they are
+    /// large enough. If the bytes are the code of what it read, cut at a front, it returns the length of what comes in
     /// front, and the front. It may return `None` for any bytes; then, and after a refusal, the memory and the places
-    /// are of no use. The replies and notes of the threads stay as they are.
+    /// are unspecified. The replies and notes of the threads stay as they are.
     fn read_whole(
         &self,
         alloc: Global,
@@ -107,10 +107,10 @@ pub trait Encode: Machine {
         ensures replies { replies_of threads.new ≡ replies_of threads.old }
         ensures notes { notes_of threads.new ≡ notes_of threads.old };
 
-    /// Decodes what stands behind this front of the memory: the place that each thread holds, and what is left of a
-    /// memory that has the same in front. It uses the buffers of memory and places as far as they are large enough, and
+    /// Decodes what comes behind this front of the memory: the place that each thread holds, and what is left of a
+    /// memory that has the same front. It reuses the buffers of memory and places where they are large enough, and
     /// returns whether the bytes are the code of what it read. It may return `false` for any bytes; then, and after a
-    /// refusal, the memory and the places are of no use. The replies and notes of the threads stay as they are.
+    /// refusal, the memory and the places are unspecified. The replies and notes of the threads stay as they are.
     fn read_behind(
         &self,
         alloc: Global,

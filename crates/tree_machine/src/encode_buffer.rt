@@ -14,8 +14,8 @@ use sched_program::OutOfMemory;
 use std::alloc::Global;
 use std::marker::Model;
 
-/// A buffer in which codes are written, with the numberings that they need. It is used again for each code, and
-/// allocates only until it is large enough for the largest of them. Contracts see the bytes in it.
+/// A buffer in which codes are written, with the numberings that they need. It is reused for each code, and allocates
+/// only until it is large enough for the largest of them. Contracts see the bytes in it.
 #[derive(Drop)]
 pub struct EncodeBuffer {
     pub(crate) bytes: Vec<u8>,
@@ -60,7 +60,7 @@ impl EncodeBuffer {
         self.bytes.as_slice()
     }
 
-    /// Appends bytes. After a refusal the bytes are as they were.
+    /// Appends bytes. After a refusal the bytes are unchanged.
     pub fn put(&mut self, bytes: &[u8]) -> Result<(), OutOfMemory>
         ensures ok { OnOk result (self.new ≡ self.old ++ bytes.now) }
         ensures err { OnErr result (self.new ≡ self.old) }

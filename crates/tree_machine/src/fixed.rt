@@ -1,9 +1,9 @@
-//! Bytes put into a slice that is long enough, one behind the other.
+//! Writes of bytes, one behind the other, into a slice that is long enough.
 ghost use Rattle.std.specs.Prelude.{◌≡◌, ◌<◌, ◌≤◌, ◌+◌, ◌++◌, ◌∷◌, [], length, take, drop, IfSome};
 ghost use Rattle.tree_machine.specs.Flat.{number_code};
 
-/// Puts a byte at a place of a slice, and tells the place behind it. Whoever writes many of them keeps the place at
-/// hand, where a list would count each by itself.
+/// Writes a byte at a place of a slice, and returns the place behind it. A caller that writes many bytes keeps the
+/// place in a variable of its own; a list would count each byte.
 #[inline(always)]
 pub(crate) fn put_byte(bytes: &mut [u8], at: usize, byte: u8) -> usize
     requires { at < length bytes.old }
@@ -16,7 +16,7 @@ pub(crate) fn put_byte(bytes: &mut [u8], at: usize, byte: u8) -> usize
     at + 1
 }
 
-/// Puts a byte as a number, and returns the place behind it: a number takes one byte, or two where it is 255.
+/// Writes a byte as a number, and returns the place behind it: a number takes one byte, or two where it is 255.
 #[inline(always)]
 pub(crate) fn put_number_byte(bytes: &mut [u8], at: usize, number: u8) -> usize
     requires { at + 2 ≤ length bytes.old }

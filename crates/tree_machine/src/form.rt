@@ -24,9 +24,8 @@ use std::hash::{Hash, Hasher};
 use std::marker::Model;
 use std::snapshot::Snapshot;
 
-/// The form of a state. Two states have equal forms if they differ only in the numbers of their
-/// nodes and records, in how many steps led to them, and in what neither the root nor a thread
-/// leads to.
+/// The form of a state. Two states have equal forms if they differ only in the numbers of their nodes and records, in
+/// how many steps they took, and in what neither the root nor a thread reaches.
 ///
 /// It is stored as one list of bytes. Contracts see what these stand for: the machine's form of the
 /// memory with the places that the threads hold, the replies of each thread, the notes of each
@@ -89,8 +88,9 @@ impl<M: Encode> State<M> {
         machine.write_code(alloc, Naming::Canonical, &self.memory, threads, buffer)
     }
 
-    /// A state whose code, cut at any front, is the whole code of a state is that state. One whose code is the code by
-    /// names of a state is alike to that state, fits the same programs, and has no steps.
+    /// What this state is, by its code. If the code, cut at any front, is the whole code of a state, this is that
+    /// state. If it is the code by names of a state, this state is alike to that one, fits every program that that one
+    /// fits, and has no steps.
     pub fn decoded_law(&self, machine: M)
         ensures whole { (front : Front) (s : State M M.Mem M.Loc M.Form)
             → state_code (cut_code M.front_code M.behind_code front) self.now ≡ state_code M.whole_code s

@@ -37,7 +37,7 @@ pub struct StepOrigin<'a, M: Encode> {
     pub undo: &'a Undo<M>,
 }
 
-/// Whether a thread has as many replies and as many notes as another.
+/// Whether two threads have equally many replies and equally many notes.
 #[inline(always)]
 fn did_as_many<L>(here: &Thread<L>, there: &Thread<L>) -> bool
     ensures replies { IsTrue result → length here.now.replies ≡ length there.now.replies }
@@ -74,8 +74,8 @@ impl<M: Encode> State<M> {
     }
 
     /// The label of a state of a program: by own numbers its whole code, and else that of its form, in the layout of
-    /// the code of a whole state of no steps. It is written in a buffer that is used again for each state, and copied
-    /// into `spare`. If `spare` is too short, it allocates no more than the length of the label.
+    /// the code of a whole state of no steps. It is written in a buffer that is reused for each state, and copied into
+    /// `spare`. If `spare` is too short, it allocates no more than the length of the label.
     pub fn label(
         &self,
         alloc: Global,
@@ -112,8 +112,8 @@ impl<M: Encode> State<M> {
         }
     }
 
-    /// Appends what the threads did, and behind it what stands in front of the memory's code if the step left it as it
-    /// was.
+    /// Appends what the threads did. If the step left the memory as it was, it also appends what comes in front in the
+    /// memory's code.
     #[inline(always)]
     fn put_front(
         &self,
@@ -139,7 +139,7 @@ impl<M: Encode> State<M> {
         put_piece(origin.label, offsets.memory, end, buffer)
     }
 
-    /// Appends what stands behind that: the rest of the memory's code, or all of it if the step wrote.
+    /// Appends what comes behind that: the rest of the memory's code, or all of it if the step wrote.
     #[inline(always)]
     fn put_rest(
         &self,

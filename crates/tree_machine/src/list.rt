@@ -1,4 +1,4 @@
-//! Lists in other lists' memory, and with more values.
+//! Lists built in the buffers of other lists, and lists with more values.
 ghost use Rattle.std.specs.Prelude.{◌≡◌, ◌++◌, [], IfOk, OnOk};
 
 use sched_program::{OutOfMemory, Sequence};
@@ -19,7 +19,7 @@ pub fn extended<T: Copy>(
     Ok(Sequence::from_vec(items))
 }
 
-/// The empty list, in the memory of another one.
+/// The empty list, in the buffer of another one.
 pub(crate) fn emptied<T: Drop>(list: Sequence<T>) -> Sequence<T>
     ensures { result ≡ [] }
 {
@@ -28,8 +28,8 @@ pub(crate) fn emptied<T: Drop>(list: Sequence<T>) -> Sequence<T>
     Sequence::from_vec(items)
 }
 
-/// Makes a list one of these values, in the memory that it has as far as that is enough. After a refusal it is of no
-/// use.
+/// Replaces the values of a list by these. It reuses the list's buffer where that is large enough. After a refusal the
+/// list is unspecified.
 #[inline(always)]
 pub fn copy_into<T: Copy + Drop>(
     alloc: Global,

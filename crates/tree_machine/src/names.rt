@@ -22,7 +22,8 @@ impl Names {
         }
     }
 
-    /// Numbers the first of so many nodes and records, each by its own number. It uses the buffers of these names.
+    /// Numbers the first `front_nodes` of all nodes and the first `front_records` of all records, each by its own
+    /// number. It reuses the buffers of these names.
     pub(crate) fn first(
         self,
         front_nodes: usize,

@@ -33,7 +33,7 @@ pub(crate) fn sum_of(some: usize, more: usize) -> Result<usize, OutOfMemory>
     some.checked_add(more).ok_or(OutOfMemory)
 }
 
-/// Puts a number behind bytes: 255 for each 255 in it, and then the rest. Nearly all numbers are small.
+/// Appends a number: 255 for each 255 in it, and then the rest. Nearly all numbers are small.
 #[inline(always)]
 pub(crate) fn put_number(bytes: &mut Vec<u8>, number: u64) -> Result<(), OutOfMemory>
     ensures written { OnOk result (bytes.new.items ≡ bytes.old.items ++ number_code number) }
@@ -47,7 +47,7 @@ pub(crate) fn put_number(bytes: &mut Vec<u8>, number: u64) -> Result<(), OutOfMe
     }
 }
 
-/// Puts a number that may be large behind bytes, as `put_number` does.
+/// Appends a number that may be large, as `put_number` does.
 #[cold]
 #[inline(never)]
 fn put_large(bytes: &mut Vec<u8>, number: u64) -> Result<(), OutOfMemory>

@@ -15,8 +15,8 @@ use std::alloc::Global;
 /// Bytes name fewer cells than this, so that the number of each, one more than its place, is one byte below 255.
 pub(crate) const CELLS_BELOW: usize = 254;
 
-/// Cells in an order, and the number of each cell: one more than its place in that order, or 0 where it has none. There
-/// is room for the whole order from the beginning.
+/// Cells in an order, and the number of each cell: one more than its place in that order, or 0 where it has none. The
+/// order has capacity for all cells from the beginning.
 #[derive(Drop)]
 pub(crate) struct Numbering {
     order: Vec<u8>,
@@ -29,7 +29,7 @@ pub(crate) struct Numbering {
 }
 
 impl Numbering {
-    /// The numbering of no cells. It takes no memory.
+    /// The numbering of no cells. It allocates nothing.
     pub(crate) fn none(alloc: Global) -> Numbering
         ensures order { result.order.items ≡ [] }
         ensures cells { result.numbers.items ≡ [] }
@@ -40,8 +40,8 @@ impl Numbering {
         }
     }
 
-    /// None of so many cells has a number yet. The memory serves again, as far as that is enough. More cells than bytes
-    /// can name are refused as memory is.
+    /// The numbering of `cells` cells, none of which has a number yet. It reuses the buffers where they are large
+    /// enough. More cells than bytes can name are refused with `OutOfMemory`.
     pub(crate) fn restarted(self, cells: usize) -> Result<Numbering, OutOfMemory>
         ensures nothing { IfOk result (λ n. n.order.items ≡ []) }
         ensures cells { IfOk result (λ n. length n.numbers.items ≡ cells) }
@@ -83,7 +83,7 @@ impl Numbering {
         self.numbers[cell] = place as u8 + 1;
     }
 
-    /// Puts a cell at the end of the order, unless it stands there.
+    /// Appends a cell to the order, unless it is there already.
     #[inline(always)]
     fn meet(&mut self, cell: usize)
         requires { cell < length self.old.numbers.items }
@@ -95,7 +95,7 @@ impl Numbering {
         }
     }
 
-    /// Meets so many cells from one on, all behind those met before.
+    /// Meets `count` cells from `first` on, all behind those met before.
     pub(crate) fn meet_range(&mut self, first: usize, count: usize)
         requires in_range { first + count ≤ length self.old.numbers.items }
         requires behind { All (λ x. x < first) self.old.order.items }
@@ -142,7 +142,7 @@ impl Numbering {
     }
 }
 
-/// All of so many cells, or of more, each by its own number.
+/// A numbering of all its cells, each by its own number.
 #[derive(Drop)]
 pub(crate) struct Own {
     numbering: Numbering,
@@ -150,14 +150,14 @@ pub(crate) struct Own {
 }
 
 impl Own {
-    /// No cells. It takes no memory.
+    /// No cells. It allocates nothing.
     pub(crate) fn none(alloc: Global) -> Own {
         Own {
             numbering: Numbering::none(alloc),
         }
     }
 
-    /// The numbering, once it has so many cells or more.
+    /// The numbering, rebuilt for `cells` cells if it has fewer.
     pub(crate) fn of(self, cells: usize) -> Result<Own, OutOfMemory>
         ensures { IfOk result (λ own. cells ≤ length own.numbering.numbers.items) }
     {

@@ -172,12 +172,12 @@ fn write_behind_front<P: Parts>(
     Ok(())
 }
 
-/// Appends the code of nodes, records and what the threads hold by their own numbers: all nodes and records stand in
+/// Appends the code of nodes, records and what the threads hold by their own numbers: all nodes and records come in
 /// front.
 ///
 /// # Errors
 /// `OutOfMemory` where a growth was refused, or the nodes or records are more than bytes can name. The bytes in the
-/// buffer are then of no use.
+/// buffer are then unspecified.
 fn write_own<P: Parts>(
     alloc: Global,
     parts: &P,
@@ -204,7 +204,7 @@ fn write_own<P: Parts>(
     Ok(())
 }
 
-/// Appends what stands behind the nodes and the records in that code: what the threads hold.
+/// Appends what comes behind the nodes and the records in that code: what the threads hold.
 ///
 /// # Errors
 /// `OutOfMemory` as `write_own`.
@@ -228,13 +228,12 @@ fn write_own_held<P: Parts>(
     Ok(())
 }
 
-/// Appends the canonical code of nodes, records and what the threads hold. In front stands what the first nodes lead
-/// to, as many as are fixed, and behind what the threads hold stands what these lead to besides. What neither leads to
-/// is left out.
+/// Appends the canonical code of nodes, records and what the threads hold. In front comes what the first `fixed` nodes
+/// reach. Behind what the threads hold comes what only they reach. What neither reach is left out.
 ///
 /// # Errors
 /// `OutOfMemory` where a growth was refused, or the nodes, records and threads are more than bytes can name. The bytes
-/// in the buffer are then of no use.
+/// in the buffer are then unspecified.
 fn write_canonical<P: Parts>(
     alloc: Global,
     fixed: usize,
@@ -266,8 +265,8 @@ fn write_canonical<P: Parts>(
     Ok(())
 }
 
-/// Appends what stands behind the front of that code, where the front is that of the parts themselves, by their own
-/// numbers. Where all stands in front, no walk is made.
+/// Appends what comes behind the front of that code. The front is that of the parts themselves, by their own numbers.
+/// Where all parts come in front, no walk is made.
 fn write_canonical_behind<P: Parts>(
     alloc: Global,
     fixed: usize,
@@ -300,12 +299,12 @@ fn write_canonical_behind<P: Parts>(
     Ok(())
 }
 
-/// Appends the code of nodes, records and what the threads hold, by own numbers or canonical; in that the first nodes
-/// are fixed, as many as `fixed`.
+/// Appends the code of nodes, records and what the threads hold, by own numbers or canonical. In the canonical code the
+/// first `fixed` nodes are fixed.
 ///
 /// # Errors
 /// `OutOfMemory` where a growth was refused, or the nodes, records and threads are more than bytes can name. The bytes
-/// in the buffer are then of no use.
+/// in the buffer are then unspecified.
 pub fn write_parts<P: Parts>(
     alloc: Global,
     naming: Naming,
@@ -324,8 +323,8 @@ pub fn write_parts<P: Parts>(
     }
 }
 
-/// Completes such a code behind what stands in front of it. The nodes and the records were read from such a code, which
-/// was cut at this front.
+/// Appends the rest of such a code, behind its front. The nodes and the records were read from such a code, which was
+/// cut at this front.
 ///
 /// # Errors
 /// `OutOfMemory` as `write_parts`.

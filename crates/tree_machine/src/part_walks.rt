@@ -1,4 +1,4 @@
-//! Walks that number nodes and records: first all that the fixed nodes lead to, then what the threads lead to besides.
+//! Walks that number nodes and records: first all that the fixed nodes reach, then what only the threads reach.
 ghost use Rattle.std.specs.Prelude.{◌≡◌, ◌≤◌, ◌++◌, ℕ, length, IfOk};
 ghost use Rattle.tree_machine.specs.Canonical.{front_nodes, front_records, met_nodes, met_records};
 ghost use Rattle.tree_machine.specs.Canonical.{nodes_met, records_met};
@@ -10,8 +10,8 @@ use crate::parts::{Parts, visit_cell};
 use crate::walk::Walk;
 use sched_program::OutOfMemory;
 
-/// Visits the cells that a walk met, in the order met, until all that they lead to is met, and returns the memory of
-/// the queue with the numbers. The first of them need no visit, as many as `start`: what they name is met.
+/// Visits the cells that a walk met, in the order met, until all that they reach is met. It returns the buffer of the
+/// queue, and the numbers. The first `start` cells need no visit: what they name is met.
 fn walk_all<P: Parts>(
     parts: &P,
     start: usize,
@@ -44,7 +44,7 @@ fn walk_all<P: Parts>(
     Ok(walk.into_names())
 }
 
-/// Numbers what the fixed nodes lead to, and returns the memory of the queue with the numbers.
+/// Numbers what the fixed nodes reach, and returns the buffer of the queue with the numbers.
 pub(crate) fn front_names<P: Parts>(
     parts: &P,
     fixed: usize,
@@ -64,8 +64,8 @@ pub(crate) fn front_names<P: Parts>(
     walk_all(parts, 0, walk)
 }
 
-/// Numbers what the threads lead to besides, behind what the fixed nodes lead to, which is numbered. It returns the
-/// memory of the queue with the numbers. Where all is numbered, no walk is made.
+/// Numbers what only the threads reach, behind what the fixed nodes reach, which is numbered. It returns the buffer of
+/// the queue with the numbers. Where all is numbered, no walk is made.
 pub(crate) fn names_behind<P: Parts>(
     parts: &P,
     fixed: usize,

@@ -33,7 +33,7 @@ pub trait PartVisitor {
             (record { facts = facts.now; nodes = nodes.now; records = records.now ++ map Some stack.now }) self.new) };
 }
 
-/// Nodes, records and what the threads hold, each given to a visitor as a part when it is asked for.
+/// Nodes, records and what the threads hold, each shown to a visitor as a part on request.
 pub trait Parts {
     ghost use Rattle.tree_machine.specs.Parts.{Parts as Contents};
 
@@ -74,7 +74,7 @@ pub trait Parts {
         ensures { OnOk result (V.visited visitor.old (part_at (parts self.now).held index) visitor.new) };
 }
 
-/// Lets a visitor visit the part that is a cell of this number: nodes stand first, then records, then what the threads
+/// Lets a visitor visit the part with this number as a cell: nodes come first, then records, then what the threads
 /// hold.
 #[inline(always)]
 pub(crate) fn visit_cell<P: Parts, V: PartVisitor>(

@@ -1,5 +1,5 @@
-//! Values read from the front of bytes, each with the bytes behind it. Where there is none, as behind the last byte, or
-//! where a value would be too large, a reader tells that by `None`.
+//! Readers of values at the front of bytes. Each returns the value with the bytes behind it. It returns `None` where
+//! there is no value, as behind the last byte, or where the value would be too large.
 ghost use Rattle.std.specs.Prelude.{◌≡◌, ◌<◌, ◌++◌, ◌∷◌, IfSome};
 ghost use Rattle.tree_machine.specs.Flat.{number_code};
 
@@ -37,7 +37,7 @@ pub fn read_any_number(bytes: &[u8]) -> Option<(u64, &[u8])>
     }
 }
 
-/// The same where the number may be large, which is so of no number but that of steps.
+/// Reads a number that may be large. Only the number of steps is.
 #[cold]
 #[inline(never)]
 fn read_long_number(bytes: &[u8]) -> Option<(u64, &[u8])>

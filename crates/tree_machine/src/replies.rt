@@ -6,7 +6,7 @@ use std::alloc::AllocError;
 use std::marker::Model;
 
 /// The replies of a thread, in order, six at most: the binary digits of a byte below a leading one, the first reply
-/// lowest. A thread is copied with each of its steps, and each label tells its replies. Contracts see the list.
+/// lowest. A thread is copied with each of its steps, and each label holds its replies. Contracts see the list.
 #[derive(Copy)]
 pub struct Replies {
     number: u8,
@@ -40,7 +40,7 @@ impl Clone for Replies {
     }
 }
 
-/// What a reply adds to the number of so many before it: its digit, and the leading one moves up.
+/// What a reply adds to the number of the `count` replies before it: its digit, and the leading one moves up.
 #[inline(always)]
 fn added(reply: bool, count: usize) -> u8
     requires { count < 6 }
@@ -86,7 +86,7 @@ impl Replies {
         self.number += added(reply, self.len());
     }
 
-    /// The byte that tells the replies in a label.
+    /// The byte that holds the replies in a label.
     #[inline(always)]
     pub(crate) fn byte(&self) -> u8
         ensures { replies_code self.now ≡ result ∷ [] }
@@ -94,7 +94,7 @@ impl Replies {
         self.number
     }
 
-    /// The replies that a byte of a label tells, if it tells any.
+    /// The replies that a byte of a label holds, if it holds any.
     #[inline(always)]
     pub(crate) fn of_byte(byte: u8) -> Option<Replies>
         ensures { IfSome result (λ replies. replies_code replies ≡ byte ∷ []) }

@@ -48,8 +48,8 @@ pub fn side_of(wanted: u8, key: u8) -> Side
     }
 }
 
-/// Whether the tree at a node is in order between two keys. Each internal node splits the keys between them in two, so
-/// that the walk ends, and no node is met twice where the answer is yes.
+/// Whether the tree at a node is in order between two keys. Each internal node splits the keys between them in two. So
+/// the walk ends, and it meets no node twice if it returns `true`.
 #[tactic(auto, using(crate::specs::Laws::SearchOrder::none_is_ordered, crate::specs::Laws::SearchOrder::leaf_is_ordered))]
 fn is_ordered<S: Shapes>(memory: &S, low: u8, high: u8, x: u16) -> bool
     ensures { IsTrue result ↔ IsOrdered (S.shapes memory.now) low high x }
@@ -66,7 +66,7 @@ fn is_ordered<S: Shapes>(memory: &S, low: u8, high: u8, x: u16) -> bool
     }
 }
 
-/// Whether the tree keeps search order. It takes no memory, and answers also where nodes lead back to themselves.
+/// Whether the tree keeps search order. It allocates nothing, and returns even where nodes form a cycle.
 pub fn keeps_search_order<S: Shapes>(memory: &S) -> bool
     ensures { IsTrue result ↔ KeepsSearchOrder (S.shapes memory.now) }
 {
@@ -80,7 +80,7 @@ fn child_towards(key: u8, other: u8, left: u16, right: u16) -> u16
     if key < other { left } else { right }
 }
 
-/// Where a search for a key from the root ends, within so many levels.
+/// Where a search for a key from the root ends, within `levels` levels.
 pub fn search_end<S: Shapes>(memory: &S, key: u8, levels: usize) -> End
     ensures { result ≡ end_of (S.shapes memory.now) key levels 0 0 }
 {

@@ -6,8 +6,8 @@ use std::alloc::AllocError;
 use std::marker::Model;
 
 /// The note of an operation of a program: how many operations each thread had finished when it began. There are four
-/// threads at most, each with six operations at most, so three bits tell each count and three more how many there are.
-/// Contracts see the list of the counts.
+/// threads at most, each with six operations at most. So three bits hold each count, and three more hold how many
+/// counts there are. Contracts see the list of the counts.
 #[derive(Copy)]
 pub struct ShortNote {
     number: u16,
@@ -68,7 +68,7 @@ impl ShortNote {
         self.number += 4096 + (u16::from(count) << place);
     }
 
-    /// How many operations a thread had finished, if it is one of the program's: none of any other.
+    /// How many operations a thread had finished: 0 for a thread that the program does not have.
     #[inline(always)]
     pub fn count_of(&self, thread: u8) -> u8
         ensures { result ≡ slice_index self.now thread }
@@ -91,7 +91,7 @@ impl ShortNote {
         counts
     }
 
-    /// The two bytes that tell the note in a label.
+    /// The two bytes that hold the note in a label.
     #[inline(always)]
     pub(crate) fn bytes(&self) -> (u8, u8)
         ensures { note_code self.now ≡ result.0 ∷ result.1 ∷ [] }
@@ -99,7 +99,7 @@ impl ShortNote {
         ((self.number / 256) as u8, (self.number % 256) as u8)
     }
 
-    /// The note that two bytes of a label tell, if they tell any.
+    /// The note that two bytes of a label hold, if they hold any.
     #[inline(always)]
     pub(crate) fn of_bytes(high: u8, low: u8) -> Option<ShortNote>
         ensures { IfSome result (λ note. note_code note ≡ high ∷ low ∷ []) }

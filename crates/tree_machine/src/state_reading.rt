@@ -68,8 +68,8 @@ fn read_head(bytes: &[u8]) -> Option<(u64, u8, &[u8])>
     }
 }
 
-/// Reads a memory, and the place that each thread holds, as `Encode::read_whole` does. `known` is what stands in front
-/// of the code of the memory as it is, with the front: if the bytes begin with it, it is not decoded again.
+/// Reads a memory, and the place that each thread holds, as `Encode::read_whole` does. `known` is what comes in front
+/// in the code of `memory` as it is, with the front. If the bytes begin with it, it is not decoded again.
 #[inline(always)]
 fn read_parts<M: Encode>(
     alloc: Global,
@@ -97,8 +97,8 @@ fn read_parts<M: Encode>(
     machine.read_whole(alloc, bytes, memory, threads)
 }
 
-/// What `read_body` found: how many bytes stand behind what the threads did, how many of these stand in front of what
-/// the threads hold, and the front.
+/// What `read_body` found: how many bytes come behind what the threads did, how many of these come in front of what the
+/// threads hold, and the front.
 #[derive(Clone, Copy)]
 struct BodyRead {
     behind: usize,
@@ -106,7 +106,7 @@ struct BodyRead {
     front: Front,
 }
 
-/// Reads all that stands behind the number of threads. `known` is what stands in front of the code of the memory as it
+/// Reads all that comes behind the number of threads. `known` is what comes in front in the code of the memory as it
 /// is, with the front, if that is known.
 #[inline(always)]
 fn read_body<M: Encode>(
@@ -144,10 +144,10 @@ fn read_body<M: Encode>(
 }
 
 impl<M: Encode> State<M> {
-    /// Decodes a state into this one, and uses its buffers as far as they are large enough. If the bytes are the code
-    /// of the state that this one then is, cut at a front, it returns where the parts of the code begin. It may return
-    /// `None` for any bytes, and does for those of no state; then, and after a refusal of memory,
-    /// the state is of no use but to be read into.
+    /// Decodes a state into this one, and reuses its buffers where they are large enough. If the bytes are the code of
+    /// the state that this one then is, cut at a front, it returns where the parts of the code begin. It may return
+    /// `None` for any bytes, and does for those of no state. Then, and after a refusal of memory, the state is
+    /// unspecified, and can only be read into.
     pub fn read_in(
         &mut self,
         alloc: Global,
@@ -160,9 +160,9 @@ impl<M: Encode> State<M> {
         self.read_over(alloc, machine, bytes, None)
     }
 
-    /// Decodes a state as `read_in` does. `last` is the code of this state as it is, and `offsets` is
-    /// where its parts begin: what stands in front of it is decoded only if it is not the same. Most states
-    /// that are decoded in a row have one memory.
+    /// Decodes a state as `read_in` does. `last` is the code of this state as it is, and `offsets` is where its parts
+    /// begin. What comes in front is decoded only if it differs from that of `last`. Most states that are decoded in a
+    /// row have one memory.
     pub fn read_after(
         &mut self,
         alloc: Global,
@@ -179,7 +179,7 @@ impl<M: Encode> State<M> {
         self.read_over(alloc, machine, bytes, Some((front, offsets.front)))
     }
 
-    /// Decodes a state as `read_in` does. `known` is what stands in front of the code of the memory as it is, with the
+    /// Decodes a state as `read_in` does. `known` is what comes in front in the code of the memory as it is, with the
     /// front, if that is known.
     #[inline(always)]
     fn read_over(

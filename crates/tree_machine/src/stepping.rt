@@ -50,8 +50,8 @@ fn copy_each<M: Machine>(
     Ok(())
 }
 
-/// Copies threads into the buffer of `others`. If these are as many, as those of another state of
-/// the program are, the copies are made in place. Otherwise capacity for all is reserved at once,
+/// Copies threads into the buffer of `others`. If `others` has equally many, as another state of
+/// the program has, the copies are made in place. Otherwise capacity for all is reserved at once,
 /// so that none is moved later.
 #[inline(always)]
 fn copied_threads<M: Machine>(

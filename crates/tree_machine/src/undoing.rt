@@ -16,8 +16,8 @@ use std::mem::{replace, swap};
 use std::snapshot::Snapshot;
 
 /// What takes back a step that was made in place: the thread as it was, and the memory as it was if
-/// the step may have written. It is used again for each step, and allocates only until it has a
-/// memory of its own.
+/// the step may have written. It is reused for each step, and allocates only until it has a memory
+/// of its own.
 #[derive(Drop)]
 pub struct Undo<M: Encode> {
     pub(crate) thread: Thread<M::Loc>,
@@ -153,9 +153,9 @@ impl<M: Encode> State<M> {
         Ok(())
     }
 
-    /// Makes the step of a thread in place, and keeps what takes it back. Fails with `NotEnabled`
+    /// Makes the step of a thread in place, and keeps what undoes it. Fails with `NotEnabled`
     /// exactly if the thread has no step; then this state is unchanged. After a refusal of memory
-    /// this state is of no use.
+    /// this state is unspecified.
     #[inline(always)]
     pub fn step_here(
         &mut self,
@@ -192,7 +192,7 @@ impl<M: Encode> State<M> {
     }
 
     /// Takes back the step of a thread by what `step_here` kept: this state becomes what it was
-    /// before. What was kept is of no further use.
+    /// before. What was kept is then used up.
     #[inline(always)]
     pub fn take_back(
         &mut self,

@@ -1,4 +1,4 @@
-//! The walk that numbers what fixed nodes and threads lead to.
+//! The walk that numbers what fixed nodes and threads reach.
 ghost use Rattle.std.specs.Prelude.{◌≡◌, ◌<◌, ◌+◌, ◌++◌, length, map, slice_get, Some, IfOk, IfSome, OnOk};
 ghost use Rattle.std.specs.List.{All};
 ghost use Rattle.std.specs.Option.{option_map};
@@ -55,8 +55,8 @@ fn put_raised(queue: &mut Vec<u8>, first: usize, numbers: &[u8]) -> Result<(), O
 }
 
 impl Walk {
-    /// Begins a walk that met the nodes and the records that have names. It uses the memory of the queue. More cells
-    /// than bytes can name are refused as memory is.
+    /// Begins a walk that met the nodes and the records that have names. It reuses the buffer of the queue. More cells
+    /// than bytes can name are refused with `OutOfMemory`.
     pub(crate) fn of<P: Parts>(
         parts: &P,
         mut queue: Vec<u8>,
@@ -198,7 +198,7 @@ impl Walk {
         self.queue.len()
     }
 
-    /// The cell that was met after so many others, if so many were met.
+    /// The cell at this place of the order. `None` if fewer cells were met.
     #[inline(always)]
     pub(crate) fn cell_at(&self, place: usize) -> Option<usize>
         ensures { result ≡ slice_get self.now.order place }
@@ -207,7 +207,7 @@ impl Walk {
         Some(usize::from(*cell))
     }
 
-    /// The memory of the queue, and the numbers of the nodes and the records that were met.
+    /// The buffer of the queue, and the numbers of the nodes and the records that were met.
     pub(crate) fn into_names(self) -> (Vec<u8>, Names)
         ensures nodes { result.1.nodes.order.items ≡ nodes_met self.nodes self.order }
         ensures records { result.1.records.order.items ≡ records_met self.nodes self.records self.order }

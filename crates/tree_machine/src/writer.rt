@@ -17,7 +17,7 @@ use std::marker::Model;
 /// The most bytes that a part with a head of one byte takes: the head, four facts of at most two bytes, seven names.
 const SHORT_PART: usize = 16;
 
-/// As many zeros as bytes are lengthened by at once.
+/// The zeros that `lengthen` appends.
 static ZEROS: [u8; 256] = [0; 256];
 
 /// Lengthens bytes.
@@ -33,7 +33,7 @@ fn lengthen(bytes: &mut Vec<u8>, at: usize) -> Result<(), OutOfMemory>
     Ok(())
 }
 
-/// Makes the bytes so long that a part with a head of one byte can be put in from a place on.
+/// Makes the bytes long enough to write a part with a head of one byte at a place.
 #[inline(always)]
 fn make_room(bytes: &mut Vec<u8>, at: usize) -> Result<(), OutOfMemory>
     requires { at ≤ length bytes.old.items }
@@ -62,7 +62,7 @@ fn short_head(nodes: usize, facts: usize, named: usize) -> Option<u8>
     }
 }
 
-/// Puts facts into a slice, and returns the place behind them.
+/// Writes facts into a slice, and returns the place behind them.
 #[inline(always)]
 fn put_facts(bytes: &mut [u8], start: usize, facts: &[u8]) -> usize
     requires { start + 2 * length facts.now ≤ length bytes.old }
@@ -77,7 +77,7 @@ fn put_facts(bytes: &mut [u8], start: usize, facts: &[u8]) -> usize
     at
 }
 
-/// Puts what stands in front of a part's names where one byte can't say it, makes room for the names, and returns the
+/// Writes what comes in front of a part's names where one byte can't hold it. Makes room for the names, and returns the
 /// place behind the facts.
 #[cold]
 #[inline(never)]
@@ -108,8 +108,8 @@ fn put_long_front(
     Ok(end)
 }
 
-/// Puts what stands in front of a part's names: how many nodes and how many nodes and records it names, and its facts.
-/// Makes room for the names, and returns the place behind the facts.
+/// Writes what comes in front of a part's names: how many nodes it names, how many nodes and records it names, and its
+/// facts. Makes room for the names, and returns the place behind the facts.
 #[inline(always)]
 fn put_front(
     bytes: &mut Vec<u8>,
@@ -135,7 +135,7 @@ fn put_front(
     }
 }
 
-/// Puts the number of what is named, or 0 for none, into a slice, and returns the place behind it.
+/// Writes the number of what is named, or 0 for none, into a slice, and returns the place behind it.
 #[inline(always)]
 fn put_name(numbering: &Numbering, bytes: &mut [u8], at: usize, name: Option<usize>) -> usize
     requires known { IfSome name (λ x. x < length numbering.now.numbers.items) }
@@ -151,7 +151,7 @@ fn put_name(numbering: &Numbering, bytes: &mut [u8], at: usize, name: Option<usi
     }
 }
 
-/// Puts names one behind the other, and returns the place behind them.
+/// Writes names one behind the other, and returns the place behind them.
 #[inline(always)]
 fn put_names(numbering: &Numbering, bytes: &mut [u8], start: usize, names: &[Option<u16>]) -> usize
     requires known { All (λ r. IfSome r (λ x. x < length numbering.now.numbers.items)) names.now }
@@ -172,7 +172,7 @@ fn put_names(numbering: &Numbering, bytes: &mut [u8], start: usize, names: &[Opt
     at
 }
 
-/// Puts the names of a stack, as `put_names` puts names that may be none.
+/// Writes the names of a stack, as `put_names` writes names that may be none.
 #[inline(always)]
 fn put_stack(numbering: &Numbering, bytes: &mut [u8], start: usize, stack: &[u16]) -> usize
     requires known { All (λ x. x < length numbering.now.numbers.items) stack.now }
@@ -192,8 +192,7 @@ fn put_stack(numbering: &Numbering, bytes: &mut [u8], start: usize, stack: &[u16
 /// What parts are written to, by the numbers that two numberings give to the nodes and the records that they name.
 ///
 /// Contracts see the bytes written so far, with the orders that give the numbers, and how many nodes and records there
-/// are. What is written ends at a place in the bytes: behind it some of these are of no use yet, so that most parts
-/// find room.
+/// are. What is written ends at a place in the bytes. Behind it there are spare bytes, so that most parts find room.
 #[derive(Drop)]
 pub struct Writer<'a> {
     node_names: &'a Numbering,
@@ -223,7 +222,8 @@ impl<'a> Model for Writer<'a> {
 }
 
 impl<'a> Writer<'a> {
-    /// Begins behind these bytes to write what names so many nodes and records, which are the first of the numberings.
+    /// Begins to write, behind these bytes, what names `nodes` nodes and `records` records, the first of the
+    /// numberings.
     #[inline(always)]
     pub(crate) fn behind(
         node_names: &'a Numbering,

@@ -10,7 +10,7 @@ use std::io::Write;
 use std::process::ExitCode;
 use treesched_lib::{CountedWriter, Output, print, run, tell};
 
-/// Prints the answer, or tells that memory ran out, and answers the status that the program ends with.
+/// Prints the answer, or reports that memory ran out, and returns the status that the program ends with.
 fn ended<O: Write, E: Write>(
     out: &mut CountedWriter<O>,
     err: &mut CountedWriter<E>,

@@ -1,4 +1,4 @@
--- The book file of an exploration, and what is told of one that is checked.
+-- The book file of an exploration, and the answer for one that is checked.
 use Rattle.std.proofs.Common.{◌≡◌, ◌≢◌, ◌++◌, ◌⊎◌, ℕ, None, List, Result, codes, inl, inr, refl, sym}
 use Rattle.std.specs.Prelude.{IfOk}
 use Rattle.std.proofs.lemmas.Result.{IfOk-weaker}
@@ -27,7 +27,7 @@ closed m book told first is e = absurd (cc)
 
 module _ (Machine Form : Type 0) {Memory Place : Type 0} (rules : Rules Memory Place) (program : Program)
     (bytes : List ℕ) where
-  -- the cause for which the bytes are refused is told
+  -- the output names the cause for which the bytes are refused
   pub refused : {E : Type 0} (f : CheckFault) → (f ≡ check_fault.OutOfMemory)
       ⊎ IsRefusedFor Machine Form rules program bytes f → (r : Result Output E)
       → IfOk r

@@ -1,4 +1,4 @@
--- What is answered for what the readers gave.
+-- The answer for what the readers gave.
 use Rattle.std.proofs.Common.{◌≡◌, ◌∙◌, ◌+◌, ◌++◌, ℕ, List, Option, Some, None, Result, Ok, Err, arith, inl, inr, refl}
 use Rattle.std.proofs.Common.{sym, ap, append-nil}
 use Rattle.std.specs.Prelude.{IfOk, IfSome}

@@ -4,7 +4,7 @@ use Rattle.std.specs.Borrow.{MutBor}
 use Rattle.std.proofs.Common.{inl, inr}
 use Rattle.std.specs.Io.KnownBytes.{Appends}
 
--- how many writes of the call failed or took no byte: the call told the last one
+-- how many writes of the call failed or took no byte: the call reported the last one
 abbrev pub failed_writes : {T E : Type 0} → Result T E → ℕ
 failed_writes (Ok _) = 0
 failed_writes (Err _) = 1

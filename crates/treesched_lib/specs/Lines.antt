@@ -62,7 +62,7 @@ abbrev pub order_text : List OpId → List ℕ
 order_text [] = codes "order -" ++ line_end
 order_text (id ∷ rest) = codes "order" ++ flat_map (λ i. codes " " ++ name_text i) (id ∷ rest) ++ line_end
 
--- what a replay tells of its last state
+-- what a replay reports of its last state
 abbrev pub verdict_text : Finding → List ℕ
 verdict_text (finding.Sound order) = order_text order ++ codes "no fault" ++ line_end
 verdict_text fault = codes "fault " ++ finding_name fault ++ line_end
@@ -76,7 +76,7 @@ holds_for_every_text = codes "holds for every schedule" ++ line_end
 abbrev pub states_text : ℕ → List ℕ
 states_text states = codes "states " ++ decimal states ++ line_end
 
--- the answer of an exploration that met so many states
+-- the answer of an exploration, with the number of states that it met
 abbrev pub answer_text : ℕ → Answer → List ℕ
 answer_text states answer.Every = holds_for_every_text ++ states_text states
 answer_text states (answer.Holds steps) = holds_text steps ++ states_text states
@@ -140,7 +140,7 @@ check_fault_text (check_fault.History line) = codes "C5 at line " ++ decimal lin
 check_fault_text (check_fault.Open line) = codes "C6 at line " ++ decimal line
 check_fault_text check_fault.OutOfMemory = codes "C7"
 
--- what is told of a book file that passes, with its number of entries
+-- what is printed for a book file that passes, with its number of entries
 abbrev pub passed_text : ℕ → List ℕ
 passed_text entries = codes "every schedule holds" ++ line_end ++ states_text entries
 
@@ -149,19 +149,19 @@ abbrev pub IsPage : ℕ → List ℕ → Output → Type 0
 IsPage status text output = (output.status ≡ status) × (string_bytes output.out ≡ text)
     × (string_bytes output.err ≡ []) × (output.book ≡ None)
 
--- the output tells a refusal: one line on the standard error, and nothing on the standard output
+-- the output is a refusal: one line on the standard error, and nothing on the standard output
 abbrev pub IsRefusal : ℕ → List ℕ → Output → Type 0
 IsRefusal status text output = (output.status ≡ status) × (string_bytes output.out ≡ [])
     × (string_bytes output.err ≡ codes "treesched: " ++ text ++ line_end) × (output.book ≡ None)
 
--- the output tells that a file can't be read, or can't be written
+-- the output says that a file can't be read, or can't be written
 abbrev pub IsUnreadable : List ℕ → Output → Type 0
 IsUnreadable name output = IsRefusal 6 (codes "can't read " ++ name) output
 
 abbrev pub IsUnwritable : List ℕ → Output → Type 0
 IsUnwritable name output = IsRefusal 6 (codes "can't write " ++ name) output
 
--- the output tells why the words make no request; want of memory has no output
+-- the output says why the words make no request; there is no output where memory ran out
 abbrev pub TellsFault : WordsFault → Output → Type 0
 TellsFault (words.Usage true text) output =
     (output.status ≡ 0) × (output.out ≡ text) × (string_bytes output.err ≡ []) × (output.book ≡ None)

@@ -23,8 +23,8 @@ module _ {W : Type 0} (contents : W → Option (List ℕ)) (before after : Count
 abbrev pub unwritable_text : List ℕ
 unwritable_text = codes "treesched: can't write standard output" ++ line_end
 
--- All of the output went out, then what it has for the standard error was tried, and the program ends with its status;
--- or the standard output was cut off, which is told.
+-- All of the output went out, then its text for the standard error was tried, and the program ends with its status;
+-- or the standard output was cut off, then a text that says so was tried on the standard error, and the status is 6.
 abbrev pub IsPrinted : {W V : Type 0} → (W → Option (List ℕ)) → CountedWriter W → CountedWriter W
     → (V → Option (List ℕ)) → CountedWriter V → CountedWriter V → Output → ℕ → Type 0
 IsPrinted contents out new_out error_contents err new_err output status =
@@ -33,7 +33,7 @@ IsPrinted contents out new_out error_contents err new_err output status =
     ⊎ (WasCutOff contents out new_out (string_bytes output.out)
     × WasTried error_contents err new_err unwritable_text × (status ≡ 6))
 
--- the text went out whole, and no refusal is told; or it was cut off, and the refusal tells it
+-- the text went out whole, and there is no refusal; or it was cut off, and the refusal reports it
 abbrev pub IsBookPut : {W : Type 0} → (W → Option (List ℕ)) → CountedWriter W → CountedWriter W → List ℕ → List ℕ
     → Option Output → Type 0
 IsBookPut contents file new_file text name refusal =

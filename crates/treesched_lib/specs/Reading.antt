@@ -15,7 +15,7 @@ use Rattle.treesched_lib.specs.declared.request.Request.TheVariants as request
 use Rattle.treesched_lib.specs.declared.request.WordsFault.{WordsFault}
 use Rattle.treesched_lib.specs.declared.request.WordsFault.TheVariants as fault
 
--- the text of the option is decimal digits of n; a plus may stand before them
+-- the text of the option is decimal digits of n; a plus may come before them
 abbrev pub NumberIs : List Row → Text → ℕ → Type 0
 NumberIs rows id n = (text : Text) × (one_of id rows ≡ Some text)
     × IsNumeral 10 (without_leading_plus text) × (n ≡ digits_value 10 (without_leading_plus text))
@@ -81,7 +81,7 @@ AreRead words name rows = (choices : Choices) × AreMerges choices × (fault_of 
 abbrev pub AskFor : List Text → Request → Type 0
 AskFor words r = (name : Text) × ((rows : List Row) × (AreRead words name rows × IsRequestOf name rows r))
 
--- a schedule is asked for that is none
+-- a replay is asked for whose schedule is no schedule
 abbrev pub IsBadSchedule : List Row → Type 0
 IsBadSchedule rows = (text : Text) × (first_of (codes "schedule") rows ≡ Some text)
     × ((threads : List ℕ) → IsSchedule text threads → ⊥)
@@ -117,7 +117,7 @@ IsFaultOf name rows fault.Schedule = (name ≡ codes "replay") × IsBadSchedule 
 IsFaultOf name rows fault.BookMerge = (name ≡ codes "explore") × IsBadBook rows
 IsFaultOf name rows fault.OutOfMemory = Unit {0}
 
--- the fault tells an error of clap's of this kind
+-- the fault reports an error of clap's of this kind
 abbrev pub Tells : ErrorKind → WordsFault → Type 0
 Tells kind (fault.Usage help text) = help ≡ true ↔ kind ≡ DisplayHelp
 Tells kind fault.Schedule = ⊥

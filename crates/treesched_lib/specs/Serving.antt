@@ -58,17 +58,17 @@ use Rattle.treesched_lib.specs.declared.serving.BookRead.TheVariants as book_rea
 use Rattle.treesched_lib.specs.declared.serving.Output.{Output}
 
 module _ (Machine Form : Type 0) {Memory Place : Type 0} (rules : Rules Memory Place) (program : Program) where
-  -- a book file is due where one is asked for and the answer is for every schedule: that of the entries, which passes
-  -- with as many
+  -- there is a book file where one is asked for and the answer is for every schedule: it is the file of the entries,
+  -- which passes with their number
   abbrev pub IsBookDue : Bool → Answer → List (Entry (State Machine Memory Place Form)) → Option (Vec ℕ) → Type 0
   IsBookDue true answer.Every entries file = IsSomeAnd file
       (λ text. IsFileOf entries text.items × PassAs Machine Form rules program text.items (length entries))
   IsBookDue asked answer entries file = file ≡ None
 
-  -- The output tells an answer of all schedules of the program, which was read off a lawful book of what is asked for:
-  -- the due one, with the book's number of entries as the number of states, and a true one. If it is asked for, the
-  -- output also tells the share of each worker, and the totals of the book, to which they sum; and it has the book's
-  -- file, where one is due.
+  -- The output reports an answer for all schedules of the program, read off a lawful book of what is asked for. It is
+  -- the answer that the bounds call for, with the book's number of entries as the number of states, and it is true. If
+  -- asked, the output also reports the share of each worker, and the totals of the book, to which they sum. It has the
+  -- book's file where there is one to write.
   pub record IsExplored (settings : Settings) (with_ledger asks_book : Bool) (output : Output) : Type 0 where
     pub book : Contents Machine (State Machine Memory Place Form)
     pub law : IsLawfulBook (machine_of rules program) (CountsAsOne rules settings.merge) (IsFindingOf rules program)
@@ -92,7 +92,7 @@ module _ (Machine Form : Type 0) {Memory Place : Type 0} (rules : Rules Memory P
     pub err : string_bytes output.err ≡ []
     pub file : IsBookDue asks_book answer book.entries output.book
 
-  -- the output tells the history and the finding of the state that the schedule leads to
+  -- the output shows the history and the finding of the state that the schedule reaches
   pub record IsReplayed (schedule : List ℕ) (output : Output) : Type 0 where
     pub state : State Machine Memory Place Form
     pub finding : Finding
@@ -101,7 +101,7 @@ module _ (Machine Form : Type 0) {Memory Place : Type 0} (rules : Rules Memory P
     pub told : IsPage (if is_sound finding then 0 else 1)
         (operations_text program (history_of state) ++ verdict_text finding) output
 
-  -- the output tells the first step of the schedule whose thread is not enabled, counted from 1
+  -- the output names the first step of the schedule whose thread is not enabled, counted from 1
   pub record IsStuck (schedule : List ℕ) (output : Output) : Type 0 where
     pub before : ℕ
     pub thread : ℕ
@@ -110,8 +110,8 @@ module _ (Machine Form : Type 0) {Memory Place : Type 0} (rules : Rules Memory P
     pub is_next : slice_get schedule before ≡ Some thread
     pub told : IsRefusal 4 (no_step_text (before + 1) thread) output
 
-  -- the output tells that the bytes pass as a book file, and then every schedule holds, or the first cause for which
-  -- they are refused
+  -- the output says that the bytes pass as a book file, and then every schedule holds; or it names the first cause for
+  -- which they are refused
   abbrev pub IsChecked : List ℕ → Output → Type 0
   IsChecked bytes output =
       ((entries : ℕ) × PassAs Machine Form rules program bytes entries × HoldsAlways Machine Form rules program
@@ -119,7 +119,7 @@ module _ (Machine Form : Type 0) {Memory Place : Type 0} (rules : Rules Memory P
       ⊎ ((fault : CheckFault) × IsRefusedFor Machine Form rules program bytes fault × (fault ≢ check_fault.OutOfMemory)
       × IsRefusal 3 (codes "book refused: " ++ check_fault_text fault) output)
 
-  -- the request is answered, where this came of the book file to check
+  -- the request is answered, given what came of the book file to check
   abbrev pub IsAnswered : BookRead → Request → Output → Type 0
   IsAnswered book (request.Explore file options with_ledger out) output =
       IsExplored options with_ledger (is_some out) output
@@ -147,15 +147,15 @@ abbrev pub IsAsked : Request → BookRead → Type 0
 IsAsked (request.Check file name) book = book ≢ book_read.NotAsked
 IsAsked asked book = book ≡ book_read.NotAsked
 
--- the output tells why FILE gives no program; want of memory has no output
+-- the output says why FILE gives no program; there is no output where memory ran out
 abbrev pub TellsUnloaded : Request → LoadFault → Output → Type 0
 TellsUnloaded asked load.Device output = IsUnreadable (file_of asked) output
 TellsUnloaded asked (load.Program fault) output = (fault ≢ program_fault.OutOfMemory)
     × IsRefusal 3 (fault_text fault) output
 
--- What is answered to a request, where this came of FILE, its bytes or none where it can't be read, and this of the
--- book file: the answer for the program of the text; or the text's first fault, or that FILE can't be read, and no book
--- file is read then.
+-- How a request is answered, given what came of FILE (its bytes, or none where it can't be read) and of the book file.
+-- The output is the answer for the program of the text; or it is the text's first fault, or that FILE can't be read,
+-- and then no book file is read.
 abbrev pub IsServed : Option (List ℕ) → BookRead → Request → Output → Type 0
 IsServed None book asked output = (book ≡ book_read.NotAsked) × IsUnreadable (file_of asked) output
 IsServed (Some text) book asked output =
@@ -165,8 +165,8 @@ IsServed (Some text) book asked output =
     × (book ≡ book_read.NotAsked)
     × IsRefusal 3 (fault_text fault) output)
 
--- What came of reading all of a reader: its bytes, which are those that it had where it says which, and its count of
--- failed reads is as before; or none, where a read failed and is counted.
+-- What came of reading a reader to its end: its bytes, and its count of failed reads is as before; or none, where a
+-- read failed and is counted. The bytes are those that the reader had, where it says which these are.
 abbrev pub IsRead : {F : Type 0} → (F → Option (List ℕ)) → Counted F → Counted F → Option (List ℕ) → Type 0
 IsRead remaining before after None = after.failures ≡ before.failures + 1
 IsRead remaining before after (Some text) = (after.failures ≡ before.failures)
@@ -194,13 +194,13 @@ IsServedFrom remaining before after Came asked output =
     (file : Option (List ℕ)) × (book : BookRead) × IsRead remaining before after file × Came book
     × IsServed file book asked output
 
--- the output is the one that was served; or it tells that its book file can't be written to the file that is asked for
+-- the output is the one that was served; or it says that its book file can't be written to the file that is asked for
 abbrev pub IsKept : Request → Output → Output → Type 0
 IsKept asked served output =
     (output ≡ served)
     ⊎ ((name : Text) × (out_of asked ≡ Some name) × IsSome served.book × IsUnwritable name output)
 
--- the output answers the request of the words, or tells why they make none
+-- the output answers the request of the words, or says why they make none
 abbrev pub IsAnswerTo : List Text → Output → Type 0
 IsAnswerTo words output =
     ((asked : Request) × AskFor words asked

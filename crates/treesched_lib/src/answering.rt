@@ -13,7 +13,7 @@ use std::io;
 use std::sync::Wait;
 use std::thread::Threads;
 
-/// The output for these words, of which the first is the program's name.
+/// The output for these words. The first one is the program's name.
 ///
 /// # Errors
 /// Memory ran out.

@@ -1,4 +1,4 @@
-//! The command line, as clap is told of it.
+//! The command line, as it is declared to clap.
 ghost use Rattle.std.specs.Prelude.{◌≡◌, IfOk, false};
 ghost use Rattle.clap.specs.Words.{app_of, rule_of};
 ghost use Rattle.clap.specs.declared.builder.command.Command.TheViews.{out-Command as fields_of};
@@ -7,7 +7,7 @@ ghost use Rattle.treesched_lib.specs.Command as line;
 use clap::{Arg, ArgAction, Command, value_parser};
 use std::alloc::{AllocError, Global};
 
-/// What stands below the help for the whole command.
+/// The text below the help for the whole command.
 const BELOW: &str = "Example: treesched explore examples/ellen.json --steps 400 --merge names
 
 Exit status:

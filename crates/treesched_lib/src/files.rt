@@ -37,7 +37,7 @@ pub fn serve_files<R: AllocGlobal + Files + Sync + Threads + Wait>(
     serve(rt, rt.alloc(), request, Some(&mut file), Some(&mut book))
 }
 
-/// Writes the text of a book file. The output that tells it where that fails.
+/// Writes the text of a book file. Where that fails, returns the output that reports it.
 ///
 /// # Errors
 /// Memory ran out.
@@ -56,8 +56,8 @@ pub fn put_book<W: Write>(
     }
 }
 
-/// Writes the output's book file, if it has one, over what stands in the file that the request names. The output, or
-/// the one that tells where that fails.
+/// Writes the output's book file, if it has one, over the contents of the file that the request names. Returns the
+/// output or, where that fails, the one that reports it.
 pub fn kept<R: AllocGlobal + Files>(
     rt: &R,
     request: &Request<'_>,

@@ -1,4 +1,4 @@
-//! The lines that the program prints. Each function puts its text at the end of a page.
+//! The lines that the program prints. Each function appends its text to a page.
 ghost use Rattle.std.specs.Prelude.{◌≡◌, ◌++◌, IfOk};
 ghost use Rattle.std.specs.String.{string_bytes};
 ghost use Rattle.sched_program.specs.Name.{value_at};
@@ -125,7 +125,7 @@ fn put_order(page: &mut String, order: &[ShortName]) -> Result<(), OutOfMemory>
     page.push('\n')
 }
 
-/// What a replay tells of its last state.
+/// What a replay reports of its last state: an order and `no fault`, or the fault.
 pub fn put_verdict(page: &mut String, finding: &Finding) -> Result<(), OutOfMemory>
     ensures { IfOk result (λ _. string_bytes page.new ≡ string_bytes page.old ++ lines.verdict_text finding.now) }
 {
@@ -156,7 +156,7 @@ fn put_states(page: &mut String, states: usize) -> Result<(), OutOfMemory>
     writeln!(page, "states {states}")
 }
 
-/// The answer that every schedule holds, and so many states.
+/// The answer that every schedule holds, and the number of states.
 fn put_every(page: &mut String, states: usize) -> Result<(), OutOfMemory>
     ensures { IfOk result (λ _. string_bytes page.new
         ≡ string_bytes page.old ++ lines.answer_text states Answer.Every) }
@@ -165,7 +165,7 @@ fn put_every(page: &mut String, states: usize) -> Result<(), OutOfMemory>
     put_states(page, states)
 }
 
-/// What is told of a book file of so many entries that passes.
+/// What is printed for a book file that passes, with its number of entries.
 pub fn put_passed(page: &mut String, entries: usize) -> Result<(), OutOfMemory>
     ensures { IfOk result (λ _. string_bytes page.new ≡ string_bytes page.old ++ lines.passed_text entries) }
 {
@@ -173,7 +173,7 @@ pub fn put_passed(page: &mut String, entries: usize) -> Result<(), OutOfMemory>
     put_states(page, entries)
 }
 
-/// The answer of an exploration that met so many states.
+/// The answer of an exploration that met `states` states.
 fn put_answer(page: &mut String, states: usize, answer: &Answer) -> Result<(), OutOfMemory>
     ensures { IfOk result (λ _. string_bytes page.new ≡ string_bytes page.old ++ lines.answer_text states answer.now) }
 {

@@ -24,7 +24,7 @@ pub struct CountedWriter<W> {
 }
 
 impl<W: Write> CountedWriter<W> {
-    /// Wraps a writer of which no write has failed yet.
+    /// Wraps a writer. No write has failed yet.
     pub fn new(writer: W) -> CountedWriter<W>
         ensures { (result.writer ≡ writer) × (result.failures ≡ 0) }
     {
@@ -34,7 +34,7 @@ impl<W: Write> CountedWriter<W> {
         }
     }
 
-    // One write of some bytes, which is counted where it fails or takes none.
+    // Writes some bytes once. The write is counted if it fails or takes no byte.
     fn write(&mut self, bytes: &[u8]) -> Result<usize, WriteFault>
         requires countable { self.old.failures < 2 ^ 64 - 1 }
         requires some { 0 < length bytes.now }
@@ -54,8 +54,8 @@ impl<W: Write> CountedWriter<W> {
     }
 }
 
-/// Writes the bytes in order, and tries no write again. What went out is a beginning of them. A fault is told exactly
-/// where a write failed or took no byte, as the writer counts it.
+/// Writes the bytes in order, and retries no write. What went out is a beginning of them. Returns a fault exactly where
+/// a write failed or took no byte, as the writer counts it.
 pub fn put_all<W: Write>(writer: &mut CountedWriter<W>, bytes: &[u8]) -> Result<(), WriteFault>
     requires { writer.old.failures < 2 ^ 64 - 1 }
     ensures all { OnOk result (Appends (W.contents writer.old.writer) (W.contents writer.new.writer) bytes.now) }

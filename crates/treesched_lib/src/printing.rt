@@ -6,7 +6,7 @@ use crate::output::{CountedWriter, put_all};
 use crate::serving::Output;
 use std::io::Write;
 
-/// Writes the text to the standard error. A write that fails is dropped, since there is nowhere to tell it.
+/// Writes the text to the standard error. A write that fails is ignored, since there is nowhere to report it.
 pub fn tell<E: Write>(err: &mut CountedWriter<E>, text: &str)
     requires { err.old.failures < 2 ^ 64 - 1 }
     ensures { WasTried E.contents err.old err.new text.now }
@@ -14,7 +14,7 @@ pub fn tell<E: Write>(err: &mut CountedWriter<E>, text: &str)
     let _ = put_all(err, text.as_bytes());
 }
 
-/// Prints the output, and answers the status that the program ends with.
+/// Prints the output, and returns the status that the program ends with.
 pub fn print<O: Write, E: Write>(
     out: &mut CountedWriter<O>,
     err: &mut CountedWriter<E>,

@@ -1,4 +1,4 @@
-//! The outputs that tell why there is no answer.
+//! The outputs that say why there is no answer.
 ghost use Rattle.std.specs.Prelude.{◌≡◌, ◌≢◌, ◌++◌, [], codes, IfOk};
 ghost use Rattle.std.specs.String.{string_bytes};
 ghost use Rattle.treesched_lib.specs.Lines as lines;
@@ -65,7 +65,7 @@ pub fn unwritable(alloc: Global, name: &str) -> Result<Output, OutOfMemory>
     refusal(alloc, 6, text.as_str())
 }
 
-/// The refusal of a schedule's step by a thread that has none there.
+/// The refusal of a schedule: the thread of this step, counted from 1, has no step there.
 pub fn no_step(alloc: Global, step: usize, thread: u8) -> Result<Output, OutOfMemory>
     ensures { IfOk result (lines.IsRefusal 4 (lines.no_step_text step thread)) }
 {

@@ -107,7 +107,7 @@ impl From<AllocError> for WordsFault {
     }
 }
 
-/// The fault that clap's error stands for.
+/// The fault for an error of clap's.
 fn fault_of(alloc: Global, error: &Error) -> WordsFault
     ensures tells { Tells (kind_of error.now) result }
     ensures memory { kind_of error.now ≡ kind.OutOfMemory → result ≡ fault.OutOfMemory }

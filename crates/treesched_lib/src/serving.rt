@@ -36,7 +36,7 @@ pub struct Output {
     pub out: String,
     /// The text of the standard error.
     pub err: String,
-    /// The text of the book file, where one is due.
+    /// The text of the book file, if there is one to write.
     pub book: Option<Vec<u8>>,
 }
 
@@ -94,7 +94,7 @@ fn due_book<M: Encode>(
     }
 }
 
-/// The output that tells what an exploration came to.
+/// The output that reports the outcome of an exploration.
 fn report_output<M: Encode>(
     alloc: Global,
     report: &Report<M>,
@@ -135,7 +135,7 @@ fn explored<M: Encode, R: Threads + Wait + Sync>(
     let report = explore(rt, alloc, machine, program, options, &Open)?;
     report.book.law();
     let output = report_output(alloc, &report, ledger, asks_book);
-    // The program ends with this answer, and its memory with it, so that each state need not be given back first.
+    // The program and its memory end with this answer, so there is no need to drop each state first.
     forget(report);
     output
 }
@@ -147,7 +147,7 @@ fn status_of_finding(finding: &Finding) -> u8
     if finding.is_sound() { 0 } else { 1 }
 }
 
-/// The output that tells the history and the finding of the state that a replay leads to.
+/// The output that shows the history and the finding of the state that a replay reaches.
 fn replay_output<M: Encode>(
     alloc: Global,
     program: &Program,
@@ -331,10 +331,10 @@ fn served_alone<R: Threads + Wait + Sync, F: Read>(
     }
 }
 
-/// Answers the request. It tells that a file can't be read exactly where a read failed, as the reader counts. It reads
-/// the book file only to check it, and once FILE gave a program. A reader that is none stands for a file that could
-/// not be opened, which counts as a failed read where the file would be read. An exploration runs its workers on the
-/// runtime and joins them before it answers. Nothing is written: the output holds all texts, the book file's too.
+/// Answers the request. The output says that a file can't be read exactly where a read failed, as the reader counts.
+/// The book file is read only to check it, and only once FILE gave a program. A reader that is `None` means a file that
+/// could not be opened, which counts as a failed read where the file would be read. An exploration runs its workers on
+/// the runtime and joins them before it answers. Nothing is written: the output holds all texts, the book file's too.
 ///
 /// # Errors
 /// Memory ran out.

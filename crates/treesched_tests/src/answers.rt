@@ -14,7 +14,8 @@ pub enum Wanted<'a> {
     Prints(u8, &'a str),
     /// This status, this text on the standard error, and nothing else.
     Tells(u8, &'a str),
-    /// The status of words that are no use of the program: something is told, and nothing is printed.
+    /// The status of words that are no use of the program, with a text on the standard error and none on the standard
+    /// output.
     NoUse,
     /// Help with this text in it, and nothing on the standard error.
     Help(&'a str),
@@ -31,7 +32,7 @@ pub enum Wanted<'a> {
 }
 
 impl Wanted<'_> {
-    /// Whether the output is that. Another one is printed.
+    /// Whether the output is that. Prints it where it is not.
     pub fn is_met<P: Print>(&self, rt: &P, output: &Output) -> bool {
         or_printed(rt, self.fits(output), output)
     }
@@ -85,7 +86,7 @@ fn counts(output: &Output, verdict: &str, states: &str) -> bool {
         && output.out.as_str().strip_prefix(verdict) == Some(states)
 }
 
-/// The same, after the output was printed where it is none that was wanted.
+/// Returns `is_met`, and prints the output where it is false.
 pub fn or_printed<P: Print>(rt: &P, is_met: bool, output: &Output) -> bool {
     if !is_met {
         let _ = println!(rt; "{output:?}");
@@ -122,8 +123,8 @@ fn words_of<'a>(alloc: Global, line: &'a str) -> Result<Vec<&'a str>, OutOfMemor
     Ok(words)
 }
 
-/// The output for these words, the first of which is the program's name, where FILE has these bytes and there is no
-/// book file.
+/// The output for these words, where FILE has these bytes and there is no book file. The first word is the program's
+/// name.
 pub fn answer<R: Runtime>(rt: &R, words: &[&str], file: &[u8]) -> Result<Output, OutOfMemory> {
     answer_by::<R, &[u8], &[u8]>(rt, words, Some(&mut Counted::new(file)), None)
 }

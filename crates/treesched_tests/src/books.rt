@@ -1,4 +1,4 @@
-//! Book files: what is written of programs, and what is told of files.
+//! Book files: what is written for programs, and what is reported of files.
 use crate::answers::{Wanted, answer_to, checks};
 use crate::cases::{Case, Runtime, check_all};
 use crate::sources::{ELLEN_NO_MARK, TWO_FINDS, TWO_IN_TURN, TWO_INSERTS};
@@ -17,7 +17,7 @@ const NM_ALONE: &[u8] =
 const NM_TWO: &[u8] =
     br#"{"version":1,"tree":"nm","initial":[10,20],"threads":[[{"op":"insert","key":5}],[{"op":"insert","key":25}]]}"#;
 
-/// Whether every schedule is told to hold, with this line of the states, and the book passes.
+/// Whether every schedule is reported to hold, with this line of the states, and the book passes.
 pub fn closes<R: Runtime>(
     rt: &R,
     line: &str,
@@ -123,7 +123,7 @@ fn writes_the_book(rt: HostRuntime) -> Result<(), Fail> {
     check_all(&rt, WRITTEN.as_slice())
 }
 
-/// Explorations with another answer, and one of which no book is asked for.
+/// Explorations with another answer, and one for which no book is requested.
 static NOT_WRITTEN: [Case<'static>; 5] = [
     Case::Line(
         "treesched explore f --merge names --steps 3",

@@ -22,7 +22,7 @@ impl<R: AllocGlobal + Print + Sync + Threads + Wait> Runtime for R {}
 pub enum Case<'a> {
     /// The words of a line, what FILE has, and what is answered.
     Line(&'a str, &'a [u8], Wanted<'a>),
-    /// How many opening brackets FILE has and as many closing ones, and what is answered.
+    /// How many opening brackets FILE has, with the same number of closing ones, and what is answered.
     Nested(usize, Wanted<'a>),
     /// A schedule, the program that it is replayed of, and what is answered.
     Replay(&'a str, &'a [u8], Wanted<'a>),
@@ -30,16 +30,16 @@ pub enum Case<'a> {
     Zeros(usize, Wanted<'a>),
     /// A book file, the program that it is checked against, and what is answered.
     Check(&'a [u8], &'a [u8], Wanted<'a>),
-    /// The words of an exploration with a book file, the program, and the line of the states: every schedule is told to
-    /// hold, and the book passes.
+    /// The words of an exploration with a book file, the program, and the line of the states: every schedule is
+    /// reported to hold, and the book passes.
     Closes(&'a str, &'a [u8], &'a str),
     /// A reader or a writer that fails.
     Works(Device<'a>),
     /// Words, and what they ask for.
     Reads(&'a [&'a str], Asked),
-    /// A fault of a program, the text of which is what `Display` shows of it.
+    /// A fault of a program, whose text is what `Display` shows of it.
     Shows(ProgramFault),
-    /// The same of a book file's fault.
+    /// A fault of a book file, whose text is what `Display` shows of it.
     ShowsLine(CheckFault),
 }
 

@@ -1,4 +1,4 @@
-//! What is told where a reader or a writer fails.
+//! What is reported where a reader or a writer fails.
 ghost use Rattle.std.specs.Prelude.{◌≡◌};
 
 use crate::answers::{Wanted, answer, answer_by};
@@ -30,26 +30,26 @@ const UNWRITTEN_BOOK: Wanted<'static> = Wanted::Tells(6, "treesched: can't write
 /// A device that fails, or cannot be opened.
 #[derive(Clone, Copy)]
 pub enum Device<'a> {
-    /// A file whose read of this number fails. The program tells of it, but answers if it had all bytes and the end
+    /// A file whose read of this number fails. The program reports it, but answers if it had all bytes and the end
     /// before.
     File(usize),
     /// A file that cannot be opened.
     NoFile,
-    /// A book file whose read of this number fails. The program tells of it, but checks the book if it had all bytes
+    /// A book file whose read of this number fails. The program reports it, but checks the book if it had all bytes
     /// and the end before.
     Book(usize),
     /// A book file that cannot be opened.
     NoBook,
-    /// A book file whose every read fails, which a request that checks none lets alone.
+    /// A book file whose every read fails. A request that checks none does not read it.
     LetAlone,
-    /// A text, and the number of the write that fails. All of the text goes out if so many writes are not made, and
-    /// otherwise two bytes for each write before that one.
+    /// A text, and the number of the write that fails. All of the text goes out if that write is not reached, and
+    /// otherwise two bytes for each write before it.
     Text(&'a str, usize),
-    /// The number of the write of a book that fails: the program tells it, and prints nothing else.
+    /// The number of the write of a book that fails: the program reports it, and prints nothing else.
     Written(usize),
 }
 
-/// Whether what comes of the device is told.
+/// Whether the program reports what comes of the device.
 pub fn works<R: Runtime>(rt: &R, device: &Device<'_>) -> Result<bool, OutOfMemory> {
     match device {
         Device::File(fails_at) => reads_file(rt, *fails_at),
@@ -160,7 +160,8 @@ fn writes_text<R: Runtime>(rt: &R, text: &str, fails_at: usize) -> Result<bool, 
     }
 }
 
-/// Whether the writer told rightly that it took the whole text, and holds what it took before it failed.
+/// Whether it was rightly reported if the writer took the whole text, and the writer holds what it took before it
+/// failed.
 fn is_held<P: Print>(rt: &P, text: &str, fails_at: usize, is_whole: bool, held: &[u8]) -> bool {
     let taken = fails_at.saturating_mul(2).min(text.len());
     let is_met = held == &text.as_bytes()[..taken]

@@ -4,8 +4,8 @@ ghost use Rattle.std.specs.Prelude.{◌≡◌};
 use std::io;
 use std::io::{ErrorKind, Read, Write};
 
-/// A reader of bytes, one a read, of which the read of this number fails; the first is that of number 0. After the last
-/// byte one more read finds the end.
+/// A reader that gives one byte per read. The read with the number `fails_at` fails; the first one has number 0. After
+/// the last byte one more read finds the end.
 #[derive(Drop)]
 pub struct FailingReader<'a> {
     bytes: &'a [u8],
@@ -40,7 +40,7 @@ pub fn failing(bytes: &[u8], fails_at: usize) -> FailingReader<'_>
     }
 }
 
-/// A writer that takes two bytes a write, of which the write of this number fails; the first is that of number 0.
+/// A writer that takes two bytes per write. The write with the number `fails_at` fails; the first one has number 0.
 #[derive(Drop)]
 pub struct FailingWriter {
     held: Vec<u8>,
@@ -67,7 +67,7 @@ impl Write for FailingWriter {
 }
 
 impl FailingWriter {
-    /// A writer that puts what it takes behind these bytes.
+    /// A writer that appends what it takes to these bytes.
     pub fn new(held: Vec<u8>, fails_at: usize) -> FailingWriter
         ensures { (result.held ≡ held) × (result.writes ≡ 0) × (result.fails_at ≡ fails_at) }
     {

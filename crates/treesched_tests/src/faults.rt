@@ -21,7 +21,7 @@ static FAULTS: [Case<'static>; 12] = [
     Case::Shows(ProgramFault::After),
 ];
 
-/// Whether the text that is told of a fault is what `Display` shows of it.
+/// Whether the text of a program's fault is what `Display` shows of it.
 pub fn is_shown(alloc: Global, fault: ProgramFault) -> Result<bool, OutOfMemory> {
     let text = format!(in alloc; "{fault}")?;
     Ok(text.as_str() == fault_text(fault))
@@ -42,7 +42,7 @@ static CHECK_FAULTS: [Case<'static>; 7] = [
     Case::ShowsLine(CheckFault::OutOfMemory),
 ];
 
-/// The same of a book file's fault.
+/// Whether the text of a book file's fault is what `Display` shows of it.
 pub fn is_shown_with_its_line(alloc: Global, fault: CheckFault) -> Result<bool, OutOfMemory> {
     let text = format!(in alloc; "{fault}")?;
     let told = check_fault_text(alloc, fault)?;

@@ -71,7 +71,7 @@ fn tells_the_first_fault(rt: HostRuntime) -> Result<(), Fail> {
     check_all(&rt, FIRST_FAULTS.as_slice())
 }
 
-/// Whether a text of so many opening brackets and as many closing ones has that answer.
+/// Whether a text of `count` opening brackets and `count` closing ones has that answer.
 pub fn nests<R: Runtime>(rt: &R, count: usize, wanted: &Wanted<'_>) -> Result<bool, OutOfMemory> {
     let mut file = vec![in rt.alloc(); b'['; count]?;
     file.resize(count.saturating_mul(2), b']')?;

@@ -139,7 +139,7 @@ fn refuses_what_is_no_schedule(rt: HostRuntime) -> Result<(), Fail> {
     check_all(&rt, NO_SCHEDULES.as_slice())
 }
 
-/// Whether a replay of so many steps of the first of two threads, which has one step, has that answer.
+/// Whether a replay of `count` steps of the first of two threads, which has one step, has that answer.
 pub fn replays_zeros<R: Runtime>(
     rt: &R,
     count: usize,

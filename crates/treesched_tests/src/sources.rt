@@ -4,11 +4,11 @@
 pub const TWO_INSERTS: &[u8] =
     br#"{"version":1,"tree":"atomic","initial":[],"threads":[[{"op":"insert","key":1}],[{"op":"insert","key":1}]]}"#;
 
-/// The same, where the second waits for the first.
+/// `TWO_INSERTS`, where the second insert waits for the first.
 pub const TWO_IN_TURN: &[u8] =
     br#"{"version":2,"tree":"atomic","initial":[],"threads":[[{"op":"insert","key":1}],[{"op":"insert","key":1,"after":[0,1]}]]}"#;
 
-/// The same text of version 1, in which none waits.
+/// The text of `TWO_IN_TURN` with version 1, in which none waits.
 pub const TWO_AT_ONCE: &[u8] =
     br#"{"version":1,"tree":"atomic","initial":[],"threads":[[{"op":"insert","key":1}],[{"op":"insert","key":1,"after":[0,1]}]]}"#;
 
@@ -16,7 +16,7 @@ pub const TWO_AT_ONCE: &[u8] =
 pub const THREE_INSERTS: &[u8] =
     br#"{"version":1,"tree":"atomic","initial":[],"threads":[[{"op":"insert","key":1}],[{"op":"insert","key":1}],[{"op":"insert","key":1}]]}"#;
 
-/// The same, where the last waits for the first.
+/// `THREE_INSERTS`, where the last insert waits for the first.
 pub const LAST_IN_TURN: &[u8] =
     br#"{"version":2,"tree":"atomic","initial":[],"threads":[[{"op":"insert","key":1}],[{"op":"insert","key":1}],[{"op":"insert","key":1,"after":[0,1]}]]}"#;
 
@@ -24,7 +24,7 @@ pub const LAST_IN_TURN: &[u8] =
 pub const TWO_FINDS: &[u8] =
     br#"{"version":1,"tree":"ellen","initial":[],"threads":[[{"op":"find","key":5}],[{"op":"find","key":5}]]}"#;
 
-/// The same, where the second waits for the first.
+/// `TWO_FINDS`, where the second find waits for the first.
 pub const FINDS_IN_TURN: &[u8] =
     br#"{"version":2,"tree":"ellen","initial":[],"threads":[[{"op":"find","key":5}],[{"op":"find","key":5,"after":[0,1]}]]}"#;
 
@@ -32,7 +32,7 @@ pub const FINDS_IN_TURN: &[u8] =
 pub const ELLEN_INSERT: &[u8] =
     br#"{"version":1,"tree":"ellen","initial":[10],"threads":[[{"op":"delete","key":10}],[{"op":"insert","key":5}]]}"#;
 
-/// The same on the tree of Natarajan and Mittal.
+/// A delete beside an insert on the tree of Natarajan and Mittal.
 pub const NM_INSERT: &[u8] =
     br#"{"version":1,"tree":"nm","initial":[10],"threads":[[{"op":"delete","key":10}],[{"op":"insert","key":5}]]}"#;
 
@@ -40,11 +40,11 @@ pub const NM_INSERT: &[u8] =
 pub const ELLEN: &[u8] =
     br#"{"version":1,"tree":"ellen","initial":[10],"threads":[[{"op":"delete","key":10}],[{"op":"insert","key":5},{"op":"find","key":5}]]}"#;
 
-/// The same without the mark.
+/// `ELLEN` without the mark.
 pub const ELLEN_NO_MARK: &[u8] =
     br#"{"version":1,"tree":"ellen-no-mark","initial":[10],"threads":[[{"op":"delete","key":10}],[{"op":"insert","key":5},{"op":"find","key":5}]]}"#;
 
-/// The same without the flag of an insert.
+/// `ELLEN` without the flag of an insert.
 pub const ELLEN_NO_IFLAG: &[u8] =
     br#"{"version":1,"tree":"ellen-no-iflag","initial":[10],"threads":[[{"op":"delete","key":10}],[{"op":"insert","key":5},{"op":"find","key":5}]]}"#;
 
@@ -64,7 +64,7 @@ pub const ELLEN_NO_MARK_IN_TURN: &[u8] =
 pub const NM: &[u8] =
     br#"{"version":1,"tree":"nm","initial":[10,20],"threads":[[{"op":"delete","key":10}],[{"op":"insert","key":25},{"op":"find","key":25}]]}"#;
 
-/// The same without the tag.
+/// `NM` without the tag.
 pub const NM_NO_TAG: &[u8] =
     br#"{"version":1,"tree":"nm-no-tag","initial":[10,20],"threads":[[{"op":"delete","key":10}],[{"op":"insert","key":25},{"op":"find","key":25}]]}"#;
 

@@ -204,7 +204,7 @@ fn reads_a_check(rt: HostRuntime) -> Result<(), Fail> {
     check(&rt, 0, &CHECK)
 }
 
-/// What is told where a book file is asked for with another merge than that by names.
+/// What is reported where a book file is requested with another merge than that by names.
 const NEEDS_NAMES: Wanted<'static> = Wanted::Tells(4, "treesched: --book needs --merge names\n");
 
 static BOOKS_OF_EXACT_MERGING: [Case<'static>; 3] = [

@@ -63,7 +63,7 @@ module _ {Machine Memory Place Form : Type 0} (rules : Rules Memory Place) (prog
             one_label rules program lawful limits form_of forms n u.0 u.3 u.2 u.4 code,
           )
 
-      -- the order shows the state that the line leads to
+      -- the order shows the state that the line reaches
       pub step_told : (label : List ℕ) → label ≡ named_by code form_of n → IsShown rules program n line.order
           → (u : State Machine Memory Place Form) × Tells rules program states line u
           × (label ≡ named_by code form_of u)

@@ -60,7 +60,7 @@ module _ {Machine Memory Place Form : Type 0} (rules : Rules Memory Place) (prog
         ∙ ap (λ (p : State Machine Memory Place Form). step rules program p line.thread)
         (one_parent stuck.0 a.parent stuck.1 a.at) ∙ a.step in cc)
 
-    -- a line tells one state, and nothing is amiss with it then
+    -- a line describes one state, and nothing is amiss with it then
     one_told : (r s : State Machine Memory Place Form) → Tells rules program before line r
         → Tells rules program before line s → r ≡ s
     one_told r s a b = one_reached r s a.0 b.0
@@ -93,7 +93,7 @@ module _ {Machine Memory Place Form : Type 0} (rules : Rules Memory Place) (prog
         (subst (λ (v : State Machine Memory Place Form). IsUnshown rules program v line.order (length before + 2) g)
         (one_reached b.0 a.0 b.1 a.1) b.2)
 
-  -- lines tell one list of states, and nothing is amiss with them then
+  -- lines describe one list of states, and nothing is amiss with them then
   pub one_continued : (before : List (State Machine Memory Place Form)) (lines : List Line)
       (states others : List (State Machine Memory Place Form))
       → Continues rules program before lines states → Continues rules program before lines others → states ≡ others

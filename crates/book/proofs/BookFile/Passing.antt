@@ -1,4 +1,4 @@
--- Lines that pass show that every schedule leads to a correct state.
+-- Lines that pass show that every schedule reaches a correct state.
 use Rattle.std.proofs.Common.{◌≡◌, ℕ, Option, Some, List, [], ◌∷◌, sym, ◌∙◌, slice_get, subst}
 use Rattle.sched_program.specs.Program.{Program, IsWithinLimits}
 use Rattle.tree_machine.specs.Rules.{Rules, AreLawful, AreFormsExact}

@@ -1,4 +1,4 @@
--- States that lines tell, one line after the other.
+-- States that lines describe, one line after the other.
 use Rattle.std.proofs.Common.{◌≡◌, ℕ, zero, suc, ◌+◌, ◌<◌, ◌≤◌, ◌⊎◌, inl, inr, get_or, take, drop, None, Some, Option}
 use Rattle.std.proofs.Common.{List, [], ◌∷◌, ◌++◌, length, refl, sym, ap, ◌∙◌, arith, slice_get, subst}
 use Rattle.std.proofs.Math.ListN.{length-map}
@@ -68,7 +68,7 @@ module _ {Machine Memory Place Form : Type 0} (rules : Rules Memory Place) (prog
   amiss_next before (first ∷ lines) line rest states fault so amiss =
       inr (so.0, so.1, amiss_next (before ++ so.0 ∷ []) lines line rest states fault so.2 amiss)
 
-  -- what holds of the first states, and of one that a line tells, holds of all
+  -- what holds of the first states, and of each that a line describes, holds of all
   pub along : (P : ℕ → State Machine Memory Place Form → Type 0)
       → ((before : List (State Machine Memory Place Form)) (line : Line) (state : State Machine Memory Place Form)
       → ((i : ℕ) (s : State Machine Memory Place Form) → slice_get before i ≡ Some s → P i s)
@@ -106,7 +106,7 @@ module _ {Machine Memory Place Form : Type 0} (rules : Rules Memory Place) (prog
       let rest = count_from (before ++ so.0 ∷ []) lines states so.2 in
       let one : length (before ++ so.0 ∷ []) ≡ length before + 1 = length_push before so.0 in omega arith
 
-  -- each line tells one state, and the start stands before them
+  -- each line describes one state, and the start is before them
   pub count_states : (lines : List Line) (states : List (State Machine Memory Place Form))
       → AreReplayed rules program lines states → length states ≡ length lines + 1
   count_states lines states so =
@@ -144,7 +144,7 @@ module _ {Machine Memory Place Form : Type 0} (rules : Rules Memory Place) (prog
           (start rules program ∷ []) lines states so.1
           (only_start (λ i s. s.steps ≤ i) (start rules program) (omega arith))
 
-    -- the start is one of the states that lines tell
+    -- the start is one of the states that lines describe
     pub begins : (form_of : Memory → List (Option Place) → Form) → AreFormsExact rules form_of
         → (lines : List Line) (states : List (State Machine Memory Place Form))
         → AreReplayed rules program lines states → IsAlikeToOneOf (AreStatesAlike rules) states (start rules program)

@@ -94,7 +94,7 @@ module _ {Machine Memory Place Form : Type 0} (rules : Rules Memory Place) (prog
       → AreStatesAlike rules r s)
       (es : List (Entry (State Machine Memory Place Form)))
       (law : IsLawful (machine_of rules program) (AreOneBy same) (IsFindingOf rules program) es) where
-    -- the line of the entry after some tells its state
+    -- the line of the entry after some describes its state
     line_tells : (front rest : List (Entry (State Machine Memory Place Form)))
         (e : Entry (State Machine Memory Place Form)) (line : Line) → es ≡ front ++ e ∷ rest → 1 ≤ length front
         → IsLineOf e.origin e.finding line

@@ -6,7 +6,7 @@ use Rattle.std.specs.List.{AllByRecursion}
 use Rattle.book.specs.Text.Files.{ended, AreLines}
 use Rattle.book.proofs.Text.Cuts.{same_cut, no_cut, not_nil, feed_fails, all_append, ended_append}
 
--- the bytes are so many lines and some bytes after the last, of which there are none if the bytes are ended
+-- the bytes are `count` lines and some bytes after the last; there are none of these if the bytes are ended
 pub record HasCounted (bytes : List ℕ) (count : ℕ) (is_ended : Bool) : Type 0 where
   pub texts : List (List ℕ)
   pub rest : List ℕ

@@ -5,7 +5,7 @@ use Rattle.std.proofs.lemmas.List.{take_more, drop_more, take_rest, take-append-
 use Rattle.std.specs.List.{AllByRecursion}
 use Rattle.book.specs.Text.Files.{ended, AreLines}
 
--- what stands before the first element that fails the test, that element, and what follows it
+-- what comes before the first element that fails the test, that element, and what follows it
 pub same_cut : {A : Type 0} (P : A → Type 0) (front : List A) (x : A) (rest : List A) (other : List A) (y : A)
     (more : List A)
     → front ++ x ∷ rest ≡ other ++ y ∷ more → AllByRecursion P front → ¬ P x → AllByRecursion P other → ¬ P y
@@ -69,7 +69,7 @@ all_more P xs i d less all here =
     subst (AllByRecursion P) (sym (take_more xs i d less))
     (all_append P (take i xs) (get_or xs i d ∷ []) all (here, tt))
 
--- a list is what stands before an element, that, and what follows it
+-- a list is what comes before an element, that element, and what follows it
 pub cut_at : (bytes : List ℕ) (i at : ℕ) → i < length bytes → get_or bytes i 0 ≡ at
     → bytes ≡ take i bytes ++ at ∷ take (length bytes - (i + 1)) (drop (i + 1) bytes)
 cut_at bytes i at less is =
@@ -82,7 +82,7 @@ cut_at bytes i at less is =
 abbrev pub NextLine : List ℕ → List ℕ → List (List ℕ) → Type 0
 NextLine text tail texts = (later : List (List ℕ)) × (texts ≡ text ∷ later) × AreLines tail later
 
--- where lines have a first line feed, the first line stands before it
+-- where lines have a first line feed, the first line comes before it
 pub next_line : (bytes text tail : List ℕ) (texts : List (List ℕ)) → AreLines bytes texts → bytes ≡ text ++ 10 ∷ tail
     → AllByRecursion (λ b. b ≢ 10) text
     → NextLine text tail texts

@@ -15,7 +15,7 @@ pub no_pieces : (text : List ℕ) → AllByRecursion (λ b. b ≢ 32) text → �
 no_pieces text none (line, is) =
     no_cut (λ b. b ≢ 32) text is.parent 32 ((48 + line.thread) ∷ 32 ∷ is.order) is.whole none space_fails
 
--- what stands before the first space of an entry's line is the parent's number, and what follows are the thread and the
+-- what comes before the first space of an entry's line is the parent's number, and what follows are the thread and the
 -- order
 entry_pieces : (text parent rest : List ℕ) (line : Line) → text ≡ parent ++ 32 ∷ rest
     → AllByRecursion (λ b. b ≢ 32) parent → (is : IsEntryLine text line)
@@ -48,7 +48,7 @@ no_order text parent rest thread order e none split not (line, is) =
     let same : is.order ≡ order = cc in
     not line.order (subst (λ (o : List ℕ). IsOrder o line.order) same is.is_order)
 
--- the bytes are lines, of which the first are these, and the rest are the others
+-- the bytes are lines: first those of these entries, and then the rest
 pub record HasReadLines (bytes : List ℕ) (lines : List Line) (rest : List ℕ) : Type 0 where
   pub done : List (List ℕ)
   pub ahead : List (List ℕ)

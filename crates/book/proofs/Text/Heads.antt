@@ -11,7 +11,7 @@ use Rattle.book.specs.Text.Files.{IsEntryMisformed, IsFirstMisformed, IsEntriesF
 use Rattle.book.proofs.Text.Cuts.{next_line, no_line, same_lines}
 use Rattle.book.proofs.Text.OneReading.{same_number}
 
--- a text is the head of a file of so many entries only
+-- a text is the head for one number of entries only
 pub same_head : (text : List ℕ) (m n : ℕ) → IsHead text m → IsHead text n → m ≡ n
 same_head text m n is also =
     let same : is.number ≡ also.number =
@@ -27,7 +27,7 @@ has_head bytes head rest entries texts e bare is are count = record {
   is_head = subst (IsHead head) (sym count) is;
 }
 
--- the head stands before the first line feed
+-- the head comes before the first line feed
 pub head_pieces : (bytes head rest : List ℕ) (texts : List (List ℕ)) → bytes ≡ head ++ 10 ∷ rest
     → AllByRecursion (λ b. b ≢ 10) head → HasHead bytes texts
     → IsHead head (length texts) × AreLines rest texts
@@ -71,7 +71,7 @@ is_book bytes rest tail texts lines has are e (others, lie, each) =
     split ∙ ap (λ (ts : List (List ℕ)). start_text ∷ ts) (same_lines tail later others left lie) in
     record { texts = others; has_head = subst (HasHead bytes) same has; each = each }
 
--- what is told of the lines after the start's is told of the bytes
+-- a fault of the lines after the start's is a fault of the bytes
 pub entries_fault : (bytes rest tail : List ℕ) (texts : List (List ℕ)) (told : CheckFault) → HasHead bytes texts
     → AreLines rest texts → rest ≡ start_text ++ 10 ∷ tail
     → (told ≡ OutOfMemory) ⊎ IsEntriesFault tail told → (told ≡ OutOfMemory) ⊎ IsFormFault bytes told

@@ -18,7 +18,7 @@ use Rattle.book.proofs.Text.OneReading.{digits_bare}
 abbrev pub text_of : Line → List ℕ
 text_of line = line_text line.parent line.thread line.order
 
--- the head of a file of so many entries, the line of the first, and these lines of entries after it
+-- the head of a file with this number of entries, the line of the first, and these lines of entries after it
 unfoldable pub book_text : ℕ → List Line → List ℕ
 book_text entries lines = ended (head_text entries ∷ start_text ∷ map text_of lines)
 

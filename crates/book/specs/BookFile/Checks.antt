@@ -13,20 +13,20 @@ use Rattle.book.specs.BookFile.Replays.{AreReplayed, IsFirstAmiss}
 use Rattle.book.specs.BookFile.Closing.{IsFirstOpen}
 
 module _ (Machine Form : Type 0) {Memory Place : Type 0} (rules : Rules Memory Place) (program : Program) where
-  -- the lines tell states, each shown by its order, and no step leads out of them
+  -- the lines describe states, each shown by its order, and no step leads out of them
   abbrev pub Pass : List Line → Type 0
   Pass lines = (states : List (State Machine Memory Place Form)) × AreReplayed rules program lines states
       × AreClosed (machine_of rules program) (AreStatesAlike rules) states
 
-  -- something is amiss with an entry, and this is the first such; or nothing is, and this tells the first entry with a
-  -- step that leads out
+  -- something is amiss with an entry, and this is the first such fault; or nothing is, and this names the first entry
+  -- with a step that leads out
   abbrev pub AreRefused : List Line → CheckFault → Type 0
   AreRefused lines fault =
       IsFirstAmiss Machine Form rules program lines fault
       ⊎ ((states : List (State Machine Memory Place Form)) × AreReplayed rules program lines states
       × IsFirstOpen rules program states fault)
 
-  -- the bytes are a book file with so many entries, whose lines pass
+  -- the bytes are a book file with `entries` entries, whose lines pass
   abbrev pub PassAs : List ℕ → ℕ → Type 0
   PassAs bytes entries = (lines : List Line) × IsBookText bytes lines × Pass lines × (entries ≡ length lines + 1)
 

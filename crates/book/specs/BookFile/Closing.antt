@@ -10,12 +10,12 @@ use Rattle.book.specs.declared.file.fault.CheckFault.{CheckFault}
 use Rattle.book.specs.declared.file.fault.CheckFault.TheVariants.{Open}
 
 module _ {Machine Memory Place Form : Type 0} (rules : Rules Memory Place) (program : Program) where
-  -- some step of the state leads to one that none of the states is alike to
+  -- some step of the state reaches one that none of the states is alike to
   abbrev pub IsOpenAt : List (State Machine Memory Place Form) → State Machine Memory Place Form → Type 0
   IsOpenAt states state = (t : ℕ) × (next : State Machine Memory Place Form) × (step rules program state t ≡ Some next)
       × (IsAlikeToOneOf (AreStatesAlike rules) states next → ⊥)
 
-  -- the fault tells the line of the first of the states with such a step; entry 0 stands on line 2
+  -- the fault names the line of the first of the states with such a step; entry 0 is on line 2
   pub record IsFirstOpen (states : List (State Machine Memory Place Form)) (fault : CheckFault) : Type 0 where
     pub index : ℕ
     pub state : State Machine Memory Place Form

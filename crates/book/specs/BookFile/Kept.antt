@@ -9,20 +9,20 @@ use Rattle.book.specs.declared.file.line.Line.{Line}
 use Rattle.book.specs.BookFile.Replays.{AreReplayed}
 
 module _ {Machine Memory Place Form : Type 0} (rules : Rules Memory Place) (program : Program) where
-  -- the lines tell states, and these are their labels
+  -- the lines describe states, and these are their labels
   pub record AreLabelsOf (label_of : State Machine Memory Place Form → List ℕ) (lines : List Line)
       (labels : List (List ℕ)) : Type 0 where
     pub states : List (State Machine Memory Place Form)
     pub replayed : AreReplayed rules program lines states
     pub labelled : labels ≡ map label_of states
 
-  -- a state of so many steps that is alike to this one, so that its steps may be made in place of this one's
+  -- `twin` is alike to `state` and has at most `most` steps, so that its steps may be made in place of those of `state`
   pub record StandsFor (most : ℕ) (state twin : State Machine Memory Place Form) : Type 0 where
     pub alike : AreStatesAlike rules state twin
     pub fits : Fits rules program twin
     pub steps : twin.steps ≤ most
 
-  -- .. to the state at this index of those that the lines tell
+  -- `twin` stands for the state at this index of those that the lines describe
   abbrev pub StandsForEntry : List Line → ℕ → State Machine Memory Place Form → Type 0
   StandsForEntry lines index twin = (states : List (State Machine Memory Place Form))
       → AreReplayed rules program lines states

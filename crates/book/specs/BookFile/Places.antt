@@ -1,7 +1,7 @@
--- Labels of which equal ones are stored once.
+-- Labels, where equal ones are stored once.
 use Rattle.std.specs.Prelude.{◌≡◌, ℕ, ◌<◌, ◌≤◌, Some, List, [], Contains, get_or, length, map, slice_get}
 
--- the labels that stand at these places among distinct ones
+-- the labels at these places of the distinct ones
 abbrev pub labels_at : List (List ℕ) → List ℕ → List (List ℕ)
 labels_at distinct places = map (λ place. get_or distinct place []) places
 

@@ -1,4 +1,4 @@
--- The states that the lines of a book file tell, one after the other, and what may be amiss with a line.
+-- The states that the lines of a book file describe, one after the other, and what may be amiss with a line.
 use Rattle.std.specs.Prelude.{◌≡◌, ℕ, ◌+◌, ◌≤◌, ◌⊎◌, List, [], ◌∷◌, ◌++◌, length, Some, None, slice_get}
 use Rattle.sched_program.specs.Program.{Program}
 use Rattle.sched_program.specs.declared.operation.OpId.{OpId}
@@ -20,14 +20,14 @@ module _ {Machine Memory Place Form : Type 0} (rules : Rules Memory Place) (prog
   abbrev pub IsShown : State Machine Memory Place Form → List OpId → Type 0
   IsShown state order = IsWell state × IsLinearization program (history_of state) order
 
-  -- what an order leaves amiss with a state whose entry stands on this line: the state is not well, or the order does
-  -- not explain its history
+  -- what is amiss with a state and its order, where the entry is on line `number`: the state is not well, or the order
+  -- does not explain its history
   abbrev pub IsUnshown : State Machine Memory Place Form → List OpId → ℕ → CheckFault → Type 0
   IsUnshown state order number fault =
       ((fault ≡ Fault number) × (IsWell state → ⊥))
       ⊎ ((fault ≡ History number) × IsWell state × (IsLinearization program (history_of state) order → ⊥))
 
-  -- after these states, the line tells the step of one of them by its thread, which leads to this state
+  -- after these states, the line states the step of one of them by its thread, and the step reaches this state
   pub record Reaches (before : List (State Machine Memory Place Form)) (line : Line)
       (state : State Machine Memory Place Form) : Type 0 where
     pub parent : State Machine Memory Place Form
@@ -43,9 +43,9 @@ module _ {Machine Memory Place Form : Type 0} (rules : Rules Memory Place) (prog
   IsStuck before line = (parent : State Machine Memory Place Form) × (slice_get before line.parent ≡ Some parent)
       × (step rules program parent line.thread ≡ None)
 
-  -- what is amiss with the line of the entry after these states, which stands on line `length before + 2`: its parent
-  -- is none of them, or its thread is not enabled there, or its order leaves something amiss with the state that it
-  -- leads to
+  -- what is amiss with the line of the entry after these states, which is line `length before + 2`: its parent is none
+  -- of them, or its thread is not enabled in the parent's state, or something is amiss with the state that it reaches
+  -- and its order
   abbrev pub IsAmiss : List (State Machine Memory Place Form) → Line → CheckFault → Type 0
   IsAmiss before line fault =
       ((fault ≡ Parent (length before + 2)) × (length before ≤ line.parent))
@@ -53,14 +53,14 @@ module _ {Machine Memory Place Form : Type 0} (rules : Rules Memory Place) (prog
       ⊎ ((state : State Machine Memory Place Form) × Reaches before line state
       × IsUnshown state line.order (length before + 2) fault)
 
-  -- after these states the lines tell further ones, up to all of `states`
+  -- after these states the lines describe further ones, up to all of `states`
   abbrev pub Continues : List (State Machine Memory Place Form) → List Line → List (State Machine Memory Place Form)
       → Type 0
   Continues before [] states = states ≡ before
   Continues before (line ∷ rest) states = (state : State Machine Memory Place Form) × Tells before line state
       × Continues (before ++ state ∷ []) rest states
 
-  -- after these states this is the first that is amiss with a line
+  -- after these states this is the first fault of a line
   abbrev pub FirstAmiss : List (State Machine Memory Place Form) → List Line → CheckFault → Type 0
   FirstAmiss before [] fault = ⊥
   FirstAmiss before (line ∷ rest) fault =
@@ -68,11 +68,11 @@ module _ {Machine Memory Place Form : Type 0} (rules : Rules Memory Place) (prog
       ⊎ ((state : State Machine Memory Place Form) × Tells before line state
       × FirstAmiss (before ++ state ∷ []) rest fault)
 
-  -- the entries' states, the start's first: the empty order shows the start, and the lines tell the others
+  -- the entries' states, the start's first: the empty order shows the start, and the lines describe the others
   abbrev pub AreReplayed : List Line → List (State Machine Memory Place Form) → Type 0
   AreReplayed lines states = IsShown (start rules program) [] × Continues (start rules program ∷ []) lines states
 
--- the first that is amiss with an entry; the start stands on line 2
+-- the first fault of an entry; the start is on line 2
 abbrev pub IsFirstAmiss : (Machine Form : Type 0) {Memory Place : Type 0} → Rules Memory Place → Program → List Line
     → CheckFault → Type 0
 IsFirstAmiss Machine Form {Memory} {Place} rules program lines fault =

@@ -73,7 +73,7 @@ pub record IsEntryLine (text : List ℕ) (line : Line) : Type 0 where
   pub is_order : IsOrder order line.order
   pub whole : text ≡ parent ++ space ∷ digit line.thread ∷ space ∷ order
 
--- the first line of a file of so many entries
+-- the first line of a file with `entries` entries
 pub record IsHead (text : List ℕ) (entries : ℕ) : Type 0 where
   pub number : List ℕ
   pub is_number : IsNumber number entries
@@ -85,7 +85,7 @@ pub record IsHead (text : List ℕ) (entries : ℕ) : Type 0 where
 abbrev pub start_text : List ℕ
 start_text = codes "- - -"
 
--- the bytes are a head and these texts, a line each: the head tells how many texts there are, and nothing follows the
+-- the bytes are a head and these texts, a line each: the head states how many texts there are, and nothing follows the
 -- last line
 pub record HasHead (bytes : List ℕ) (texts : List (List ℕ)) : Type 0 where
   pub head : List ℕ
@@ -130,11 +130,11 @@ abbrev pub IsFirstMisformed : List ℕ → ℕ → Type 0
 IsFirstMisformed bytes number =
     IsHeadMisformed bytes number ⊎ IsStartMisformed bytes number ⊎ IsEntryMisformed bytes number
 
--- the fault tells that line
+-- the fault names that line
 abbrev pub IsFormFault : List ℕ → CheckFault → Type 0
 IsFormFault bytes fault = (number : ℕ) × (fault ≡ Form number) × IsFirstMisformed bytes number
 
--- the bytes from the third line on are lines, and the fault tells the first that is not an entry's
+-- the bytes from the third line on are lines, and the fault names the first that is not an entry's
 abbrev pub IsEntriesFault : List ℕ → CheckFault → Type 0
 IsEntriesFault bytes fault = (earlier : List (List ℕ)) × (text : List ℕ) × (later : List (List ℕ))
     × AreLines bytes (earlier ++ text ∷ later) × AllByRecursion IsEntryText earlier × ¬ IsEntryText text

@@ -5,7 +5,7 @@ use Rattle.sched_program.specs.declared.operation.OpId.{OpId}
 use Rattle.book.specs.declared.file.line.Line.{Line}
 use Rattle.book.specs.Text.Files.{space, digit, order_text, IsName}
 
--- the first line of a file of so many entries
+-- the first line of a file with this number of entries
 unfoldable pub head_text : ℕ → List ℕ
 head_text entries = codes "treesched book 1 entries " ++ decimal entries
 

@@ -1,4 +1,4 @@
-//! What is put into a book.
+//! How expansions are entered into a book.
 ghost use Rattle.std.specs.Prelude.{◌≡◌, ◌↔◌, ◌⊎◌, IfOk, IfErr, IsTrue, OnErr, OnOk};
 ghost use Rattle.tree_machine.specs.declared.state.State.{State};
 ghost use Rattle.book.specs.Books.{machine_in, right_in, CountsAsOne};
@@ -93,7 +93,7 @@ impl<M: Encode> Book<M> {
         }
     }
 
-    /// Puts the new ones of a taken entry's steps at the end, and marks the entry expanded.
+    /// Appends the steps of a taken entry that reach new states, and marks the entry expanded.
     fn enter_steps(
         &mut self,
         id: usize,
@@ -151,16 +151,16 @@ impl<M: Encode> Book<M> {
         self.enter_steps(id, steps, &mut Recycled::none(alloc))
     }
 
-    /// Looks for the states to which steps lead, as entering them does, and enters none: whoever enters several
-    /// entries' steps looks for those of all of them first, so that none has to wait for its own. It returns how many
-    /// there are, only so that the look-ups are made.
+    /// Looks up the states that an entry's steps reach, as entering them does, but enters none. A caller that enters
+    /// several entries prefetches all of them first, so that none has to wait for its own look-ups. It returns how many
+    /// it finds, only so that the look-ups are made.
     pub fn prefetch(&self, entry: &ExpandedEntry<'_, M>) -> usize {
         self.table.prefetch(entry.steps.as_slice())
     }
 
-    /// Enters an entry's steps as `enter` does, where they are labelled. Its label and those of known states are
-    /// recycled. Whoever enters many asks once whether the book is of their machine and program (`is_of`), and not
-    /// under its lock for each of them.
+    /// Enters labelled steps as `enter` enters an expansion. The entry's label and those of known states are recycled.
+    /// A caller that enters many entries checks once whether the book is of their machine and program (`is_of`), and
+    /// not under the lock for each of them.
     pub fn enter_expanded(
         &mut self,
         entry: ExpandedEntry<'_, M>,

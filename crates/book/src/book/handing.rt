@@ -20,8 +20,8 @@ impl<M: Encode> Book<M> {
         self.machine == machine && self.program.is_same(program)
     }
 
-    /// Takes at once the entries that `take_layer` takes, and hands out none of their states. They stand in a row: the
-    /// answer is the number of the first and the number behind the last, which are the same where there is none.
+    /// Takes at once the entries that `take_layer` takes, without making their states. Their numbers are consecutive:
+    /// it returns the first and the one after the last, which are equal if there is no entry to take.
     pub fn take_range(&mut self) -> (usize, usize)
         ensures taken { TakesRange (machine_in M.rules self.old).steps self.old.entries self.new.entries
             result.0 result.1 }
@@ -35,8 +35,8 @@ impl<M: Encode> Book<M> {
         (start, end)
     }
 
-    /// A taken entry, for whoever expands it without the book; none where no entry of this number is
-    /// taken. Its label is copied into memory of the scratch.
+    /// A taken entry, to be expanded without the book; none if no entry of this number is taken. Its label is copied
+    /// into memory of the scratch.
     pub fn taken_entry<'a>(
         &self,
         id: usize,

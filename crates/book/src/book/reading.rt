@@ -39,8 +39,8 @@ impl<M: Encode> Book<M> {
         }
     }
 
-    /// The threads on the way from entry 0 to an entry, as its origin and those before it record it. No other way leads
-    /// there.
+    /// The threads of the recorded way from entry 0 to an entry: its origin and those before it. It is the only
+    /// recorded way.
     pub fn schedule_of(&self, alloc: Global, id: usize) -> Result<Vec<u8>, OutOfMemory>
         requires { id < length self.now.entries }
         ensures leads { IfOk result (λ c. (e : Entry (State M M.Mem M.Loc M.Form)) × At self.now.entries id e
@@ -67,8 +67,9 @@ impl<M: Encode> Book<M> {
         self.table.totals(self.met)
     }
 
-    /// How many entries have at most so many steps. Once all of fewer steps are expanded, so many states are reached by
-    /// so many steps: different ones with exact merging, and by names ones of which no two are alike.
+    /// How many entries have at most `steps` steps. Once all entries of fewer steps are expanded, this is the number of
+    /// states that at most `steps` steps reach. With exact merging it counts different states, and by names states no
+    /// two of which are alike.
     pub fn count_to(&self, steps: u64) -> usize
         ensures value { result ≡ count_by (λ e. nat_le e.state.steps steps) self.now.entries }
         ensures within { result ≤ length self.now.entries }
@@ -80,7 +81,7 @@ impl<M: Encode> Book<M> {
         self.first_above(steps)
     }
 
-    /// Whether an entry of at most so many steps is not expanded.
+    /// Whether an entry of at most `steps` steps is not expanded.
     pub fn is_left_to(&self, steps: u64) -> bool
         ensures left { result ≡ true → IsLeftTo (machine_in M.rules self.now).steps self.now.entries steps }
         ensures none { result ≡ false → IsExpandedTo (machine_in M.rules self.now).steps self.now.entries steps }
@@ -92,7 +93,7 @@ impl<M: Encode> Book<M> {
     }
 
     /// Whether the book merges by names and has no entry open or taken. Then, if all its entries are sound, every
-    /// schedule of any length leads to a sound state. It takes no memory.
+    /// schedule of any length reaches a sound state. It takes no memory.
     pub fn closed(&self) -> bool
         ensures closed { IsTrue result ↔ IsClosed self.now }
         ensures every { result ≡ true → AreSound self.now.entries

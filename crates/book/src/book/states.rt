@@ -1,4 +1,4 @@
-//! The states of entries, made by their schedules.
+//! The states of entries, rebuilt by their schedules.
 ghost use Rattle.std.specs.Prelude.{◌≡◌, ◌-◌, ◌<◌, ◌≤◌, length, map, IfOk};
 ghost use Rattle.std.specs.List.{range_with_len};
 ghost use Rattle.tree_machine.specs.declared.state.State.{State};
@@ -12,7 +12,7 @@ use std::sync::Arc;
 use tree_machine::{Encode, State};
 
 impl<M: Encode> Book<M> {
-    /// The state of an entry, by the schedule that leads to it.
+    /// The state of an entry, rebuilt by the schedule that reaches it.
     pub(crate) fn replayed(&self, id: usize) -> Result<State<M>, OutOfMemory>
         requires { id < length self.now.entries }
         ensures { IfOk result (λ state. (e : Entry (State M M.Mem M.Loc M.Form)) × At self.now.entries id e

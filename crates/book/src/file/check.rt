@@ -14,8 +14,9 @@ use sched_program::Program;
 use std::alloc::Global;
 use tree_machine::Encode;
 
-/// The number of entries of a book file whose bytes pass: each line but the first two tells the step of an earlier
-/// entry, and its order shows that state correct; and no step of an entry leads to a state that is alike to no entry's.
+/// The number of entries of a book file whose bytes pass: each line but the first two states the step of an earlier
+/// entry, and its order shows that the state reached is correct; and each step of an entry reaches a state that is
+/// alike to some entry's.
 fn entries_checked<M: Encode>(
     alloc: Global,
     machine: M,
@@ -39,11 +40,11 @@ fn entries_checked<M: Encode>(
 }
 
 /// Whether the bytes of a book file pass, and how many entries it has: they are in the form, and their lines pass. Then
-/// every schedule of any length leads to a correct state, whoever wrote the bytes. The form is in docs/FORMATS.md.
+/// every schedule of any length reaches a correct state, whoever wrote the bytes. The form is in docs/FORMATS.md.
 ///
 /// # Errors
 ///
-/// The first of [`CheckFault`] that stands in the bytes, with its line, or `OutOfMemory` where a growth was refused.
+/// The first [`CheckFault`] of the bytes, with its line, or `OutOfMemory` where a growth was refused.
 pub fn check_book<M: Encode>(
     alloc: Global,
     machine: M,

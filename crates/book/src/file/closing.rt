@@ -72,8 +72,9 @@ fn has_step(lines: &[Line], next: usize, parent: usize, thread: u8) -> bool
     }
 }
 
-/// Whether some step of an entry has none of the labels. The state stands in for the entry's. After a refusal of memory
-/// it is of no use. A step that the next line has need not be made, since that line's own entry has its label.
+/// Whether some step of an entry has none of the labels. `state` stands in for the entry's state; after a refusal of
+/// memory it no longer does. A step that the next line states need not be made, since that line's own entry has its
+/// label.
 fn leads_out<M: Encode>(
     alloc: Global,
     input: &Input<'_, M>,
@@ -106,8 +107,8 @@ fn leads_out<M: Encode>(
     Ok(false)
 }
 
-/// Whether each step of each entry's state leads to a state with the label of an entry. A refusal reports the line of
-/// the first entry with another step; the start stands on line 2.
+/// Whether each step of each entry's state reaches a state with the label of an entry. The fault names the line of the
+/// first entry with another step; the start is on line 2.
 pub fn test_closed<M: Encode>(
     alloc: Global,
     input: &Input<'_, M>,

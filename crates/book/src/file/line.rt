@@ -8,7 +8,7 @@ use std::marker::Model;
 /// The most entries of a book file.
 pub const MOST_ENTRIES: usize = 2_000_000;
 
-/// What a book file says of an entry after the first: the step that leads to it, and an order of its operations.
+/// What a book file says of an entry after the first: the step that reaches it, and an order of its operations.
 #[derive(Drop)]
 pub struct Line {
     /// The number of the entry that the step is taken from. A number from `MOST_ENTRIES` on counts as that.

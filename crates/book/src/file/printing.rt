@@ -41,7 +41,7 @@ fn push_order(text: &mut Vec<u8>, order: &[ShortName]) -> Result<(), OutOfMemory
     Ok(())
 }
 
-/// Writes the first line of a file of so many entries.
+/// Writes the first line of a file with `entries` entries.
 pub fn push_head(text: &mut Vec<u8>, entries: usize) -> Result<(), OutOfMemory>
     ensures { OnOk result (text.new.items ≡ text.old.items ++ ended (head_text entries ∷ [])) }
 {

@@ -12,7 +12,7 @@ use crate::file::line::{Line, MOST_ENTRIES, Names};
 use sched_program::{OpId, OutOfMemory, Sequence};
 use std::alloc::Global;
 
-/// What stands before the first byte that is `at`, and what follows it.
+/// The bytes before the first byte that is `at`, and those after it.
 fn cut(bytes: &[u8], at: u8) -> Option<(&[u8], &[u8])>
     ensures found { IfSome result (λ pieces. (bytes.now ≡ pieces.0.now ++ at ∷ pieces.1.now)
         × AllByRecursion (λ b. b ≢ at) pieces.0.now) }
@@ -138,7 +138,7 @@ fn line_of(alloc: Global, text: &[u8]) -> Result<Option<Line>, OutOfMemory>
     }
 }
 
-/// The number of entries that a first line tells.
+/// The number of entries that a first line states.
 fn entries_of(head: &[u8]) -> Option<usize>
     ensures found { IfSome result (IsHead head.now) }
     ensures none { IfNone result ((entries : ℕ) → ¬ IsHead head.now entries) }

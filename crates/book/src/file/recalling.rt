@@ -51,8 +51,8 @@ fn way_to<M: Encode>(
     Ok(way)
 }
 
-/// Lets a state stand in for that of an entry: it is read from the entry's label, or where that can't be done replayed
-/// from the start.
+/// Makes `state` stand in for that of an entry: it is decoded from the entry's label or, if that can't be done,
+/// replayed from the start.
 pub fn recall<M: Encode>(
     alloc: Global,
     input: &Input<'_, M>,

@@ -16,7 +16,7 @@ use sched_program::{OpId, Program};
 use std::alloc::Global;
 use tree_machine::{Bytes, Encode, Naming, State, StepFault};
 
-/// Whether an order shows a state correct. Its entry stands on the line of this number.
+/// Whether an order shows that a state is correct. `number` is the line of its entry.
 fn test_state<M: Encode>(
     alloc: Global,
     machine: M,

@@ -139,7 +139,7 @@ parts_tell memory other held others e =
           (ap (λ (p : Parts). p.held) e),
     )
 
--- and so do their bytes
+-- equal bytes are of equal memories and places
 pub ellen_tells : (front other_front : Front) → TellsWholly (cut_code ellen_front_code ellen_behind_code front)
     (cut_code ellen_front_code ellen_behind_code other_front)
 ellen_tells front other_front memory other held others many e =
@@ -147,7 +147,7 @@ ellen_tells front other_front memory other held others many e =
     (parts_code_tells front other_front (ellen_parts memory held) (ellen_parts other others)
     (length-map held held_part ∙ (many ∙ sym (length-map others held_part))) e).0
 
--- by own numbers all nodes and records stand in front
+-- by own numbers all nodes and records come in front
 pub ellen_whole : (memory : EllenMem) (held : List (Option EllenLoc)) → (front : Front)
     × (ellen_code memory held ≡ cut_code ellen_front_code ellen_behind_code front memory held)
 ellen_whole memory held = (all_front (ellen_parts memory held), refl)

@@ -90,7 +90,7 @@ sees_leaf memory x k e =
 found_node : (memory : EllenMem) (x : ℕ) (node : Node) → slice_get memory.nodes x ≡ Some node → node_at memory x ≡ node
 found_node memory x node e = ap (λ o. unwrap_or o (Leaf 0)) e
 
--- ---- a key is put in
+-- ---- a key is inserted
 
 module _ (memory : EllenMem) (k : ℕ) (end : End) where
   abbrev appended : EllenMem

@@ -99,7 +99,7 @@ module _ (n m : ℕ) where
   held_below None h = part_below _ [] [] tt tt
   held_below (Some place) h = place_below place h
 
--- as many parts as there are elements, each with its numbers below these
+-- the parts of all elements, each with its numbers below these
 all_below : {A : Type 0} (f : A → Part) (P : A → Type 0) (n m i j : ℕ) → i ≡ n → j ≡ m
     → ((a : A) → P a → IsPartBelow n m (f a)) → (xs : List A) → All P xs → All (IsPartBelow i j) (map f xs)
 all_below f P n m i j e d below xs h =
@@ -204,7 +204,7 @@ module _ (n m : ℕ) where
   held_in None h = tt
   held_in (Some place) h = place_in place h
 
--- each element of which the part has its numbers below these
+-- each element whose part has its numbers below these
 all_in : {A : Type 0} (f : A → Part) (P : A → Type 0) (n m i j : ℕ) → i ≡ n → j ≡ m
     → ((a : A) → IsPartBelow n m (f a) → P a) → (xs : List A) → All (IsPartBelow i j) (map f xs) → All P xs
 all_in f P n m i j e d inner xs h =

@@ -37,7 +37,7 @@ fn read_node(bytes: &[u8]) -> Option<(Node, &[u8])>
     }
 }
 
-/// Appends so many nodes to a list, and returns the bytes behind them.
+/// Appends `count` nodes to a list, and returns the bytes behind them.
 fn read_nodes<'a>(
     bytes: &'a [u8],
     count: u8,
@@ -100,7 +100,7 @@ fn read_record(bytes: &[u8]) -> Option<(Record, &[u8])>
     }
 }
 
-/// Appends so many records to a list, and returns the bytes behind them.
+/// Appends `count` records to a list, and returns the bytes behind them.
 fn read_records<'a>(
     bytes: &'a [u8],
     count: u8,

@@ -83,8 +83,8 @@ fn stack_of(alloc: Global, held: Option<EllenLoc>) -> Sequence<u16> {
     }
 }
 
-/// Reads so many records of a stack, in the room that the list has as far as that is enough, and
-/// returns the bytes behind them.
+/// Reads `count` records of a stack, into the buffer of the list where that is large enough, and returns the bytes
+/// behind them.
 fn read_stack<'a>(
     alloc: Global,
     bytes: &'a [u8],
@@ -111,8 +111,8 @@ fn read_stack<'a>(
     Ok(Some(rest))
 }
 
-/// Reads the rest of a help place into a place that holds another, and returns the bytes behind it. The stack takes the
-/// room of the other one's.
+/// Reads the rest of a help place into a place that holds another, and returns the bytes behind it. The stack reuses
+/// the buffer of the other one's.
 pub(crate) fn read_help<'a>(
     alloc: Global,
     head: u8,

@@ -65,7 +65,7 @@ fn keys_of(alloc: Global, keys: &[u8]) -> Result<Sequence<u8>, OutOfMemory> {
     Ok(Sequence::from_vec(Vec::from_slice(alloc, keys)?))
 }
 
-/// Whether an operation on these keys replies so.
+/// Whether an operation on these keys gives this reply.
 fn replies(
     alloc: Global,
     keys: &mut Sequence<u8>,
@@ -78,7 +78,7 @@ fn replies(
     }
 }
 
-/// An operation leaves the keys after it, and replies so.
+/// An operation leaves the keys that the access expects after it, and gives its reply.
 fn is_access(alloc: Global, access: &Access) -> Result<(), Broken> {
     let mut keys = keys_of(alloc, access.before)?;
     let is_reply = replies(alloc, &mut keys, access.op, access.reply)?;
@@ -100,7 +100,7 @@ fn accesses(rt: HostRuntime) -> Result<(), Broken> {
     }
 }
 
-/// The keys that a program begins with are put in order.
+/// The initial keys of a program are sorted.
 fn are_built(alloc: Global) -> Result<(), Broken> {
     let keys = Atomic.build(alloc, &[20, 10, 15])?;
     ensure(
@@ -187,7 +187,7 @@ fn threads_of(
     Ok(threads)
 }
 
-/// The form of keys and threads, in a box: whoever holds two has two values to let go, and not their lists.
+/// The form of keys and threads, in a box: whoever holds two drops two values, and not each of their lists.
 fn boxed_form(
     alloc: Global,
     keys: &Sequence<u8>,

@@ -14,7 +14,7 @@ type Row = (u64, &'static [Option<usize>]);
 /// A ring of two cells, beside one that no root reaches.
 const RING: &[Row] = &[(7, &[Some(2), None]), (9, &[Some(0)]), (8, &[Some(0)])];
 
-/// The same ring under other numbers, from cell 1.
+/// The ring of `RING` under other numbers, from cell 1.
 const TURNED: &[Row] = &[(8, &[Some(1)]), (7, &[Some(0), None])];
 
 /// The first cell of the canonical form of the ring.

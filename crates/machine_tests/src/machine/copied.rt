@@ -18,7 +18,7 @@ struct Row {
     thread: u8,
 }
 
-/// The first insert puts its key in, and the second finds it there and leaves the keys.
+/// The first insert adds its key. The second finds it there and leaves the keys as they are.
 const ROWS: &[Row] = &[
     Row {
         case: Case::AStepOfTheFirst,
@@ -42,8 +42,8 @@ const ROWS: &[Row] = &[
     },
 ];
 
-/// The label of the state after a step of a thread is the same where it is copied from that of the state before it, as
-/// where it is written anew, by both namings; and that state is read where the one before it was.
+/// The label of the state after a step of a thread, copied from that of the state before it, equals the one written in
+/// full, by both namings. That state is also read back in the place of the one before it.
 fn is_copied(
     alloc: Global,
     program: &Program,
@@ -73,8 +73,7 @@ fn is_copied(
     Ok(())
 }
 
-/// A step that is made in the state itself leads to the state that it leads to anyway, and taken back leaves what was
-/// there.
+/// A step made in place reaches the state that `step` reaches, and taking it back restores what was there.
 fn is_taken_back(
     alloc: Global,
     program: &Program,
@@ -98,7 +97,7 @@ fn is_taken_back(
     ensure(here == *state, case)
 }
 
-/// This is so of the step of each row.
+/// Both hold for the step of each row.
 fn are_copied(alloc: Global) -> Result<(), Broken> {
     let program = two_inserts(alloc)?;
     for row in ROWS {

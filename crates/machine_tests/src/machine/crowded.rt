@@ -6,8 +6,8 @@ use sched_program::OutOfMemory;
 use std::alloc::Global;
 use tree_machine::{Bytes, Naming};
 
-/// So many nodes, all of them fixed, so many records, to which nothing leads, and so many threads. If they are not
-/// refused, the numbers of nodes and of records that stand in front of their code by own numbers, and of their form.
+/// How many nodes there are, all of them fixed, how many records, which nothing reaches, and how many threads. If they
+/// are not refused, the counts of nodes and of records in front of their code by own numbers, and of their form.
 struct Crowd {
     case: Case,
     nodes: usize,
@@ -17,7 +17,7 @@ struct Crowd {
     form: Option<(u8, u8)>,
 }
 
-/// Own numbers are of nodes and of records apart. A walk numbers nodes, records and threads in one.
+/// Own numbers count nodes and records separately. A walk numbers nodes, records and threads together.
 const CROWDS: &[Crowd] = &[
     Crowd {
         case: Case::Nodes253,
@@ -93,7 +93,7 @@ const CROWDS: &[Crowd] = &[
     },
 ];
 
-/// So many parts of one fact each, or all that there are of them.
+/// The first `count` of these parts, or all of them if there are fewer.
 fn first_of(leaves: &[Row], count: usize) -> &[Row] {
     match leaves.get(..count) {
         Some(rows) => rows,
@@ -120,8 +120,8 @@ fn bytes_unless_refused(
     }
 }
 
-/// Whether bytes begin with these two numbers, and behind them two bytes stand for each node, each record and each of
-/// so many threads.
+/// Whether bytes begin with these two numbers, with two bytes behind them for each node, each record and each of these
+/// threads.
 fn is_counted(bytes: &[u8], (nodes, records): (u8, u8), threads: usize) -> bool {
     let count = nodes as usize + records as usize;
     threads <= 4 && bytes.len() == 2 + 2 * (count + threads) && bytes.starts_with(&[nodes, records])
@@ -146,7 +146,7 @@ fn is_written(
     ensure(is_right, crowd.case)
 }
 
-/// As many parts as any of the crowds has.
+/// 300 parts of one fact each: no crowd has more of a kind.
 fn leaves_of(alloc: Global) -> Result<Vec<Row>, OutOfMemory> {
     let mut leaves = Vec::new(alloc);
     for _leaf in 0..300 {

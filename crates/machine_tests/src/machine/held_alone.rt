@@ -1,4 +1,4 @@
-//! Nodes and records to which threads alone lead.
+//! Nodes and records that only threads reach.
 
 use crate::machine::broken::{Broken, Case, ensure};
 use crate::machine::parts::{Tables, Written, bytes_of, row_of};
@@ -6,8 +6,8 @@ use sched_program::OutOfMemory;
 use std::alloc::Global;
 use tree_machine::{Bytes, Naming};
 
-/// A root that names no node, and a thread that holds a node. This names another one, which names the root, and a
-/// record, which names that other one. Nothing leads to the last node and to the first record.
+/// A root that names no node, and a thread that holds node 1. Node 1 names node 2, which names the root, and record 1,
+/// which names node 2. Nothing reaches node 3 and record 0.
 fn held_alone(alloc: Global, written: Written) -> Result<Bytes, OutOfMemory> {
     let nodes = [
         row_of(&[7], &[None], &[]),
@@ -29,7 +29,7 @@ fn held_alone(alloc: Global, written: Written) -> Result<Bytes, OutOfMemory> {
     bytes_of(alloc, &tables, written)
 }
 
-/// The same under other numbers, without the node and the record to which nothing leads.
+/// Writes the parts of `held_alone` under other numbers, without the node and the record that nothing reaches.
 fn turned(alloc: Global, written: Written) -> Result<Bytes, OutOfMemory> {
     let nodes = [
         row_of(&[7], &[None], &[]),
@@ -47,9 +47,9 @@ fn turned(alloc: Global, written: Written) -> Result<Bytes, OutOfMemory> {
     bytes_of(alloc, &tables, written)
 }
 
-/// The canonical code of both. The root alone stands in front. Behind what the thread holds stand the nodes and the
-/// record to which it leads, with how many of each there are. They are numbered behind those in front: 1 the node of
-/// fact 8, 2 that of fact 9, and 0 the record.
+/// The canonical code of both. Only the root is in front. Behind what the thread holds come the nodes and the record
+/// that it reaches, with how many of each there are. They are numbered after those in front: 1 the node of fact 8, 2
+/// that of fact 9, and 0 the record.
 const CANONICAL: [u8; 20] = [
     1, 0, // one node and no record
     36, 7, 0, // the root
@@ -60,7 +60,7 @@ const CANONICAL: [u8; 20] = [
     65, 3, 0, // the record
 ];
 
-/// What the turned one is by own numbers: all nodes and records stand in front.
+/// The code of `turned` by own numbers: all nodes and records are in front.
 const OWN: [u8; 18] = [
     3, 1, // three nodes and one record
     36, 7, 0, // the root
@@ -70,7 +70,7 @@ const OWN: [u8; 18] = [
     36, 2, 3, // what the thread holds
 ];
 
-/// The codes are as they are here.
+/// The codes are the ones above.
 fn are_written(alloc: Global) -> Result<(), Broken> {
     let own = turned(alloc, Written::Code(Naming::Own))?;
     ensure(own.as_slice() == OWN.as_slice(), Case::HeldAloneTurned)?;

@@ -63,7 +63,7 @@ impl StepKinds {
     }
 }
 
-/// What is used again from one state to the next: the state that is read, the buffer in which labels are written, what
+/// What is reused from one state to the next: the state that is read, the buffer in which labels are written, what
 /// takes a step back, and the kinds of the steps that were made.
 #[derive(Drop)]
 pub struct Desk<M: Encode> {
@@ -176,8 +176,8 @@ pub fn is_read_back<M: Encode>(
     }
 }
 
-/// Whether a state is read back from its label where another one was read before, of whose label it is known where its
-/// parts begin.
+/// Whether a state is read back from its label in the place of one that was read before. Of that one's label it is
+/// known where the parts begin.
 pub fn is_read_after<M: Encode>(
     alloc: Global,
     how: &Labelling<'_, M>,
@@ -201,7 +201,7 @@ pub fn is_read_after<M: Encode>(
     }
 }
 
-/// How many beginnings of bytes that are shorter than they are a state is read from.
+/// From how many proper prefixes of the bytes a state is read.
 pub fn beginnings_read<M: Encode>(
     alloc: Global,
     machine: M,
@@ -218,8 +218,8 @@ pub fn beginnings_read<M: Encode>(
     Ok(count)
 }
 
-/// From how many beginnings of a label a state is read at most. Only of a canonical label, and only without all that
-/// threads alone lead to: that is read as a state whose threads hold what is not there.
+/// From how many proper prefixes of a label a state is read at most. Only a canonical label has such a prefix: the
+/// label without all that only threads reach. It is read as a state whose threads hold what is not there.
 pub fn most_beginnings(naming: Naming) -> usize {
     match naming {
         Naming::Own => 0,
@@ -227,7 +227,7 @@ pub fn most_beginnings(naming: Naming) -> usize {
     }
 }
 
-/// Adds the kind of the step that is taken back by this.
+/// Adds the kind of the step that `undo` takes back.
 fn add_kind<M: Encode>(machine: M, undo: &Undo<M>, kinds: &mut StepKinds) {
     let may_write = match &undo.thread().place {
         Some(place) => !machine.only_reads(place),
@@ -284,8 +284,8 @@ fn label_of_step<M: Encode>(
     Ok(next)
 }
 
-/// Whether the label of a step is the same where it is copied in part from that of the state before it, which a state
-/// is read from, as where it is written anew. The state that was read has that label again once the step is taken back.
+/// Whether the label of a step, copied in part from that of the state before it, equals the one written in full. The
+/// step is made in a state read from that label before it, which has that label again once the step is taken back.
 pub fn is_step_labelled<M: Encode>(
     alloc: Global,
     how: &Labelling<'_, M>,

@@ -15,9 +15,9 @@ struct Stack {
     own: &'static [u8],
 }
 
-/// The most records of a stack for which the part begins with one byte, and one more. To the records the thread alone
-/// leads: in the form they stand behind it, with how many nodes and records these are. The thread names record 1 first,
-/// so that it stands in front of record 0 there, and has number 1. By own numbers record 0 has number 1.
+/// The most records of a stack for which the part begins with one byte, and one more. Only the thread reaches the
+/// records: in the form they come behind it, with how many nodes and records these are. The thread names record 1
+/// first, so record 1 comes before record 0 there, and has number 1. By own numbers record 0 has number 1.
 const STACKS: &[Stack] = &[
     Stack {
         case: Case::NoStack,
@@ -90,20 +90,20 @@ fn a_stack_stands_behind_the_other_records(rt: HostRuntime) -> Result<(), Broken
     }
 }
 
-/// With how many nodes it names these are 255 facts.
+/// Together with the count of nodes that the part names, these are 255 facts.
 static FACTS: [u8; 254] = [7; 254];
 
-/// As many names.
+/// 255 names of record 0.
 static STACK: [u16; 255] = [0; 255];
 
-/// What stands in front of the facts: one node and no record, the root, and the front of a long part: a 255, twice the
-/// number 255, which takes two bytes, and no node.
+/// What comes before the facts: one node and no record, the root, and the front of a long part: a 255, twice the number
+/// 255, which takes two bytes, and no node.
 const FRONT: [u8; 9] = [1, 0, 0, 255, 255, 0, 255, 0, 0];
 
-/// What stands behind the names: no node and one record, and this.
+/// What comes behind the names: no node and one record, and that record.
 const LEFT: [u8; 4] = [0, 1, 1, 6];
 
-/// The form of a root, and of a thread of that many facts and names.
+/// The form of a root, and of a thread with the facts and the names above.
 fn long_form(alloc: Global) -> Result<Bytes, OutOfMemory> {
     let held = [Row {
         facts: FACTS.as_slice(),
@@ -123,7 +123,7 @@ fn long_form(alloc: Global) -> Result<Bytes, OutOfMemory> {
     )
 }
 
-/// Whether bytes are so many of one.
+/// Whether these are `count` bytes that all equal this one.
 fn are_all(bytes: &[u8], byte: u8, count: usize) -> bool {
     bytes.len() == count && bytes.iter().all(|other| *other == byte)
 }

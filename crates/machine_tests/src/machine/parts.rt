@@ -9,7 +9,7 @@ use std::alloc::Global;
 use std::marker::Model;
 use tree_machine::{Bytes, EncodeBuffer, Naming, PartVisitor, Parts, form_parts, write_parts};
 
-/// A part that is there already. The records of the stack stand behind the other ones.
+/// A part that is there already. The records of the stack come behind the other ones.
 #[derive(Drop)]
 pub struct Row {
     pub facts: &'static [u8],
@@ -65,7 +65,7 @@ impl Row {
     }
 }
 
-/// Rows for nodes, of which the first are fixed, for records and for threads.
+/// Rows for nodes, for records and for threads. The first `fixed` nodes are fixed.
 #[derive(Clone, Copy)]
 pub struct Tables<'a> {
     pub fixed: usize,

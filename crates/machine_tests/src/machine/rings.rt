@@ -50,7 +50,7 @@ fn ring_of(alloc: Global, ring: &Ring, written: Written) -> Result<Bytes, OutOfM
     )
 }
 
-/// The form of `RING`, where nodes and records stand the other way round.
+/// The form of `RING`, where its nodes and records come the other way round.
 fn turned_ring(alloc: Global) -> Result<Bytes, OutOfMemory> {
     let nodes = [
         row_of(&[255], &[Some(2), None], &[]),
@@ -232,9 +232,9 @@ struct Root {
     bytes: &'static [u8],
 }
 
-/// The most for which a part begins with one byte, and one more of each. Behind a byte of 255 there stand numbers: how
-/// many facts, the first of which is how many nodes it names, and how many nodes and records. In front of it all stand
-/// one node and no record.
+/// The most for which a part begins with one byte, and one more of each. Behind a byte of 255 come numbers: how many
+/// facts, the first of which is how many nodes it names, and how many nodes and records. In front of it all are the
+/// counts of one node and no record.
 const ROOTS: &[Root] = &[
     Root {
         case: Case::NoFact,

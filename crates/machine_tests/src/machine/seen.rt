@@ -267,7 +267,7 @@ pub enum Look {
     FormOfCopy,
 }
 
-/// The schedule of a row leads to its state, by `start` and `step`; or what the row says of it is looked at.
+/// The schedule of a row reaches its state, by `start` and `step`, and what is looked at is as the row says.
 fn is_seen(alloc: Global, program: &Program, row: &Row, look: Look) -> Result<(), Broken> {
     let state = after(alloc, program, row.schedule)?;
     match look {
@@ -280,7 +280,7 @@ fn is_seen(alloc: Global, program: &Program, row: &Row, look: Look) -> Result<()
     }
 }
 
-/// The same of every row.
+/// What is looked at is as every row says.
 pub fn are_seen(alloc: Global, look: Look) -> Result<(), Broken> {
     let program = two_inserts(alloc)?;
     for row in ROWS {

@@ -1,7 +1,6 @@
 //! States of the machine `Atomic` that runs a program.
 //!
-//! A state, a form and a program come in a box each: whoever lets one go makes one call, and not one for each of its
-//! lists.
+//! A state, a form and a program come in a box each: dropping one takes one call, and not one for each of its lists.
 ghost use Rattle.std.specs.Prelude.{◌≡◌, IfOk};
 ghost use Rattle.tree_machine.specs.Atomic.{atomic_rules};
 ghost use Rattle.tree_machine.specs.Step.{Fits};

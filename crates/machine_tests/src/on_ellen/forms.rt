@@ -20,14 +20,14 @@ const WHOLE: Ellen = Ellen {
 const INSERTS: &str =
     r#"{"version":1,"tree":"ellen","initial":[20,10,30],"threads":[[{"op":"insert","key":5}],[{"op":"insert","key":40}]]}"#;
 
-/// A key is deleted, put in again and deleted again while it is looked for.
+/// A key is deleted, inserted again and deleted again while it is looked for.
 const DELETES: &str =
     r#"{"version":1,"tree":"ellen","initial":[10],"threads":[[{"op":"delete","key":10},{"op":"insert","key":10},{"op":"delete","key":10}],[{"op":"find","key":10}]]}"#;
 
 /// Stretches of steps, each of one thread: both inserts have searched, and then flag their parents.
 const FLAG_IN_ORDER: [(u8, u64); 4] = [(0, 6), (1, 8), (0, 1), (1, 1)];
 
-/// The same with the flags in the other order.
+/// `FLAG_IN_ORDER` with the flags in the other order.
 const FLAG_IN_TURN: [(u8, u64); 4] = [(0, 6), (1, 8), (1, 1), (0, 1)];
 
 /// The find has come to the node that the first delete has spliced out since.
@@ -42,7 +42,7 @@ const BEHIND_FIRST: [(u8, u64); 2] = [(1, 2), (0, 25)];
 /// Like `AT_SECOND`, and the second delete has spliced out that node.
 const BEHIND_SECOND: [(u8, u64); 4] = [(1, 1), (0, 15), (1, 1), (0, 10)];
 
-/// The state after so many more steps of a thread.
+/// The state after `count` more steps of a thread.
 fn more_steps(
     alloc: Global,
     machine: Ellen,
@@ -77,7 +77,7 @@ fn after(
     Ok(state)
 }
 
-/// The state to which the program of a text comes by a schedule.
+/// The state that the program of a text reaches by a schedule.
 fn state_of(
     alloc: Global,
     text: &str,
@@ -101,7 +101,7 @@ fn form_of(
     Ok(Box::new(alloc, state.form(alloc, machine)?)?)
 }
 
-/// The form of the state to which the program of a text comes by a schedule.
+/// The form of the state that the program of a text reaches by a schedule.
 fn form_after(
     alloc: Global,
     text: &str,
@@ -112,7 +112,7 @@ fn form_after(
     Ok(form_of(alloc, WHOLE, &program, &state)?)
 }
 
-/// Whether two schedules lead to equal states.
+/// Whether two schedules reach equal states.
 fn are_equal(
     alloc: Global,
     text: &str,
@@ -124,7 +124,7 @@ fn are_equal(
     Ok(*left == *right)
 }
 
-/// Whether they lead to states of equal forms.
+/// Whether two schedules reach states of equal forms.
 fn have_equal_forms(
     alloc: Global,
     text: &str,
@@ -136,7 +136,7 @@ fn have_equal_forms(
     Ok(*left == *right)
 }
 
-/// The label of the state to which the program of a text comes by a schedule.
+/// The label of the state that the program of a text reaches by a schedule.
 fn label_at_end(
     alloc: Global,
     text: &str,
@@ -153,7 +153,7 @@ fn label_at_end(
     Ok(label_of(alloc, &how, &state, &mut EncodeBuffer::new(alloc))?)
 }
 
-/// Whether two schedules lead to states of equal labels.
+/// Whether two schedules reach states of equal labels.
 fn have_equal_labels(
     alloc: Global,
     text: &str,
@@ -188,7 +188,7 @@ fn parent_of_find(
 }
 
 /// Two schedules of a program, each with the parent at which thread 1 looks for its key then, and whether the states
-/// that they lead to are equal, with their labels by own numbers, and their forms, with their canonical labels.
+/// that they reach are equal, with their labels by own numbers, and their forms, with their canonical labels.
 struct Pair {
     name: &'static str,
     text: &'static str,
@@ -262,8 +262,8 @@ const FIND: &str =
 
 /// After its first step T0 is about to read a child of the root, with no node above.
 ///
-/// The walk begins with the root. It meets nodes 5 and 2 there, and nodes 3 and 4 at node 5; nothing leads to node 1.
-/// So the canonical numbers are, from 1 on, those of nodes 0, 5, 2, 3, 4, and all stand in front of the thread.
+/// The walk begins with the root. It meets nodes 5 and 2 there, and nodes 3 and 4 at node 5; nothing reaches node 1.
+/// So the canonical numbers from 1 on are those of nodes 0, 5, 2, 3, 4, and all of these come before the thread.
 const CODE: [u8; 36] = [
     0, // no steps
     1, 1, // one thread, without replies
@@ -278,7 +278,7 @@ const CODE: [u8; 36] = [
     133, 1, 0, 0, 0, 1, 0, 0, // the thread
 ];
 
-/// Whether this is the label of the state to which the program of a text comes by a schedule.
+/// Whether this is the label of the state that the program of a text reaches by a schedule.
 fn is_label(
     alloc: Global,
     text: &str,

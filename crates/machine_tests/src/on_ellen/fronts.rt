@@ -19,8 +19,8 @@ static BYTES: [u8; 18] = [
     3, 0, 102, 102, 0, 2, 3, 0, 1, 101, 1, 102, 102, 0, 0, 0, 1, 0,
 ];
 
-/// The same memory, and a thread that has come to an internal node of key 50 over leaves of keys 10 and 50, to which
-/// the root does not lead. These three stand behind the thread.
+/// The memory of `BYTES`, and a thread that has come to an internal node of key 50 over leaves of keys 10 and 50. The
+/// root does not reach these three, so they come behind the thread.
 static CUT_OFF: [u8; 30] = [
     3, 0, 102, 102, 0, 2, 3, 0, 1, 101, 1, 102, 102, 0, 0, 0, 4, 0, 3, 0, 102, 50, 0, 5, 6, 0, 1,
     10, 1, 50,
@@ -37,7 +37,7 @@ fn holding(place: Option<EllenLoc>) -> Thread<EllenLoc>
     }
 }
 
-/// A front of so many nodes and records.
+/// A front with these numbers of nodes and records.
 fn front_of(nodes: u16, records: u16) -> Front
     ensures nodes { result.nodes ≡ nodes }
     ensures records { result.records ≡ records }
@@ -45,7 +45,7 @@ fn front_of(nodes: u16, records: u16) -> Front
     Front { nodes, records }
 }
 
-/// How many bytes are answered to stand in front of what the thread holds, and the front.
+/// How many bytes `read_whole` counts in front of what the thread holds, and the front.
 fn front_in(alloc: Global, bytes: &[u8]) -> Result<Option<(usize, Front)>, OutOfMemory> {
     let mut memory = WHOLE.build(alloc, &[10])?;
     let mut threads = [holding(None)];
@@ -82,7 +82,7 @@ fn is_rest_read(alloc: Global) -> Result<bool, OutOfMemory> {
     Ok(is_read && is_placed && is_kept && !is_cut)
 }
 
-/// Whether the nodes that stand behind the thread are read in the place of the record that is not in front.
+/// Whether the nodes behind the thread are read in the place of the record that is not in front.
 fn is_left_read(alloc: Global) -> Result<bool, OutOfMemory> {
     let mut memory = small_tree(alloc, 1, 101)?;
     let mut threads = [holding(None)];
@@ -93,7 +93,7 @@ fn is_left_read(alloc: Global) -> Result<bool, OutOfMemory> {
     Ok(is_read && is_left && is_leaf)
 }
 
-/// All.
+/// Runs all of the cases above.
 fn all(rt: &impl Abort, alloc: Global) -> Result<(), OutOfMemory> {
     assert!(rt; front_in(alloc, BYTES.as_slice())? == Some((12, front_of(3, 0))));
     assert!(rt; front_in(alloc, CUT_OFF.as_slice())? == Some((12, front_of(3, 0))));

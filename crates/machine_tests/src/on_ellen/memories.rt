@@ -100,7 +100,7 @@ fn goes_astray(alloc: Global, op: Op, place: &EllenLoc) -> Result<bool, OutOfMem
     }
 }
 
-/// The same at a place of a search.
+/// Whether an access at a place of a search goes astray and leaves the memory as it was.
 fn search_goes_astray(alloc: Global, op: Op, at: SearchLoc) -> Result<bool, OutOfMemory>
     requires { IsPlaceIn 3 1 (Search at) }
 {
@@ -147,7 +147,8 @@ const OVER_EQUAL_KEYS: Node = Node::Internal {
     right: 3,
 };
 
-/// Inserts the key of the leaf of a small tree. Whether the reply is that it was put in, and the new node is that one.
+/// Inserts the key of the leaf of a small tree. Whether the reply is that it was inserted, and the new node is
+/// `OVER_EQUAL_KEYS`.
 fn puts_equal_key(alloc: Global) -> Result<bool, OutOfMemory> {
     let mut memory = small_tree(alloc, 1, 10)?;
     let place = EllenLoc::Search(SearchLoc::InsOnly { parent: 0, leaf: 1 });
@@ -164,7 +165,7 @@ fn equal_keys(rt: &impl Abort, alloc: Global) -> Result<(), OutOfMemory> {
     Ok(())
 }
 
-/// All of them.
+/// Runs all of the cases above.
 fn all(rt: &impl Abort, alloc: Global) -> Result<(), OutOfMemory> {
     orders(rt, alloc)?;
     one_key(rt, alloc)?;

@@ -82,7 +82,7 @@ fn is_right(
 /// What a look at the states along a schedule has found.
 #[derive(Clone, Copy)]
 pub enum Found {
-    /// After so many steps a state is not right.
+    /// The state after this number of steps is not right.
     Lost(u64),
     /// All are right, and steps of these kinds were labelled.
     Right(StepKinds),
@@ -107,7 +107,7 @@ fn look_along(
     Ok(Found::Right(desk.kinds))
 }
 
-/// The same for the text of a program.
+/// Looks at each state along a schedule of the program of a text.
 pub fn looked(
     alloc: Global,
     machine: Ellen,

@@ -128,7 +128,7 @@ fn looks_at_all(
     met
 }
 
-/// The same of each machine, in the programs that it has, by both namings. The kinds are those of the whole machine.
+/// Looks at all states of each machine, in its programs, by both namings. The kinds are those of the whole machine.
 fn looks_at_each(rt: &impl Abort, alloc: Global, look: Look, expected: StepKinds) {
     for naming in NAMINGS {
         let whole = OF_WHOLE.as_slice();

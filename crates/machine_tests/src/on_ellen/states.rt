@@ -1,5 +1,5 @@
-//! States of the machine that runs a program, each in a box: whoever lets it go makes one call, and not one for each of
-//! its lists.
+//! States of the machine that runs a program, each in a box: dropping it takes one call, and not one for each of its
+//! lists.
 ghost use Rattle.std.specs.Prelude.{◌≡◌, IfOk};
 ghost use Rattle.tree_machine.specs.Step.{Fits};
 ghost use Rattle.ellen.specs.EllenRules.{ellen_rules};

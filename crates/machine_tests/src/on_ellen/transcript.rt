@@ -1,6 +1,6 @@
 //! What a step did, as one line of text.
 //!
-//! A line has the thread; the place where it stands then, or its reply, or `astray`; and behind each `|` a node that
+//! A line has the thread; the place where it is then, or its reply, or `astray`; and behind each `|` a node that
 //! the step wrote or made, or a record that it made. An update word is `U` for (CLEAN, none), or its state with the
 //! number of its record. A place has its locals in the order of the table, `above` as `node:word` or `-`, and a help
 //! place its stack and its base behind them. A node is its number with its key, and its update word and children if it
@@ -14,7 +14,7 @@ use sched_program::{OutOfMemory, Program};
 use std::alloc::Global;
 use tree_machine::{Side, State, StepFault, Thread};
 
-/// A part of a line. It stands behind a blank.
+/// A part of a line. It comes behind a blank.
 #[derive(Drop)]
 enum Part {
     Name(&'static str),
@@ -242,7 +242,7 @@ fn last_reply(thread: &Thread<EllenLoc>) -> Option<bool> {
     thread.replies.get(before)
 }
 
-/// Where a thread stands, or what it replied last.
+/// Adds where a thread is, or what it replied last.
 fn add_thread(text: &mut String, thread: &Thread<EllenLoc>) -> Result<(), OutOfMemory> {
     match &thread.place {
         Some(place) => add_place(text, place),
@@ -253,7 +253,7 @@ fn add_thread(text: &mut String, thread: &Thread<EllenLoc>) -> Result<(), OutOfM
     }
 }
 
-/// Where a thread stands after a step, and what the step wrote and made.
+/// Adds where a thread is after a step, and what the step wrote and made.
 fn add_deeds(
     text: &mut String,
     t: u8,
@@ -280,7 +280,7 @@ fn line_of(
     Ok(text)
 }
 
-/// The line of a step, where it is not this one.
+/// The line of a step, if it differs from this one.
 fn other_line(
     alloc: Global,
     t: u8,
@@ -304,7 +304,7 @@ pub fn thread_of(line: &str) -> Result<u8, StepFault> {
     }
 }
 
-/// The line as it is, where it differs first from these, by the schedule of their threads.
+/// The actual line of the first step whose line differs from these, along the schedule of their threads.
 fn differs(
     alloc: Global,
     machine: Ellen,
@@ -324,7 +324,7 @@ fn differs(
     Ok(None)
 }
 
-/// The same for the text of a program.
+/// The actual line of the first step that differs from these lines, for the program of a text.
 pub fn first_difference(
     alloc: Global,
     machine: Ellen,

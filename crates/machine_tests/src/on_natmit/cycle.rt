@@ -18,7 +18,7 @@ fn plain(node: u16) -> Word
     }
 }
 
-/// A memory whose two nodes lead to each other.
+/// A memory whose two nodes are each other's children.
 pub fn cycle(alloc: Global) -> Result<NatMitMem, OutOfMemory>
     ensures { IfOk result (λ memory. memory.nodes ≡ node.Internal 50 (plain 1) (plain 1) ∷ node.Internal 40 (plain 0) (plain 0) ∷ []) }
 {

@@ -16,7 +16,7 @@ pub const WHOLE: NatMit = NatMit { tag: true };
 pub enum Seen {
     /// The child word of a node on a side: its flag, its tag and the number of the child.
     Word(u16, Side, (bool, bool, u16)),
-    /// A thread stands at this place.
+    /// A thread is at this place.
     At(u8, NatMitLoc),
     /// A thread is in an operation.
     Busy(u8),
@@ -26,7 +26,7 @@ pub enum Seen {
     Ordered(bool),
 }
 
-/// A thread takes so many steps, and this is seen then.
+/// A thread, how many steps it takes, and what is seen then.
 pub type Row = (u8, usize, Seen);
 
 /// Why a table was not followed to its end.
@@ -61,7 +61,7 @@ impl From<OutOfMemory> for Broken {
     }
 }
 
-/// The state after so many steps of a thread.
+/// The state after `steps` more steps of a thread.
 pub fn advance(
     alloc: Global,
     machine: NatMit,
@@ -152,7 +152,7 @@ fn follow(alloc: Global, machine: NatMit, text: &str, rows: &[Row]) -> Result<()
     follow_rows(alloc, machine, &program, rows)
 }
 
-/// How following a table ends, at the second try where memory was refused at the first: that happens once at most.
+/// How following a table ends. Tries again where memory was refused, which happens once at most.
 pub fn ends(alloc: Global, machine: NatMit, text: &str, rows: &[Row]) -> Result<(), Broken> {
     match follow(alloc, machine, text, rows) {
         Err(Broken::OutOfMemory) => follow(alloc, machine, text, rows),

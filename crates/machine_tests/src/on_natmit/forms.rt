@@ -15,7 +15,7 @@ use tree_machine::{Bytes, EncodeBuffer, Naming, State, StateForm, StepFault};
 const TWO_INSERTS: &str =
     r#"{"version":1,"tree":"nm","initial":[10,20],"threads":[[{"op":"insert","key":5}],[{"op":"insert","key":25}]]}"#;
 
-/// The same with the threads the other way round.
+/// `TWO_INSERTS` with the threads the other way round.
 const TWO_INSERTS_TURNED: &str =
     r#"{"version":1,"tree":"nm","initial":[10,20],"threads":[[{"op":"insert","key":25}],[{"op":"insert","key":5}]]}"#;
 
@@ -42,7 +42,7 @@ struct End {
     form: StateForm<NatMit>,
 }
 
-/// Where the program of a text ends by a schedule. Whoever holds it has one value to let go, and not its lists.
+/// Where the program of a text ends by a schedule. Whoever holds it drops one value, and not each of its lists.
 fn end_of(alloc: Global, (text, schedule): (&str, &[u8])) -> Result<Box<End>, Broken> {
     let program = program_of(alloc, text)?;
     let state = after(alloc, WHOLE, &program, schedule)?;
@@ -116,7 +116,7 @@ fn differ_once(
     })
 }
 
-/// The same, at the second try where memory was refused at the first: that happens once at most.
+/// Calls `differ_once`, and once more where memory was refused, which happens once at most.
 fn differ(alloc: Global, run: (&str, &[u8]), other: (&str, &[u8])) -> Result<Differing, Broken> {
     match differ_once(alloc, run, other) {
         Err(Broken::OutOfMemory) => differ_once(alloc, run, other),
@@ -124,7 +124,7 @@ fn differ(alloc: Global, run: (&str, &[u8]), other: (&str, &[u8])) -> Result<Dif
     }
 }
 
-// T1 puts nodes 9 and 10 in first in the one, and T0 in the other.
+// In one of the runs T1 inserts nodes 9 and 10 first, in the other T0.
 #[test]
 fn the_order_of_two_inserts_changes_numbers_alone(rt: HostRuntime) -> Result<(), Fail> {
     let last_by_one = differ(
@@ -142,7 +142,7 @@ fn the_order_of_two_inserts_changes_numbers_alone(rt: HostRuntime) -> Result<(),
     Ok(())
 }
 
-// T0 stands at Put with leaf 5 in the one and with leaf 7 in the other, in equal memories.
+// T0 is at Put with leaf 5 in the one and with leaf 7 in the other, in equal memories.
 #[test]
 fn other_nodes_held_by_threads_make_other_forms(rt: HostRuntime) -> Result<(), Fail> {
     let other_leaf = differ(
@@ -164,10 +164,10 @@ fn other_nodes_held_by_threads_make_other_forms(rt: HostRuntime) -> Result<(), F
 const DELETE: &str =
     r#"{"version":1,"tree":"nm","initial":[10],"threads":[[{"op":"delete","key":10}]]}"#;
 
-/// After its first step T0 stands at Down, with ancestor 0, successor and parent 1, and leaf 6.
+/// After its first step T0 is at Down, with ancestor 0, successor and parent 1, and leaf 6.
 ///
 /// The walk begins with nodes 0 and 1. It meets node 2 at node 0, nodes 6 and 4 at node 1, and nodes 5 and 3 at node 6.
-/// So the canonical numbers are, from 1 on, those of nodes 0, 1, 2, 6, 4, 5, 3, and all stand in front of the thread.
+/// So the canonical numbers from 1 on are those of nodes 0, 1, 2, 6, 4, 5, 3, and all nodes come before the thread.
 const CODE: [u8; 41] = [
     0, // no steps
     1, 1, // one thread, without replies
@@ -195,7 +195,7 @@ fn is_label(
     Ok(label.as_slice() == expected)
 }
 
-/// The same, at the second try where memory was refused at the first: that happens once at most.
+/// Calls `is_label`, and once more where memory was refused, which happens once at most.
 fn has_label(
     alloc: Global,
     run: (&str, &[u8]),
@@ -223,8 +223,8 @@ const DELETE_AND_FIND: &str =
 /// 6, and put node 3 below node 1.
 const CUT_OFF: [u8; 8] = [1, 0, 0, 0, 0, 0, 0, 0];
 
-/// The walk from nodes 0 and 1 meets node 2 at node 0, and nodes 3 and 4 at node 1. Behind these nodes stands what the
-/// threads hold, and behind that stand nodes 6 and 5, to which T1 alone leads. So the canonical numbers are, from 1 on,
+/// The walk from nodes 0 and 1 meets node 2 at node 0, and nodes 3 and 4 at node 1. Behind these nodes comes what the
+/// threads hold, and behind that come nodes 6 and 5, which only T1 reaches. So the canonical numbers from 1 on are
 /// those of nodes 0, 1, 2, 3, 4, 6, 5.
 const HELD_ALONE: [u8; 48] = [
     0, // no steps

@@ -143,7 +143,7 @@ const INSERT_HELPS_ROWS: [Row; 20] = [
     (0, 1, Seen::Replied(0, true)),
 ];
 
-/// T1 deletes 10 too, and inserts it anew: leaf 7, which is not the leaf that T0 flagged.
+/// T1 deletes 10 too, and inserts it again: leaf 7, which is not the leaf that T0 flagged.
 const DELETE_HELPS: &str =
     r#"{"version":1,"tree":"nm","initial":[10],"threads":[[{"op":"delete","key":10}],[{"op":"delete","key":10},{"op":"insert","key":10}]]}"#;
 

@@ -24,10 +24,10 @@ const LONE_FIND: &str =
 /// How many steps each schedule has at most.
 const STEPS: usize = 13;
 
-/// As many schedules as two threads have in so many steps.
+/// The number of schedules that two threads have in `STEPS` steps.
 const SCHEDULES: u32 = 8192;
 
-/// By which T1 helps to cut off the leaf that T0 flagged, and puts its key in.
+/// A schedule by which T1 helps to cut off the leaf that T0 flagged, and inserts its key.
 const HELPED: [u8; 16] = [0, 0, 0, 1, 1, 1, 1, 1, 1, 1, 1, 1, 1, 0, 0, 0];
 
 /// A leaf, which is the only node, and a thread between operations.
@@ -36,11 +36,11 @@ const LEAF_AND_IDLE: [u8; 5] = [1, 0, 1, 7, 0];
 /// An internal node over two leaves, and a thread that is about to begin its search.
 const THREE_AND_BEGUN: [u8; 14] = [3, 0, 72, 9, 0, 2, 3, 1, 5, 1, 9, 36, 1, 0];
 
-/// The only node in front is a leaf. Behind the thread, which holds an own leaf alone, that leaf stands, to which
-/// nothing else leads.
+/// The only node in front is a leaf. The thread holds only a leaf of its own, which nothing else reaches: that leaf
+/// comes behind the thread.
 const CUT_OFF: [u8; 11] = [1, 0, 1, 7, 36, 1, 2, 1, 0, 1, 9];
 
-/// By which T0 cuts its leaf off while T1 holds it and the node above it, to which T1 alone leads then.
+/// A schedule by which T0 cuts its leaf off while T1 holds it and the node above it, which only T1 reaches then.
 const OVERTAKEN: [u8; 17] = [0, 1, 1, 0, 0, 0, 0, 0, 0, 1, 1, 1, 1, 1, 1, 1, 1];
 
 /// All kinds of places.
@@ -86,7 +86,7 @@ fn desk_of(alloc: Global) -> Result<Desk<NatMit>, Broken> {
     Ok(Desk::with(alloc, State::start(alloc, WHOLE, &other)?))
 }
 
-/// Reads each state along a schedule, of which each bit is a thread, as long as that has a step.
+/// Reads each state along a schedule, until a thread has no step. Each bit of the schedule is a thread.
 fn read_along(
     alloc: Global,
     machine: NatMit,
@@ -116,7 +116,7 @@ fn read_along(
     Ok(())
 }
 
-/// Reads all states of a program that have fewer steps than a schedule. The answer is the kinds of places met.
+/// Reads all states of a program that have fewer steps than a schedule, and returns the kinds of places met.
 fn read_all(alloc: Global, text: &str) -> Result<u32, Broken> {
     let program = program_of(alloc, text)?;
     let mut met = Kinds {
@@ -156,7 +156,7 @@ enum Look {
     Read,
     /// It is read from no bytes that are not all of its label, or too many.
     ReadCut,
-    /// The next one is read where it was read.
+    /// The next one is read in its place.
     ReadAfter,
     /// The labels of its steps are copied from its own.
     Steps,
@@ -245,8 +245,8 @@ fn looked(
     }
 }
 
-/// How many bytes are answered to stand in front of what one thread holds, and the front. What stands behind is then
-/// read once more, alone.
+/// How many bytes `read_whole` counts in front of what one thread holds, and the front. What comes behind is then read
+/// once more, alone.
 fn front_of(alloc: Global, bytes: &[u8]) -> Result<Option<(usize, Front)>, Broken> {
     let mut mem = NatMitMem {
         nodes: Sequence::new(alloc),
@@ -269,7 +269,7 @@ fn front_of(alloc: Global, bytes: &[u8]) -> Result<Option<(usize, Front)>, Broke
     }
 }
 
-/// The same, tried once more where a growth was refused: that happens once at most.
+/// Calls `front_of`, and once more where a growth was refused, which happens once at most.
 fn front_at_last(alloc: Global, bytes: &[u8]) -> Result<Option<(usize, Front)>, Broken> {
     match front_of(alloc, bytes) {
         Err(Broken::OutOfMemory) => front_of(alloc, bytes),
@@ -277,7 +277,7 @@ fn front_at_last(alloc: Global, bytes: &[u8]) -> Result<Option<(usize, Front)>, 
     }
 }
 
-/// A front of so many nodes.
+/// A front of `nodes` nodes and no record.
 fn nodes_in_front(nodes: u16) -> Front {
     Front { nodes, records: 0 }
 }

@@ -38,7 +38,7 @@ const LOST_INSERT_ROWS: [Row; 9] = [
 ];
 
 /// Over 20, 10, 40 and 30 (leaf 7 and node 10 below node 8, node 12 and leaf 9 below node 10), T0 deletes 40 and
-/// inserts 45, T1 deletes 10 and puts node 10 back after T0 has cut it off: 45 stands below it, on the left of 40.
+/// inserts 45, T1 deletes 10 and puts node 10 back after T0 has cut it off: 45 is below it, on the left of 40.
 const LOST_DELETE: &str =
     r#"{"version":1,"tree":"nm-no-tag","initial":[20,10,40,30],"threads":[[{"op":"delete","key":40},{"op":"insert","key":45}],[{"op":"delete","key":10}]]}"#;
 

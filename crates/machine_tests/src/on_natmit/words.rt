@@ -231,7 +231,7 @@ const TAG_AT_A_FLAG_ROWS: [Row; 13] = [
 ];
 
 /// Over 10, 20 and 30 (leaf 5 and node 10 below node 8, leaves 7 and 9 below node 10), T1 is about to cut off node 10
-/// when T0 tags the word that leads there. T1's exchange fails; it searches again, and passes the tag, so that its
+/// when T0 tags the word that points there. T1's exchange fails; it searches again, and passes the tag, so that its
 /// ancestor stays above the tagged word.
 const SWING_AT_A_TAG: &str =
     r#"{"version":1,"tree":"nm","initial":[10,20,30],"threads":[[{"op":"delete","key":10}],[{"op":"delete","key":30}]]}"#;

@@ -4,8 +4,8 @@ ghost use Rattle.std.specs.Prelude.{◌≡◌};
 use std::io;
 use std::io::{ErrorKind, Read};
 
-/// A reader of bytes, one a read, of which the read of this number fails; the first is that of number 0. After the last
-/// byte one more read finds the end. A read that failed fails again.
+/// A reader that gives one byte per read. The read with the number `fails_at` fails; the first one has number 0. After
+/// the last byte one more read finds the end. A read that failed fails again.
 #[derive(Drop)]
 pub struct FailingReader<'a> {
     bytes: &'a [u8],

@@ -1,4 +1,4 @@
-//! What `from_json` answers of texts whose answers are known.
+//! What `from_json` returns for texts whose answers are known.
 
 use crate::program::refused_texts::{
     NOT_JSON, NOT_OBJECT, OF_INITIAL, OF_INITIAL_TWICE, OF_KEY, OF_OP, OF_OPS, OF_THREADS, OF_TREE,

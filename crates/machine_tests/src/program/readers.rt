@@ -1,4 +1,4 @@
-//! Programs out of readers, some of which fail.
+//! Programs read from readers, some of which fail.
 use crate::program::failing::failing;
 use crate::program::refused_texts::{NOT_JSON, OF_KEY, OF_TREE, OF_VERSION};
 use sched_program::{Counted, LoadFault, Program, ProgramFault};
@@ -11,14 +11,14 @@ const NEVER: usize = usize::MAX;
 const TWO_INSERTS: &str =
     r#"{"version":1,"tree":"atomic","initial":[],"threads":[[{"op":"insert","key":1}],[{"op":"insert","key":1}]]}"#;
 
-/// What is told of a text whose read of this number fails, and how many reads the reader counts as failed.
+/// The fault of a text whose read of this number fails, if it has one, and how many failed reads the reader counts.
 fn load_once(alloc: Global, text: &str, fails_at: usize) -> (Option<LoadFault>, u64) {
     let mut reader = Counted::new(failing(text, fails_at));
     let fault = Program::from_reader(alloc, &mut reader).err();
     (fault, reader.failures())
 }
 
-/// The same, at the second try where a growth was refused.
+/// Calls `load_once`, and once more where a growth was refused.
 fn load(alloc: Global, text: &str, fails_at: usize) -> (Option<LoadFault>, u64) {
     let told = load_once(alloc, text, fails_at);
     if told.0 == Some(LoadFault::Program(ProgramFault::OutOfMemory)) {
@@ -27,7 +27,7 @@ fn load(alloc: Global, text: &str, fails_at: usize) -> (Option<LoadFault>, u64) 
     told
 }
 
-/// That a read failed is told alone, and counted once.
+/// Expects that the failed read is the only fault, and is counted once.
 fn expect_device(rt: &(impl AllocGlobal + Abort), text: &str, fails_at: usize) {
     let told = load(rt.alloc(), text, fails_at);
     assert_eq!(rt; told, (Some(LoadFault::Device), 1), "read {fails_at}");
@@ -62,7 +62,7 @@ fn is_read(alloc: Global, text: &str, fails_at: usize) -> bool {
     }
 }
 
-/// It is, at the second try where the first was refused a growth.
+/// Expects that the text is read as the program that it describes. Tries once more where a growth was refused.
 fn expect_read(rt: &(impl AllocGlobal + Abort), text: &str, fails_at: usize) {
     let is_met = is_read(rt.alloc(), text, fails_at) || is_read(rt.alloc(), text, fails_at);
     assert!(rt; is_met, "read {fails_at}");

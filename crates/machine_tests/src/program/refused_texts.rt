@@ -1,4 +1,4 @@
-//! Texts that are no programs, by the fault that is told of them, each with what it shows.
+//! Texts that are no programs, by the fault that is reported for them, each with what it shows.
 
 /// Texts that are no JSON, each with what it shows.
 pub const NOT_JSON: &[(&str, &str)] = &[
@@ -109,7 +109,7 @@ pub const OF_INITIAL: &[(&str, &str)] = &[
     ),
 ];
 
-/// Texts whose first fault is an initial key that stands twice.
+/// Texts whose first fault is an initial key that occurs twice.
 pub const OF_INITIAL_TWICE: &[(&str, &str)] = &[
     (
         "a key twice",

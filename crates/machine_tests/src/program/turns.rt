@@ -4,15 +4,15 @@ use crate::program::from_json::{expect_fault_of_each, expect_program};
 use sched_program::{OpId, Program, ProgramFault};
 use std::process::Abort;
 
-/// Three threads, of which the second and the third wait.
+/// Three threads. The second and the third one wait.
 const WAITING: &str =
     r#"{"version":2,"tree":"nm","initial":[5],"threads":[[{"op":"insert","key":1},{"op":"delete","key":5}],[{"op":"find","key":1,"after":[0,1]},{"op":"find","key":5}],[{"op":"find","key":9,"after":[1,2]},{"after":[0,2],"op":"find","key":9}]]}"#;
 
-/// The same, but for one that waits for less.
+/// `WAITING`, except that one operation waits for less.
 const SOONER: &str =
     r#"{"version":2,"tree":"nm","initial":[5],"threads":[[{"op":"insert","key":1},{"op":"delete","key":5}],[{"op":"find","key":1,"after":[0,1]},{"op":"find","key":5}],[{"op":"find","key":9,"after":[1,1]},{"after":[0,2],"op":"find","key":9}]]}"#;
 
-/// The same of version 1, where none waits.
+/// `WAITING` as a text of version 1, where no operation waits.
 const AT_ONCE: &str =
     r#"{"version":1,"tree":"nm","initial":[5],"threads":[[{"op":"insert","key":1},{"op":"delete","key":5}],[{"op":"find","key":1,"after":[0,1]},{"op":"find","key":5}],[{"op":"find","key":9,"after":[1,2]},{"after":[0,2],"op":"find","key":9}]]}"#;
 

@@ -1,4 +1,4 @@
--- The parts of a memory and of the places held tell them wholly.
+-- The parts of a memory and of the places held determine both.
 use Rattle.std.specs.Prelude.{◌≡◌, ℕ, List, [], ◌∷◌, refl, Option, Some, None}
 use Rattle.std.specs.List.{AllZip}
 use Rattle.std.proofs.Common.{ap, sym, subst, ◌∙◌}
@@ -79,7 +79,7 @@ parts_paired : (a b : Part) → a ≡ b → ArePartsPaired Same Same a b
 parts_paired a b e = subst (ArePartsPaired Same Same a) e
     (record { facts = refl; nodes = names_paired a.nodes; records = names_paired a.records })
 
--- parts tell the memory and the places that they are of
+-- parts determine the memory and the places that they are of
 pub parts_tell : (memory other : NatMitMem) (held others : List (Option NatMitLoc))
     → natmit_parts memory held ≡ natmit_parts other others → (memory ≡ other) × (held ≡ others)
 parts_tell memory other held others e =
@@ -99,7 +99,7 @@ natmit_tells front other_front memory other held others many e =
     (parts_code_tells front other_front (natmit_parts memory held) (natmit_parts other others)
     (length-map held held_part ∙ (many ∙ sym (length-map others held_part))) e).0
 
--- by own numbers all nodes stand in front
+-- by own numbers all nodes come in front
 pub natmit_whole : (memory : NatMitMem) (held : List (Option NatMitLoc)) → (front : Front)
     × (natmit_code memory held ≡ cut_code natmit_front_code natmit_behind_code front memory held)
 natmit_whole memory held = (all_front (natmit_parts memory held), refl)

@@ -66,7 +66,7 @@ module _ (shapes : ℕ → Option Shape) (n k : ℕ)
 present : (memory : NatMitMem) (x : ℕ) (s : Shape) → shapes memory x ≡ Some s → x < length memory.nodes
 present memory x s h = let t = node_of memory x s h in slice_get_within memory.nodes x t.0 t.1
 
--- ---- a key is put in
+-- ---- a key is inserted
 
 module _ (memory : NatMitMem) (k p l : ℕ) where
   appended : (x : ℕ) (node : Node) → slice_get memory.nodes x ≡ Some node

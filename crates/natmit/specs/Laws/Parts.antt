@@ -24,7 +24,7 @@ use Rattle.natmit.specs.Pairs.{AreNodesPaired, AreModesPaired, ArePlacesPaired, 
 use Rattle.natmit.specs.Parts.{bit, mark_number, side_number, owned, part_of, node_part, place_part, held_part}
 use Rattle.natmit.specs.Parts.{natmit_parts}
 
--- ---- facts tell what they are of
+-- ---- facts determine what they are of
 
 bit_tells : (a b : Bool) → bit a ≡ bit b → a ≡ b
 bit_tells false false e = refl

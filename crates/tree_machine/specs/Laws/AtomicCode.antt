@@ -1,4 +1,4 @@
--- What is told of the machine that does each operation at once can be read off its bytes.
+-- The bytes of the machine that does each operation at once determine what they are of.
 use Rattle.std.specs.Prelude.{◌≡◌, ℕ, List, [], ◌∷◌, ◌++◌, Option, Some, None, refl}
 use Rattle.std.specs.List.{flat_map}
 use Rattle.std.proofs.Common.{arith, ap, sym, subst}
@@ -36,7 +36,7 @@ atomic_codes a b e =
     let same = held_readable a.places b.places a.keys b.keys e in
     λ i. record { keys = same.1 i; places = same.0 i }
 
--- there are no numbers to leave out: the bytes of the form tell the keys and what the threads hold
+-- there are no numbers to leave out: the bytes of the form determine the keys and what the threads hold
 pub atomic_tells : TellsWholly (λ keys held. atomic_code (atomic_form keys held))
     (λ keys held. atomic_code (atomic_form keys held))
 atomic_tells keys others held twins many e = let same = held_readable held twins keys others e in (same.1, same.0)

@@ -52,7 +52,7 @@ names_met n r order (None ∷ ns) rs l k h = names_met n r order ns rs l.1 k h
 names_met n r order (Some x ∷ ns) rs l k h =
     let rest = names_met n r order ns rs l.1 k h.1 in ((has_node n order x h.0 l.0, rest.0), rest.1)
 
--- distinct numbers below n, of which the first are n, are these
+-- distinct numbers below n that begin with n of them are just these
 no_more : (n : ℕ) (xs ys : List ℕ) → IsDistinct nat_eq ys → AllByRecursion (λ x. x < n) ys → Extends xs ys
     → length xs ≡ n → ys ≡ xs
 no_more n xs ys d b e l =
@@ -156,7 +156,7 @@ module _ (fixed : ℕ) (s : Parts) (h : ArePartsInRange fixed s) where
     roots_behind =
         as_cells (length s.nodes) nodes records ++ numbers_from (length (parts_graph s)) (length (parts_held s))
 
-    -- nodes stand before records, and these before what is held
+    -- nodes come before records, and these before what is held
     pub rooted_behind : IsRooted (parts_graph s ++ parts_held s) roots_behind
     unfolding roots_behind
     rooted_behind =
@@ -291,7 +291,7 @@ module _ (fixed : ℕ) (s : Parts) (h : ArePartsInRange fixed s) where
         length-numbers_from 0 fixed,
       ))
 
-  -- no fewer are met than what stands in front
+  -- at least as much is met as comes in front
   pub front_nodes_few : length (front_nodes fixed s) ≤ length (met_nodes fixed s)
   front_nodes_few =
       let e = nodes_extended (front_nodes fixed s) (front_records fixed s) front_met in
@@ -309,7 +309,7 @@ module _ (fixed : ℕ) (s : Parts) (h : ArePartsInRange fixed s) where
   unfolding roots_behind
   front_roots = rooted_behind (front_nodes fixed s) (front_records fixed s) front_met
 
-  -- where all nodes stand in front, no more are met, and so for records
+  -- where all nodes come in front, no more are met, and so for records
   pub all_front_nodes : length (front_nodes fixed s) ≡ length s.nodes → met_nodes fixed s ≡ front_nodes fixed s
   all_front_nodes l =
       no_more (length s.nodes) (front_nodes fixed s) (met_nodes fixed s) walk_met.nodes_distinct walk_met.nodes_below

@@ -95,7 +95,7 @@ module _ (P R : ℕ → ℕ → Type 0) (fixed : ℕ) (s t : Parts) (h : ArePart
         (AllZip-weaker _ _ records_kept _ _ (filter_zip (Paired P R s t) _ _ record_tests xs ys z)),
   )
 
-  -- what stands in front is paired, like by like
+  -- what comes in front is paired, like by like
   pub fronts_paired : AllZip P (front_nodes fixed s) (front_nodes fixed t)
       × AllZip R (front_records fixed s) (front_records fixed t)
   fronts_paired =

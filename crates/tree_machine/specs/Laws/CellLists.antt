@@ -76,7 +76,7 @@ numbers_distinct a (suc f) n t l =
     (numbers_all (λ x. a < x) (suc a) f (λ x l k. l)) (numbers_all (λ x. a < x) n t (λ x g k. omega arith))))
     (numbers_distinct (suc a) f n t (omega arith))
 
--- distinct lists of which no element stands in both
+-- distinct lists with no common element
 pub distinct_join : (xs ys : List ℕ) → IsDistinct nat_eq xs → IsDistinct nat_eq ys
     → AllByRecursion (λ x. AllByRecursion (λ y. nat_eq x y ≡ false) ys) xs → IsDistinct nat_eq (xs ++ ys)
 distinct_join [] ys d e h = e

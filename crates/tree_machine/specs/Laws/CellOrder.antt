@@ -15,11 +15,11 @@ use Rattle.std.proofs.Math.Bool.{or-true}
 use Rattle.tree_machine.specs.Cells.{Content, met, met_all, visited, met_in, content_at, order_of, IsRooted}
 use Rattle.tree_machine.specs.Laws.CellSteps.{same_tests}
 
--- x stands in xs
+-- x is in xs
 abbrev pub Has : List ℕ → ℕ → Type 0
 Has xs x = list_any (nat_eq x) xs ≡ true
 
--- each cell that refs name stands in xs
+-- each cell that refs name is in xs
 abbrev pub HasAll : List ℕ → List (Option ℕ) → Type 0
 HasAll xs [] = ⊤
 HasAll xs (None ∷ refs) = HasAll xs refs
@@ -143,7 +143,7 @@ met_all_order n (Some x ∷ refs) order l h = met_all_order n refs (met order x)
 pub length-order : (n : ℕ) (order : List ℕ) → IsOrder n order → length order ≤ n
 length-order n order h = length-le_from_distinct_below order n h.distinct h.below
 
--- what holds of each element holds of one that stands there
+-- what holds of each element holds of one that is there
 pub all_has : (P : ℕ → Type 0) (xs : List ℕ) → AllByRecursion P xs → (x : ℕ) → Has xs x → P x
 all_has P [] h x g = cc
 all_has P (y ∷ xs) h x g = go (λ e. all_has P xs h.1 x e) (or_cases (nat_eq x y) (list_any (nat_eq x) xs) g)
@@ -204,7 +204,7 @@ met_in_extends cells roots (suc n) =
 abbrev IsClosedBelow : List Content → ℕ → List ℕ → Type 0
 IsClosedBelow cells n order = (k x : ℕ) → k < n → slice_get order k ≡ Some x → HasAll order (content_at cells x).refs
 
--- an element that stands before the place n of a longer list, where the shorter one has a place n
+-- an element before the place n of a longer list, where the shorter one has a place n
 get_before : {xs ys : List ℕ} → Extends xs ys → (n z : ℕ) → slice_get xs n ≡ Some z → (k x : ℕ) → k ≤ n
     → slice_get ys k ≡ Some x → slice_get xs k ≡ Some x
 get_before {xs} {ys} e n z at k x le h = go (slice_get xs k) refl

@@ -37,7 +37,7 @@ refs_renamed P one xs ys z (Some x ∷ refs) (Some y ∷ sefs) h =
     let rest = refs_renamed P one xs ys z refs sefs h.1 in
     cc
 
--- what stands in a list has a place there, and stands at it
+-- what is in a list has a place there, and is at it
 pub place_from_has : (xs : List ℕ) (x : ℕ) → Has xs x → (k : ℕ) × (place_in xs x ≡ Some k)
 place_from_has [] x h = cc
 place_from_has (y ∷ xs) x h = go (λ e. place_from_has xs x e) (eqb_tells x y)

@@ -1,4 +1,4 @@
--- A walk of cells goes the same way where others stand behind them.
+-- A walk of cells goes the same way where others come behind them.
 use Rattle.std.proofs.Common.{◌≡◌, ℕ, zero, suc, ◌+◌, List, ◌++◌, length, refl, ◌∙◌, ap, length-append}
 use Rattle.std.specs.Prelude.{slice_get, Option, Some, None}
 use Rattle.tree_machine.specs.Cells.{Content, IsRooted, met_all, visited, met_in, order_of}

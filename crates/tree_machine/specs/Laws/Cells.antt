@@ -13,7 +13,7 @@ use Rattle.tree_machine.specs.Laws.CellOrder.{order_closed}
 use Rattle.tree_machine.specs.Laws.CellPlaces.{refs_renamed, place_from_has, get_place, has_at, among_at, at_among}
 use Rattle.tree_machine.specs.Laws.CellPlaces.{rel_among, zip_one}
 
--- ---- from a pairing to equal answers
+-- ---- from a pairing to equal results
 
 pub map_paired : {A B C : Type 0} (P : A → B → Type 0) (f : A → C) (g : B → C) → ((x : A) (y : B) → P x y → f x ≡ g y)
     → (xs : List A) (ys : List B) → AllZip P xs ys → map f xs ≡ map g ys
@@ -41,7 +41,7 @@ module _ (P : ℕ → ℕ → Type 0) (cells others : List Content) (roots targe
       λ i. record { facts = facts i; refs = refs i })
       (order_of cells roots) (order_of others targets) orders_paired
 
--- ---- from equal answers to a pairing
+-- ---- from equal results to a pairing
 
 pub unmap : {A B C : Type 0} (f : A → C) (g : B → C) (xs : List A) (ys : List B) → map f xs ≡ map g ys
     → AllZip (λ x y. f x ≡ g y) xs ys
@@ -101,7 +101,7 @@ refs_from_renamed xs ys (Some x ∷ refs) (Some y ∷ sefs) h g e =
           (let rest : map (option_and_then (place_in xs)) refs ≡ map (option_and_then (place_in ys)) sefs = cc in rest),
     )
 
--- the places of two orders that make equal answers
+-- the places of two orders that give equal results
 module _ (cells others : List Content) (xs ys : List ℕ) (xs_order : IsOrder (length cells) xs)
     (ys_order : IsOrder (length others) ys) where
   pairing_from_orders : (roots targets : List ℕ) → length roots ≡ length targets → Extends roots xs → Extends targets ys
@@ -128,7 +128,7 @@ module _ (cells others : List Content) (xs ys : List ℕ) (xs_order : IsOrder (l
             (ap (λ c. c.refs) (rel_among _ xs ys same x y h));
       }
 
--- two answers are equal exactly if some set of pairs is a pairing
+-- two results are equal exactly if some set of pairs is a pairing
 pub canonical_exactly : (cells others : List Content) (roots targets : List ℕ) → IsRooted cells roots
     → IsRooted others targets → length roots ≡ length targets → (canonical cells roots ≡ canonical others targets)
     ↔ CanBePaired cells roots others targets

@@ -1,4 +1,4 @@
--- Bytes tell what they are of: nodes, records and what threads hold, and states.
+-- Bytes determine what they are of: nodes, records and what threads hold, and states.
 use Rattle.std.proofs.Common.{◌≡◌, ℕ, ◌/◌, ◌%◌, ◌⊎◌, List, [], ◌∷◌, ◌++◌, map, length, take, drop, replicate}
 use Rattle.std.proofs.Common.{refl, sym, ◌∙◌, ap, inl, inr, arith, append_assoc, append-nil, length-append}
 use Rattle.std.specs.Prelude.{Option}
@@ -14,7 +14,7 @@ use Rattle.tree_machine.specs.Laws.FormCode.{content_readable, halves}
 use Rattle.tree_machine.specs.declared.state.Thread.{Thread}
 use Rattle.tree_machine.specs.declared.state.State.{State}
 
--- a list is told by its values under a map that tells what it is of
+-- under a one-to-one map, the values of a list determine the list
 pub map_tells : {X Y : Type 0} (f : X → Y) → ((x y : X) → f x ≡ f y → x ≡ y) → (xs ys : List X) → map f xs ≡ map f ys
     → xs ≡ ys
 map_tells f tells [] [] e = refl

@@ -1,4 +1,4 @@
--- Bytes tell the numbers and the cells that they begin with.
+-- Bytes determine the numbers and the cells that they begin with.
 use Rattle.std.proofs.Common.{◌≡◌, ℕ, zero, suc, ◌+◌, ◌*◌, ◌/◌, ◌%◌, ◌<◌, ◌⊎◌, Bool, true, false, List, []}
 use Rattle.std.proofs.Common.{◌∷◌, ◌++◌, map, length, replicate, refl, sym, ◌∙◌, ap, inl, inr, arith, append_assoc}
 use Rattle.std.specs.Prelude.{Option, Some, None, nat_lt}
@@ -34,7 +34,7 @@ number_split n m xs ys e =
     ap (λ k. 255 * k + n % 255) split.0 ∙ ap (λ r. 255 * (m / 255) + r) split.1 in
     (sym (div-add-mod n 255) ∙ (same ∙ div-add-mod m 255), split.2)
 
--- ---- as many numbers as are told
+-- ---- equally many numbers
 
 codes_split : (ns ms : List ℕ) (xs ys : List ℕ) → length ns ≡ length ms
     → flat_map number_code ns ++ xs ≡ flat_map number_code ms ++ ys → (ns ≡ ms) × (xs ≡ ys)
@@ -55,7 +55,7 @@ codes_split (n ∷ ns) (m ∷ ms) xs ys l e =
 
 -- ---- facts
 
--- facts that a head of one byte tells, or the long code of all
+-- facts whose code is a head of one byte and the other facts, or the long code of all
 Told : List ℕ → ℕ → Type 0
 Told facts refs =
     ((first : ℕ) × (more : List ℕ) × (facts ≡ first ∷ more) × (first < 6) × (length more < 5) × (refs < 8)

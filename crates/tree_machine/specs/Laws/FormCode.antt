@@ -1,4 +1,4 @@
--- What the form of a state tells can be read off its bytes, so that two forms are equal where their bytes are.
+-- The content of the form of a state can be read off its bytes, so that two forms are equal where their bytes are.
 use Rattle.std.specs.Prelude.{◌≡◌, ℕ, ◌/◌, ◌%◌, Bool, true, false, if◌then◌else◌, List, [], ◌∷◌, ◌++◌, length, Option}
 use Rattle.std.specs.Prelude.{Some, None, nat_eq}
 use Rattle.std.specs.Cmp.{IsEquivalence}
@@ -19,7 +19,7 @@ use Rattle.tree_machine.specs.Laws.Packed.{replies_least}
 use Rattle.tree_machine.specs.Laws.ShortNotes.{counts_of_number, number_below}
 use Rattle.tree_machine.specs.Packed.{counts_in, is_short, note_number, replies_number}
 
--- whatever stands behind it, what is coded and where its bytes end can be read off
+-- whatever comes behind it, what is coded and where its bytes end can be read off
 abbrev IsReadable : {A : Type 0} → (A → List ℕ) → Type 0
 IsReadable {A} code = (x y : A) (xs ys : List ℕ) → code x ++ xs ≡ code y ++ ys → (x ≡ y) × (xs ≡ ys)
 
@@ -115,7 +115,7 @@ astray_readable (Some t) (Some u) xs ys e =
     let rest : xs ≡ ys = cc in
     (ap Some same, rest)
 
--- what bytes tell is compared as they are
+-- comparing bytes returns what comparing their values returns
 pub codes_same : {A : Type 0} (code : A → List ℕ) → IsInjective code → (E : A → A → Bool) → IsExact E
     → IsEquivalence E → (a b : A) → pointwise nat_eq (code a) (code b) ≡ E a b
 codes_same {A} code readable E exact equivalence a b =

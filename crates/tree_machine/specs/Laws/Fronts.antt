@@ -1,5 +1,5 @@
--- What stands in front: canonical parts are met in the order of their numbers, and where parts are,
--- the front is their own.
+-- What comes in front: canonical parts are met in the order of their numbers, and where parts are, the front is their
+-- own.
 use Rattle.std.proofs.Common.{◌≡◌, ℕ, zero, suc, ◌+◌, ◌<◌, ◌≤◌, ◌⊎◌, inl, inr, List, [], ◌∷◌, ◌++◌, map, length, refl}
 use Rattle.std.proofs.Common.{take, drop, sym, ◌∙◌, ap, subst, arith, zero-add, add-zero, append-nil, length-append}
 use Rattle.std.specs.Prelude.{slice_get, Option, Some, None, nat_eq, IfSome}
@@ -57,7 +57,7 @@ front_placed xs ys e = go 0 xs (λ i x at. among_places ys x (0 + i)
           subst (λ k. IsAmong (places ys) z k) same (h (suc i) z at)),
     )
 
--- names below f have themselves as places where the numbers below f stand first
+-- where the numbers below f come first, names below f have themselves as places
 own_names : (f : ℕ) (xs : List ℕ) → IsDistinct nat_eq xs → Extends (numbers_from 0 f) xs → (refs : List (Option ℕ))
     → AllByRecursion (λ r. IfSome r (λ x. x < f)) refs → map (option_and_then (place_in xs)) refs ≡ refs
 own_names f xs d e [] h = refl
@@ -70,7 +70,7 @@ own_names f xs d e (Some x ∷ refs) h =
 
 module _ (f g : ℕ) (xs ys : List ℕ) (xs_distinct : IsDistinct nat_eq xs) (ys_distinct : IsDistinct nat_eq ys)
     (xs_first : Extends (numbers_from 0 f) xs) (ys_first : Extends (numbers_from 0 g) ys) where
-  -- a part that names what stands first is its own
+  -- a part that names only what comes first is unchanged by the renaming
   pub own_part : (p : Part) → IsPartBelow f g p → renamed_part xs ys p ≡ p
   own_part p h =
       let nodes = own_names f xs xs_distinct xs_first p.nodes (recursion_from_All _ _ h.nodes) in
@@ -164,7 +164,7 @@ module _ (fixed : ℕ) (front : Front) (t : Parts) (h : ArePartsInRange fixed t)
       let records = ap length m.records ∙ length-numbers_from 0 front.records in
       λ i. record { nodes = nodes i; records = records i }
 
-  -- and there are so many
+  -- there are at least as many parts as the front counts
   pub nodes_within : front.nodes ≤ length t.nodes
   nodes_within =
       let short =
@@ -203,7 +203,7 @@ module _ (fixed : ℕ) (front : Front) (t : Parts) (h : ArePartsInRange fixed t)
       own_part front.nodes front.records (met_nodes fixed t) (met_records fixed t) met.nodes_distinct
       met.records_distinct nodes_first records_first
 
-  -- what stands in front of the canonical parts is what stands in front of the parts
+  -- the canonical parts and the parts themselves have the same in front
   pub front_nodes_own : take front.nodes (canonical_parts fixed t).nodes ≡ take front.nodes t.nodes
   front_nodes_own =
       first_parts (λ x. renamed_part (met_nodes fixed t) (met_records fixed t) (part_at t.nodes x)) front.nodes
@@ -227,7 +227,7 @@ module _ (fixed : ℕ) (front : Front) (t : Parts) (h : ArePartsInRange fixed t)
       ap (λ f. front_code f (canonical_parts fixed t)) front_is
       ∙ (λ i. graph_code (front_nodes_own i) (front_records_own i))
 
-  -- where all stand in front, the parts are canonical
+  -- where all come in front, the parts are canonical
   module _ (all_nodes : front.nodes ≡ length t.nodes) (all_records : front.records ≡ length t.records) where
     whole : (ps qs : List Part) (n : ℕ) → n ≡ length qs → length ps ≡ length qs → take n ps ≡ take n qs → ps ≡ qs
     whole [] [] n e l h = refl
@@ -336,7 +336,7 @@ least_is f r ps l k one =
 pub cut_code_is : (front : Front) (s : Parts) → front_code (cut_front front s) s ≡ front_code front s
 cut_code_is front s = λ i. graph_code (take_cut front.nodes s.nodes i) (take_cut front.records s.records i)
 
--- by own numbers all that was read stands in front
+-- by own numbers all that was read comes in front
 pub own_parts_code : (s : Parts) → parts_code (all_front s) s ≡ graph_code s.nodes s.records ++ part_codes s.held
 own_parts_code s =
     (λ i. graph_code (take_every s.nodes i) (take_every s.records i)
@@ -387,7 +387,7 @@ canonical_completes fixed front s range met =
     let is = front_is fixed (cut_front front s) s range met in
     λ i. (sym (own ∙ cut_code_is front s)) i ++ behind_code (sym is i) (canonical_parts fixed s)
 
--- where all stand in front, only what the threads hold stands behind it
+-- where all come in front, only what the threads hold comes behind
 pub behind_all : (fixed : ℕ) (front : Front) (s : Parts) → ArePartsInRange fixed s
     → IsMetInOrder fixed (cut_front front s) s → length (take front.nodes s.nodes) ≡ length s.nodes
     → length (take front.records s.records) ≡ length s.records

@@ -1,5 +1,5 @@
--- Keys that are put into a tree one after the other, each below the leaf to which it leads, leave the tree in search
--- order.
+-- Keys that are inserted into a tree one after the other, each below the leaf that a search for it reaches, leave the
+-- tree in search order.
 use Rattle.std.specs.Prelude.{◌≡◌, ◌≢◌, ℕ, zero, suc, ◌<◌, ◌≤◌, min, max, nat_lt, if◌then◌else◌, List, [], ◌∷◌, fold}
 use Rattle.std.specs.Prelude.{refl, Option, Some, None, All, AllPairs, slice_index_or}
 use Rattle.std.proofs.Common.{arith, sym, ◌∙◌, ap, subst, ◌⊎◌, inl, inr}
@@ -11,7 +11,7 @@ use Rattle.tree_machine.specs.declared.search_order.Shape.TheVariants.{Leaf, Int
 use Rattle.tree_machine.specs.SearchOrder.{IsNodeOrdered, IsOrderedWithin, KeepsSearchOrder, end_of}
 use Rattle.tree_machine.specs.Laws.SearchOrder.{apart, some_level, more_levels, of_node, end_at_leaf, end_below}
 
--- before and after a key was put in, where the search for it ends: a new node took the place of the leaf
+-- before and after a key was inserted where the search for it ends: a new node took the place of the leaf
 pub record IsPutIn (before after : ℕ → Option Shape) (key : ℕ) (end : End) : Type 0 where
   pub new : ℕ
   -- every node but the parent stays
@@ -28,7 +28,7 @@ pub record IsPutIn (before after : ℕ → Option Shape) (key : ℕ) (end : End)
   pub leaves : (m l r i j x : ℕ) → before end.parent ≡ Some (Internal m l r) → before end.leaf ≡ Some (Leaf j)
       → after x ≡ Some (Leaf i) → (i ≡ key) ⊎ ((y : ℕ) × (before y ≡ Some (Leaf i)))
 
--- node x after a key was put in below it
+-- node x after a key was inserted below it
 record IsGrown (before after : ℕ → Option Shape) (end : End) (levels low high x : ℕ) : Type 0 where
   parent_key : ℕ
   parent_left : ℕ
@@ -248,7 +248,7 @@ module _ (before after : ℕ → Option Shape) (key : ℕ) (end : End) (put : Is
               (subst (λ b. end_of before key f x (if b then l else r) ≡ end) t.0 on)))
         ]
 
-    -- the tree at node x stays in order where the key is put in below it
+    -- the tree at node x stays in order where the key is inserted below it
     descend : (levels fuel low high parent x : ℕ) → levels ≤ fuel → IsOrderedWithin before levels low high x → low ≤ key
         → key < high → end_of before key fuel parent x ≡ end
         → IsReached before end low high parent x ⊎ IsGrown before after end levels low high x
@@ -259,7 +259,7 @@ module _ (before after : ℕ → Option Shape) (key : ℕ) (end : End) (put : Is
         (λ low high parent x o from under ends. descend n f low high parent x (omega arith) o from under ends) low
         high parent x (before x) refl o from under ends
 
--- memories into which keys are put, one after the other
+-- memories into which keys are inserted, one after the other
 module _ {Memory : Type 0} (shapes : Memory → ℕ → Option Shape) (count : Memory → ℕ) (put_in : Memory → ℕ → Memory)
     (puts : (memory : Memory) (key : ℕ) → IsPutIn (shapes memory) (shapes (put_in memory key)) key
     (end_of (shapes memory) key (count memory) 0 0))

@@ -58,7 +58,7 @@ places_one xs d x y a b h g =
       λ e. (let k : Some x ≡ Some a = sym at ∙ (ap (slice_get xs) e ∙ bt) in cc),
     )
 
--- names that all stand in a list are paired with their places
+-- names that are all in a list are paired with their places
 pub refs_placed : (xs : List ℕ) (refs : List (Option ℕ)) → HasAll xs refs
     → AllZip (IsPairedOrNone (IsAmong (places xs))) refs (map (option_and_then (place_in xs)) refs)
 refs_placed xs [] h = tt

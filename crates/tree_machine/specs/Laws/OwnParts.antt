@@ -12,7 +12,7 @@ use Rattle.tree_machine.specs.Laws.CellLists.{numbers_distinct}
 use Rattle.tree_machine.specs.Laws.PartCells.{part_all}
 use Rattle.tree_machine.specs.Laws.Fronts.{first_parts, own_part, take_every}
 
--- the numbers below n stand first among more
+-- the numbers below n come first among more
 pub numbers_front : (a n k : ℕ) → n ≤ k → Extends (numbers_from a n) (numbers_from a k)
 numbers_front a zero k l = record { rest = numbers_from a k; is = refl }
 numbers_front a (suc n) zero l = absurd (omega arith)

@@ -29,7 +29,7 @@ replies_least (reply ∷ replies) = let least = replies_least replies in omega a
 
 -- ---- from a number to its replies and back
 
--- a number below the power of two behind so many digits is that of its digits
+-- a number with at most this many digits below its leading one is that of its digits
 pub number_of_digits : (most n : ℕ) → 0 < n → n < 2 * 2 ^ most → replies_number (digits_of most n) ≡ n
 number_of_digits zero n least below = omega arith
 number_of_digits (suc most) n least below = go (λ l b. number_of_digits most (n / 2) l b) (leb_tells n 1)
@@ -80,7 +80,7 @@ digits_of_number (suc most) (reply ∷ replies) few =
 
 -- ---- how many there are, and each of them
 
--- as many digits as the power of two that the number reaches
+-- a number from 2 ^ k on and below 2 * 2 ^ k has k digits below its leading one
 pub digits_length : (most k n : ℕ) → k ≤ most → 2 ^ k ≤ n → n < 2 * 2 ^ k → length (digits_of most n) ≡ k
 digits_length zero k n few reaches below = omega arith
 digits_length (suc most) zero n few reaches below =
@@ -155,7 +155,7 @@ replies_below (false ∷ replies) =
     let double : 2 ^ suc (length replies) ≡ 2 ^ length replies + 2 ^ length replies = two-pow-succ (length replies) in
     omega (arith, rest, double)
 
--- ---- the same of six replies at most
+-- ---- six replies at most
 
 pub replies_back : (n : ℕ) → 0 < n → n < 128 → replies_number (replies_in n) ≡ n
 unfolding replies_in
@@ -181,7 +181,7 @@ power_few k n reaches below = go (leb_tells k 6)
     go (inl t) = t.1
     go (inr t) = let power : 2 ^ 7 ≤ 2 ^ k = pow_mono t.1 in absurd (omega arith)
 
--- a reply is put behind those of a number
+-- a reply is appended to those of a number
 pub reply_pushed : (n : ℕ) (reply : Bool) → 0 < n → n < 128 → length (replies_in n) < 6
     → replies_in (n + (if reply then 2 * 2 ^ length (replies_in n) else 2 ^ length (replies_in n)))
     ≡ replies_in n ++ reply ∷ []
@@ -208,7 +208,7 @@ pushed_below n reply least below few =
     let power : 2 ^ length (replies ++ reply ∷ []) ≤ 64 = pow_mono longer in
     omega (arith, more, most, power, is_number)
 
--- both, where what is added is told
+-- both, where what is added is given
 pub pushed : (n more count : ℕ) (reply : Bool) (old : List Bool) → replies_in n ≡ old → 0 < n → n < 128
     → length old < 6 → count ≡ length old → more ≡ (if reply then 2 * 2 ^ count else 2 ^ count)
     → (n + more < 128) × (replies_in (n + more) ≡ old ++ reply ∷ [])

@@ -23,7 +23,7 @@ use Rattle.tree_machine.specs.Laws.MetLists.{number_at, places, among_places, pl
 abbrev pub IsPartMet : List ℕ → List ℕ → Part → Type 0
 IsPartMet nodes records p = HasAll nodes p.nodes × HasAll records p.records
 
--- these nodes and records stand once each and begin with the fixed nodes, and what they name is among them
+-- these nodes and records are distinct and begin with the fixed nodes, and what they name is among them
 pub record AreMet (fixed : ℕ) (s : Parts) (nodes records : List ℕ) : Type 0 where
   pub nodes_distinct : IsDistinct nat_eq nodes
   pub records_distinct : IsDistinct nat_eq records

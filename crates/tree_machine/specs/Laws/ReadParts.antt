@@ -69,7 +69,7 @@ module _ {X : Type 0} (f : X → Part) where
   take_front (suc n) [] more l = absurd (omega arith)
   take_front (suc n) (x ∷ old) more l = ap (λ xs. f x ∷ xs) (take_front n old more (omega arith))
 
-  -- all that was read stands in front
+  -- all that was read comes in front
   pub take_read : (xs : List X) (count : ℕ) → length xs ≡ count → take count (map f xs) ≡ map f xs
   take_read [] count l = take_none count
   take_read (x ∷ xs) zero l = absurd (omega arith)
@@ -77,7 +77,7 @@ module _ {X : Type 0} (f : X → Part) where
 
 -- ---- what the threads hold
 
--- one value more is read, and put into its place
+-- one value more is read, and stored at its place
 pub one_more_read : {X : Type 0} (code : X → List ℕ) (xs : List X) (i : ℕ) (x : X) (bytes rest behind : List ℕ)
     → i < length xs → bytes ≡ flat_map code (take i xs) ++ rest → rest ≡ code x ++ behind
     → bytes ≡ flat_map code (take (i + 1) (slice_set xs i x)) ++ behind
@@ -87,7 +87,7 @@ one_more_read code xs i x bytes rest behind within so_far next =
     ∙ ap (λ l. l ++ behind) (flat_map_more code [] (take i xs) x)
     ∙ ap (λ l. flat_map code l ++ behind) (sym (take_more_set xs i x within))
 
--- what a value that is put in the place of another has as that one had it
+-- where a value and its replacement have the same f, the list has the same map of f
 pub kept_at : {X A : Type 0} (f : X → A) (xs : List X) (i : ℕ) (x d : X) → f x ≡ f (slice_index_or xs i d)
     → map f (slice_set xs i x) ≡ map f xs
 kept_at f [] i x d same = refl
@@ -100,7 +100,7 @@ places_coded f [] = refl
 places_coded f (thread ∷ threads) =
     ap (λ l. cell_code (part_content (f thread.place)) ++ l) (places_coded f threads)
 
--- as many bytes as stand before the last ones
+-- the bytes in front of the last ones
 pub front_taken : (bytes front rest : List ℕ) → bytes ≡ front ++ rest → take (length bytes - length rest) bytes ≡ front
 front_taken bytes front rest e =
     let lengths = ap length e ∙ length-append front rest in

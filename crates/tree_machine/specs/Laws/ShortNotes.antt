@@ -93,7 +93,7 @@ counts_of_number (a ∷ b ∷ c ∷ d ∷ []) h =
 counts_of_number (a ∷ b ∷ c ∷ d ∷ e ∷ counts) h =
     let few = (short_parts (a ∷ b ∷ c ∷ d ∷ e ∷ counts) h).0 in absurd (omega (arith, few))
 
--- a number with no digit behind so many is that of its counts
+-- a number with no digit behind its k counts is that of its counts
 pub number_of_counts : (n k : ℕ) → n / 4096 ≡ k → n < 20480 → n % 4096 / 2 ^ (3 * k) ≡ 0
     → note_number (counts_in n) ≡ n
 unfolding counts_in

@@ -1,4 +1,4 @@
--- Want of memory has its own status.
+-- Running out of memory has its own status.
 use Rattle.std.proofs.Common.{refl}
 use Rattle.treesched.proofs.ended.Goals as goal
 

@@ -1,4 +1,4 @@
--- The step is put as the state that it leads to, with what is found there.
+-- The step is appended as the state that it reaches, with its finding.
 use Rattle.std.proofs.Common.{ap, Err, refl, ◌∙◌}
 use Rattle.book.specs.Findings.{machine_of, IsFindingOf}
 use Rattle.book.proofs.ThreadSteps.{puts_next}

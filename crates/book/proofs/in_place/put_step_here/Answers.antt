@@ -1,4 +1,4 @@
--- What is put of the decoded state is right for each state with the label, and the decoded state is what it was.
+-- The step appended for the decoded state is right for each state with the label, and the decoded state is what it was.
 use Rattle.std.proofs.Common.{ap, refl, Err, sym, ◌∙◌}
 use Rattle.tree_machine.proofs.Forms.{numbers_fit}
 use Rattle.book.specs.Findings.{IsFindingOf}

@@ -1,4 +1,4 @@
--- The steps are put thread by thread, and after each the state is what it was.
+-- The steps are appended thread by thread, and after each the state is what it was.
 use Rattle.std.proofs.Common.{◌≡◌, ◌≤◌, length, ap, refl, subst, arith, ◌∙◌}
 use Rattle.book.specs.Findings.{machine_of, IsFindingOf}
 use Rattle.book.specs.ByLabel.{label_in}

@@ -12,7 +12,7 @@ use Rattle.book.proofs.Left.{grown_front, grown_same}
 use Rattle.book.proofs.SlotLemmas.{no_steps, one_step, put_step, step_row}
 use Rattle.book.proofs.placing.put_step.Goals as goal
 
--- the row of a step is put in
+-- the row of a step is inserted
 module _ {S : Type 0} (es new : List (List ℕ × Entry S)) (i : ℕ) (one : Successor (List ℕ)) (row : Entry S) (s : S)
     (put : new ≡ es ++ unlisted same_label (keys_of es) ((one.state, row) ∷ []))
     (is : row ≡ record {

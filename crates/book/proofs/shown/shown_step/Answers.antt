@@ -1,4 +1,4 @@
--- What is there is what stands in the place of it.
+-- A value that is there is the one that `unwrap_or` returns.
 use Rattle.std.proofs.Common.{◌≡◌, sym, ap, Option, Some, None, IsSome, true≢false}
 use Rattle.std.specs.Prelude.{unwrap_or}
 use contract.BorrowLft.{⊑_meet, ⊑_static}

@@ -1,4 +1,4 @@
--- All seats of the counter are given back.
+-- All seats of the counter are returned.
 use Rattle.std.proofs.Common.{rules, ◌∙◌, slice_set}
 use Rattle.claims.proofs.Turns.{one_each}
 use Rattle.crew_tests.proofs.drawing.draw_each_once.Goals as goal

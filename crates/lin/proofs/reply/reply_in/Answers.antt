@@ -1,4 +1,4 @@
--- Where the operation stands in the order, it replies as on the keys that those before it leave.
+-- Where the operation is in the order, it replies as on the keys that those before it leave.
 use Rattle.std.proofs.Common.{◌≡◌, suc, true, ◌∷◌, drop, ap, sym, ◌∙◌, rules, drop-cons}
 use Rattle.sched_program.specs.Name.{same_name}
 use Rattle.lin.specs.KeySet.{keys_in}

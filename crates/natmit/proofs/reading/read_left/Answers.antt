@@ -1,4 +1,4 @@
--- Where some nodes are left, and nothing stands behind them, all bytes were read.
+-- Where some nodes are left, and nothing comes behind them, all bytes were read.
 use Rattle.std.proofs.Common.{◌≡◌, ℕ, ◌<◌, List, [], ◌∷◌, ◌++◌, length, map, sym, ap, ◌∙◌, append-nil, arith}
 use Rattle.std.proofs.lemmas.Bool.{eqb-true}
 use Rattle.std.proofs.lemmas.List.{nil_from_length}

@@ -4,7 +4,7 @@ use Rattle.natmit.specs.declared.memory.Node.{Node}
 use Rattle.natmit.specs.Parts.{node_part}
 use Rattle.natmit.proofs.reading.read_nodes.Given as goal
 
--- so many are read, where there is place for all of them
+-- one node for each pass is read, with capacity for all of them
 abbrev pub invariant-loop-each : goal.invariant-loop-each
 invariant-loop-each l =
     record {

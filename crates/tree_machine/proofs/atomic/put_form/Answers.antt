@@ -1,4 +1,4 @@
--- What the threads hold, a 0 and the keys stand one behind the other.
+-- What the threads hold, a 0 and the keys come one behind the other.
 use Rattle.std.proofs.Common.{refl, ◌∷◌, []}
 use Rattle.std.specs.List.{flat_map}
 use Rattle.tree_machine.specs.Alike.{places_of}

@@ -3,7 +3,7 @@ use Rattle.std.specs.List.{flat_map}
 use Rattle.tree_machine.specs.FormCode.{list_code, note_code}
 use Rattle.tree_machine.proofs.coded.put_all_notes.Given as goal
 
--- the notes of the threads so far are put, at places that are there
+-- the notes of the threads so far are written, within the slice
 abbrev pub invariant-loop-thread : goal.invariant-loop-thread
 invariant-loop-thread g l =
     record {

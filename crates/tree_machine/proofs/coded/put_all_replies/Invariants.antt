@@ -3,7 +3,7 @@ use Rattle.std.specs.List.{flat_map}
 use Rattle.tree_machine.specs.FormCode.{replies_code}
 use Rattle.tree_machine.proofs.coded.put_all_replies.Given as goal
 
--- the replies of the threads so far are put, at places that are there
+-- the replies of the threads so far are written, within the slice
 abbrev pub invariant-loop-thread : goal.invariant-loop-thread
 invariant-loop-thread g l =
     record {

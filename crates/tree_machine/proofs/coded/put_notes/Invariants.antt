@@ -3,7 +3,7 @@ use Rattle.std.specs.List.{flat_map}
 use Rattle.tree_machine.specs.FormCode.{note_code}
 use Rattle.tree_machine.proofs.coded.put_notes.Given as goal
 
--- the notes so far are put, at places that are there
+-- the notes so far are written, within the slice
 abbrev pub invariant-loop-note : goal.invariant-loop-note
 invariant-loop-note l =
     record {

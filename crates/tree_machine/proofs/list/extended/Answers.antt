@@ -1,4 +1,4 @@
--- More values are put behind the list's own, and those behind none.
+-- More values are appended to the list's own, and those to none.
 use Rattle.tree_machine.proofs.Pieces.{one_behind_other}
 use Rattle.std.proofs.Common.{◌∙◌}
 use Rattle.tree_machine.proofs.list.extended.Goals as goal

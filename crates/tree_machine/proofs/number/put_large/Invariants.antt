@@ -1,7 +1,7 @@
 use Rattle.std.proofs.Common.{◌≡◌, ◌≤◌, ◌++◌, length, replicate}
 use Rattle.tree_machine.proofs.number.put_large.Given as goal
 
--- so many bytes 255 are put
+-- one byte 255 for each pass is written
 abbrev pub invariant-loop-whole : goal.invariant-loop-whole
 invariant-loop-whole l =
     record {

@@ -1,4 +1,4 @@
--- A small number is one byte, and a large one is put by the call.
+-- A small number is one byte, and a large one is written by the call.
 use Rattle.std.proofs.Common.{◌++◌, ap, sym, ◌∙◌}
 use Rattle.tree_machine.specs.Laws.SmallCodes.{small_code}
 use Rattle.tree_machine.proofs.number.put_number.Goals as goal

@@ -15,7 +15,7 @@ walk_all-requires-clause-rooted g c =
     ∙ append-nil (numbers_from 0 c.args.fixed) in
     subst (IsRooted (parts_graph s ++ parts_held s)) (sym is) (fixed_cells c.args.fixed s c.requires)
 
--- the walk met what the fixed nodes lead to
+-- the walk met what the fixed nodes reach
 pub returns : goal.returns
 returns g c =
     let s = g.P.Parts.parts c.args.parts.now in

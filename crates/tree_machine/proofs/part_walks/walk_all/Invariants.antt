@@ -3,7 +3,7 @@ use Rattle.tree_machine.specs.Cells.{met_in}
 use Rattle.tree_machine.specs.Parts.{parts_graph, parts_held}
 use Rattle.tree_machine.proofs.part_walks.walk_all.Given as goal
 
--- so many visits are done
+-- the visits so far are done
 abbrev pub invariant-loop-visits : goal.invariant-loop-visits
 invariant-loop-visits g l =
     let s = g.P.Parts.parts l.parts in

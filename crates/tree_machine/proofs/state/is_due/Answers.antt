@@ -1,4 +1,4 @@
--- An operation that waits is due where the other thread has finished as many as are waited for.
+-- An operation that waits may begin once the other thread has finished the number of operations waited for.
 use Rattle.std.proofs.Common.{rules, ◌≡◌, ◌<◌, length, get_or, refl, arith}
 use Rattle.std.proofs.lemmas.Option.{slice_get_read}
 use Rattle.tree_machine.proofs.Steps.{due_by}

@@ -1,4 +1,4 @@
--- The next operation is the one found, where it is due.
+-- The next operation is the one found, if it may begin.
 use Rattle.std.proofs.Common.{rules, ◌≡◌, ◌<◌, length, get_or, refl, arith}
 use Rattle.std.specs.Option.{option_copied}
 use Rattle.std.proofs.lemmas.Option.{slice_get_read}

@@ -1,4 +1,4 @@
--- Where the bytes begin with those in front, what stands behind these tells the rest.
+-- Where the bytes begin with those in front, what comes behind these shows the rest.
 use Rattle.std.proofs.Common.{◌≡◌, ℕ, true, List, ◌++◌, length, take, drop, nat_eq, sym, ◌∙◌}
 use Rattle.std.specs.Cmp.Lexicographic.{pointwise}
 use Rattle.std.proofs.lemmas.List.{take-append-drop}

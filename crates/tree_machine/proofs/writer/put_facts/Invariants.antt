@@ -3,7 +3,7 @@ use Rattle.std.specs.List.{flat_map}
 use Rattle.tree_machine.specs.Flat.{number_code}
 use Rattle.tree_machine.proofs.writer.put_facts.Given as goal
 
--- the facts so far are put, at places that are there
+-- the facts so far are written, within the slice
 abbrev pub invariant-loop-fact : goal.invariant-loop-fact
 invariant-loop-fact l =
     record {

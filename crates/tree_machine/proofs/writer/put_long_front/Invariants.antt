@@ -3,7 +3,7 @@ use Rattle.std.specs.List.{flat_map}
 use Rattle.tree_machine.specs.Flat.{number_code}
 use Rattle.tree_machine.proofs.writer.put_long_front.Given as goal
 
--- the facts so far are put behind the counts
+-- the facts so far are written behind the counts
 abbrev pub invariant-loop-fact : goal.invariant-loop-fact
 invariant-loop-fact l =
     record {

@@ -3,7 +3,7 @@ use Rattle.std.specs.List.{flat_map}
 use Rattle.tree_machine.specs.Written.{name_code}
 use Rattle.tree_machine.proofs.writer.put_names.Given as goal
 
--- the names so far are put
+-- the names so far are written
 abbrev pub invariant-loop-name : goal.invariant-loop-name
 invariant-loop-name l =
     record {

@@ -1,4 +1,4 @@
--- The rule that clap is told of, argument by argument.
+-- The rule that is declared to clap, argument by argument.
 use Rattle.std.proofs.Common.{rules}
 use Rattle.treesched_lib.proofs.command.steps.Goals as goal
 

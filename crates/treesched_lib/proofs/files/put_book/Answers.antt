@@ -1,4 +1,4 @@
--- The text goes out whole, or the output tells that it did not.
+-- The text goes out whole, or the output says that it did not.
 use Rattle.std.proofs.Common.{rules}
 use Rattle.treesched_lib.proofs.files.put_book.Goals as goal
 

@@ -1,4 +1,4 @@
--- An answer for every schedule tells the states too.
+-- An answer for every schedule names the number of states too.
 use Rattle.std.proofs.Common.{rules}
 use Rattle.treesched_lib.proofs.lines.put_answer.Goals as goal
 

@@ -1,4 +1,4 @@
--- No reply is told as pending.
+-- Where there is no reply, `pending` is written.
 use Rattle.std.proofs.Common.{rules}
 use Rattle.treesched_lib.proofs.lines.put_reply.Goals as goal
 

@@ -1,4 +1,4 @@
--- Where the standard output was cut off, the status tells it.
+-- Where the standard output was cut off, the status says so.
 use Rattle.std.proofs.Common.{◌≡◌, ◌+◌, ◌∙◌, ℕ, Result, Ok, Err, true, ap, inr, refl, sym}
 use Rattle.std.specs.Result.{is_err}
 use Rattle.treesched_lib.specs.Devices.{failed_writes}

@@ -1,4 +1,4 @@
--- The name of the fault stands before its line.
+-- The name of the fault comes before its line.
 use Rattle.std.proofs.Common.{rules}
 use Rattle.treesched_lib.proofs.refusals.check_fault_text.Goals as goal
 

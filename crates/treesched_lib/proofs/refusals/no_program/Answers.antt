@@ -1,4 +1,4 @@
--- The fault is not want of memory, and is told by its name.
+-- The fault is not that memory ran out, and the refusal has its name.
 use Rattle.std.proofs.Common.{rules}
 use Rattle.treesched_lib.proofs.refusals.no_program.Goals as goal
 

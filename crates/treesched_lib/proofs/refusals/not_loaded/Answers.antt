@@ -1,4 +1,4 @@
--- A failed read tells the file.
+-- The refusal of a failed read names the file.
 use Rattle.std.proofs.Common.{rules}
 use Rattle.treesched_lib.proofs.refusals.not_loaded.Goals as goal
 

@@ -1,4 +1,4 @@
--- Help is told by the kind of the error.
+-- The kind of the error shows whether it is help.
 use Rattle.std.proofs.Common.{rules}
 use Rattle.treesched_lib.proofs.request.fault_of.Goals as goal
 

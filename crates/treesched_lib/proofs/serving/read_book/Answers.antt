@@ -1,4 +1,4 @@
--- A failed read is told, and counted.
+-- A failed read is reported and counted.
 use Rattle.std.proofs.Common.{rules}
 use Rattle.treesched_lib.proofs.serving.read_book.Goals as goal
 

@@ -1,4 +1,4 @@
--- The step is a draw by a seat that was not told yet.
+-- The step is a draw by a seat that is not spent.
 use Rattle.std.proofs.Common.{◌≡◌, ◌∙◌, if◌then◌else◌, ap, rules, sym}
 use Rattle.claims.specs.Values.{Seated}
 use Rattle.claims.proofs.Steps.{draws_kept}

@@ -1,4 +1,4 @@
--- The call tells search order.
+-- The call returns whether the memory keeps search order.
 use Rattle.std.proofs.Common.{rules}
 use Rattle.ellen.proofs.machine.EllenMachine.ordered.Goals as goal
 

@@ -4,7 +4,7 @@ use Rattle.ellen.specs.declared.memory.Record.{Record}
 use Rattle.ellen.specs.Parts.{record_part}
 use Rattle.ellen.proofs.reading.graph.read_records.Given as goal
 
--- so many are read, where there is place for all of them
+-- one record for each pass is read, with capacity for all of them
 abbrev pub invariant-loop-each : goal.invariant-loop-each
 invariant-loop-each l =
     record {

@@ -1,4 +1,4 @@
--- Thread and index stand in one number.
+-- Thread and index are in one number.
 use Rattle.std.proofs.Common.{rules}
 use Rattle.lin.proofs.short_name.ShortName.of.Goals as goal
 

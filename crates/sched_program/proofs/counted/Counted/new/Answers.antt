@@ -1,4 +1,4 @@
--- The fields are as they are put in.
+-- The fields are as they are given.
 use Rattle.std.proofs.Common.{refl}
 use Rattle.sched_program.proofs.counted.Counted.new.Goals as goal
 

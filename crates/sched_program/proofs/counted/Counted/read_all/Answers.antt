@@ -1,4 +1,4 @@
--- What was read so far stands behind what the reader had, and the read that gave no byte is its end.
+-- What was read so far follows what the reader had, and the read that returned no byte is its end.
 use Rattle.std.proofs.Common.{arith, rules}
 use Rattle.sched_program.proofs.ReadBytes.{none_more, some_more}
 use Rattle.sched_program.proofs.counted.Counted.read_all.Goals as goal

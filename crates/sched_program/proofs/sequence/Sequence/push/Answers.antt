@@ -1,4 +1,4 @@
--- The value stands behind those of the list inside.
+-- The value follows those of the list inside.
 use Rattle.std.proofs.Common.{rules}
 use Rattle.sched_program.proofs.sequence.Sequence.push.Goals as goal
 

@@ -1,4 +1,4 @@
--- The value stands in the place of another in the list inside.
+-- The value replaces another in the list inside.
 use Rattle.std.proofs.Common.{ap}
 use Rattle.std.specs.Prelude.{slice_set}
 use Rattle.sched_program.proofs.sequence.Sequence.set.Goals as goal

@@ -1,4 +1,4 @@
--- The key is put in where it was not there, and the reply says so.
+-- The key is inserted where it was not there, and the reply says so.
 use Rattle.std.proofs.Common.{rules}
 use Rattle.tree_machine.proofs.atomic.AtomicMachine.act.Goals as goal
 

@@ -1,4 +1,4 @@
--- The bytes are put behind none.
+-- The bytes are appended to none.
 use Rattle.tree_machine.proofs.Pieces.{put_behind_none}
 use Rattle.tree_machine.proofs.bytes.Bytes.copied_in.Goals as goal
 

@@ -2,7 +2,7 @@ use Rattle.std.proofs.Common.{◌≡◌, length, drop}
 use Rattle.tree_machine.specs.Cells.{met_all}
 use Rattle.tree_machine.proofs.cells.Order.meet_all.Given as goal
 
--- meeting what is left leads to what meeting all leads to
+-- meeting what is left gives the order that meeting all gives
 abbrev pub invariant-loop-reference : goal.invariant-loop-reference
 invariant-loop-reference l =
     record {

@@ -1,4 +1,4 @@
--- The bytes are put behind the value inside.
+-- The bytes are appended to the value inside.
 use Rattle.std.proofs.Common.{ap, ◌∙◌, ◌++◌}
 use Rattle.tree_machine.proofs.encode_buffer.EncodeBuffer.put.Goals as goal
 

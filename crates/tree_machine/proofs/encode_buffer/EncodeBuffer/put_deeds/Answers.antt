@@ -1,4 +1,4 @@
--- What the call put behind the bytes within is put behind what stood there.
+-- What the call appends to the bytes within is appended to those that were there.
 use Rattle.std.proofs.Common.{ap, ◌++◌, ◌∙◌}
 use Rattle.std.proofs.lemmas.Result.{on_ok_weaker}
 use Rattle.tree_machine.specs.Alike.{notes_of, replies_of}

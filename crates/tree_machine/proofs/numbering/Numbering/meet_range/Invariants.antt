@@ -2,7 +2,7 @@ use Rattle.std.proofs.Common.{◌≡◌, ◌++◌, length}
 use Rattle.tree_machine.specs.Graphs.{numbers_from}
 use Rattle.tree_machine.proofs.numbering.Numbering.meet_range.Given as goal
 
--- so many cells are met
+-- i cells are met
 abbrev pub invariant-loop-i : goal.invariant-loop-i
 invariant-loop-i l =
     record {

@@ -1,4 +1,4 @@
--- Where no digit stands behind the counts, the number is that of a note.
+-- Where no digit comes behind the counts, the number is that of a note.
 use Rattle.std.proofs.Common.{◌≡◌, ◌+◌, ◌*◌, ◌/◌, ◌%◌, ◌∷◌, [], ap₂, refl, ◌∙◌, arith}
 use Rattle.tree_machine.proofs.Packed.{code_of_number}
 use Rattle.tree_machine.specs.Laws.ShortNotes.{number_of_counts}

@@ -1,4 +1,4 @@
--- The thread is moved on where it stands, by what came of the access.
+-- The thread is moved on in place, by what came of the access.
 use Rattle.std.proofs.Common.{◌<◌, length, ◌∙◌, ap, sym, rules, subst}
 use Rattle.std.proofs.lemmas.Option.{IfSome_then}
 use Rattle.tree_machine.specs.Step.{place_or}

@@ -1,4 +1,4 @@
--- The bytes of what stayed are those that stand between the offsets.
+-- The bytes of what stayed are those between the offsets.
 use Rattle.std.proofs.Common.{◌++◌, [], if◌then◌else◌, sym, ap, ◌∙◌}
 use Rattle.std.proofs.lemmas.Result.{on_ok_weaker}
 use Rattle.tree_machine.specs.Alike.{notes_of, replies_of}

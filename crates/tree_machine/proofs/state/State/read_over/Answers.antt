@@ -1,4 +1,4 @@
--- What was read tells where the parts begin.
+-- What was read shows where the parts begin.
 use Rattle.std.proofs.Common.{◌≤◌, ◌+◌, ◌-◌, length, ap, ◌∙◌, rules}
 use Rattle.tree_machine.proofs.Lists.{given_back}
 use Rattle.tree_machine.proofs.OffsetPieces.{cuts_read, cuts_fit}

@@ -1,4 +1,4 @@
--- The thread and the memory are put back, and the step is not counted any more.
+-- The thread and the memory are restored, and the step is not counted any more.
 use Rattle.std.proofs.Common.{sym, ◌∙◌}
 use Rattle.std.proofs.lemmas.Option.{same_Some}
 use Rattle.tree_machine.proofs.Undone.{taken_back}

@@ -2,7 +2,7 @@ use Rattle.std.proofs.Common.{◌≡◌, drop}
 use Rattle.tree_machine.specs.Cells.{met_all}
 use Rattle.tree_machine.proofs.walk.Walk.meet_nodes.Given as goal
 
--- meeting what is left leads to what meeting all leads to
+-- meeting what is left gives the order that meeting all gives
 abbrev pub invariant-loop-name : goal.invariant-loop-name
 invariant-loop-name l =
     record {

@@ -3,7 +3,7 @@ use Rattle.tree_machine.specs.Cells.{met_all}
 use Rattle.tree_machine.proofs.Passes.{shifted}
 use Rattle.tree_machine.proofs.walk.Walk.meet_stack.Given as goal
 
--- meeting what is left leads to what meeting all leads to
+-- meeting what is left gives the order that meeting all gives
 abbrev pub invariant-loop-index : goal.invariant-loop-index
 invariant-loop-index l =
     record {

@@ -1,4 +1,4 @@
--- The records of the stack stand behind the other ones.
+-- The records of the stack come behind the other ones.
 use Rattle.std.proofs.Common.{◌<◌, refl, map, subst}
 use Rattle.std.specs.Prelude.{Some, IfSome}
 use Rattle.std.proofs.lemmas.List.Elements.{All-append, All-map}
