@@ -32,8 +32,8 @@ pub record IsRead {Machine Memory Place Form : Type 0} (front_code : Front → M
       → HoldsOfLabel rules program (label_by whole_code form_code form_of merge) label
       (λ state. StandsIn rules program merge state twin)
 
--- there is a state with this label, and each such state is sound with this linearization; this one, whose own bytes are
--- the label, stands in for them
+-- the states with this label are sound with this linearization; this one, whose own bytes are the label, stands in for
+-- them
 pub record IsSource {Machine Memory Place Form : Type 0} (front_code : Front → Memory → List ℕ)
     (behind_code : Front → Memory → List (Option Place) → List ℕ) (rules : Machine → Rules Memory Place)
     (whole_code : Memory → List (Option Place) → List ℕ) (form_code : Form → List ℕ)
