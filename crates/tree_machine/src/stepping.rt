@@ -9,74 +9,15 @@ ghost use Rattle.tree_machine.specs.Step.{finished_counts, with_note, Fits};
 
 use crate::machine::{Machine, Outcome};
 use crate::short_note::ShortNote;
-use crate::state::{State, StepFault, Thread, copy_reserved, finished_counts, place_or};
+use crate::state::{State, StepFault, Thread, finished_counts, place_or};
 use sched_program::{Op, OutOfMemory, Program, Sequence};
 use std::alloc::Global;
 use std::mem::replace;
 
-/// Makes `copy` equal to `thread`, field by field and in place, so that no thread is moved.
-#[inline(always)]
-pub(crate) fn copy_thread_into<M: Machine>(
-    alloc: Global,
-    machine: M,
-    thread: &Thread<M::Loc>,
-    copy: &mut Thread<M::Loc>,
-) -> Result<(), OutOfMemory>
-    ensures { OnOk result (copy.new ≡ thread.now) }
-{
-    copy.replies = thread.replies;
-    copy.notes = thread.notes;
-    copy.place = match &thread.place {
-        Some(place) => Some(machine.copy_loc(alloc, place)?),
-        None => None,
-    };
-    Ok(())
-}
-
-/// Makes each copy equal to the thread of its number.
-#[inline(always)]
-fn copy_each<M: Machine>(
-    alloc: Global,
-    machine: M,
-    threads: &[Thread<M::Loc>],
-    copies: &mut [Thread<M::Loc>],
-) -> Result<(), OutOfMemory>
-    requires { length copies.old ≡ length threads.now }
-    ensures { OnOk result (copies.new ≡ threads.now) }
-{
-    for index in 0..threads.len() {
-        copy_thread_into(alloc, machine, &threads[index], &mut copies[index])?;
-    }
-    Ok(())
-}
-
-/// Copies threads into the buffer of `others`. If `others` has equally many, as another state of
-/// the program has, the copies are made in place. Otherwise capacity for all is reserved at once,
-/// so that none is moved later.
-#[inline(always)]
-fn copied_threads<M: Machine>(
-    alloc: Global,
-    machine: M,
-    threads: &[Thread<M::Loc>],
-    others: Sequence<Thread<M::Loc>>,
-) -> Result<Vec<Thread<M::Loc>>, OutOfMemory>
-    ensures { IfOk result (λ copies. copies.items ≡ threads.now) }
-{
-    let mut copies = others.into_vec();
-    if copies.len() == threads.len() {
-        copy_each(alloc, machine, threads, copies.as_mut_slice())?;
-        return Ok(copies);
-    }
-    copies.clear();
-    copies.reserve(threads.len())?;
-    copy_reserved(alloc, machine, threads, &mut copies)?;
-    Ok(copies)
-}
-
 /// The note of the operation that a thread begins by its access, if it is in none: how many
 /// operations each thread has finished.
 #[inline(always)]
-pub(crate) fn note_at_step<L>(held: &Option<L>, threads: &[Thread<L>]) -> Option<ShortNote>
+fn note_at_step<L>(held: &Option<L>, threads: &[Thread<L>]) -> Option<ShortNote>
     requires { length threads.now ≤ 4 }
     ensures note { (notes : List (List ℕ))
         → with_note notes result ≡ notes_at_step held.now notes (finished_counts threads.now) }
@@ -92,7 +33,7 @@ pub(crate) fn note_at_step<L>(held: &Option<L>, threads: &[Thread<L>]) -> Option
 /// operation began with that access. Returns the thread if it went astray; only then the place is
 /// copied.
 #[inline(always)]
-pub(crate) fn advance<M: Machine>(
+fn advance<M: Machine>(
     alloc: Global,
     machine: M,
     note: Option<ShortNote>,
@@ -131,35 +72,31 @@ pub(crate) fn advance<M: Machine>(
 }
 
 impl<M: Machine> State<M> {
-    /// Makes the step of a thread that is ready for an operation, in a state that has this one's
-    /// memory.
+    /// Makes the step of a thread that is ready for an operation, in place. `thread` is a copy of the
+    /// thread.
     #[inline(always)]
-    fn access(
-        &self,
+    pub(crate) fn make_step(
+        &mut self,
         alloc: Global,
         machine: M,
         t: u8,
         thread: &Thread<M::Loc>,
         op: Op,
-        next: &mut State<M>,
     ) -> Result<(), OutOfMemory>
-        requires ready { (program : Program) × (IsWithinLimits program × (Fits (M.rules machine) program self.now
-            × (ready program self.now t ≡ Some (thread.now, op)))) }
-        requires room { self.now.steps + 1 < 2 ^ 64 }
-        requires memory { next.old.memory ≡ self.now.memory }
-        ensures { OnOk result (next.new ≡ stepped (M.rules machine) self.now t op thread.now) }
+        requires ready { (program : Program) × (IsWithinLimits program × (Fits (M.rules machine) program self.old
+            × (ready program self.old t ≡ Some (thread.now, op)))) }
+        requires room { self.old.steps + 1 < 2 ^ 64 }
+        ensures { OnOk result (self.new ≡ stepped (M.rules machine) self.old t op thread.now) }
     {
         let first = machine.begin(op);
         let place = place_or(&thread.place, &first);
-        let outcome = machine.act(alloc, op, place, &mut next.memory)?;
-        let own = self.threads.as_slice();
-        let others = replace(&mut next.threads, Sequence::new(alloc));
-        let mut threads = copied_threads(alloc, machine, own, others)?;
-        let note = note_at_step(&thread.place, own);
+        let outcome = machine.act(alloc, op, place, &mut self.memory)?;
+        let mut threads = replace(&mut self.threads, Sequence::new(alloc)).into_vec();
+        let note = note_at_step(&thread.place, threads.as_slice());
         let moved = &mut threads.as_mut_slice()[usize::from(t)];
-        next.astray = advance(alloc, machine, note, t, place, outcome, moved)?;
-        next.threads = Sequence::from_vec(threads);
-        next.steps = self.steps + 1;
+        self.astray = advance(alloc, machine, note, t, place, outcome, moved)?;
+        self.threads = Sequence::from_vec(threads);
+        self.steps = self.steps + 1;
         Ok(())
     }
 
@@ -185,13 +122,8 @@ impl<M: Machine> State<M> {
         match self.ready(program, t) {
             None => Err(StepFault::NotEnabled),
             Some((thread, op)) => {
-                let mut next = State {
-                    memory: machine.copy_mem(alloc, &self.memory)?,
-                    threads: Sequence::new(alloc),
-                    steps: self.steps,
-                    astray: None,
-                };
-                self.access(alloc, machine, t, thread, op, &mut next)?;
+                let mut next = self.copy(alloc, machine)?;
+                next.make_step(alloc, machine, t, thread, op)?;
                 Ok(next)
             }
         }

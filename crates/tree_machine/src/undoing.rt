@@ -1,15 +1,14 @@
 //! Steps that are made in place and taken back.
 ghost use Rattle.std.specs.Prelude.{◌≡◌, ◌+◌, ◌^◌, ◌<◌, ◌↔◌, true, false, Some, None, IsErrOf, IfOk, OnOk};
 ghost use Rattle.std.specs.Prelude.{length, slice_set};
-ghost use Rattle.sched_program.specs.Program.{Program, IsWithinLimits};
+ghost use Rattle.sched_program.specs.Program.{Program};
 ghost use Rattle.tree_machine.specs.declared.state.State.{State};
-ghost use Rattle.tree_machine.specs.Step.{place_or, ready, step, stepped, Fits};
+ghost use Rattle.tree_machine.specs.Step.{place_or, step, Fits};
 ghost use Rattle.tree_machine.specs.Undoing.{TakesBack};
 
 use crate::encode::Encode;
 use crate::replies::Replies;
-use crate::state::{State, StepFault, Thread, place_or};
-use crate::stepping::{advance, copy_thread_into, note_at_step};
+use crate::state::{State, StepFault, Thread, copy_thread_into, place_or};
 use sched_program::{Op, OutOfMemory, Program, Sequence, ShortList};
 use std::alloc::Global;
 use std::mem::{replace, swap};
@@ -125,34 +124,6 @@ fn exchange<L: Drop>(
 }
 
 impl<M: Encode> State<M> {
-    /// Makes the access of a thread that is ready for an operation, in place. `thread` is a copy of
-    /// the thread.
-    #[inline(always)]
-    fn access_here(
-        &mut self,
-        alloc: Global,
-        machine: M,
-        t: u8,
-        thread: &Thread<M::Loc>,
-        op: Op,
-    ) -> Result<(), OutOfMemory>
-        requires ready { (program : Program) × (IsWithinLimits program × (Fits (M.rules machine) program self.old
-            × (ready program self.old t ≡ Some (thread.now, op)))) }
-        requires room { self.old.steps + 1 < 2 ^ 64 }
-        ensures { OnOk result (self.new ≡ stepped (M.rules machine) self.old t op thread.now) }
-    {
-        let first = machine.begin(op);
-        let place = place_or(&thread.place, &first);
-        let outcome = machine.act(alloc, op, place, &mut self.memory)?;
-        let mut threads = replace(&mut self.threads, Sequence::new(alloc)).into_vec();
-        let note = note_at_step(&thread.place, threads.as_slice());
-        let moved = &mut threads.as_mut_slice()[usize::from(t)];
-        self.astray = advance(alloc, machine, note, t, place, outcome, moved)?;
-        self.threads = Sequence::from_vec(threads);
-        self.steps = self.steps + 1;
-        Ok(())
-    }
-
     /// Makes the step of a thread in place, and keeps what undoes it. Fails with `NotEnabled`
     /// exactly if the thread has no step; then this state is unchanged. After a refusal of memory
     /// this state is unspecified.
@@ -186,7 +157,7 @@ impl<M: Encode> State<M> {
             &self.memory,
             &mut undo.memory,
         )?;
-        self.access_here(alloc, machine, t, &undo.thread, op)?;
+        self.make_step(alloc, machine, t, &undo.thread, op)?;
         undo.reads = left_memory::<M>(undo.reads, &undo.memory, &self.memory);
         Ok(())
     }

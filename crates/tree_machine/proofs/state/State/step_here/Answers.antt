@@ -12,6 +12,6 @@ returns-clause-fits g c =
     let thread = c.in-Some.thread.now in
     let state = c.args.self.now in
     let pieces = ready_pieces program state c.args.t thread c.in-Some.op c.in-Some.ensures.ready in
-    stepped_fits rules program state c.requires.fits c.access_here.new.self c.args.t c.in-Some.op thread
-    (c.in_ok-access_here.ensures ∙ ap (stepped rules state c.args.t c.in-Some.op) c.in_ok-copy_thread_into.ensures)
+    stepped_fits rules program state c.requires.fits c.make_step.new.self c.args.t c.in-Some.op thread
+    (c.in_ok-make_step.ensures ∙ ap (stepped rules state c.args.t c.in-Some.op) c.in_ok-copy_thread_into.ensures)
     (bound.lawful c.args.machine) pieces.0 pieces.1

@@ -5,7 +5,7 @@ use Rattle.tree_machine.specs.Step.{place_or}
 use Rattle.tree_machine.proofs.Lists.{put_back}
 use Rattle.tree_machine.proofs.States.{ready_pieces, thread_read, thread_within, next_place_in_range, reply_room, note_room}
 use Rattle.tree_machine.proofs.Steps.{step_made}
-use Rattle.tree_machine.proofs.state.State.access_here.Goals as goal
+use Rattle.tree_machine.proofs.state.State.make_step.Goals as goal
 
 pub act-requires-clause-place_in_range : goal.act-requires-clause-place_in_range
 act-requires-clause-place_in_range g c =
@@ -24,10 +24,7 @@ bounds-as_mut_slice-from g c =
 
 pub offset_bounds-as_mut_slice-from : goal.offset_bounds-as_mut_slice-from
 offset_bounds-as_mut_slice-from g c =
-    let below : c.from.result < length c.as_mut_slice.result.now =
-    thread_within c.requires.ready.0 c.args.self.now c.args.t c.args.thread.now c.args.op c.requires.ready.1.1.1 _ _
-    (c.as_mut_slice.ensures.value ∙ c.into_vec-threads.ensures ∙ c.replace.ensures.value) c.from.ensures in
-    search rules
+    let below : c.from.result < length c.as_mut_slice.result.now = bounds-as_mut_slice-from g c in search rules
 
 pub advance-requires-clause-reply_room : goal.advance-requires-clause-reply_room
 advance-requires-clause-reply_room g c κs within =
