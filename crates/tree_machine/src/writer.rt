@@ -2,9 +2,7 @@
 ghost use Rattle.std.specs.Prelude.{◌≡◌, ◌<◌, ◌≤◌, ◌+◌, ◌*◌, ◌++◌, ◌∷◌, [], Some};
 ghost use Rattle.std.specs.Prelude.{length, slice_get, take, IfOk, IfSome, OnOk};
 ghost use Rattle.std.specs.List.{All, flat_map};
-ghost use Rattle.std.specs.Option.{option_and_then};
-ghost use Rattle.tree_machine.specs.Cells.{place_in};
-ghost use Rattle.tree_machine.specs.Flat.{number_code, short_head, long_code, facts_code, reference_number};
+ghost use Rattle.tree_machine.specs.Flat.{number_code, short_head, long_code, facts_code};
 ghost use Rattle.tree_machine.specs.Written.{name_code, with_bytes};
 
 use crate::fixed::{put_byte, put_number_byte};
@@ -137,16 +135,16 @@ fn put_front(
 
 /// Writes the number of what is named, or 0 for none, into a slice, and returns the place behind it.
 #[inline(always)]
-fn put_name(numbering: &Numbering, bytes: &mut [u8], at: usize, name: Option<usize>) -> usize
+fn put_name(numbering: &Numbering, bytes: &mut [u8], at: usize, name: Option<u16>) -> usize
     requires known { IfSome name (λ x. x < length numbering.now.numbers.items) }
     requires room { at < length bytes.old }
     ensures place { result ≡ at + 1 }
     ensures written { take result bytes.new ≡ take at bytes.old
-        ++ number_code (reference_number (option_and_then (place_in numbering.now.order.items) name)) }
+        ++ name_code numbering.now.order.items name }
     ensures length { length bytes.new ≡ length bytes.old }
 {
     match name {
-        Some(cell) => put_byte(bytes, at, numbering.number(cell)),
+        Some(cell) => put_byte(bytes, at, numbering.number(usize::from(cell))),
         None => put_byte(bytes, at, 0),
     }
 }
@@ -163,11 +161,7 @@ fn put_names(numbering: &Numbering, bytes: &mut [u8], start: usize, names: &[Opt
 {
     let mut at = start;
     for name in names {
-        let cell = match name {
-            Some(number) => Some(usize::from(*number)),
-            None => None,
-        };
-        at = put_name(numbering, bytes, at, cell);
+        at = put_name(numbering, bytes, at, *name);
     }
     at
 }
@@ -184,7 +178,7 @@ fn put_stack(numbering: &Numbering, bytes: &mut [u8], start: usize, stack: &[u16
 {
     let mut at = start;
     for number in stack {
-        at = put_name(numbering, bytes, at, Some(usize::from(*number)));
+        at = put_name(numbering, bytes, at, Some(*number));
     }
     at
 }
