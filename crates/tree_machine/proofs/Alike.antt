@@ -15,9 +15,11 @@ use Rattle.tree_machine.specs.declared.machine.Outcome.{Outcome}
 use Rattle.tree_machine.specs.declared.machine.Outcome.TheVariants.{Goes, Replies, Astray}
 use Rattle.tree_machine.specs.declared.state.Thread.{Thread}
 use Rattle.tree_machine.specs.declared.state.State.{State}
-use Rattle.tree_machine.specs.Laws.Cells.{AllZip-weaker}
+use Rattle.tree_machine.specs.Laws.Cells.{AllZip-weaker, map_paired as same_maps}
+use Rattle.tree_machine.specs.Laws.Decoded.{held_are_some}
+use Rattle.tree_machine.specs.Laws.MetLists.{map_zip}
 use Rattle.tree_machine.proofs.Pairs.{held_weaker, zip_set, zip_get, if_paired, held_some, held_some_and}
-use Rattle.tree_machine.proofs.Pairs.{held_same, held_are_some, then_paired, map_paired}
+use Rattle.tree_machine.proofs.Pairs.{held_same, then_paired, map_paired}
 
 cons_same : {A : Type 0} (x y : A) (xs ys : List A) → x ∷ xs ≡ y ∷ ys → (x ≡ y) × (xs ≡ ys)
 cons_same x y xs ys h = ((cc), (cc))
@@ -47,21 +49,13 @@ module _ {Place : Type 0} where
 
   zip_places : (P : Place → Place → Type 0) (xs ys : List (Thread Place)) → AllZip (AreThreadsPaired P) xs ys
       → AllZip (AreHeldPaired P) (places_of xs) (places_of ys)
-  zip_places P [] [] z = tt
-  zip_places P [] (y ∷ ys) z = absurd z
-  zip_places P (x ∷ xs) [] z = absurd z
-  zip_places P (x ∷ xs) (y ∷ ys) z = (z.0.place, zip_places P xs ys z.1)
+  zip_places P xs ys z =
+      map_zip (AreHeldPaired P) (λ x. x.place) (λ x. x.place) xs ys (AllZip-weaker _ _ (λ x y k. k.place) xs ys z)
 
   zip_read : {A : Type 0} (read : Thread Place → A) (P : Place → Place → Type 0)
       → ((x y : Thread Place) → AreThreadsPaired P x y → read x ≡ read y)
       → (xs ys : List (Thread Place)) → AllZip (AreThreadsPaired P) xs ys → map read xs ≡ map read ys
-  zip_read read P h [] [] z = refl
-  zip_read read P h [] (y ∷ ys) z = absurd z
-  zip_read read P h (x ∷ xs) [] z = absurd z
-  zip_read read P h (x ∷ xs) (y ∷ ys) z =
-      let first = h x y z.0 in
-      let rest = zip_read read P h xs ys z.1 in
-      λ i. first i ∷ rest i
+  zip_read read P h xs ys z = same_maps (AreThreadsPaired P) read read h xs ys z
 
   place_or_paired : (P : Place → Place → Type 0) (held twin : Option Place) (first : Place) → P first first
       → AreHeldPaired P held twin → P (place_or held first) (place_or twin first)

@@ -1,8 +1,9 @@
 -- A step after which its thread has no reply and no note more leaves what the threads did as it was.
-use Rattle.std.proofs.Common.{◌≡◌, ℕ, zero, suc, Bool, List, [], ◌∷◌, ◌++◌, length, map, Option, Some, None, refl}
+use Rattle.std.proofs.Common.{◌≡◌, ℕ, Bool, List, [], ◌∷◌, ◌++◌, length, map, Option, Some, None, refl}
 use Rattle.std.proofs.Common.{sym, ap, ◌∙◌, arith, slice_get, slice_set, is_some, if◌then◌else◌, length-append}
 use Rattle.std.proofs.lemmas.List.{append-nil}
-use Rattle.std.proofs.lemmas.Option.{same_Some}
+use Rattle.std.proofs.Math.Seq.{map-set_same}
+use Rattle.std.proofs.lemmas.Option.{get_or_from_slice_get, same_Some, slice_get_within}
 use Rattle.sched_program.specs.Program.{Program}
 use Rattle.tree_machine.specs.Alike.{replies_of, notes_of}
 use Rattle.tree_machine.specs.Offsets.{deeds_of}
@@ -13,20 +14,14 @@ use Rattle.tree_machine.specs.declared.machine.Outcome.{Outcome}
 use Rattle.tree_machine.specs.declared.machine.Outcome.TheVariants.{Goes, Replies, Astray}
 use Rattle.tree_machine.specs.declared.state.Thread.{Thread}
 use Rattle.tree_machine.specs.declared.state.State.{State}
-use Rattle.tree_machine.proofs.States.{map_some, step_parts}
+use Rattle.tree_machine.proofs.Lists.{get-set_same}
+use Rattle.tree_machine.specs.Laws.Decoded.{map_some}
+use Rattle.tree_machine.proofs.States.{step_parts}
 
 module _ {X : Type 0} where
-  get-set_same : (xs : List X) (i : ℕ) (v x y : X) → slice_get xs i ≡ Some x → slice_get (slice_set xs i v) i ≡ Some y
-      → y ≡ v
-  get-set_same [] i v x y h e = cc
-  get-set_same (z ∷ xs) zero v x y h e = cc
-  get-set_same (z ∷ xs) (suc i) v x y h e = get-set_same xs i v x y h e
-
   map-put : {Y : Type 0} (f : X → Y) (xs : List X) (i : ℕ) (v x : X) → slice_get xs i ≡ Some x → f v ≡ f x
       → map f (slice_set xs i v) ≡ map f xs
-  map-put f [] i v x h e = cc
-  map-put f (z ∷ xs) zero v x h e = ap (λ y. y ∷ map f xs) (e ∙ ap f (sym (same_Some _ _ h)))
-  map-put f (z ∷ xs) (suc i) v x h e = ap (λ ys. f z ∷ ys) (map-put f xs i v x h e)
+  map-put f xs i v x h e = map-set_same f xs i v x (e ∙ ap f (sym (get_or_from_slice_get xs i x x h)))
 
   -- a list that is no longer with more behind it is as it was
   no_more : (xs more ys : List X) → ys ≡ xs ++ more → length ys ≡ length xs → ys ≡ xs
@@ -42,7 +37,8 @@ module _ {Place : Type 0} (threads : List (Thread Place)) (t : ℕ) (there here 
       → after.notes ≡ there.notes ++ more_notes → (replies_of (slice_set threads t after) ≡ replies_of threads)
       × (notes_of (slice_set threads t after) ≡ notes_of threads)
   put_same after more more_notes found replies notes =
-      let same : here ≡ after = get-set_same threads t after there here at_t found in
+      let same : here ≡ after =
+      same_Some _ _ (sym found ∙ get-set_same threads t after (slice_get_within threads t there at_t)) in
       let count : length after.replies ≡ length there.replies =
       ap (λ (x : Thread Place). length x.replies) (sym same) ∙ as_many in
       let note_count : length after.notes ≡ length there.notes =

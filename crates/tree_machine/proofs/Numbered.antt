@@ -4,7 +4,8 @@ use Rattle.std.proofs.Common.{ap, subst, arith, false, true, get_or, not, set, t
 use Rattle.std.specs.Prelude.{slice_get, replicate, Some, None, nat_eq}
 use Rattle.std.specs.List.{All, IsDistinct, list_any}
 use Rattle.std.specs.Option.{option_map}
-use Rattle.std.proofs.lemmas.List.{length-map}
+use Rattle.std.proofs.lemmas.List.{length-map, map-set}
+use Rattle.std.proofs.Math.ListN.{get_or-map}
 use Rattle.tree_machine.specs.Cells.{met, place_in, HasPlaces}
 use Rattle.tree_machine.specs.Numbered.{referred_to, HasNumbers}
 use Rattle.tree_machine.specs.declared.numbering.Numbering.{Numbering}
@@ -12,7 +13,7 @@ use Rattle.std.proofs.lemmas.List.Elements.{All-append, All-from_recursion, recu
 use Rattle.tree_machine.specs.Laws.CellOrder.{Has, IsOrder, all_has, met_has, met_order, length-order}
 use Rattle.tree_machine.specs.Laws.CellPlaces.{place_from_has}
 use Rattle.tree_machine.specs.Laws.CellSteps.{is_other}
-use Rattle.std.proofs.lemmas.Option.{slice_get-get_or}
+use Rattle.std.proofs.lemmas.Option.{slice_get-get_or, slice_get-map}
 use Rattle.tree_machine.proofs.Numbers.{met_new, met_present, place_absent, place_seen, places_push}
 use Rattle.tree_machine.proofs.Queued.{is_false}
 use Rattle.tree_machine.proofs.Passes.{place_below}
@@ -27,24 +28,6 @@ none_at (suc n) (suc x) l = none_at n x (omega arith)
 none_met : (n : ℕ) → HasNumbers [] (replicate n 0)
 none_met n x l = none_at n x l
 
-get_map : (numbers : List ℕ) (x r : ℕ) → get_or (map referred_to numbers) x (referred_to r)
-    ≡ referred_to (get_or numbers x r)
-get_map [] x r = refl
-get_map (n ∷ numbers) zero r = refl
-get_map (n ∷ numbers) (suc x) r = get_map numbers x r
-
-slice_get_map : (numbers : List ℕ) (x : ℕ) → slice_get (map referred_to numbers) x
-    ≡ option_map referred_to (slice_get numbers x)
-slice_get_map [] x = refl
-slice_get_map (n ∷ numbers) zero = refl
-slice_get_map (n ∷ numbers) (suc x) = slice_get_map numbers x
-
-set_map : (numbers : List ℕ) (x n : ℕ) → map referred_to (set numbers x n)
-    ≡ set (map referred_to numbers) x (referred_to n)
-set_map [] x n = refl
-set_map (m ∷ numbers) zero n = refl
-set_map (m ∷ numbers) (suc x) n = ap (λ l. referred_to m ∷ l) (set_map numbers x n)
-
 referred_some : (n : ℕ) → 0 < n → referred_to n ≡ Some (n - 1)
 referred_some zero l = absurd (omega arith)
 referred_some (suc n) l = let e : n ≡ suc n - 1 = omega arith in ap Some e
@@ -57,21 +40,21 @@ pub number_met : (order numbers : List ℕ) (x r : ℕ) → HasNumbers order num
     → r ≡ get_or numbers x r → 0 < r → order ≡ met order x
 number_met order numbers x r h l e some =
     met_present order (map referred_to numbers) x (r - 1) (referred_to r) h (within numbers x l)
-    (ap referred_to e ∙ sym (get_map numbers x r)) (referred_some r some)
+    (ap referred_to e ∙ sym (get_or-map referred_to numbers x r)) (referred_some r some)
 
 -- and the number refers to its place
 pub number_seen : (order numbers : List ℕ) (x r : ℕ) → HasNumbers order numbers → x < length numbers
     → r ≡ get_or numbers x r → 0 < r → place_in (met order x) x ≡ Some (r - 1)
 number_seen order numbers x r h l e some =
     place_seen order (map referred_to numbers) x (r - 1) (referred_to r) h (within numbers x l)
-    (ap referred_to e ∙ sym (get_map numbers x r)) (referred_some r some)
+    (ap referred_to e ∙ sym (get_or-map referred_to numbers x r)) (referred_some r some)
 
 -- a cell has a number exactly where it was met
 pub has_number : (order numbers : List ℕ) (x r : ℕ) → HasNumbers order numbers → x < length numbers
     → r ≡ get_or numbers x r → not (nat_eq r 0) ≡ list_any (nat_eq x) order
 has_number order numbers x zero h l e =
     let none = place_absent order (map referred_to numbers) x None h (within numbers x l)
-    (ap referred_to e ∙ sym (get_map numbers x 0)) refl in
+    (ap referred_to e ∙ sym (get_or-map referred_to numbers x 0)) refl in
     sym (is_false (list_any (nat_eq x) order) (λ g. let k = place_from_has order x g in
     let two : None ≡ Some k.0 = sym none ∙ k.1 in cc))
 has_number order numbers x (suc r) h l e =
@@ -149,7 +132,7 @@ module _ (n : Numbering) where
         let at : slice_get (map referred_to n.numbers.items) x ≡ Some (place_in n.order.items x) =
         n.has_numbers x (within n.numbers.items x known) in
         let none : slice_get (map referred_to n.numbers.items) x ≡ Some None =
-        slice_get_map n.numbers.items x ∙ ap (option_map referred_to) absent in
+        slice_get-map referred_to n.numbers.items x ∙ ap (option_map referred_to) absent in
         cc
 
     module _ (after : List ℕ) (is : after ≡ n.order.items ++ x ∷ []) where
@@ -174,7 +157,7 @@ module _ (n : Numbering) where
           let next : suc (length n.order.items) ≡ place + 1 = omega (arith, is_length) in
           subst (λ o. HasNumbers o (set n.numbers.items x (place + 1))) (sym is)
           (subst (λ m. HasNumbers (n.order.items ++ x ∷ []) (set n.numbers.items x m)) next
-          (subst (HasPlaces (n.order.items ++ x ∷ [])) (sym (set_map n.numbers.items x (suc (length n.order.items))))
+          (subst (HasPlaces (n.order.items ++ x ∷ [])) (sym (map-set referred_to n.numbers.items x (suc (length n.order.items))))
           (places_push n.order.items (map referred_to n.numbers.items) x n.has_numbers
           (within n.numbers.items x known) unmet)))
 

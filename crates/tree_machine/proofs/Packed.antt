@@ -5,6 +5,7 @@ use Rattle.std.specs.Prelude.{nat_eq}
 use Rattle.std.specs.Cmp.{bool_eq_equiv}
 use Rattle.std.specs.Cmp.Lexicographic.{pointwise}
 use Rattle.std.proofs.lemmas.Cmp.{lists_equiv, nat_eq_equiv}
+use Rattle.std.proofs.lemmas.List.{get_or_past}
 use Rattle.std.proofs.lemmas.Nat.{shl_whole}
 use Rattle.sched_program.specs.Laws.Exact.{bool_exact, nat_exact, list_exact}
 use Rattle.tree_machine.specs.FormCode.{note_code}
@@ -33,11 +34,6 @@ notes_same n m n_whole m_whole =
     ∙ (lists_equiv nat_eq_equiv).refl (counts_in n))
     (λ e. eq-eqb n m (sym n_whole
     ∙ (ap note_number (list_exact nat_exact (counts_in n) (counts_in m) e) ∙ m_whole)))
-
-get_or_behind : (xs : List ℕ) (k : ℕ) → length xs ≤ k → get_or xs k 0 ≡ 0
-get_or_behind [] k l = refl
-get_or_behind (x ∷ xs) zero l = absurd (omega arith)
-get_or_behind (x ∷ xs) (suc k) l = get_or_behind xs k (omega arith)
 
 -- the two bytes of a number are the code of its note
 pub code_of_number : (n : ℕ) → note_number (counts_in n) ≡ n → note_code (counts_in n) ≡ n / 256 ∷ n % 256 ∷ []
@@ -72,7 +68,7 @@ module _ (n : ℕ) (counts : List ℕ) (whole : note_number (counts_in n) ≡ n)
   digit_at (suc (suc (suc (suc t)))) few = absurd (omega arith)
 
   pub none_at : (t : ℕ) → 4 ≤ t → 0 ≡ get_or counts t 0
-  none_at t many = sym (get_or_behind counts t (omega (arith, four_at_most)))
+  none_at t many = sym (get_or_past counts t 0 (omega (arith, four_at_most)))
 
   -- one count more
   module _ (count moved : ℕ) (room : length counts < 4) (small : count < 8)

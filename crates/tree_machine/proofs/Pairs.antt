@@ -1,7 +1,7 @@
 -- Options and lists whose values are paired.
 use Rattle.std.proofs.Common.{◌≡◌, ℕ, zero, suc, if◌then◌else◌, List, [], ◌∷◌, Bool, true, false, Option, Some, None}
-use Rattle.std.proofs.Common.{option_and_then, refl, slice_get, slice_set}
-use Rattle.std.specs.Prelude.{is_some, IsSomeAnd}
+use Rattle.std.proofs.Common.{option_and_then, refl, slice_get, slice_set, subst, sym}
+use Rattle.std.specs.Prelude.{IsSomeAnd}
 use Rattle.std.specs.List.{AllZip}
 use Rattle.std.specs.Option.{option_map}
 use Rattle.tree_machine.specs.Pairing.{AreHeldPaired}
@@ -48,24 +48,14 @@ module _ {A : Type 0} where
 
   pub held_some_and : (P : A → A → Type 0) (held twin : Option A) (x : A) → AreHeldPaired P held twin → held ≡ Some x
       → IsSomeAnd twin (P x)
-  held_some_and P None None x k h = cc
-  held_some_and P None (Some y) x k h = absurd k
-  held_some_and P (Some a) None x k h = absurd k
-  held_some_and P (Some a) (Some y) x k h = let same : a ≡ x = (cc) in rw same at k
+  held_some_and P held twin x k h =
+      let r = held_some P held twin x k h in subst (λ o. IsSomeAnd o (P x)) (sym r.1) r.2
 
   pub held_same : (held twin : Option A) → held ≡ twin → AreHeldPaired (λ x y. x ≡ y) held twin
   held_same None None h = tt
   held_same None (Some y) h = cc
   held_same (Some x) None h = cc
   held_same (Some x) (Some y) h = (cc)
-
-  -- both options hold a value, or neither does
-  pub held_are_some : (P : A → A → Type 0) (held twin : Option A) → AreHeldPaired P held twin
-      → is_some held ≡ is_some twin
-  held_are_some P None None k = refl
-  held_are_some P None (Some y) k = absurd k
-  held_are_some P (Some x) None k = absurd k
-  held_are_some P (Some x) (Some y) k = refl
 
 module _ {A B : Type 0} (Q : B → B → Type 0) where
   pub then_paired : (P : A → A → Type 0) (f g : A → Option B) → ((x y : A) → P x y → AreHeldPaired Q (f x) (g y))

@@ -1,47 +1,39 @@
 -- Parts that are written one behind the other.
 use Rattle.std.proofs.Common.{◌≡◌, ℕ, zero, suc, ◌+◌, ◌-◌, ◌<◌, ◌≤◌, List, [], ◌∷◌, ◌++◌, map, length, take, drop}
-use Rattle.std.proofs.Common.{refl, sym, ◌∙◌, ap, subst, arith, append_assoc, append-nil, add-one, length-take}
+use Rattle.std.proofs.Common.{refl, sym, ◌∙◌, ap, subst, arith, append_assoc, append-nil, length-take, get_or}
 use Rattle.std.proofs.Common.{length-drop}
 use Rattle.std.specs.Prelude.{slice_get, Some}
 use Rattle.std.specs.List.{All}
 use Rattle.std.proofs.lemmas.Grind.{flat_map-append}
-use Rattle.std.proofs.lemmas.List.{map-append, length-map, drop-map, take-map, take_all}
+use Rattle.std.proofs.lemmas.List.{map-append, length-map, drop-map, take-map, take_all, take_more, get_or-drop}
+use Rattle.std.proofs.lemmas.Option.{get_or_from_slice_get, slice_get_within, unwrap_or-slice_get}
 use Rattle.std.proofs.lemmas.List.Concat.{flat_map-cons}
 use Rattle.tree_machine.specs.Canonical.{parts_by, renamed_part}
 use Rattle.tree_machine.specs.Graphs.{numbers_from}
-use Rattle.tree_machine.specs.Parts.{Part, Parts, ArePartsInRange, part_at}
+use Rattle.tree_machine.specs.Parts.{Part, Parts, ArePartsInRange, no_part, part_at}
 use Rattle.tree_machine.specs.Laws.CellLists.{numbers_all}
 use Rattle.tree_machine.specs.Laws.Fronts.{own_parts_code}
 use Rattle.tree_machine.specs.Laws.OwnParts.{own_held, own_nodes, own_records}
 use Rattle.tree_machine.specs.Flat.{all_front, behind_code, cell_code, flat, number_code, part_codes, part_content}
 use Rattle.tree_machine.specs.Flat.{graph_code, left_code, parts_code}
 use Rattle.tree_machine.specs.Written.{Written, renamed_by, with_bytes, with_part}
-use Rattle.tree_machine.proofs.Lists.{take_at}
 
 -- the elements from one place to another, and one more
 pub taken_more : {X : Type 0} (xs : List X) (start place : ℕ) (x : X) → start ≤ place → slice_get xs place ≡ Some x
     → take (place + 1 - start) (drop start xs) ≡ take (place - start) (drop start xs) ++ x ∷ []
 taken_more {X} xs start place x l e =
-    let more : place + 1 - start ≡ suc (place - start) = omega arith in
+    let more : place + 1 - start ≡ place - start + 1 = omega arith in
     let is : start + (place - start) ≡ place = omega arith in
     ap (λ k. take k (drop start xs)) more
-    ∙ take_at (drop start xs) (place - start) x (dropped xs start (place - start) (ap (slice_get xs) is ∙ e))
-  where
-    dropped : (ys : List X) (n m : ℕ) → slice_get ys (n + m) ≡ Some x → slice_get (drop n ys) m ≡ Some x
-    dropped [] n m e = cc
-    dropped (y ∷ ys) zero m e = let same : 0 + m ≡ m = omega arith in ap (slice_get (y ∷ ys)) (sym same) ∙ e
-    dropped (y ∷ ys) (suc n) m e =
-        let same : suc n + m ≡ suc (n + m) = omega arith in
-        dropped ys n m (sym (ap (slice_get (y ∷ ys)) same) ∙ e)
+    ∙ take_more (drop start xs) (place - start) x
+    (omega (arith, length-drop start xs, slice_get_within xs place x e))
+    ∙ ap (λ y. take (place - start) (drop start xs) ++ y ∷ [])
+    (get_or-drop start xs (place - start) x ∙ ap (λ k. get_or xs k x) is ∙ get_or_from_slice_get xs place x x e)
 
 -- one part more of a list
 pub part_next : (ps : List Part) (n : ℕ) → n < length ps → take (n + 1) ps ≡ take n ps ++ part_at ps n ∷ []
-part_next ps n l = ap (λ k. take k ps) (add-one n) ∙ go ps n l
-  where
-    go : (ps : List Part) (n : ℕ) → n < length ps → take (suc n) ps ≡ take n ps ++ part_at ps n ∷ []
-    go [] n l = absurd (omega arith)
-    go (p ∷ ps) zero l = refl
-    go (p ∷ ps) (suc n) l = ap (λ qs. p ∷ qs) (go ps n (omega arith))
+part_next ps n l =
+    take_more ps n no_part l ∙ ap (λ p. take n ps ++ p ∷ []) (sym (unwrap_or-slice_get ps n no_part))
 
 pub codes_append : (ps qs : List Part) → part_codes (ps ++ qs) ≡ part_codes ps ++ part_codes qs
 codes_append ps qs =
@@ -169,6 +161,20 @@ from_none f n xs =
     none [] = refl
     none (x ∷ xs) = refl
 
+-- what comes behind a front
+pub behind_written : (n r fn fr : ℕ) (node_order record_order b after : List ℕ) (s : Parts) (w0 w2 : Written)
+    → w0 ≡ record { nodes = n; records = r; node_order = node_order; record_order = record_order; bytes = b }
+    → w2 ≡ with_bytes w0 (part_codes (parts_by w0.node_order w0.record_order s).held
+    ++ left_code (drop fn (parts_by w0.node_order w0.record_order s).nodes)
+    (drop fr (parts_by w0.node_order w0.record_order s).records))
+    → after ≡ w2.bytes
+    → after ≡ b ++ behind_code (record { nodes = fn; records = fr }) (parts_by node_order record_order s)
+behind_written n r fn fr node_order record_order b after s w0 w2 h0 h2 done =
+    done ∙ ap (λ (w : Written). w.bytes)
+    (h2 ∙ ap (λ (w : Written). with_bytes w (part_codes (parts_by w.node_order w.record_order s).held
+    ++ left_code (drop fn (parts_by w.node_order w.record_order s).nodes)
+    (drop fr (parts_by w.node_order w.record_order s).records))) h0)
+
 -- a front, and what comes behind it
 pub whole_written : (n r fn fr : ℕ) (node_order record_order b after : List ℕ) (s : Parts) (w0 w1 w2 : Written)
     → w0 ≡ record { nodes = n; records = r; node_order = node_order; record_order = record_order; bytes = b }
@@ -190,29 +196,12 @@ whole_written n r fn fr node_order record_order b after s w0 w1 w2 h0 h1 h2 done
     h1 ∙ ap (λ (w : Written). with_bytes w (graph_code
     (map (λ x. renamed_by w (part_at s.nodes x)) (take (fn - 0) (drop 0 w.node_order)))
     (map (λ y. renamed_by w (part_at s.records y)) (take (fr - 0) (drop 0 w.record_order))))) h0 in
-    let B = part_codes P.held ++ left_code (drop fn P.nodes) (drop fr P.records) in
-    let e2 : w2 ≡ with_bytes (with_bytes start F) B =
-    h2 ∙ ap (λ (w : Written). with_bytes w (part_codes (parts_by w.node_order w.record_order s).held
-    ++ left_code (drop fn (parts_by w.node_order w.record_order s).nodes)
-    (drop fr (parts_by w.node_order w.record_order s).records))) e1 in
-    done ∙ ap (λ (w : Written). w.bytes) e2 ∙ append_assoc b F B
+    behind_written n r fn fr node_order record_order (b ++ F) after s w1 w2 e1 h2 done
+    ∙ append_assoc b F (behind_code (record { nodes = fn; records = fr }) P)
     ∙ (λ i. b ++ (graph_code
     (from_none (λ x. renamed_by start (part_at s.nodes x)) fn node_order i)
-    (from_none (λ y. renamed_by start (part_at s.records y)) fr record_order i) ++ B))
-
--- what comes behind a front
-pub behind_written : (n r fn fr : ℕ) (node_order record_order b after : List ℕ) (s : Parts) (w0 w2 : Written)
-    → w0 ≡ record { nodes = n; records = r; node_order = node_order; record_order = record_order; bytes = b }
-    → w2 ≡ with_bytes w0 (part_codes (parts_by w0.node_order w0.record_order s).held
-    ++ left_code (drop fn (parts_by w0.node_order w0.record_order s).nodes)
-    (drop fr (parts_by w0.node_order w0.record_order s).records))
-    → after ≡ w2.bytes
-    → after ≡ b ++ behind_code (record { nodes = fn; records = fr }) (parts_by node_order record_order s)
-behind_written n r fn fr node_order record_order b after s w0 w2 h0 h2 done =
-    done ∙ ap (λ (w : Written). w.bytes)
-    (h2 ∙ ap (λ (w : Written). with_bytes w (part_codes (parts_by w.node_order w.record_order s).held
-    ++ left_code (drop fn (parts_by w.node_order w.record_order s).nodes)
-    (drop fr (parts_by w.node_order w.record_order s).records))) h0)
+    (from_none (λ y. renamed_by start (part_at s.records y)) fr record_order i)
+    ++ behind_code (record { nodes = fn; records = fr }) P))
 
 -- all by own numbers
 module _ (k fixed : ℕ) (s : Parts) (range : ArePartsInRange fixed s) (nodes_few : length s.nodes ≤ k)
@@ -251,12 +240,9 @@ module _ (k fixed : ℕ) (s : Parts) (range : ArePartsInRange fixed s) (nodes_fe
       from_none (λ y. renamed_by start (part_at s.records y)) r order
       ∙ (λ i. take (er i) (map (λ y. renamed_part (own i) (own i) (part_at s.records y)) (own i)))
       ∙ own_records k s fixed range nodes_few records_few in
-      let held : map (renamed_part order order) s.held ≡ s.held =
-      ap (λ o. map (renamed_part o o) s.held) own ∙ own_held k s fixed range nodes_few records_few in
-      done ∙ ap (λ (w : Written). w.bytes)
-      (h2 ∙ ap (λ (w : Written). with_bytes w (part_codes (map (renamed_by w) s.held))) e1)
-      ∙ append_assoc b F (part_codes (map (renamed_part order order) s.held))
-      ∙ (λ i. b ++ (graph_code (nodes i) (records i) ++ part_codes (held i)))
+      own_held_written n r (b ++ F) after w1 w2 e1 h2 done
+      ∙ append_assoc b F (part_codes s.held)
+      ∙ (λ i. b ++ (graph_code (nodes i) (records i) ++ part_codes s.held))
       ∙ ap (λ l. b ++ l) (sym (own_parts_code s))
 
 pub own_taken : (n k : ℕ) → n ≤ k → All (λ x. x < n) (take n (numbers_from 0 k))

@@ -1,19 +1,19 @@
 -- Cells met one after the other, and a part in the pieces in which it is written.
-use Rattle.std.proofs.Common.{◌≡◌, ℕ, ◌+◌, ◌<◌, ◌⊎◌, true, false, cond, ◌||◌, List, [], ◌∷◌}
-use Rattle.std.proofs.Common.{◌++◌, map, length, refl, sym, ◌∙◌, ap, inl, inr, arith, append_assoc}
+use Rattle.std.proofs.Common.{◌≡◌, ℕ, ◌+◌, ◌<◌, false, cond, List, [], ◌∷◌}
+use Rattle.std.proofs.Common.{◌++◌, map, length, refl, sym, ◌∙◌, ap, arith, append_assoc}
 use Rattle.std.proofs.Common.{length-append}
 use Rattle.std.specs.Prelude.{Option, Some, None, nat_eq}
-use Rattle.std.specs.List.{All, AllByRecursion, list_any, flat_map}
+use Rattle.std.specs.List.{All, flat_map}
 use Rattle.std.specs.Option.{option_map, option_and_then}
-use Rattle.std.proofs.lemmas.Bool.Decides.{eqb_tells}
 use Rattle.std.proofs.lemmas.Grind.{flat_map-append}
 use Rattle.std.proofs.lemmas.List.{map-append, length-map}
-use Rattle.std.proofs.lemmas.List.Concat.{flat_map-cons}
-use Rattle.std.proofs.lemmas.List.Elements.{All-append, All-weaker, recursion_from_All}
+use Rattle.std.proofs.lemmas.List.Folds.{flat_map-map, list_any_none}
+use Rattle.std.proofs.lemmas.List.Elements.{All-append, All-weaker}
 use Rattle.std.proofs.lemmas.Option.{slice_get_within}
 use Rattle.tree_machine.specs.Canonical.{renamed_part}
 use Rattle.tree_machine.specs.Cells.{met, met_all, place_in}
 use Rattle.tree_machine.specs.Laws.CellPlaces.{get_place}
+use Rattle.tree_machine.specs.Laws.CellSteps.{is_other}
 use Rattle.tree_machine.specs.Graphs.{numbers_from}
 use Rattle.tree_machine.specs.Laws.Graphs.{numbers_more}
 use Rattle.tree_machine.specs.Laws.CellLists.{numbers_all}
@@ -23,24 +23,18 @@ use Rattle.tree_machine.specs.Written.{name_code}
 
 -- ---- a range of cells
 
-fresh : (y : ℕ) (xs : List ℕ) → AllByRecursion (λ x. x < y) xs → list_any (nat_eq y) xs ≡ false
-fresh y [] h = refl
-fresh y (x ∷ xs) h = ap (λ t. t || list_any (nat_eq y) xs) (apart (eqb_tells y x)) ∙ fresh y xs h.1
-  where
-    apart : ((nat_eq y x ≡ true) × (y ≡ x)) ⊎ ((nat_eq y x ≡ false) × (y ≡ x → ⊥)) → nat_eq y x ≡ false
-    apart (inl e) = let same : y ≡ x = e.1 in let less : x < y = h.0 in absurd (omega arith)
-    apart (inr e) = e.0
-
 -- a cell behind all that are met is appended
 pub run_next : (old : List ℕ) (first i : ℕ) → All (λ x. x < first) old
     → met (old ++ numbers_from first i) (first + i) ≡ old ++ numbers_from first (i + 1)
 run_next old first i h =
+    let other : (x : ℕ) → x < first + i → nat_eq (first + i) x ≡ false =
+    λ x l. is_other (first + i) x (λ e. omega (arith, e)) in
     let before =
-    All-append (λ x. x < first + i) old (numbers_from first i)
-    (All-weaker (λ x. x < first) (λ x. x < first + i) (λ x l. omega arith) old h)
-    (numbers_all (λ x. x < first + i) first i (λ x l k. k)) in
+    All-append (λ x. nat_eq (first + i) x ≡ false) old (numbers_from first i)
+    (All-weaker (λ x. x < first) (λ x. nat_eq (first + i) x ≡ false) (λ x l. other x (omega arith)) old h)
+    (numbers_all (λ x. nat_eq (first + i) x ≡ false) first i (λ x l k. other x k)) in
     ap (λ t. cond t (old ++ numbers_from first i) ((old ++ numbers_from first i) ++ (first + i) ∷ []))
-    (fresh (first + i) (old ++ numbers_from first i) (recursion_from_All _ _ before))
+    (list_any_none (nat_eq (first + i)) (old ++ numbers_from first i) before)
     ∙ (append_assoc old (numbers_from first i) ((first + i) ∷ []) ∙ ap (λ l. old ++ l) (sym (numbers_more first i)))
 
 -- ---- cells that are met one after the other
@@ -82,20 +76,13 @@ joined x y z a b e f = f ∙ (ap (λ l. l ++ b) e ∙ append_assoc x a b)
 -- names in bytes
 names_coded : (order : List ℕ) (refs : List (Option ℕ))
     → flat_map (λ r. name_code order r) refs ≡ places_code order refs
-names_coded order [] = refl
-names_coded order (r ∷ refs) =
-    flat_map-cons (λ r. name_code order r) r refs
-    ∙ (ap (λ l. name_code order r ++ l) (names_coded order refs)
-    ∙ sym (flat_map-cons number_code (reference_number (option_and_then (place_in order) r))
-    (map reference_number (map (option_and_then (place_in order)) refs))))
+names_coded order refs =
+    sym (flat_map-map number_code reference_number (map (option_and_then (place_in order)) refs)
+    ∙ flat_map-map (λ r. number_code (reference_number r)) (option_and_then (place_in order)) refs)
 
 stack_coded : (order : List ℕ) (stack : List ℕ)
     → flat_map (λ x. name_code order (Some x)) stack ≡ flat_map (λ r. name_code order r) (map Some stack)
-stack_coded order [] = refl
-stack_coded order (x ∷ stack) =
-    flat_map-cons (λ x. name_code order (Some x)) x stack
-    ∙ (ap (λ l. name_code order (Some x) ++ l) (stack_coded order stack)
-    ∙ sym (flat_map-cons (λ r. name_code order r) (Some x) (map Some stack)))
+stack_coded order stack = sym (flat_map-map (λ r. name_code order r) Some stack)
 
 -- a part, in the pieces in which it is written
 pub part_written : (named : ℕ) (facts : List ℕ) (nodes records : List (Option ℕ))

@@ -1,7 +1,8 @@
 -- A step that is taken back leaves the state that it was made from.
-use Rattle.std.proofs.Common.{◌≡◌, ℕ, zero, suc, ◌+◌, ◌-◌, List, [], ◌∷◌, Some, None, refl, sym, ap, ◌∙◌, arith}
-use Rattle.std.proofs.Common.{slice_get, slice_set}
-use Rattle.std.proofs.lemmas.Option.{same_Some}
+use Rattle.std.proofs.Common.{◌≡◌, ℕ, ◌+◌, ◌-◌, List, Some, None, refl, sym, ap, ◌∙◌, arith}
+use Rattle.std.proofs.Common.{slice_get, slice_set, set}
+use Rattle.std.proofs.lemmas.List.{set-get_or, set-set}
+use Rattle.std.proofs.lemmas.Option.{get_or_from_slice_get}
 use Rattle.sched_program.specs.Program.{Program}
 use Rattle.tree_machine.specs.Rules.{Rules}
 use Rattle.tree_machine.specs.Step.{at_step, after_access, step}
@@ -15,9 +16,8 @@ use Rattle.tree_machine.proofs.States.{step_parts}
 -- an element restored where another one had replaced it
 set_back : {X : Type 0} (xs : List X) (i : ℕ) (v x : X) → slice_get xs i ≡ Some v
     → slice_set (slice_set xs i x) i v ≡ xs
-set_back [] i v x h = cc
-set_back (y ∷ ys) zero v x h = ap (λ z. z ∷ ys) (sym (same_Some _ _ h))
-set_back (y ∷ ys) (suc i) v x h = ap (λ zs. y ∷ zs) (set_back ys i v x h)
+set_back xs i v x h =
+    set-set xs i x v ∙ (ap (set xs i) (sym (get_or_from_slice_get xs i v v h)) ∙ set-get_or xs i v)
 
 module _ {Machine Memory Place Form : Type 0} where
   -- an access replaces one thread, and counts one step

@@ -9,6 +9,7 @@ use Rattle.std.proofs.lemmas.List.{length-map, nil_from_length}
 use Rattle.std.proofs.lemmas.List.Elements.{recursion_from_All, All-from_recursion, All-append, All-map}
 use Rattle.std.proofs.lemmas.List.Elements.{All-weaker}
 use Rattle.std.proofs.lemmas.List.Folds.{list_any-append}
+use Rattle.std.proofs.lemmas.Map.Steps.{length-le_from_distinct_below}
 use Rattle.std.proofs.Math.Bool.{or-true}
 use Rattle.tree_machine.specs.Cells.{content_at, IsRooted, order_of}
 use Rattle.tree_machine.specs.Pairing.{IsAmong}
@@ -21,7 +22,7 @@ use Rattle.tree_machine.specs.Laws.CellLists.{numbers_all, numbers_distinct, apa
 use Rattle.tree_machine.specs.Laws.CellLists.{distinct_join, raised_distinct, rec_weaker}
 use Rattle.tree_machine.specs.Laws.CellOrder.{Has, HasAll, RefsBelow, Extends, extends_more, has_extends}
 use Rattle.tree_machine.specs.Laws.CellOrder.{met_in_order, met_in_extends, order_closed}
-use Rattle.tree_machine.specs.Laws.CellOrder.{all_has, length-order}
+use Rattle.tree_machine.specs.Laws.CellOrder.{all_has}
 use Rattle.tree_machine.specs.Laws.CellPlaces.{place_from_has, get_place, has_at}
 use Rattle.tree_machine.specs.Laws.CellWalks.{order_front}
 use Rattle.tree_machine.specs.Laws.PartCells.{part_all, length-parts_graph, length-cells, node_at, record_at, held_at}
@@ -56,7 +57,7 @@ names_met n r order (Some x ∷ ns) rs l k h =
 no_more : (n : ℕ) (xs ys : List ℕ) → IsDistinct nat_eq ys → AllByRecursion (λ x. x < n) ys → Extends xs ys
     → length xs ≡ n → ys ≡ xs
 no_more n xs ys d b e l =
-    let short = length-order n ys (record { distinct = d; below = all_has (λ x. x < n) ys b }) in
+    let short = length-le_from_distinct_below ys n d (all_has (λ x. x < n) ys b) in
     let long = ap length e.is ∙ length-append xs e.rest in
     e.is ∙ ap (λ r. xs ++ r) (nil_from_length e.rest (omega arith)) ∙ append-nil xs
 

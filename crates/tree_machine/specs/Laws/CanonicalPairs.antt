@@ -29,14 +29,10 @@ module _ (P R : ℕ → ℕ → Type 0) (fixed : ℕ) (s t : Parts) (h : ArePart
   node_tests x y (inl q) =
       let k = p.nodes_in_range x y q in test_node (length s.nodes) x k.0 ∙ sym (test_node (length t.nodes) y k.1)
   node_tests x y (inr (inl q)) =
-      let e = q.3 in
-      let f = q.4 in
-      test_other (length s.nodes) x (omega arith) ∙ sym (test_other (length t.nodes) y (omega arith))
+      test_other (length s.nodes) x (omega (arith, q.3)) ∙ sym (test_other (length t.nodes) y (omega (arith, q.4)))
   node_tests x y (inr (inr q)) =
-      let e = q.2 in
-      let f = q.3 in
-      test_other (length s.nodes) x (omega (arith, length-parts_graph s))
-      ∙ sym (test_other (length t.nodes) y (omega (arith, length-parts_graph t)))
+      test_other (length s.nodes) x (omega (arith, q.2, length-parts_graph s))
+      ∙ sym (test_other (length t.nodes) y (omega (arith, q.3, length-parts_graph t)))
 
   record_tests : (x y : ℕ) → Paired P R s t x y
       → (nat_le (length s.nodes) x && nat_lt x (length s.nodes + length s.records))
@@ -47,25 +43,17 @@ module _ (P R : ℕ → ℕ → Type 0) (fixed : ℕ) (s t : Parts) (h : ArePart
       ∙ sym (test_before (length t.nodes) (length t.records) y k.1)
   record_tests x y (inr (inl q)) =
       let k = p.records_in_range q.0 q.1 q.2 in
-      let i = k.0 in
-      let j = k.1 in
-      let e = q.3 in
-      let f = q.4 in
-      test_record (length s.nodes) (length s.records) x (omega arith) (omega arith)
-      ∙ sym (test_record (length t.nodes) (length t.records) y (omega arith) (omega arith))
+      test_record (length s.nodes) (length s.records) x (omega (arith, q.3)) (omega (arith, k.0, q.3))
+      ∙ sym (test_record (length t.nodes) (length t.records) y (omega (arith, q.4)) (omega (arith, k.1, q.4)))
   record_tests x y (inr (inr q)) =
-      let e = q.2 in
-      let f = q.3 in
-      test_behind (length s.nodes) (length s.records) x (omega (arith, length-parts_graph s))
-      ∙ sym (test_behind (length t.nodes) (length t.records) y (omega (arith, length-parts_graph t)))
+      test_behind (length s.nodes) (length s.records) x (omega (arith, q.2, length-parts_graph s))
+      ∙ sym (test_behind (length t.nodes) (length t.records) y (omega (arith, q.3, length-parts_graph t)))
 
   nodes_kept : (x y : ℕ) → Paired P R s t x y × (nat_lt x (length s.nodes) ≡ true) → P x y
-  nodes_kept x y k = go k.0 (node_test (length s.nodes) x k.1)
-    where
-      go : Paired P R s t x y → x < length s.nodes → P x y
-      go (inl q) less = q
-      go (inr (inl q)) less = let e = q.3 in absurd (omega arith)
-      go (inr (inr q)) less = let e = q.2 in absurd (omega (arith, length-parts_graph s))
+  nodes_kept x y (inl q, less) = q
+  nodes_kept x y (inr (inl q), less) = absurd (omega (arith, node_test (length s.nodes) x less, q.3))
+  nodes_kept x y (inr (inr q), less) =
+      absurd (omega (arith, node_test (length s.nodes) x less, q.2, length-parts_graph s))
 
   records_kept : (x y : ℕ)
       → Paired P R s t x y × ((nat_le (length s.nodes) x && nat_lt x (length s.nodes + length s.records)) ≡ true)
@@ -76,12 +64,9 @@ module _ (P R : ℕ → ℕ → Type 0) (fixed : ℕ) (s t : Parts) (h : ArePart
           → R (x - length s.nodes) (y - length t.nodes)
       go (inl q) less = let m = p.nodes_in_range x y q in let a = m.0 in let b = less.0 in absurd (omega arith)
       go (inr (inl q)) less =
-          let e = q.3 in
-          let f = q.4 in
-          let here : q.0 ≡ x - length s.nodes = omega arith in
-          let there : q.1 ≡ y - length t.nodes = omega arith in
-          subst (λ a. R a (y - length t.nodes)) here
-          (subst (λ b. R q.0 b) there q.2)
+          let here : q.0 ≡ x - length s.nodes = omega (arith, q.3) in
+          let there : q.1 ≡ y - length t.nodes = omega (arith, q.4) in
+          subst (λ a. R a (y - length t.nodes)) here (subst (λ b. R q.0 b) there q.2)
       go (inr (inr q)) less = let e = q.2 in let b = less.1 in absurd (omega (arith, length-parts_graph s))
 
   -- orders that are paired have paired nodes and paired records

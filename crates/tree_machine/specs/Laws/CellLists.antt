@@ -1,14 +1,13 @@
 -- Lists of cells and of numbers, end to end.
-use Rattle.std.proofs.Common.{◌≡◌, ℕ, zero, suc, ◌+◌, ◌<◌, ◌≤◌, ◌⊎◌, true, false, List, [], ◌∷◌, ◌++◌, map, length}
-use Rattle.std.proofs.Common.{refl, ◌∙◌, ap, subst, inl, inr, arith, zero-add, add-zero}
+use Rattle.std.proofs.Common.{◌≡◌, ℕ, zero, suc, ◌+◌, ◌<◌, ◌≤◌, false, List, [], ◌∷◌, ◌++◌, map, length}
+use Rattle.std.proofs.Common.{refl, ◌∙◌, ap, subst, arith, zero-add, add-zero}
 use Rattle.std.specs.Prelude.{nat_eq}
 use Rattle.std.specs.List.{AllZip, All, AllByRecursion, IsDistinct}
-use Rattle.std.proofs.lemmas.Bool.Decides.{eqb_tells}
 use Rattle.std.proofs.lemmas.List.Elements.{All-append, All-weaker, All-from_recursion, recursion_from_All}
 use Rattle.std.proofs.lemmas.Map.Keys.{IsDistinct-cons, IsDistinct-head, IsDistinct-tail}
 use Rattle.tree_machine.specs.Cells.{Content, content_at}
 use Rattle.tree_machine.specs.Graphs.{numbers_from}
-use Rattle.tree_machine.specs.Laws.CellSteps.{same_tests}
+use Rattle.tree_machine.specs.Laws.CellSteps.{same_tests, is_other}
 
 -- ---- lists end to end
 
@@ -51,11 +50,8 @@ numbers_all P a n h = All-from_recursion P (numbers_from a n) (go a n h)
 
 pub apart_above : (a : ℕ) (xs : List ℕ) → All (λ x. a < x) xs → AllByRecursion (λ y. nat_eq a y ≡ false) xs
 apart_above a xs h =
-    recursion_from_All _ xs (All-weaker (λ x. a < x) (λ y. nat_eq a y ≡ false) (λ x l. go x l (eqb_tells a x)) xs h)
-  where
-    go : (x : ℕ) → a < x → ((nat_eq a x ≡ true) × (a ≡ x)) ⊎ ((nat_eq a x ≡ false) × (a ≡ x → ⊥)) → nat_eq a x ≡ false
-    go x l (inl e) = let same : a ≡ x = e.1 in absurd (omega arith)
-    go x l (inr e) = e.0
+    recursion_from_All _ xs
+    (All-weaker (λ x. a < x) (λ y. nat_eq a y ≡ false) (λ x l. is_other a x (λ e. omega (arith, e))) xs h)
 
 pub distinct_none : IsDistinct nat_eq []
 unfolding IsDistinct

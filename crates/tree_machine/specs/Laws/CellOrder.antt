@@ -102,28 +102,19 @@ pub record IsOrder (n : ℕ) (order : List ℕ) : Type 0 where
 
 has_push_cases : (order : List ℕ) (x y : ℕ) → Has (order ++ x ∷ []) y → Has order y ⊎ (y ≡ x)
 has_push_cases order x y h =
-    go (or_cases (list_any (nat_eq y) order) (nat_eq y x || false)
-    (sym (list_any-append (nat_eq y) order (x ∷ [])) ∙ h))
-  where
-    go : (list_any (nat_eq y) order ≡ true) ⊎ ((nat_eq y x || false) ≡ true) → Has order y ⊎ (y ≡ x)
-    go (inl e) = inl e
-    go (inr e) = inr (go2 (or_cases (nat_eq y x) false e))
-      where
-        go2 : (nat_eq y x ≡ true) ⊎ (false ≡ true) → y ≡ x
-        go2 (inl d) = eqb-true y x d
-        go2 (inr d) = cc
+    elim (or_cases (list_any (nat_eq y) order) (nat_eq y x || false)
+    (sym (list_any-append (nat_eq y) order (x ∷ [])) ∙ h)) [
+      | inl e ↦ inl e
+      | inr e ↦ elim (or_cases (nat_eq y x) false e) [ inl d ↦ inr (eqb-true y x d) | inr d ↦ cc ]
+    ]
 
 met_order_by : (n : ℕ) (order : List ℕ) (x : ℕ) → x < n → IsOrder n order → (t : Bool) → list_any (nat_eq x) order ≡ t
     → IsOrder n (cond t order (order ++ x ∷ []))
 met_order_by n order x l h true e = h
 met_order_by n order x l h false e = record {
   distinct = IsDistinct-push nat_equivalence order x h.distinct e;
-  below = λ y g. go y (has_push_cases order x y g);
+  below = λ y g. elim (has_push_cases order x y g) [ inl m ↦ h.below y m | inr m ↦ subst (λ z. z < n) (sym m) l ];
 }
-  where
-    go : (y : ℕ) → Has order y ⊎ (y ≡ x) → y < n
-    go y (inl g) = h.below y g
-    go y (inr g) = subst (λ z. z < n) (sym g) l
 
 pub met_order : (n : ℕ) (order : List ℕ) (x : ℕ) → x < n → IsOrder n order → IsOrder n (met order x)
 met_order n order x l h = met_order_by n order x l h (list_any (nat_eq x) order) refl
@@ -146,11 +137,11 @@ length-order n order h = length-le_from_distinct_below order n h.distinct h.belo
 -- what holds of each element holds of one that is there
 pub all_has : (P : ℕ → Type 0) (xs : List ℕ) → AllByRecursion P xs → (x : ℕ) → Has xs x → P x
 all_has P [] h x g = cc
-all_has P (y ∷ xs) h x g = go (λ e. all_has P xs h.1 x e) (or_cases (nat_eq x y) (list_any (nat_eq x) xs) g)
-  where
-    go : (Has xs x → P x) → (nat_eq x y ≡ true) ⊎ Has xs x → P x
-    go rest (inl e) = subst P (sym (eqb-true x y e)) h.0
-    go rest (inr e) = rest e
+all_has P (y ∷ xs) h x g =
+    elim (or_cases (nat_eq x y) (list_any (nat_eq x) xs) g) [
+      | inl e ↦ subst P (sym (eqb-true x y e)) h.0
+      | inr e ↦ all_has P xs h.1 x e
+    ]
 
 pub content_all : (P : Content → Type 0) → P (record { facts = []; refs = [] }) → (cells : List Content)
     → AllByRecursion P cells → (x : ℕ) → P (content_at cells x)
@@ -207,15 +198,10 @@ IsClosedBelow cells n order = (k x : ℕ) → k < n → slice_get order k ≡ So
 -- an element before the place n of a longer list, where the shorter one has a place n
 get_before : {xs ys : List ℕ} → Extends xs ys → (n z : ℕ) → slice_get xs n ≡ Some z → (k x : ℕ) → k ≤ n
     → slice_get ys k ≡ Some x → slice_get xs k ≡ Some x
-get_before {xs} {ys} e n z at k x le h = go (slice_get xs k) refl
-  where
-    go : (r : Option ℕ) → slice_get xs k ≡ r → slice_get xs k ≡ Some x
-    go None is =
-        let far : n < length xs = slice_get_within xs n z at in
-        let near : k < length xs = omega arith in
-        let there : slice_get xs k ≡ Some (get_or xs k x) = slice_get-get_or xs k x near in
-        cc
-    go (Some w) is = is ∙ (sym (get_extends e k w is) ∙ h)
+get_before {xs} e n z at k x le h =
+    let far : n < length xs = slice_get_within xs n z at in
+    let there = slice_get-get_or xs k x (omega arith) in
+    there ∙ (sym (get_extends e k (get_or xs k x) there) ∙ h)
 
 below_or_at : (k n : ℕ) → k < suc n → (k < n) ⊎ (k ≡ n)
 below_or_at k n l = grind arith

@@ -11,7 +11,7 @@ use Rattle.std.proofs.Math.Bool.{or-true}
 use Rattle.tree_machine.specs.Cells.{IsPairedOrNone, place_in}
 use Rattle.tree_machine.specs.Pairing.{IsOneToOne, IsAmong}
 use Rattle.tree_machine.specs.Laws.CellSteps.{same_tests}
-use Rattle.tree_machine.specs.Laws.CellOrder.{Has, all_has, has_itself}
+use Rattle.tree_machine.specs.Laws.CellOrder.{Has, all_has, has_itself, nat_equivalence}
 
 -- paired elements have the same place
 pub place_paired : (P : ℕ → ℕ → Type 0) → IsOneToOne P → (xs ys : List ℕ) (a b : ℕ) → AllZip P xs ys → P a b
@@ -40,14 +40,13 @@ refs_renamed P one xs ys z (Some x ∷ refs) (Some y ∷ sefs) h =
 -- what is in a list has a place there, and is at it
 pub place_from_has : (xs : List ℕ) (x : ℕ) → Has xs x → (k : ℕ) × (place_in xs x ≡ Some k)
 place_from_has [] x h = cc
-place_from_has (y ∷ xs) x h = go (λ e. place_from_has xs x e) (eqb_tells x y)
-  where
-    go : (Has xs x → (k : ℕ) × (place_in xs x ≡ Some k)) → ((nat_eq x y ≡ true) × (x ≡ y))
-        ⊎ ((nat_eq x y ≡ false) × (x ≡ y → ⊥)) → (k : ℕ) × (place_in (y ∷ xs) x ≡ Some k)
-    go rest (inl e) = (0, ap (λ t. cond t (Some 0) (option_map suc (place_in xs x))) e.0)
-    go rest (inr e) =
-        let r = rest (sym (ap (λ t. t || list_any (nat_eq x) xs) e.0) ∙ h) in
-        (suc r.0, ap (λ t. cond t (Some 0) (option_map suc (place_in xs x))) e.0 ∙ ap (option_map suc) r.1)
+place_from_has (y ∷ xs) x h =
+    elim (eqb_tells x y) [
+      | inl e ↦ (0, ap (λ t. cond t (Some 0) (option_map suc (place_in xs x))) e.0)
+      | inr e ↦
+          let r = place_from_has xs x (sym (ap (λ t. t || list_any (nat_eq x) xs) e.0) ∙ h) in
+          (suc r.0, ap (λ t. cond t (Some 0) (option_map suc (place_in xs x))) e.0 ∙ ap (option_map suc) r.1)
+    ]
 
 pub get_place : (xs : List ℕ) (x k : ℕ) → place_in xs x ≡ Some k → slice_get xs k ≡ Some x
 get_place [] x k h = cc
@@ -104,16 +103,10 @@ place_at [] d k x h = cc
 place_at (y ∷ xs) d zero x h =
     let same : y ≡ x = cc in ap (λ t. cond t (Some 0) (option_map suc (place_in xs x))) (eq-eqb x y (sym same))
 place_at (y ∷ xs) d (suc k) x h =
-    ap (λ t. cond t (Some 0) (option_map suc (place_in xs x))) (apart (eqb_tells x y))
+    ap (λ t. cond t (Some 0) (option_map suc (place_in xs x)))
+    (nat_equivalence.symm x y
+    ∙ all_has (λ z. nat_eq y z ≡ false) xs (IsDistinct-head nat_eq y xs d) x (has_at xs k x h))
     ∙ ap (option_map suc) (place_at xs (IsDistinct-tail nat_eq y xs d) k x h)
-  where
-    apart : ((nat_eq x y ≡ true) × (x ≡ y)) ⊎ ((nat_eq x y ≡ false) × (x ≡ y → ⊥)) → nat_eq x y ≡ false
-    apart (inl e) =
-        let other : nat_eq y x ≡ false =
-        all_has (λ z. nat_eq y z ≡ false) xs (IsDistinct-head nat_eq y xs d) x (has_at xs k x h) in
-        let itself : nat_eq y x ≡ true = eq-eqb y x (sym e.1) in
-        cc
-    apart (inr e) = e.0
 
 -- places of distinct numbers, side by side, are pairs one to one
 pub zip_one : (xs ys : List ℕ) → IsDistinct nat_eq xs → IsDistinct nat_eq ys → IsOneToOne (IsAmong (zip xs ys))

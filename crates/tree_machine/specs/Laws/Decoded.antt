@@ -1,9 +1,11 @@
 -- A state whose own bytes are the named code of another one is alike to that one, and fits the same program.
-use Rattle.std.proofs.Common.{◌≡◌, ℕ, zero, suc, ◌+◌, ◌≤◌, List, [], ◌∷◌, map, length, sym, ◌∙◌, ap, subst, refl}
+use Rattle.std.proofs.Common.{◌≡◌, ℕ, zero, suc, ◌+◌, ◌≤◌, List, [], ◌∷◌, map, length, sym, ◌∙◌, ap, subst, refl, get_or}
 use Rattle.std.specs.Prelude.{Option, Some, None, IfSome, All, if◌then◌else◌, is_some, slice_get}
 use Rattle.std.specs.List.{AllByRecursion, AllZip}
 use Rattle.std.proofs.lemmas.List.{length-map}
-use Rattle.std.proofs.lemmas.List.Elements.{recursion_from_All}
+use Rattle.std.specs.Option.{option_map}
+use Rattle.std.proofs.lemmas.List.Elements.{recursion_from_All, AllZip-get_or}
+use Rattle.std.proofs.lemmas.Option.{get_or_from_slice_get, same_Some, slice_get-map, slice_get_within}
 use Rattle.sched_program.specs.Program.{Program}
 use Rattle.tree_machine.specs.Alike.{AreStatesAlike, FormContent, notes_of, places_of, replies_of}
 use Rattle.tree_machine.specs.FormCode.{content_code, named_code, state_code}
@@ -18,38 +20,34 @@ use Rattle.tree_machine.specs.declared.state.State.{State}
 
 -- ---- lists that are equal under a map, or paired place by place
 
+-- what a mapped option holds is made of what the option holds
+pub map_some : {A B : Type 0} (f : A → B) (held : Option A) (y : B) → option_map f held ≡ Some y
+    → (x : A) × (held ≡ Some x) × (y ≡ f x)
+map_some f None y h = cc
+map_some f (Some x) y h = (x, refl, sym (same_Some _ _ h))
+
+at_map : {A B : Type 0} (f : A → B) (xs : List A) (t : ℕ) (x : A) → slice_get xs t ≡ Some x
+    → slice_get (map f xs) t ≡ Some (f x)
+at_map f xs t x at = slice_get-map f xs t ∙ ap (option_map f) at
+
 twin_at : {A B : Type 0} (f : A → B) (xs ys : List A) → map f xs ≡ map f ys → (t : ℕ) (x : A) → slice_get xs t ≡ Some x
-    → (y : A) × (slice_get ys t ≡ Some y) × (f y ≡ f x)
-twin_at f [] ys e t x at = cc
-twin_at f (x ∷ xs) [] e t z at = cc
-twin_at f (x ∷ xs) (y ∷ ys) e zero z at =
-    let first : f y ≡ f x = cc in
-    let same : x ≡ z = cc in
-    (y, refl, first ∙ ap f same)
-twin_at f (x ∷ xs) (y ∷ ys) e (suc t) z at = let rest : map f xs ≡ map f ys = cc in twin_at f xs ys rest t z at
+    → (y : A) × (slice_get ys t ≡ Some y) × (f x ≡ f y)
+twin_at f xs ys e t x at =
+    map_some f (slice_get ys t) (f x)
+    (sym (slice_get-map f ys t) ∙ (ap (λ l. slice_get l t) (sym e) ∙ at_map f xs t x at))
 
 same_at : {A B : Type 0} (f : A → B) (xs ys : List A) → map f xs ≡ map f ys → (t : ℕ) (x y : A)
     → slice_get xs t ≡ Some x → slice_get ys t ≡ Some y → f y ≡ f x
-same_at f [] ys e t x y at there = cc
-same_at f (x ∷ xs) [] e t z w at there = cc
-same_at f (x ∷ xs) (y ∷ ys) e zero z w at there =
-    let first : f y ≡ f x = cc in
-    let same : x ≡ z = cc in
-    let twin : y ≡ w = cc in
-    ap f (sym twin) ∙ first ∙ ap f same
-same_at f (x ∷ xs) (y ∷ ys) e (suc t) z w at there =
-    let rest : map f xs ≡ map f ys = cc in same_at f xs ys rest t z w at there
+same_at f xs ys e t x y at there =
+    same_Some _ _ (sym (at_map f ys t y there) ∙ (ap (λ l. slice_get l t) (sym e) ∙ at_map f xs t x at))
 
-zip_at : {A B C D : Type 0} (P : C → D → Type 0) (f : A → C) (g : B → D) (xs : List A) (ys : List B)
-    → AllZip P (map f xs) (map g ys) → (t : ℕ) (x : A) (y : B) → slice_get xs t ≡ Some x → slice_get ys t ≡ Some y
-    → P (f x) (g y)
-zip_at P f g [] ys z t x y at there = cc
-zip_at P f g (x ∷ xs) [] z t a b at there = cc
-zip_at P f g (x ∷ xs) (y ∷ ys) z zero a b at there =
-    let same : x ≡ a = cc in
-    let twin : y ≡ b = cc in
-    subst (λ c. P (f c) (g b)) same (subst (λ c. P (f x) (g c)) twin z.0)
-zip_at P f g (x ∷ xs) (y ∷ ys) z (suc t) a b at there = zip_at P f g xs ys z.1 t a b at there
+zip_at : {A C : Type 0} (P : C → C → Type 0) (f : A → C) (xs ys : List A) → AllZip P (map f xs) (map f ys)
+    → (t : ℕ) (x y : A) → slice_get xs t ≡ Some x → slice_get ys t ≡ Some y → P (f x) (f y)
+zip_at P f xs ys z t x y at there =
+    let here = at_map f xs t x at in
+    subst (P (f x)) (get_or_from_slice_get (map f ys) t (f y) (f y) (at_map f ys t y there))
+    (subst (λ c. P c (get_or (map f ys) t (f y))) (get_or_from_slice_get (map f xs) t (f x) (f x) here)
+    (AllZip-get_or P (map f xs) (map f ys) t (f x) (f y) z (slice_get_within (map f xs) t (f x) here)))
 
 all_at : {A B : Type 0} (P : B → Type 0) (f : A → B) (xs : List A) → AllByRecursion P (map f xs) → (t : ℕ) (x : A)
     → slice_get xs t ≡ Some x → P (f x)
@@ -57,13 +55,13 @@ all_at P f [] h t x at = cc
 all_at P f (x ∷ xs) h zero y at = let same : x ≡ y = cc in subst (λ z. P (f z)) same h.0
 all_at P f (x ∷ xs) h (suc t) y at = all_at P f xs h.1 t y at
 
--- paired threads are both between operations, or neither is
-both_held : {Place : Type 0} (P : Place → Place → Type 0) (held other : Option Place) → AreHeldPaired P held other
-    → is_some other ≡ is_some held
-both_held P None None h = refl
-both_held P None (Some other) h = absurd h
-both_held P (Some place) None h = absurd h
-both_held P (Some place) (Some other) h = refl
+-- both options hold a value, or neither does
+pub held_are_some : {A : Type 0} (P : A → A → Type 0) (held twin : Option A) → AreHeldPaired P held twin
+    → is_some held ≡ is_some twin
+held_are_some P None None k = refl
+held_are_some P None (Some y) k = absurd k
+held_are_some P (Some x) None k = absurd k
+held_are_some P (Some x) (Some y) k = refl
 
 module _ {Machine Memory Place Form : Type 0} (rules : Rules Memory Place)
     (form_of : Memory → List (Option Place) → Form) (form_code : Form → List ℕ)
@@ -140,14 +138,14 @@ module _ {Machine Memory Place Form : Type 0} (rules : Rules Memory Place)
         let same_notes : twin.0.notes ≡ thread.notes =
         same_at (λ (x : Thread Place). x.notes) c.threads s.threads notes t thread twin.0 thread_at twin.1 in
         let held : is_some thread.place ≡ is_some twin.0.place =
-        both_held (rules.pairs.places decoded.2.0) twin.0.place thread.place
+        sym (held_are_some (rules.pairs.places decoded.2.0) twin.0.place thread.place
         (zip_at (AreHeldPaired (rules.pairs.places decoded.2.0)) (λ (x : Thread Place). x.place)
-        (λ (x : Thread Place). x.place) s.threads c.threads decoded.2.2 t twin.0 thread twin.1 thread_at) in
+        s.threads c.threads decoded.2.2 t twin.0 thread twin.1 thread_at)) in
         record {
           begun = subst (λ ns. length ns ≤ length ops) same_notes twin_fits.begun;
           notes = subst (λ ns. All (λ note. length note ≡ length program.threads) ns) same_notes twin_fits.notes;
           replies =
-              ap (λ rs. length rs + (if is_some thread.place then 1 else 0)) (sym twin.2)
+              ap (λ rs. length rs + (if is_some thread.place then 1 else 0)) twin.2
               ∙ ap (λ b. length twin.0.replies + (if b then 1 else 0)) held ∙ twin_fits.replies
               ∙ ap length same_notes;
           place = all_at (λ place. IfSome place (rules.IsPlaceInRange c.memory))

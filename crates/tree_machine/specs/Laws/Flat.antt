@@ -34,24 +34,26 @@ number_split n m xs ys e =
     ap (λ k. 255 * k + n % 255) split.0 ∙ ap (λ r. 255 * (m / 255) + r) split.1 in
     (sym (div-add-mod n 255) ∙ (same ∙ div-add-mod m 255), split.2)
 
--- ---- equally many numbers
+-- ---- one value after the other
 
-codes_split : (ns ms : List ℕ) (xs ys : List ℕ) → length ns ≡ length ms
-    → flat_map number_code ns ++ xs ≡ flat_map number_code ms ++ ys → (ns ≡ ms) × (xs ≡ ys)
-codes_split [] [] xs ys l e = (refl, e)
-codes_split [] (m ∷ ms) xs ys l e = absurd (omega arith)
-codes_split (n ∷ ns) [] xs ys l e = absurd (omega arith)
-codes_split (n ∷ ns) (m ∷ ms) xs ys l e =
+-- whatever comes behind it, what is coded and where its bytes end can be read off
+abbrev pub IsReadable : {A : Type 0} → (A → List ℕ) → Type 0
+IsReadable {A} code = (x y : A) (xs ys : List ℕ) → code x ++ xs ≡ code y ++ ys → (x ≡ y) × (xs ≡ ys)
+
+pub each_readable : {A : Type 0} (code : A → List ℕ) → IsReadable code → (cs ds : List A) (xs ys : List ℕ)
+    → length cs ≡ length ds → flat_map code cs ++ xs ≡ flat_map code ds ++ ys → (cs ≡ ds) × (xs ≡ ys)
+each_readable code readable [] [] xs ys l e = (refl, e)
+each_readable code readable [] (d ∷ ds) xs ys l e = absurd (omega arith)
+each_readable code readable (c ∷ cs) [] xs ys l e = absurd (omega arith)
+each_readable {A} code readable (c ∷ cs) (d ∷ ds) xs ys l e =
     let first =
-    number_split n m (flat_map number_code ns ++ xs) (flat_map number_code ms ++ ys)
-    (sym (codes_before n ns xs) ∙ (e ∙ codes_before m ms ys)) in
-    let rest = codes_split ns ms xs ys (omega arith) first.1 in
-    (ap (λ k. k ∷ ns) first.0 ∙ ap (λ ks. m ∷ ks) rest.0, rest.1)
+    readable c d (flat_map code cs ++ xs) (flat_map code ds ++ ys) (sym (before c cs xs) ∙ (e ∙ before d ds ys)) in
+    let rest = each_readable code readable cs ds xs ys (omega arith) first.1 in
+    (ap (λ k. k ∷ cs) first.0 ∙ ap (λ ks. d ∷ ks) rest.0, rest.1)
   where
-    codes_before : (n : ℕ) (ns xs : List ℕ)
-        → flat_map number_code (n ∷ ns) ++ xs ≡ number_code n ++ (flat_map number_code ns ++ xs)
-    codes_before n ns xs =
-        ap (λ l. l ++ xs) (flat_map-cons number_code n ns) ∙ append_assoc (number_code n) (flat_map number_code ns) xs
+    before : (x : A) (rest : List A) (zs : List ℕ)
+        → flat_map code (x ∷ rest) ++ zs ≡ code x ++ (flat_map code rest ++ zs)
+    before x rest zs = ap (λ l. l ++ zs) (flat_map-cons code x rest) ∙ append_assoc (code x) (flat_map code rest) zs
 
 -- ---- facts
 
@@ -100,7 +102,7 @@ long_split fs gs r s xs ys e =
     number_split (length fs) (length gs) (number_code r ++ (flat_map number_code fs ++ xs))
     (number_code s ++ (flat_map number_code gs ++ ys)) behind in
     let refs = number_split r s (flat_map number_code fs ++ xs) (flat_map number_code gs ++ ys) lengths.1 in
-    let facts = codes_split fs gs xs ys lengths.0 refs.1 in
+    let facts = each_readable number_code number_split fs gs xs ys lengths.0 refs.1 in
     (facts.0, refs.0, facts.1)
 
 short_split : (a b : ℕ) (ms ns : List ℕ) (r s : ℕ) (xs ys : List ℕ) → a < 6 → length ms < 5 → r < 8 → b < 6
@@ -113,7 +115,7 @@ short_split a b ms ns r s xs ys h1 h2 h3 h4 h5 h6 e =
     let refs : r ≡ s = omega arith in
     let first : a ≡ b = omega arith in
     let lengths : length ms ≡ length ns = omega arith in
-    let facts = codes_split ms ns xs ys lengths behind in
+    let facts = each_readable number_code number_split ms ns xs ys lengths behind in
     (ap (λ k. k ∷ ms) first ∙ ap (λ l. b ∷ l) facts.0, refs, facts.1)
 
 facts_split : (fs gs : List ℕ) (r s : ℕ) (xs ys : List ℕ) → facts_code fs r ++ xs ≡ facts_code gs s ++ ys
@@ -171,24 +173,11 @@ cell_split c d xs ys e =
     (flat_map number_code (map reference_number d.refs) ++ ys) (sym (cell_before c xs) ∙ (e ∙ cell_before d ys)) in
     let lengths : length (map reference_number c.refs) ≡ length (map reference_number d.refs) =
     length-map c.refs reference_number ∙ (facts.1 ∙ sym (length-map d.refs reference_number)) in
-    let refs = codes_split (map reference_number c.refs) (map reference_number d.refs) xs ys lengths facts.2 in
+    let refs = each_readable number_code number_split (map reference_number c.refs) (map reference_number d.refs) xs ys lengths facts.2 in
     let same = references_equal c.refs d.refs refs.0 in
     (λ i. record { facts = facts.0 i; refs = same i }, refs.1)
 
 -- equally many cells in front of other bytes
 pub flat_split : (cells others : List Content) (xs ys : List ℕ) → length cells ≡ length others
     → flat cells ++ xs ≡ flat others ++ ys → (cells ≡ others) × (xs ≡ ys)
-flat_split [] [] xs ys l e = (refl, e)
-flat_split [] (d ∷ others) xs ys l e = absurd (omega arith)
-flat_split (c ∷ cells) [] xs ys l e = absurd (omega arith)
-flat_split (c ∷ cells) (d ∷ others) xs ys l e =
-    let split =
-    cell_split c d (flat cells ++ xs) (flat others ++ ys)
-    (sym (flat_before c cells xs) ∙ (e ∙ flat_before d others ys)) in
-    let rest = flat_split cells others xs ys (omega arith) split.1 in
-    (ap (λ x. x ∷ cells) split.0 ∙ ap (λ xs. d ∷ xs) rest.0, rest.1)
-  where
-    flat_before : (c : Content) (cells : List Content) (xs : List ℕ)
-        → flat (c ∷ cells) ++ xs ≡ cell_code c ++ (flat cells ++ xs)
-    flat_before c cells xs =
-        ap (λ l. l ++ xs) (flat_map-cons cell_code c cells) ∙ append_assoc (cell_code c) (flat cells) xs
+flat_split = each_readable cell_code cell_split

@@ -6,7 +6,6 @@ use Rattle.std.specs.Cmp.Lexicographic.{pointwise}
 use Rattle.std.specs.List.{flat_map}
 use Rattle.std.proofs.Common.{refl, sym, ◌∙◌, ap, subst, arith, append_assoc}
 use Rattle.std.proofs.lemmas.Cmp.{lists_equiv}
-use Rattle.std.proofs.lemmas.List.Concat.{flat_map-cons}
 use Rattle.sched_program.specs.Exact.{IsExact}
 use Rattle.sched_program.specs.Laws.Exact.{nat_exact, list_exact}
 use Rattle.tree_machine.specs.Laws.CellOrder.{nat_equivalence}
@@ -14,29 +13,10 @@ use Rattle.tree_machine.specs.Alike.{FormContent}
 use Rattle.tree_machine.specs.Laws.StateExact.{same_answer}
 use Rattle.tree_machine.specs.FormCode.{list_code, replies_code, note_code, astray_code, deeds_code, content_code}
 use Rattle.tree_machine.specs.FormCode.{IsInjective}
-use Rattle.tree_machine.specs.Laws.Flat.{number_split}
+use Rattle.tree_machine.specs.Laws.Flat.{number_split, IsReadable, each_readable}
 use Rattle.tree_machine.specs.Laws.Packed.{replies_least}
 use Rattle.tree_machine.specs.Laws.ShortNotes.{counts_of_number, number_below}
 use Rattle.tree_machine.specs.Packed.{counts_in, is_short, note_number, replies_number}
-
--- whatever comes behind it, what is coded and where its bytes end can be read off
-abbrev IsReadable : {A : Type 0} → (A → List ℕ) → Type 0
-IsReadable {A} code = (x y : A) (xs ys : List ℕ) → code x ++ xs ≡ code y ++ ys → (x ≡ y) × (xs ≡ ys)
-
-each_readable : {A : Type 0} (code : A → List ℕ) → IsReadable code → (cs ds : List A) (xs ys : List ℕ)
-    → length cs ≡ length ds → flat_map code cs ++ xs ≡ flat_map code ds ++ ys → (cs ≡ ds) × (xs ≡ ys)
-each_readable code readable [] [] xs ys l e = (refl, e)
-each_readable code readable [] (d ∷ ds) xs ys l e = absurd (omega arith)
-each_readable code readable (c ∷ cs) [] xs ys l e = absurd (omega arith)
-each_readable {A} code readable (c ∷ cs) (d ∷ ds) xs ys l e =
-    let first =
-    readable c d (flat_map code cs ++ xs) (flat_map code ds ++ ys) (sym (before c cs xs) ∙ (e ∙ before d ds ys)) in
-    let rest = each_readable code readable cs ds xs ys (omega arith) first.1 in
-    (ap (λ k. k ∷ cs) first.0 ∙ ap (λ ks. d ∷ ks) rest.0, rest.1)
-  where
-    before : (x : A) (rest : List A) (zs : List ℕ)
-        → flat_map code (x ∷ rest) ++ zs ≡ code x ++ (flat_map code rest ++ zs)
-    before x rest zs = ap (λ l. l ++ zs) (flat_map-cons code x rest) ∙ append_assoc (code x) (flat_map code rest) zs
 
 list_readable : {A : Type 0} (code : A → List ℕ) → IsReadable code → IsReadable (list_code code)
 list_readable code readable cs ds xs ys e =

@@ -5,7 +5,9 @@ use Rattle.std.proofs.Common.{take, drop, sym, ◌∙◌, ap, subst, arith, zero
 use Rattle.std.specs.Prelude.{slice_get, Option, Some, None, nat_eq, IfSome}
 use Rattle.std.specs.List.{AllZip, AllByRecursion, IsDistinct}
 use Rattle.std.specs.Option.{option_and_then}
-use Rattle.std.proofs.lemmas.List.{length-map}
+use Rattle.std.proofs.Math.Seq.{take-length, drop-length}
+use Rattle.std.proofs.lemmas.List.{length-map, length-take, length-take-le, take_all, take_min}
+use Rattle.std.proofs.lemmas.Map.Steps.{length-le_from_distinct_below}
 use Rattle.std.proofs.lemmas.List.Elements.{recursion_from_All, All-from_recursion}
 use Rattle.tree_machine.specs.Cells.{place_in}
 use Rattle.tree_machine.specs.Pairing.{IsOneToOne, IsAmong}
@@ -15,7 +17,7 @@ use Rattle.tree_machine.specs.Flat.{all_front, behind_code, front_code, graph_co
 use Rattle.tree_machine.specs.Flat.{parts_code}
 use Rattle.tree_machine.specs.Canonical.{renamed_part, front_nodes, front_records, met_nodes, met_records}
 use Rattle.tree_machine.specs.Canonical.{canonical_code, canonical_parts, canonical_front, cut_front, IsMetInOrder}
-use Rattle.tree_machine.specs.Laws.CellOrder.{HasAll, Extends, all_has, get_extends, length-order}
+use Rattle.tree_machine.specs.Laws.CellOrder.{HasAll, Extends, all_has, get_extends}
 use Rattle.tree_machine.specs.Laws.CellPlaces.{place_at, has_at}
 use Rattle.tree_machine.specs.Laws.Codes.{parts_code_tells}
 use Rattle.tree_machine.specs.Laws.Graphs.{length-numbers_from}
@@ -168,21 +170,15 @@ module _ (fixed : ℕ) (front : Front) (t : Parts) (h : ArePartsInRange fixed t)
   pub nodes_within : front.nodes ≤ length t.nodes
   nodes_within =
       let short =
-      length-order (length t.nodes) (front_nodes fixed t)
-      (record {
-        distinct = first_met.nodes_distinct;
-        below = all_has (λ x. x < length t.nodes) (front_nodes fixed t) first_met.nodes_below;
-      }) in
+      length-le_from_distinct_below (front_nodes fixed t) (length t.nodes) first_met.nodes_distinct
+      (all_has (λ x. x < length t.nodes) (front_nodes fixed t) first_met.nodes_below) in
       omega (arith, short, ap length m.nodes, length-numbers_from 0 front.nodes)
 
   pub records_within : front.records ≤ length t.records
   records_within =
       let short =
-      length-order (length t.records) (front_records fixed t)
-      (record {
-        distinct = first_met.records_distinct;
-        below = all_has (λ x. x < length t.records) (front_records fixed t) first_met.records_below;
-      }) in
+      length-le_from_distinct_below (front_records fixed t) (length t.records) first_met.records_distinct
+      (all_has (λ x. x < length t.records) (front_records fixed t) first_met.records_below) in
       omega (arith, short, ap length m.records, length-numbers_from 0 front.records)
 
   front_below : (p : Part) → IsPartMet (front_nodes fixed t) (front_records fixed t) p
@@ -230,31 +226,17 @@ module _ (fixed : ℕ) (front : Front) (t : Parts) (h : ArePartsInRange fixed t)
   -- where all come in front, the parts are canonical
   module _ (all_nodes : front.nodes ≡ length t.nodes) (all_records : front.records ≡ length t.records) where
     whole : (ps qs : List Part) (n : ℕ) → n ≡ length qs → length ps ≡ length qs → take n ps ≡ take n qs → ps ≡ qs
-    whole [] [] n e l h = refl
-    whole [] (q ∷ qs) n e l h = absurd (omega arith)
-    whole (p ∷ ps) [] n e l h = absurd (omega arith)
-    whole (p ∷ ps) (q ∷ qs) zero e l h = absurd (omega arith)
-    whole (p ∷ ps) (q ∷ qs) (suc n) e l h =
-        let first : p ≡ q = cc in
-        let rest : take n ps ≡ take n qs = cc in
-        let same = whole ps qs n (omega arith) (omega arith) rest in
-        cc
+    whole ps qs n e l h = sym (take_all n ps (omega arith)) ∙ h ∙ take_all n qs (omega arith)
 
     pub canonical_own : canonical_parts fixed t ≡ t
     canonical_own =
         let met = walk_met fixed t h in
         let few =
-        length-order (length t.nodes) (met_nodes fixed t)
-        (record {
-          distinct = met.nodes_distinct;
-          below = all_has (λ x. x < length t.nodes) (met_nodes fixed t) met.nodes_below;
-        }) in
+        length-le_from_distinct_below (met_nodes fixed t) (length t.nodes) met.nodes_distinct
+        (all_has (λ x. x < length t.nodes) (met_nodes fixed t) met.nodes_below) in
         let few_records =
-        length-order (length t.records) (met_records fixed t)
-        (record {
-          distinct = met.records_distinct;
-          below = all_has (λ x. x < length t.records) (met_records fixed t) met.records_below;
-        }) in
+        length-le_from_distinct_below (met_records fixed t) (length t.records) met.records_distinct
+        (all_has (λ x. x < length t.records) (met_records fixed t) met.records_below) in
         let many =
         ap length nodes_first.is
         ∙ length-append (numbers_from 0 front.nodes) nodes_first.rest in
@@ -284,54 +266,13 @@ module _ (fixed : ℕ) (front : Front) (t : Parts) (h : ArePartsInRange fixed t)
 -- ---- parts that were read from a code, cut at a front
 
 take_cut : (f : ℕ) (ps : List Part) → take (length (take f ps)) ps ≡ take f ps
-take_cut zero [] = refl
-take_cut zero (p ∷ ps) = refl
-take_cut (suc f) [] = refl
-take_cut (suc f) (p ∷ ps) = ap (λ l. p ∷ l) (take_cut f ps)
-
-take_long : (n : ℕ) (ps : List Part) → n ≤ length ps → length (take n ps) ≡ n
-take_long zero [] l = refl
-take_long zero (p ∷ ps) l = refl
-take_long (suc n) [] l = absurd (omega arith)
-take_long (suc n) (p ∷ ps) l = ap suc (take_long n ps (omega arith))
-
-pub take_every : (ps : List Part) → take (length ps) ps ≡ ps
-take_every [] = refl
-take_every (p ∷ ps) = ap (λ l. p ∷ l) (take_every ps)
-
-pub drop_every : (ps : List Part) → drop (length ps) ps ≡ []
-drop_every [] = refl
-drop_every (p ∷ ps) = drop_every ps
+take_cut f ps = ap (λ n. take n ps) (length-take f ps) ∙ take_min f ps
 
 -- the lesser of a front's number and how many there are
 pub least_is : (f r : ℕ) (ps : List Part) → r ≤ f → r ≤ length ps → (r ≡ f) ⊎ (r ≡ length ps)
     → r ≡ length (take f ps)
-least_is f r ps l k one =
-    let n = cut_long f ps in
-    let few = n.0 in
-    let less = n.1 in
-    go one n.2
-  where
-    cut_long : (f : ℕ) (ps : List Part) → (length (take f ps) ≤ f) × (length (take f ps) ≤ length ps)
-        × ((length (take f ps) ≡ f) ⊎ (length (take f ps) ≡ length ps))
-    cut_long zero [] = (omega arith, omega arith, inl refl)
-    cut_long zero (p ∷ ps) = (omega arith, omega arith, inl refl)
-    cut_long (suc f) [] = (omega arith, omega arith, inr refl)
-    cut_long (suc f) (p ∷ ps) =
-        let rest = cut_long f ps in
-        (omega (arith, rest.0), omega (arith, rest.1), next rest.2)
-      where
-        next : (length (take f ps) ≡ f) ⊎ (length (take f ps) ≡ length ps)
-            → (suc (length (take f ps)) ≡ suc f) ⊎ (suc (length (take f ps)) ≡ suc (length ps))
-        next (inl e) = inl (ap suc e)
-        next (inr e) = inr (ap suc e)
-
-    go : (r ≡ f) ⊎ (r ≡ length ps) → (length (take f ps) ≡ f) ⊎ (length (take f ps) ≡ length ps)
-        → r ≡ length (take f ps)
-    go (inl a) (inl b) = a ∙ sym b
-    go (inl a) (inr b) = let n = cut_long f ps in omega (arith, a, b, k, n.0)
-    go (inr a) (inl b) = let n = cut_long f ps in omega (arith, a, b, l, n.1)
-    go (inr a) (inr b) = a ∙ sym b
+least_is f r ps l k (inl e) = omega (arith, length-take f ps)
+least_is f r ps l k (inr e) = omega (arith, length-take f ps)
 
 pub cut_code_is : (front : Front) (s : Parts) → front_code (cut_front front s) s ≡ front_code front s
 cut_code_is front s = λ i. graph_code (take_cut front.nodes s.nodes i) (take_cut front.records s.records i)
@@ -339,8 +280,8 @@ cut_code_is front s = λ i. graph_code (take_cut front.nodes s.nodes i) (take_cu
 -- by own numbers all that was read comes in front
 pub own_parts_code : (s : Parts) → parts_code (all_front s) s ≡ graph_code s.nodes s.records ++ part_codes s.held
 own_parts_code s =
-    (λ i. graph_code (take_every s.nodes i) (take_every s.records i)
-    ++ (part_codes s.held ++ left_code (drop_every s.nodes i) (drop_every s.records i)))
+    (λ i. graph_code (take-length s.nodes i) (take-length s.records i)
+    ++ (part_codes s.held ++ left_code (drop-length s.nodes i) (drop-length s.records i)))
     ∙ ap (λ l. graph_code s.nodes s.records ++ l) (append-nil (part_codes s.held))
 
 pub own_completes : (front : Front) (s other : Parts) (twins : List Part) → length other.held ≡ length twins
@@ -351,9 +292,9 @@ own_completes front s other twins many e =
     let c : Parts = record { nodes = s.nodes; records = s.records; held = twins } in
     let told = parts_code_tells front (all_front other) c other (sym many) e in
     let nodes : take front.nodes s.nodes ≡ s.nodes =
-    told.1 ∙ take_every other.nodes ∙ sym (ap (λ (p : Parts). p.nodes) told.0) in
+    told.1 ∙ take-length other.nodes ∙ sym (ap (λ (p : Parts). p.nodes) told.0) in
     let records : take front.records s.records ≡ s.records =
-    told.2 ∙ take_every other.records ∙ sym (ap (λ (p : Parts). p.records) told.0) in
+    told.2 ∙ take-length other.records ∙ sym (ap (λ (p : Parts). p.records) told.0) in
     (λ i. graph_code (nodes i) (records i) ++ part_codes s.held) ∙ sym (own_parts_code s)
 
 -- canonical parts that were read are met in the order of their numbers
@@ -371,9 +312,9 @@ read_in_order fixed front s other twins range many e =
     let met = canonical_in_order fixed other range in
     let in_range = canonical_in_range fixed other range in
     let nodes : length (take front.nodes s.nodes) ≡ cf.nodes =
-    ap length told.1 ∙ take_long cf.nodes canonical.nodes (nodes_within fixed cf canonical in_range met) in
+    ap length told.1 ∙ length-take-le cf.nodes canonical.nodes (nodes_within fixed cf canonical in_range met) in
     let records : length (take front.records s.records) ≡ cf.records =
-    ap length told.2 ∙ take_long cf.records canonical.records (records_within fixed cf canonical in_range met) in
+    ap length told.2 ∙ length-take-le cf.records canonical.records (records_within fixed cf canonical in_range met) in
     record {
       nodes = (λ i. front_nodes fixed (told.0 i)) ∙ met.nodes ∙ ap (numbers_from 0) (sym nodes);
       records = (λ i. front_records fixed (told.0 i)) ∙ met.records ∙ ap (numbers_from 0) (sym records);
@@ -395,6 +336,6 @@ pub behind_all : (fixed : ℕ) (front : Front) (s : Parts) → ArePartsInRange f
 behind_all fixed front s range met all_nodes all_records =
     let own = canonical_own fixed (cut_front front s) s range met all_nodes all_records in
     sym (append-nil (part_codes s.held))
-    ∙ (λ i. part_codes s.held ++ left_code (sym (ap (λ n. drop n s.nodes) all_nodes ∙ drop_every s.nodes) i)
-    (sym (ap (λ n. drop n s.records) all_records ∙ drop_every s.records) i))
+    ∙ (λ i. part_codes s.held ++ left_code (sym (ap (λ n. drop n s.nodes) all_nodes ∙ drop-length s.nodes) i)
+    (sym (ap (λ n. drop n s.records) all_records ∙ drop-length s.records) i))
     ∙ ap (behind_code (cut_front front s)) (sym own)

@@ -1,23 +1,25 @@
 -- Lists of the nodes and of the records that are met: distinct, in range, and paired where the orders are.
-use Rattle.std.proofs.Common.{◌≡◌, ℕ, zero, suc, ◌+◌, ◌-◌, ◌<◌, ◌≤◌, ◌⊎◌, Bool, true, false, cond, ◌||◌, ◌&&◌}
-use Rattle.std.proofs.Common.{List, [], ◌∷◌, ◌++◌, map, length, refl, sym, ◌∙◌, ap, subst, inl, inr, arith, append-nil}
+use Rattle.std.proofs.Common.{◌≡◌, ℕ, zero, suc, ◌+◌, ◌-◌, ◌<◌, ◌≤◌, Bool, true, false, cond, ◌||◌, ◌&&◌}
+use Rattle.std.proofs.Common.{List, [], ◌∷◌, ◌++◌, map, length, refl, sym, ◌∙◌, ap, ap₂, subst, arith, append-nil}
 use Rattle.std.specs.Prelude.{slice_get, Option, Some, None, nat_eq, nat_lt, nat_le}
 use Rattle.std.specs.List.{AllZip, AllByRecursion, filter, list_any, zip, IsDistinct}
 use Rattle.std.specs.Option.{option_and_then}
-use Rattle.std.proofs.lemmas.Bool.{eqb-true, or_cases}
-use Rattle.std.proofs.lemmas.Bool.Decides.{nat_tests, eqb_tells}
+use Rattle.std.proofs.lemmas.Bool.{eqb-true}
+use Rattle.std.proofs.lemmas.Bool.Decides.{nat_tests}
 use Rattle.std.proofs.lemmas.List.Elements.{All-filter, All-map, All-weaker, All-from_recursion, recursion_from_All}
 use Rattle.std.proofs.lemmas.List.Elements.{filter_passes, filter-append}
 use Rattle.std.proofs.lemmas.List.{map-append}
 use Rattle.std.proofs.lemmas.Map.Keys.{IsDistinct-cons, IsDistinct-head, IsDistinct-tail}
+use Rattle.std.proofs.lemmas.Map.Views.{any-filter_same}
 use Rattle.std.proofs.lemmas.Option.{slice_get_within}
-use Rattle.std.proofs.Math.Bool.{or-true}
+use Rattle.sched_program.specs.Laws.Exact.{both}
 use Rattle.tree_machine.specs.Cells.{IsPairedOrNone, place_in}
 use Rattle.tree_machine.specs.Pairing.{IsOneToOne, IsAmong}
 use Rattle.tree_machine.specs.Graphs.{numbers_from}
 use Rattle.tree_machine.specs.Canonical.{nodes_met, records_met, as_cells}
 use Rattle.tree_machine.specs.Laws.CellLists.{distinct_none, rec_weaker}
-use Rattle.tree_machine.specs.Laws.CellOrder.{Has, HasAll, has_itself}
+use Rattle.tree_machine.specs.Laws.CellOrder.{Has, HasAll}
+use Rattle.tree_machine.specs.Laws.CellSteps.{same_tests}
 use Rattle.tree_machine.specs.Laws.CellPlaces.{among_at, at_among, place_at, place_from_has, get_place}
 
 -- ---- each number with its place
@@ -83,30 +85,15 @@ filter_distinct p (x ∷ xs) d = go (p x) (filter_distinct p xs (IsDistinct-tail
         (All-filter p (λ y. nat_eq x y ≡ false) xs (All-from_recursion _ xs (IsDistinct-head nat_eq x xs d)))) rest
     go false rest = rest
 
+filter_any : (p : ℕ → Bool) (xs : List ℕ) (x : ℕ)
+    → list_any (nat_eq x) (filter p xs) ≡ (p x && list_any (nat_eq x) xs)
+filter_any p xs x = any-filter_same (nat_eq x) p (p x) (λ y e. ap p (sym (eqb-true x y e))) xs
+
 pub filter_has : (p : ℕ → Bool) (xs : List ℕ) (x : ℕ) → Has (filter p xs) x → Has xs x × (p x ≡ true)
-filter_has p [] x h = cc
-filter_has p (y ∷ xs) x h = go (p y) refl h (λ g. filter_has p xs x g)
-  where
-    go : (b : Bool) → p y ≡ b → Has (cond b (y ∷ filter p xs) (filter p xs)) x
-        → (Has (filter p xs) x → Has xs x × (p x ≡ true)) → Has (y ∷ xs) x × (p x ≡ true)
-    go true e g rest = go2 (or_cases (nat_eq x y) (list_any (nat_eq x) (filter p xs)) g)
-      where
-        go2 : (nat_eq x y ≡ true) ⊎ Has (filter p xs) x → Has (y ∷ xs) x × (p x ≡ true)
-        go2 (inl f) = (ap (λ t. t || list_any (nat_eq x) xs) f, ap p (eqb-true x y f) ∙ e)
-        go2 (inr f) = let r = rest f in (ap (λ t. nat_eq x y || t) r.0 ∙ or-true (nat_eq x y), r.1)
-    go false e g rest = let r = rest g in (ap (λ t. nat_eq x y || t) r.0 ∙ or-true (nat_eq x y), r.1)
+filter_has p xs x h = let r = both (p x) (list_any (nat_eq x) xs) (sym (filter_any p xs x) ∙ h) in (r.1, r.0)
 
 pub has_filter : (p : ℕ → Bool) (xs : List ℕ) (x : ℕ) → Has xs x → p x ≡ true → Has (filter p xs) x
-has_filter p [] x h t = h
-has_filter p (y ∷ xs) x h t =
-    go (p y) refl (or_cases (nat_eq x y) (list_any (nat_eq x) xs) h) (λ g. has_filter p xs x g t)
-  where
-    go : (b : Bool) → p y ≡ b → (nat_eq x y ≡ true) ⊎ Has xs x → (Has xs x → Has (filter p xs) x)
-        → Has (cond b (y ∷ filter p xs) (filter p xs)) x
-    go true e (inl f) rest = ap (λ t. t || list_any (nat_eq x) (filter p xs)) f
-    go true e (inr f) rest = ap (λ t. nat_eq x y || t) (rest f) ∙ or-true (nat_eq x y)
-    go false e (inl f) rest = let same : x ≡ y = eqb-true x y f in let here : p x ≡ false = ap p same ∙ e in cc
-    go false e (inr f) rest = rest f
+has_filter p xs x h t = filter_any p xs x ∙ ap₂ ◌&&◌ t h
 
 pub filter_all : (p : ℕ → Bool) (xs : List ℕ) → AllByRecursion (λ x. p x ≡ true) xs → filter p xs ≡ xs
 filter_all p [] h = refl
@@ -134,8 +121,8 @@ filter_zip Q p q h (x ∷ xs) (y ∷ ys) z =
     go false true e f rest = cc
     go false false e f rest = rest
 
-pub map_zip : (P : ℕ → ℕ → Type 0) (f g : ℕ → ℕ) (xs ys : List ℕ) → AllZip (λ x y. P (f x) (g y)) xs ys
-    → AllZip P (map f xs) (map g ys)
+pub map_zip : {A B C D : Type 0} (P : C → D → Type 0) (f : A → C) (g : B → D) (xs : List A) (ys : List B)
+    → AllZip (λ x y. P (f x) (g y)) xs ys → AllZip P (map f xs) (map g ys)
 map_zip P f g [] [] z = tt
 map_zip P f g [] (y ∷ ys) z = absurd z
 map_zip P f g (x ∷ xs) [] z = absurd z
@@ -169,20 +156,9 @@ lowered_apart : (n x : ℕ) → n ≤ x → (xs : List ℕ) → AllByRecursion (
     → AllByRecursion (λ y. nat_eq (x - n) y ≡ false) (map (λ x. x - n) xs)
 lowered_apart n x l [] a h = tt
 lowered_apart n x l (y ∷ xs) a h = (
-  go (eqb_tells (x - n) (y - n)),
+  same_tests (x - n) x (y - n) y (λ e. omega (arith, e, a.0), λ e. ap (λ z. z - n) e) ∙ h.0,
   lowered_apart n x l xs a.1 h.1,
 )
-  where
-    go : ((nat_eq (x - n) (y - n) ≡ true) × (x - n ≡ y - n))
-        ⊎ ((nat_eq (x - n) (y - n) ≡ false) × (x - n ≡ y - n → ⊥)) → nat_eq (x - n) (y - n) ≡ false
-    go (inl e) =
-        let k : n ≤ y = a.0 in
-        let f : x - n ≡ y - n = e.1 in
-        let same : x ≡ y = omega arith in
-        let other : nat_eq x x ≡ false = ap (nat_eq x) same ∙ h.0 in
-        let itself : nat_eq x x ≡ true = has_itself x in
-        cc
-    go (inr e) = e.0
 
 lowered_distinct : (n : ℕ) (xs : List ℕ) → AllByRecursion (λ x. n ≤ x) xs → IsDistinct nat_eq xs
     → IsDistinct nat_eq (map (λ x. x - n) xs)
@@ -192,34 +168,11 @@ lowered_distinct n (x ∷ xs) a d =
     (lowered_apart n x a.0 xs a.1 (IsDistinct-head nat_eq x xs d))
     (lowered_distinct n xs a.1 (IsDistinct-tail nat_eq x xs d))
 
-lowered_has : (n : ℕ) (xs : List ℕ) (y : ℕ) → AllByRecursion (λ x. n ≤ x) xs → Has (map (λ x. x - n) xs) y
-    → Has xs (n + y)
-lowered_has n [] y a h = cc
-lowered_has n (x ∷ xs) y a h =
-    go (or_cases (nat_eq y (x - n)) (list_any (nat_eq y) (map (λ x. x - n) xs)) h)
-    (λ g. lowered_has n xs y a.1 g)
-  where
-    go : (nat_eq y (x - n) ≡ true) ⊎ Has (map (λ x. x - n) xs) y → (Has (map (λ x. x - n) xs) y → Has xs (n + y))
-        → Has (x ∷ xs) (n + y)
-    go (inl e) rest =
-        let k : n ≤ x = a.0 in
-        let f : y ≡ x - n = eqb-true y (x - n) e in
-        let same : x ≡ n + y = omega arith in
-        ap (λ t. t || list_any (nat_eq (n + y)) xs) (ap (nat_eq (n + y)) same ∙ has_itself (n + y))
-    go (inr e) rest = ap (λ t. nat_eq (n + y) x || t) (rest e) ∙ or-true (nat_eq (n + y) x)
-
-has_lowered : (n : ℕ) (xs : List ℕ) (y : ℕ) → Has xs (n + y) → Has (map (λ x. x - n) xs) y
-has_lowered n [] y h = h
-has_lowered n (x ∷ xs) y h =
-    go (or_cases (nat_eq (n + y) x) (list_any (nat_eq (n + y)) xs) h) (λ g. has_lowered n xs y g)
-  where
-    go : (nat_eq (n + y) x ≡ true) ⊎ Has xs (n + y) → (Has xs (n + y) → Has (map (λ x. x - n) xs) y)
-        → Has (map (λ x. x - n) (x ∷ xs)) y
-    go (inl e) rest =
-        let f : n + y ≡ x = eqb-true (n + y) x e in
-        let same : x - n ≡ y = omega arith in
-        ap (λ t. t || list_any (nat_eq y) (map (λ x. x - n) xs)) (ap (nat_eq y) same ∙ has_itself y)
-    go (inr e) rest = ap (λ t. nat_eq y (x - n) || t) (rest e) ∙ or-true (nat_eq y (x - n))
+lowered_any : (n : ℕ) (xs : List ℕ) (y : ℕ) → AllByRecursion (λ x. n ≤ x) xs
+    → list_any (nat_eq y) (map (λ x. x - n) xs) ≡ list_any (nat_eq (n + y)) xs
+lowered_any n [] y a = refl
+lowered_any n (x ∷ xs) y a = λ i. same_tests y (n + y) (x - n) x
+    ((λ e. omega (arith, e, a.0)), (λ e. omega (arith, e))) i || lowered_any n xs y a.1 i
 
 -- ---- the nodes and the records that are met
 
@@ -260,15 +213,16 @@ module _ (n : ℕ) (order : List ℕ) where
 
     pub record_has : (y : ℕ) → Has (records_met n r order) y → Has order (n + y) × (y < r)
     record_has y h =
-        let k = filter_has (λ x. nat_le n x && nat_lt x (n + r)) order (n + y) (lowered_has n _ y kept_behind h) in
+        let k = filter_has (λ x. nat_le n x && nat_lt x (n + r)) order (n + y)
+        (sym (lowered_any n _ y kept_behind) ∙ h) in
         let l = record_test n r (n + y) k.1 in
         (k.0, omega arith)
 
     pub has_record : (y : ℕ) → Has order (n + y) → y < r → Has (records_met n r order) y
     has_record y h l =
-        has_lowered n _ y
-        (has_filter (λ x. nat_le n x && nat_lt x (n + r)) order (n + y) h
-        (test_record n r (n + y) (omega arith) (omega arith)))
+        lowered_any n _ y kept_behind
+        ∙ has_filter (λ x. nat_le n x && nat_lt x (n + r)) order (n + y) h
+        (test_record n r (n + y) (omega arith) (omega arith))
 
 -- ---- nodes and records as cells
 

@@ -3,6 +3,7 @@ use Rattle.std.proofs.Common.{◌≡◌, ℕ, zero, suc, ◌≤◌, List, [], �
 use Rattle.std.proofs.Common.{◌∙◌, ap, subst, arith, append-nil}
 use Rattle.std.specs.Prelude.{nat_eq}
 use Rattle.std.specs.List.{AllByRecursion, IsDistinct}
+use Rattle.std.proofs.Math.Seq.{take-length}
 use Rattle.std.proofs.lemmas.List.Elements.{recursion_from_All}
 use Rattle.tree_machine.specs.Graphs.{numbers_from}
 use Rattle.tree_machine.specs.Parts.{Part, Parts, part_at, IsPartBelow, ArePartsInRange}
@@ -10,7 +11,7 @@ use Rattle.tree_machine.specs.Canonical.{renamed_part}
 use Rattle.tree_machine.specs.Laws.CellOrder.{Extends}
 use Rattle.tree_machine.specs.Laws.CellLists.{numbers_distinct}
 use Rattle.tree_machine.specs.Laws.PartCells.{part_all}
-use Rattle.tree_machine.specs.Laws.Fronts.{first_parts, own_part, take_every}
+use Rattle.tree_machine.specs.Laws.Fronts.{first_parts, own_part}
 
 -- the numbers below n come first among more
 pub numbers_front : (a n k : ℕ) → n ≤ k → Extends (numbers_from a n) (numbers_from a k)
@@ -45,7 +46,7 @@ module _ (k : ℕ) (s : Parts) (fixed : ℕ) (range : ArePartsInRange fixed s) (
       (numbers_from 0 k) s.nodes (numbers_front 0 (length s.nodes) k nodes_few) (omega arith)
       (λ i l. own_numbers (part_at s.nodes i)
       (part_all (IsPartBelow (length s.nodes) (length s.records)) s.nodes (recursion_from_All _ _ range.nodes) i l))
-      ∙ take_every s.nodes
+      ∙ take-length s.nodes
 
   pub own_records : take (length s.records)
       (map (λ y. renamed_part (numbers_from 0 k) (numbers_from 0 k) (part_at s.records y)) (numbers_from 0 k))
@@ -55,4 +56,4 @@ module _ (k : ℕ) (s : Parts) (fixed : ℕ) (range : ArePartsInRange fixed s) (
       (numbers_from 0 k) s.records (numbers_front 0 (length s.records) k records_few) (omega arith)
       (λ i l. own_numbers (part_at s.records i)
       (part_all (IsPartBelow (length s.nodes) (length s.records)) s.records (recursion_from_All _ _ range.records) i l))
-      ∙ take_every s.records
+      ∙ take-length s.records

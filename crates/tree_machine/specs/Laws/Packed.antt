@@ -16,12 +16,14 @@ abbrev digit_of : Bool → ℕ
 digit_of reply = if reply then 1 else 0
 
 digit_is : (n : ℕ) → (if nat_eq (n % 2) 1 then 1 else 0) ≡ n % 2
-digit_is n = go (eqb_tells (n % 2) 1)
-  where
-    go : ((nat_eq (n % 2) 1 ≡ true) × (n % 2 ≡ 1)) ⊎ ((nat_eq (n % 2) 1 ≡ false) × (n % 2 ≡ 1 → ⊥))
-        → (if nat_eq (n % 2) 1 then 1 else 0) ≡ n % 2
-    go (inl t) = rw t.0 (sym t.1)
-    go (inr t) = rw t.0 (let odd : n % 2 ≡ 1 → ⊥ = t.1 in omega arith)
+digit_is n =
+    elim (eqb_tells (n % 2) 1) [
+      | inl t ↦ rw t.0 (sym t.1)
+      | inr t ↦ rw t.0 (let odd : n % 2 ≡ 1 → ⊥ = t.1 in omega arith)
+    ]
+
+doubled : (k : ℕ) → 2 ^ suc k ≡ 2 ^ k + 2 ^ k
+doubled k = two-pow-succ k
 
 pub replies_least : (replies : List Bool) → 0 < replies_number replies
 replies_least [] = omega arith
@@ -32,18 +34,15 @@ replies_least (reply ∷ replies) = let least = replies_least replies in omega a
 -- a number with at most this many digits below its leading one is that of its digits
 pub number_of_digits : (most n : ℕ) → 0 < n → n < 2 * 2 ^ most → replies_number (digits_of most n) ≡ n
 number_of_digits zero n least below = omega arith
-number_of_digits (suc most) n least below = go (λ l b. number_of_digits most (n / 2) l b) (leb_tells n 1)
-  where
-    go : (0 < n / 2 → n / 2 < 2 * 2 ^ most → replies_number (digits_of most (n / 2)) ≡ n / 2)
-        → ((nat_le n 1 ≡ true) × (n ≤ 1)) ⊎ ((nat_le n 1 ≡ false) × (1 < n))
-        → replies_number (digits_of (suc most) n) ≡ n
-    go rests (inl t) = rw t.0 (let low : n ≤ 1 = t.1 in omega arith)
-    go rests (inr t) =
-        let high : 1 < n = t.1 in
-        let double : 2 ^ suc most ≡ 2 ^ most + 2 ^ most = two-pow-succ most in
-        let rest : replies_number (digits_of most (n / 2)) ≡ n / 2 = rests (omega arith) (omega arith) in
-        let digit : (if nat_eq (n % 2) 1 then 1 else 0) ≡ n % 2 = digit_is n in
-        rw (t.0, digit, rest) (omega arith)
+number_of_digits (suc most) n least below =
+    elim (leb_tells n 1) [
+      | inl t ↦ rw t.0 (omega (arith, t.1))
+      | inr t ↦
+          let high : 1 < n = t.1 in
+          let rest =
+          number_of_digits most (n / 2) (omega arith) (omega (arith, doubled most)) in
+          rw (t.0, digit_is n, rest) (omega arith)
+    ]
 
 digit_back : (reply : Bool) (n : ℕ) → nat_eq ((digit_of reply + 2 * n) % 2) 1 ≡ reply
 digit_back true n = eq-eqb ((1 + 2 * n) % 2) 1 (omega arith)
@@ -54,13 +53,7 @@ half_back true n = omega arith
 half_back false n = omega arith
 
 not_one : (reply : Bool) (n : ℕ) → 0 < n → nat_le (digit_of reply + 2 * n) 1 ≡ false
-not_one reply n least = go (leb_tells (digit_of reply + 2 * n) 1)
-  where
-    go : ((nat_le (digit_of reply + 2 * n) 1 ≡ true) × (digit_of reply + 2 * n ≤ 1))
-        ⊎ ((nat_le (digit_of reply + 2 * n) 1 ≡ false) × (1 < digit_of reply + 2 * n))
-        → nat_le (digit_of reply + 2 * n) 1 ≡ false
-    go (inl t) = let low : digit_of reply + 2 * n ≤ 1 = t.1 in absurd (omega arith)
-    go (inr t) = t.0
+not_one reply n least = elim (leb_tells (digit_of reply + 2 * n) 1) [ inl t ↦ absurd (omega (arith, t.1)) | inr t ↦ t.0 ]
 
 -- the digits of the number of some replies are these
 pub digits_of_number : (most : ℕ) (replies : List Bool) → length replies ≤ most
@@ -84,28 +77,13 @@ digits_of_number (suc most) (reply ∷ replies) few =
 pub digits_length : (most k n : ℕ) → k ≤ most → 2 ^ k ≤ n → n < 2 * 2 ^ k → length (digits_of most n) ≡ k
 digits_length zero k n few reaches below = omega arith
 digits_length (suc most) zero n few reaches below =
-    go (leb_tells n 1)
-  where
-    go : ((nat_le n 1 ≡ true) × (n ≤ 1)) ⊎ ((nat_le n 1 ≡ false) × (1 < n)) → length (digits_of (suc most) n) ≡ zero
-    go (inl t) = rw t.0 refl
-    go (inr t) = let high : 1 < n = t.1 in absurd (omega arith)
+    elim (leb_tells n 1) [ inl t ↦ rw t.0 refl | inr t ↦ absurd (omega (arith, t.1)) ]
 digits_length (suc most) (suc k) n few reaches below =
-    go (λ r b. digits_length most k (n / 2) (omega arith) r b) (leb_tells n 1)
-  where
-    double : 2 ^ suc k ≡ 2 ^ k + 2 ^ k
-    double = two-pow-succ k
-
-    least : 0 < 2 ^ k
-    least = pow_pos k
-
-    go : (2 ^ k ≤ n / 2 → n / 2 < 2 * 2 ^ k → length (digits_of most (n / 2)) ≡ k)
-        → ((nat_le n 1 ≡ true) × (n ≤ 1)) ⊎ ((nat_le n 1 ≡ false) × (1 < n))
-        → length (digits_of (suc most) n) ≡ suc k
-    go rests (inl t) = let low : n ≤ 1 = t.1 in absurd (omega (arith, double, least))
-    go rests (inr t) =
-        let rest : length (digits_of most (n / 2)) ≡ k =
-        rests (omega (arith, double)) (omega (arith, double)) in
-        rw t.0 (ap suc rest)
+    elim (leb_tells n 1) [
+      | inl t ↦ absurd (omega (arith, doubled k, pow_pos k, t.1))
+      | inr t ↦
+          rw t.0 (ap suc (digits_length most k (n / 2) (omega arith) (omega (arith, doubled k)) (omega (arith, doubled k))))
+    ]
 
 -- each digit of a number is one of its bits
 pub digit_at : (most n i : ℕ) → i < length (digits_of most n)
@@ -136,24 +114,14 @@ pub one_reply_more : (replies : List Bool) (reply : Bool)
 one_reply_more [] true = refl
 one_reply_more [] false = refl
 one_reply_more (first ∷ replies) true =
-    let rest = one_reply_more replies true in
-    let double : 2 ^ suc (length replies) ≡ 2 ^ length replies + 2 ^ length replies = two-pow-succ (length replies) in
-    omega (arith, rest, double)
+    omega (arith, one_reply_more replies true, doubled (length replies))
 one_reply_more (first ∷ replies) false =
-    let rest = one_reply_more replies false in
-    let double : 2 ^ suc (length replies) ≡ 2 ^ length replies + 2 ^ length replies = two-pow-succ (length replies) in
-    omega (arith, rest, double)
+    omega (arith, one_reply_more replies false, doubled (length replies))
 
 pub replies_below : (replies : List Bool) → replies_number replies < 2 * 2 ^ length replies
 replies_below [] = omega arith
-replies_below (true ∷ replies) =
-    let rest = replies_below replies in
-    let double : 2 ^ suc (length replies) ≡ 2 ^ length replies + 2 ^ length replies = two-pow-succ (length replies) in
-    omega (arith, rest, double)
-replies_below (false ∷ replies) =
-    let rest = replies_below replies in
-    let double : 2 ^ suc (length replies) ≡ 2 ^ length replies + 2 ^ length replies = two-pow-succ (length replies) in
-    omega (arith, rest, double)
+replies_below (true ∷ replies) = omega (arith, replies_below replies, doubled (length replies))
+replies_below (false ∷ replies) = omega (arith, replies_below replies, doubled (length replies))
 
 -- ---- six replies at most
 
@@ -175,11 +143,11 @@ reply_at n i within = digit_at 6 n i within
 
 -- a number of replies reaches no seventh power
 pub power_few : (k n : ℕ) → 2 ^ k ≤ n → n < 128 → k ≤ 6
-power_few k n reaches below = go (leb_tells k 6)
-  where
-    go : ((nat_le k 6 ≡ true) × (k ≤ 6)) ⊎ ((nat_le k 6 ≡ false) × (6 < k)) → k ≤ 6
-    go (inl t) = t.1
-    go (inr t) = let power : 2 ^ 7 ≤ 2 ^ k = pow_mono t.1 in absurd (omega arith)
+power_few k n reaches below =
+    elim (leb_tells k 6) [
+      | inl t ↦ t.1
+      | inr t ↦ let power : 2 ^ 7 ≤ 2 ^ k = pow_mono t.1 in absurd (omega arith)
+    ]
 
 -- a reply is appended to those of a number
 pub reply_pushed : (n : ℕ) (reply : Bool) → 0 < n → n < 128 → length (replies_in n) < 6

@@ -185,15 +185,9 @@ pub cells_from_parts : (P R Q : ℕ → ℕ → Type 0) (n m : ℕ) → ((x y : 
     → ((x y : ℕ) → R x y → Q (n + x) (m + y)) → (a b : Part) → ArePartsPaired P R a b
     → AreCellsPaired Q (part_cell n a) (part_cell m b)
 cells_from_parts P R Q n m f g a b h = record {
-  facts = (let e = length_zip (IsPairedOrNone P) a.nodes b.nodes h.nodes in let d = h.facts in cc);
+  facts = (let e = length_all_zip (IsPairedOrNone P) a.nodes b.nodes h.nodes in let d = h.facts in cc);
   refs = refs_join P R Q n m f g a.nodes b.nodes a.records b.records h.nodes h.records;
 }
-  where
-    length_zip : (T : Option ℕ → Option ℕ → Type 0) (xs ys : List (Option ℕ)) → AllZip T xs ys → length xs ≡ length ys
-    length_zip T [] [] z = refl
-    length_zip T [] (y ∷ ys) z = absurd z
-    length_zip T (x ∷ xs) [] z = absurd z
-    length_zip T (x ∷ xs) (y ∷ ys) z = ap suc (length_zip T xs ys z.1)
 
 part_from_zip : (Q : Part → Part → Type 0) (ps qs : List Part) → AllZip Q ps qs → (i : ℕ) → i < length ps
     → Q (part_at ps i) (part_at qs i)
@@ -218,62 +212,37 @@ module _ (P R : ℕ → ℕ → Type 0) (s t : Parts) where
     paired_one x y v w (inl p) (inl q) = h.nodes_one_to_one x y v w p q
     paired_one x y v w (inl p) (inr (inl q)) =
         let r = h.nodes_in_range x y p in
-        let e = q.3 in
-        let f = q.4 in
-        (λ k. absurd (omega arith), λ k. absurd (omega arith))
+        (λ k. absurd (omega (arith, q.3)), λ k. absurd (omega (arith, q.4)))
     paired_one x y v w (inl p) (inr (inr q)) =
-        let r = h.nodes_in_range x y p in
-        let e = q.2 in
-        let f = q.3 in
-        let g = length-parts_graph s in
-        let j = length-parts_graph t in
-        (λ k. absurd (omega arith), λ k. absurd (omega arith))
+        let r = h.nodes_in_range x y p in (
+          λ k. absurd (omega (arith, q.2, length-parts_graph s)),
+          λ k. absurd (omega (arith, q.3, length-parts_graph t)),
+        )
     paired_one x y v w (inr (inl p)) (inl q) =
         let r = h.nodes_in_range v w q in
-        let e = p.3 in
-        let f = p.4 in
-        (λ k. absurd (omega arith), λ k. absurd (omega arith))
+        (λ k. absurd (omega (arith, p.3)), λ k. absurd (omega (arith, p.4)))
     paired_one x y v w (inr (inl p)) (inr (inl q)) =
-        let one = h.records_one_to_one p.0 p.1 q.0 q.1 p.2 q.2 in
-        let e = p.3 in
-        let f = p.4 in
-        let c = q.3 in
-        let d = q.4 in (
-          λ k. let same : p.1 ≡ q.1 = one.0 (omega arith) in
-              omega arith,
-          λ k. let same : p.0 ≡ q.0 = one.1 (omega arith) in omega arith,
+        let one = h.records_one_to_one p.0 p.1 q.0 q.1 p.2 q.2 in (
+          λ k. omega (arith, p.4, q.4, one.0 (omega (arith, p.3, q.3))),
+          λ k. omega (arith, p.3, q.3, one.1 (omega (arith, p.4, q.4))),
         )
     paired_one x y v w (inr (inl p)) (inr (inr q)) =
-        let r = h.records_in_range p.0 p.1 p.2 in
-        let e = p.3 in
-        let f = p.4 in
-        let c = q.2 in
-        let d = q.3 in
-        let g = length-parts_graph s in
-        let j = length-parts_graph t in
-        (λ k. absurd (omega arith), λ k. absurd (omega arith))
+        let r = h.records_in_range p.0 p.1 p.2 in (
+          λ k. absurd (omega (arith, p.3, q.2, length-parts_graph s)),
+          λ k. absurd (omega (arith, p.4, q.3, length-parts_graph t)),
+        )
     paired_one x y v w (inr (inr p)) (inl q) =
-        let r = h.nodes_in_range v w q in
-        let e = p.2 in
-        let f = p.3 in
-        let g = length-parts_graph s in
-        let j = length-parts_graph t in
-        (λ k. absurd (omega arith), λ k. absurd (omega arith))
+        let r = h.nodes_in_range v w q in (
+          λ k. absurd (omega (arith, p.2, length-parts_graph s)),
+          λ k. absurd (omega (arith, p.3, length-parts_graph t)),
+        )
     paired_one x y v w (inr (inr p)) (inr (inl q)) =
-        let r = h.records_in_range q.0 q.1 q.2 in
-        let e = p.2 in
-        let f = p.3 in
-        let c = q.3 in
-        let d = q.4 in
-        let g = length-parts_graph s in
-        let j = length-parts_graph t in
-        (λ k. absurd (omega arith), λ k. absurd (omega arith))
+        let r = h.records_in_range q.0 q.1 q.2 in (
+          λ k. absurd (omega (arith, p.2, q.3, length-parts_graph s)),
+          λ k. absurd (omega (arith, p.3, q.4, length-parts_graph t)),
+        )
     paired_one x y v w (inr (inr p)) (inr (inr q)) =
-        let e = p.2 in
-        let f = p.3 in
-        let c = q.2 in
-        let d = q.3 in
-        (λ k. omega arith, λ k. omega arith)
+        (λ k. omega (arith, p.2, p.3, q.2, q.3), λ k. omega (arith, p.2, p.3, q.2, q.3))
 
     paired_range : (x y : ℕ) → Paired x y
         → (x < length (parts_graph s ++ parts_held s)) × (y < length (parts_graph t ++ parts_held t))
@@ -281,17 +250,11 @@ module _ (P R : ℕ → ℕ → Type 0) (s t : Parts) where
         let r = h.nodes_in_range x y p in (omega (arith, length-cells s), omega (arith, length-cells t))
     paired_range x y (inr (inl p)) =
         let r = h.records_in_range p.0 p.1 p.2 in
-        let e = p.3 in
-        let f = p.4 in
-        (omega (arith, length-cells s), omega (arith, length-cells t))
-    paired_range x y (inr (inr p)) =
-        let l = p.1 in
-        let e = p.2 in
-        let f = p.3 in
-        let k = held_long in
-        let g = length-parts_graph s in
-        let j = length-parts_graph t in
-        (omega (arith, length-cells s), omega (arith, length-cells t))
+        (omega (arith, length-cells s, p.3), omega (arith, length-cells t, p.4))
+    paired_range x y (inr (inr p)) = (
+      omega (arith, length-cells s, length-parts_graph s, p.1, p.2),
+      omega (arith, length-cells t, length-parts_graph t, held_long, p.1, p.3),
+    )
 
     cells_paired : (a b : Part) → ArePartsPaired P R a b
         → AreCellsPaired Paired (part_cell (length s.nodes) a) (part_cell (length t.nodes) b)

@@ -5,7 +5,7 @@ use Rattle.std.proofs.Math.Seq.{take-append_seam}
 use Rattle.std.specs.Prelude.{Option, slice_index_or, slice_set}
 use Rattle.std.specs.List.{flat_map}
 use Rattle.std.proofs.lemmas.Grind.{flat_map-append}
-use Rattle.std.proofs.lemmas.List.{flat_map_more, map-append, take_more_set}
+use Rattle.std.proofs.lemmas.List.{flat_map_more, length-map, length_push, map-append, take_all, take_more_set}
 use Rattle.std.proofs.lemmas.List.Concat.{flat_map-cons}
 use Rattle.tree_machine.specs.Alike.{places_of}
 use Rattle.tree_machine.specs.Parts.{Part}
@@ -24,10 +24,6 @@ pub drop_none : {X : Type 0} (n : ℕ) → drop {A = X} n [] ≡ []
 drop_none zero = refl
 drop_none (suc n) = refl
 
-pub take_none : {X : Type 0} (n : ℕ) → take {A = X} n [] ≡ []
-take_none zero = refl
-take_none (suc n) = refl
-
 module _ {X : Type 0} (f : X → Part) where
   -- one value more is read
   pub one_read : (old more : List X) (x : X) (count : ℕ) (items after : List X) (bytes rest behind : List ℕ)
@@ -38,16 +34,12 @@ module _ {X : Type 0} (f : X → Part) where
   one_read old more x count items after bytes rest behind e l b a r = (
     more ++ x ∷ [],
     a ∙ ap (λ xs. xs ++ x ∷ []) e ∙ append_assoc old more (x ∷ []),
-    long more ∙ ap (λ n. n + 1) l,
+    length_push more x ∙ ap (λ n. n + 1) l,
     b ∙ ap (λ c. part_codes (map f more) ++ c) r
         ∙ sym (append_assoc (part_codes (map f more)) (cell_code (part_content (f x))) behind)
         ∙ ap (λ c. c ++ behind) (sym codes),
   )
     where
-      long : (ys : List X) → length (ys ++ x ∷ []) ≡ length ys + 1
-      long [] = omega arith
-      long (y ∷ ys) = let rest = long ys in omega arith
-
       codes : part_codes (map f (more ++ x ∷ [])) ≡ part_codes (map f more) ++ cell_code (part_content (f x))
       codes =
           ap part_codes (map-append f more (x ∷ []))
@@ -71,9 +63,7 @@ module _ {X : Type 0} (f : X → Part) where
 
   -- all that was read comes in front
   pub take_read : (xs : List X) (count : ℕ) → length xs ≡ count → take count (map f xs) ≡ map f xs
-  take_read [] count l = take_none count
-  take_read (x ∷ xs) zero l = absurd (omega arith)
-  take_read (x ∷ xs) (suc count) l = ap (λ ps. f x ∷ ps) (take_read xs count (omega arith))
+  take_read xs count l = take_all count (map f xs) (omega (arith, length-map xs f, l))
 
 -- ---- what the threads hold
 

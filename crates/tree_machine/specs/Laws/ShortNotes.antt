@@ -2,6 +2,7 @@
 use Rattle.std.proofs.Common.{◌≡◌, ℕ, zero, suc, ◌+◌, ◌*◌, ◌/◌, ◌%◌, ◌^◌, ◌<◌, ◌≤◌, Bool, true, ◌&&◌, List, [], ◌∷◌}
 use Rattle.std.proofs.Common.{◌++◌, length, take, refl, ap, ap₂, arith, get_or}
 use Rattle.std.specs.Prelude.{nat_le, nat_lt}
+use Rattle.std.proofs.lemmas.List.{length-take}
 use Rattle.std.proofs.lemmas.Bool.{leb-true, le-leb, ltb-true, lt-ltb}
 use Rattle.sched_program.specs.Laws.Exact.{both}
 use Rattle.tree_machine.specs.Packed.{note_number, counts_in, are_digits, is_short}
@@ -33,12 +34,7 @@ digits_fewer (suc k) (count ∷ counts) digits =
     ap₂ ◌&&◌ parts.0 (digits_fewer k counts parts.1)
 
 four_at_most : (k a b c d : ℕ) → length (take k (a ∷ b ∷ c ∷ d ∷ [])) ≤ 4
-four_at_most zero a b c d = omega arith
-four_at_most (suc zero) a b c d = omega arith
-four_at_most (suc (suc zero)) a b c d = omega arith
-four_at_most (suc (suc (suc zero))) a b c d = omega arith
-four_at_most (suc (suc (suc (suc zero)))) a b c d = omega arith
-four_at_most (suc (suc (suc (suc (suc k))))) a b c d = omega arith
+four_at_most k a b c d = omega (arith, length-take k (a ∷ b ∷ c ∷ d ∷ []))
 
 -- the counts of any number are a short note
 pub counts_short : (n : ℕ) → is_short (counts_in n) ≡ true
