@@ -2,5 +2,4 @@ pub mod Appended
 pub mod HeldBytes
 pub mod Past
 pub mod ReadBytes
-pub mod ReadParts
 pub mod Stack

@@ -103,7 +103,7 @@ impl Machine for Ellen {
 
 impl Encode for Ellen {
     ghost use Rattle.ellen.specs.Laws.Codes.{ellen_tells, ellen_whole};
-    ghost use Rattle.ellen.specs.Laws.Decoded.{ellen_decodes};
+    ghost use Rattle.ellen.specs.Laws.Forms.{ellen_decodes};
     ghost use Rattle.ellen.specs.Parts.{ellen_behind_code, ellen_code, ellen_front_code};
 
     ghost form_code = { λ bytes. bytes };

@@ -1,7 +1,6 @@
 -- What is proved of the definitions. No contract's meaning rests on these files, and no definition imports one.
 pub mod Astray
 pub mod Codes
-pub mod Decoded
 pub mod Exact
 pub mod Forms
 pub mod Initial

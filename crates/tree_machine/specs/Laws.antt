@@ -17,6 +17,7 @@ pub mod FirstBytes
 pub mod Flat
 pub mod Decoded
 pub mod FormCode
+pub mod FreshPairs
 pub mod Fronts
 pub mod Graphs
 pub mod InitialKeys
@@ -24,7 +25,9 @@ pub mod MetLists
 pub mod OwnParts
 pub mod Packed
 pub mod PartCells
+pub mod PartForms
 pub mod PartsBy
+pub mod ReadBehind
 pub mod ReadParts
 pub mod SearchOrder
 pub mod SearchOrderPairs
@@ -33,3 +36,4 @@ pub mod SideExact
 pub mod SmallCodes
 pub mod StateExact
 pub mod Unnumbered
+pub mod ValueParts

@@ -1,16 +1,14 @@
 -- Equal parts are of equal memories and places.
-use Rattle.std.specs.Prelude.{◌≡◌, ℕ, List, [], ◌∷◌, Option, Some, None, refl}
-use Rattle.std.specs.List.{AllZip}
-use Rattle.std.proofs.Common.{ap, sym, subst, ◌∙◌}
+use Rattle.std.specs.Prelude.{◌≡◌, ℕ, List, Option, Some, None, refl}
+use Rattle.std.proofs.Common.{ap, sym}
+use Rattle.std.proofs.lemmas.List.{length-map}
 use Rattle.std.proofs.lemmas.List.Elements.{same_from_all_zip}
 use Rattle.tree_machine.specs.FormCode.{TellsWholly, cut_code}
-use Rattle.tree_machine.specs.Laws.Codes.{map_tells, parts_code_tells}
 use Rattle.tree_machine.specs.Flat.{all_front}
-use Rattle.tree_machine.specs.declared.front.Front.{Front}
-use Rattle.std.proofs.lemmas.List.{length-map}
 use Rattle.tree_machine.specs.Pairing.{AreHeldPaired}
-use Rattle.tree_machine.specs.Cells.{IsPairedOrNone}
-use Rattle.tree_machine.specs.Parts.{Part, Parts, ArePartsPaired}
+use Rattle.tree_machine.specs.Laws.PartForms.{parts_tell_wholly}
+use Rattle.tree_machine.specs.Laws.ValueParts.{Same, values_told}
+use Rattle.tree_machine.specs.declared.front.Front.{Front}
 use Rattle.ellen.specs.declared.memory.UpdateWord.{UpdateWord}
 use Rattle.ellen.specs.declared.memory.UpdateWord.TheVariants as word
 use Rattle.ellen.specs.declared.memory.Node.{Node}
@@ -32,10 +30,6 @@ use Rattle.ellen.specs.Pairs.{AreSearchesPaired, AreHelpsPaired, AreResumesPaire
 use Rattle.ellen.specs.Parts.{node_part, record_part, held_part, ellen_parts, ellen_code}
 use Rattle.ellen.specs.Parts.{ellen_front_code, ellen_behind_code}
 use Rattle.ellen.specs.Laws.Parts.{node_from, record_from, held_from}
-
--- a number is paired with itself alone
-abbrev Same : ℕ → ℕ → Type 0
-Same x y = x ≡ y
 
 -- what equality pairs is equal
 
@@ -113,39 +107,24 @@ held_equal None None h = refl
 held_equal (Some a) (Some b) h = ap Some (places_equal a b h)
 held_equal _ _ h = absurd h
 
--- equality pairs a part with each part equal to it
-
-names_paired : (xs : List (Option ℕ)) → AllZip (IsPairedOrNone Same) xs xs
-names_paired [] = tt
-names_paired (None ∷ xs) = (tt, names_paired xs)
-names_paired (Some x ∷ xs) = (refl, names_paired xs)
-
-parts_paired : (a b : Part) → a ≡ b → ArePartsPaired Same Same a b
-parts_paired a b e = subst (ArePartsPaired Same Same a) e
-    (record { facts = refl; nodes = names_paired a.nodes; records = names_paired a.records })
-
 -- equal parts are of equal memories and places
-pub parts_tell : (memory other : EllenMem) (held others : List (Option EllenLoc))
+parts_tell : (memory other : EllenMem) (held others : List (Option EllenLoc))
     → ellen_parts memory held ≡ ellen_parts other others → (memory ≡ other) × (held ≡ others)
 parts_tell memory other held others e =
     let nodes : memory.nodes ≡ other.nodes =
-    map_tells node_part (λ a b e. nodes_equal a b (node_from Same Same a b (parts_paired _ _ e))) memory.nodes
-    other.nodes (ap (λ (p : Parts). p.nodes) e) in
+    values_told node_part (λ a b h. nodes_equal a b (node_from Same Same a b h)) memory.nodes other.nodes
+    (λ i. (e i).nodes) in
     let records : memory.records ≡ other.records =
-    map_tells record_part (λ a b e. records_equal a b (record_from Same Same a b (parts_paired _ _ e))) memory.records
-    other.records (ap (λ (p : Parts). p.records) e) in (
+    values_told record_part (λ a b h. records_equal a b (record_from Same Same a b h)) memory.records other.records
+    (λ i. (e i).records) in (
       (λ i. record { nodes = nodes i; records = records i }),
-      map_tells held_part (λ a b e. held_equal a b (held_from Same Same a b (parts_paired _ _ e))) held others
-          (ap (λ (p : Parts). p.held) e),
+      values_told held_part (λ a b h. held_equal a b (held_from Same Same a b h)) held others (λ i. (e i).held),
     )
 
 -- equal bytes are of equal memories and places
 pub ellen_tells : (front other_front : Front) → TellsWholly (cut_code ellen_front_code ellen_behind_code front)
     (cut_code ellen_front_code ellen_behind_code other_front)
-ellen_tells front other_front memory other held others many e =
-    parts_tell memory other held others
-    (parts_code_tells front other_front (ellen_parts memory held) (ellen_parts other others)
-    (length-map held held_part ∙ (many ∙ sym (length-map others held_part))) e).0
+ellen_tells = parts_tell_wholly ellen_parts (λ memory held. length-map held held_part) parts_tell
 
 -- by own numbers all nodes and records come in front
 pub ellen_whole : (memory : EllenMem) (held : List (Option EllenLoc)) → (front : Front)

@@ -1,10 +1,9 @@
 -- Each kind of access keeps a pairing.
-use Rattle.std.specs.Prelude.{◌≡◌, ℕ, ◌<◌, Bool, true, false, cond, nat_eq, List, [], ◌∷◌, ◌++◌, length}
-use Rattle.std.specs.Prelude.{slice_get, slice_set, Option, Some, None, unwrap_or, ◌⊎◌, refl}
-use Rattle.std.proofs.Common.{sym, ◌∙◌, ap, subst, inl, inr, length-set}
-use Rattle.std.proofs.lemmas.Bool.Decides.{eqb_tells}
-use Rattle.tree_machine.proofs.Lists.{get-set_same, get-set_other}
+use Rattle.std.specs.Prelude.{◌≡◌, ℕ, Bool, true, false, cond, nat_eq, List, [], ◌∷◌, ◌++◌, Option, Some, None}
+use Rattle.std.specs.Prelude.{unwrap_or, refl}
+use Rattle.std.proofs.Common.{◌∙◌, ap, subst, inr}
 use Rattle.tree_machine.specs.Pairing.{IsAmong, IsOneToOne, Pairing, Extends, AreOutcomesPaired, AreStepsPaired}
+use Rattle.tree_machine.specs.Laws.FreshPairs.{same_number, within_set, paired_set}
 use Rattle.tree_machine.specs.SearchOrder.{side_of}
 use Rattle.tree_machine.specs.declared.machine.Outcome.{Outcome}
 use Rattle.tree_machine.specs.declared.machine.Outcome.TheVariants.{Astray}
@@ -28,16 +27,6 @@ use Rattle.ellen.specs.Pairs.{AreBoth, AreWordsPaired, AreNodesPaired, AreRecord
 -- ---- equal tests
 
 module _ (R : ℕ → ℕ → Type 0) (one : IsOneToOne R) where
-  pub same_number : (x y a b : ℕ) → R x y → R a b → nat_eq x a ≡ nat_eq y b
-  same_number x y a b p q = go (eqb_tells x a) (eqb_tells y b)
-    where
-      go : ((nat_eq x a ≡ true) × (x ≡ a)) ⊎ ((nat_eq x a ≡ false) × (x ≡ a → ⊥)) → ((nat_eq y b ≡ true) × (y ≡ b))
-          ⊎ ((nat_eq y b ≡ false) × (y ≡ b → ⊥)) → nat_eq x a ≡ nat_eq y b
-      go (inl e) (inl f) = e.0 ∙ sym f.0
-      go (inl e) (inr f) = absurd (f.1 ((one x y a b p q).0 e.1))
-      go (inr e) (inl f) = absurd (e.1 ((one x y a b p q).1 f.1))
-      go (inr e) (inr f) = e.0 ∙ sym f.0
-
   untouched_compared : (f g : UpdateWord) → AreWordsPaired R f g → is_word word.Untouched f ≡ is_word word.Untouched g
   untouched_compared word.Untouched word.Untouched q = refl
   untouched_compared (word.Clean t) (word.Clean w) q = refl
@@ -49,7 +38,7 @@ module _ (R : ℕ → ℕ → Type 0) (one : IsOneToOne R) where
   clean_compared : (r s : ℕ) (f g : UpdateWord) → R r s → AreWordsPaired R f g
       → is_word (word.Clean r) f ≡ is_word (word.Clean s) g
   clean_compared r s word.Untouched word.Untouched p q = refl
-  clean_compared r s (word.Clean t) (word.Clean w) p q = same_number r s t w p q
+  clean_compared r s (word.Clean t) (word.Clean w) p q = same_number R one r s t w p q
   clean_compared r s (word.InsertFlag t) (word.InsertFlag w) p q = refl
   clean_compared r s (word.DeleteFlag t) (word.DeleteFlag w) p q = refl
   clean_compared r s (word.Mark t) (word.Mark w) p q = refl
@@ -59,7 +48,7 @@ module _ (R : ℕ → ℕ → Type 0) (one : IsOneToOne R) where
       → is_word (word.InsertFlag r) f ≡ is_word (word.InsertFlag s) g
   insert_flag_compared r s word.Untouched word.Untouched p q = refl
   insert_flag_compared r s (word.Clean t) (word.Clean w) p q = refl
-  insert_flag_compared r s (word.InsertFlag t) (word.InsertFlag w) p q = same_number r s t w p q
+  insert_flag_compared r s (word.InsertFlag t) (word.InsertFlag w) p q = same_number R one r s t w p q
   insert_flag_compared r s (word.DeleteFlag t) (word.DeleteFlag w) p q = refl
   insert_flag_compared r s (word.Mark t) (word.Mark w) p q = refl
   insert_flag_compared r s _ _ p q = absurd q
@@ -69,7 +58,7 @@ module _ (R : ℕ → ℕ → Type 0) (one : IsOneToOne R) where
   delete_flag_compared r s word.Untouched word.Untouched p q = refl
   delete_flag_compared r s (word.Clean t) (word.Clean w) p q = refl
   delete_flag_compared r s (word.InsertFlag t) (word.InsertFlag w) p q = refl
-  delete_flag_compared r s (word.DeleteFlag t) (word.DeleteFlag w) p q = same_number r s t w p q
+  delete_flag_compared r s (word.DeleteFlag t) (word.DeleteFlag w) p q = same_number R one r s t w p q
   delete_flag_compared r s (word.Mark t) (word.Mark w) p q = refl
   delete_flag_compared r s _ _ p q = absurd q
 
@@ -79,7 +68,7 @@ module _ (R : ℕ → ℕ → Type 0) (one : IsOneToOne R) where
   mark_compared r s (word.Clean t) (word.Clean w) p q = refl
   mark_compared r s (word.InsertFlag t) (word.InsertFlag w) p q = refl
   mark_compared r s (word.DeleteFlag t) (word.DeleteFlag w) p q = refl
-  mark_compared r s (word.Mark t) (word.Mark w) p q = same_number r s t w p q
+  mark_compared r s (word.Mark t) (word.Mark w) p q = same_number R one r s t w p q
   mark_compared r s _ _ p q = absurd q
 
   -- two exchanges that compare with paired update words succeed together
@@ -94,6 +83,10 @@ module _ (R : ℕ → ℕ → Type 0) (one : IsOneToOne R) where
 -- ---- paired nodes have paired fields
 
 module _ (P R : ℕ → ℕ → Type 0) where
+  -- nodes that may be there, as they are read
+  abbrev pub AreFoundPaired : Option Node → Option Node → Type 0
+  AreFoundPaired a b = AreNodesPaired P R (unwrap_or a (Leaf 0)) (unwrap_or b (Leaf 0))
+
   pub key_paired : (a b : Node) → AreNodesPaired P R a b → key_in a ≡ key_in b
   key_paired (Leaf k) (Leaf j) h = h
   key_paired (Internal k u l r) (Internal j v m s) h = h.0
@@ -133,14 +126,6 @@ module _ (P R : ℕ → ℕ → Type 0) where
 
 -- ---- a node is replaced on both sides
 
-node_set_same : (nodes : List Node) (x : ℕ) (a : Node) → x < length nodes
-    → unwrap_or (slice_get (slice_set nodes x a) x) (Leaf 0) ≡ a
-node_set_same nodes x a l = ap (λ o. unwrap_or o (Leaf 0)) (get-set_same nodes x a l)
-
-node_set_other : (nodes : List Node) (x y : ℕ) (a : Node) → (y ≡ x → ⊥)
-    → unwrap_or (slice_get (slice_set nodes x a) y) (Leaf 0) ≡ unwrap_or (slice_get nodes y) (Leaf 0)
-node_set_other nodes x y a n = ap (λ o. unwrap_or o (Leaf 0)) (get-set_other nodes x y a n)
-
 replace_node : (P R : ℕ → ℕ → Type 0) (memory other : EllenMem) (x y : ℕ) (a b : Node)
     → AreMemoriesPaired P R memory other → P x y → AreNodesPaired P R a b
     → AreMemoriesPaired P R (set_node memory x a) (set_node other y b)
@@ -148,29 +133,12 @@ replace_node P R memory other x y a b h p g = record {
   nodes_one_to_one = h.nodes_one_to_one;
   records_one_to_one = h.records_one_to_one;
   root = h.root;
-  nodes_in_range =
-      λ v w q. let r = h.nodes_in_range v w q in (
-        subst (λ n. v < n) (sym (length-set memory.nodes x a)) r.0,
-        subst (λ n. w < n) (sym (length-set other.nodes y b)) r.1,
-      );
+  nodes_in_range = within_set P memory.nodes other.nodes x y a b h.nodes_in_range;
   records_in_range = h.records_in_range;
-  nodes = λ v w q. go v w q (eqb_tells v x);
+  nodes =
+      paired_set P memory.nodes other.nodes x y a b (AreFoundPaired P R) h.nodes_one_to_one h.nodes_in_range p g h.nodes;
   records = h.records;
 }
-  where
-    go : (v w : ℕ) → P v w → ((nat_eq v x ≡ true) × (v ≡ x)) ⊎ ((nat_eq v x ≡ false) × (v ≡ x → ⊥))
-        → AreNodesPaired P R (node_at (set_node memory x a) v) (node_at (set_node other y b) w)
-    go v w q (inl e) =
-        let f = (h.nodes_one_to_one v w x y q p).0 e.1 in
-        let r = h.nodes_in_range x y p in
-        subst (λ c. AreNodesPaired P R (node_at (set_node memory x a) c) (node_at (set_node other y b) w)) (sym e.1)
-        (subst (λ c. AreNodesPaired P R (node_at (set_node memory x a) x) (node_at (set_node other y b) c)) (sym f)
-        (subst (λ c. AreNodesPaired P R c (node_at (set_node other y b) y)) (sym (node_set_same memory.nodes x a r.0))
-        (subst (λ c. AreNodesPaired P R a c) (sym (node_set_same other.nodes y b r.1)) g)))
-    go v w q (inr e) =
-        subst (λ c. AreNodesPaired P R c (node_at (set_node other y b) w)) (sym (node_set_other memory.nodes x v a e.1))
-        (subst (λ c. AreNodesPaired P R (node_at memory v) c)
-        (sym (node_set_other other.nodes y w b (λ f. e.1 ((h.nodes_one_to_one v w x y q p).1 f)))) (h.nodes v w q))
 
 -- ---- more pairs
 

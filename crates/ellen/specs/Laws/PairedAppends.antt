@@ -1,10 +1,11 @@
 -- More pairs pair what fewer do, and new nodes and records, paired under fresh numbers, keep a pairing.
-use Rattle.std.specs.Prelude.{◌≡◌, ℕ, zero, suc, ◌+◌, ◌<◌, Bool, true, false, cond, nat_lt, List, [], ◌∷◌, ◌++◌, length}
-use Rattle.std.specs.Prelude.{slice_get, Option, Some, None, unwrap_or, refl}
+use Rattle.std.specs.Prelude.{◌≡◌, ℕ, ◌+◌, Bool, true, false, cond, nat_lt, List, [], ◌∷◌, ◌++◌, length, Option, Some}
+use Rattle.std.specs.Prelude.{None, refl}
 use Rattle.std.specs.List.{AllZip}
-use Rattle.std.proofs.Common.{sym, ◌∙◌, ap, subst, inl, inr, arith, length-append}
+use Rattle.std.proofs.Common.{◌∙◌, ap, subst, inl, inr, arith, length-append}
 use Rattle.std.proofs.lemmas.List.{append_assoc}
-use Rattle.tree_machine.specs.Pairing.{IsAmong, IsOneToOne, Pairing}
+use Rattle.tree_machine.specs.Pairing.{IsAmong, Pairing}
+use Rattle.tree_machine.specs.Laws.FreshPairs.{fresh_one, fresh_within, fresh_paired}
 use Rattle.ellen.specs.declared.memory.UpdateWord.{UpdateWord}
 use Rattle.ellen.specs.declared.memory.UpdateWord.TheVariants as word
 use Rattle.ellen.specs.declared.memory.Node.{Node}
@@ -23,7 +24,7 @@ use Rattle.ellen.specs.declared.place.EllenLoc.TheVariants.{Search, Help}
 use Rattle.ellen.specs.Memory.{node_at, key_at, internal_over, with_internal, add_record}
 use Rattle.ellen.specs.Pairs.{AreBoth, AreWordsPaired, AreNodesPaired, AreRecordsPaired, AreAbovesPaired}
 use Rattle.ellen.specs.Pairs.{AreSearchesPaired, AreHelpsPaired, ArePlacesPaired, AreMemoriesPaired, ellen_pairs}
-use Rattle.ellen.specs.Laws.PairedAccesses.{key_paired, with_pairs}
+use Rattle.ellen.specs.Laws.PairedAccesses.{AreFoundPaired, key_paired, with_pairs}
 
 -- ---- more pairs
 
@@ -94,49 +95,6 @@ module _ (P Q R S : ℕ → ℕ → Type 0) (f : (x y : ℕ) → P x y → Q x y
 
 -- ---- a fresh pair
 
-get_front : {A : Type 0} (xs more : List A) (x : ℕ) → x < length xs → slice_get (xs ++ more) x ≡ slice_get xs x
-get_front [] more x l = absurd (omega arith)
-get_front (a ∷ xs) more zero l = refl
-get_front (a ∷ xs) more (suc x) l = get_front xs more x (omega arith)
-
-get_last : {A : Type 0} (xs : List A) (a : A) → slice_get (xs ++ a ∷ []) (length xs) ≡ Some a
-get_last [] a = refl
-get_last (b ∷ xs) a = get_last xs a
-
-abbrev AreInRange : List (ℕ × ℕ) → ℕ → ℕ → Type 0
-AreInRange pairs n m = (x y : ℕ) → IsAmong pairs x y → (x < n) × (y < m)
-
-fresh_one : (pairs : List (ℕ × ℕ)) (n m : ℕ) → IsOneToOne (IsAmong pairs) → AreInRange pairs n m
-    → IsOneToOne (IsAmong ((n, m) ∷ pairs))
-fresh_one pairs n m one range x y v w (inl e) (inl f) = (λ d. sym e.1 ∙ f.1, λ d. sym e.0 ∙ f.0)
-fresh_one pairs n m one range x y v w (inl e) (inr q) = let r = range v w q in let c = e.0 in
-    let d = e.1 in (λ k. absurd (omega arith), λ k. absurd (omega arith))
-fresh_one pairs n m one range x y v w (inr p) (inl e) = let r = range x y p in let c = e.0 in
-    let d = e.1 in (λ k. absurd (omega arith), λ k. absurd (omega arith))
-fresh_one pairs n m one range x y v w (inr p) (inr q) = one x y v w p q
-
-module _ {A : Type 0} (pairs : List (ℕ × ℕ)) (xs ys : List A) (a b : A)
-    (range : AreInRange pairs (length xs) (length ys)) where
-  fresh_range : AreInRange ((length xs, length ys) ∷ pairs) (length (xs ++ a ∷ [])) (length (ys ++ b ∷ []))
-  fresh_range x y (inl e) = let c = e.0 in
-      let d = e.1 in (omega (arith, length-append xs (a ∷ [])), omega (arith, length-append ys (b ∷ [])))
-  fresh_range x y (inr p) =
-      let r = range x y p in (omega (arith, length-append xs (a ∷ [])), omega (arith, length-append ys (b ∷ [])))
-
-  fresh_at : (T : Option A → Option A → Type 0) → T (Some a) (Some b)
-      → ((x y : ℕ) → IsAmong pairs x y → T (slice_get xs x) (slice_get ys y)) →
-      (x y : ℕ) → IsAmong ((length xs, length ys) ∷ pairs) x y
-      → T (slice_get (xs ++ a ∷ []) x) (slice_get (ys ++ b ∷ []) y)
-  fresh_at T t old x y (inl e) =
-      subst (λ z. T (slice_get (xs ++ a ∷ []) z) (slice_get (ys ++ b ∷ []) y)) e.0
-      (subst (λ z. T (slice_get (xs ++ a ∷ []) (length xs)) (slice_get (ys ++ b ∷ []) z)) e.1
-      (subst (λ c. T c (slice_get (ys ++ b ∷ []) (length ys))) (sym (get_last xs a))
-      (subst (λ c. T (Some a) c) (sym (get_last ys b)) t)))
-  fresh_at T t old x y (inr p) =
-      let r = range x y p in
-      subst (λ c. T c (slice_get (ys ++ b ∷ []) y)) (sym (get_front xs (a ∷ []) x r.0))
-      (subst (λ c. T (slice_get xs x) c) (sym (get_front ys (b ∷ []) y r.1)) (old x y p))
-
 -- a new record on both sides
 pub append_record : (ps rs : List (ℕ × ℕ)) (memory other : EllenMem) (a b : Record)
     → AreMemoriesPaired (IsAmong ps) (IsAmong rs) memory other →
@@ -149,14 +107,13 @@ append_record ps rs memory other a b h g =
     let S : ℕ → ℕ → Type 0 = IsAmong ((length memory.records, length other.records) ∷ rs) in
     record {
       nodes_one_to_one = h.nodes_one_to_one;
-      records_one_to_one =
-          fresh_one rs (length memory.records) (length other.records) h.records_one_to_one h.records_in_range;
+      records_one_to_one = fresh_one rs memory.records other.records h.records_in_range h.records_one_to_one;
       root = h.root;
       nodes_in_range = h.nodes_in_range;
-      records_in_range = fresh_range rs memory.records other.records a b h.records_in_range;
+      records_in_range = fresh_within rs memory.records other.records h.records_in_range a b;
       nodes = λ x y p. nodes_weaker P P R S (λ v w q. q) (λ v w q. inr q) (node_at memory x) (node_at other y)
           (h.nodes x y p);
-      records = fresh_at rs memory.records other.records a b h.records_in_range (AreBoth (AreRecordsPaired P S)) g
+      records = fresh_paired rs memory.records other.records h.records_in_range a b (AreBoth (AreRecordsPaired P S)) g
           (λ x y p. both_weaker (AreRecordsPaired P R) (AreRecordsPaired P S)
           (records_weaker P P R S (λ v w q. q) (λ v w q. inr q)) _ _ (h.records x y p));
     }
@@ -175,13 +132,12 @@ append_node ps rs memory other a b h g =
     let R : ℕ → ℕ → Type 0 = IsAmong rs in
     let Q : ℕ → ℕ → Type 0 = IsAmong ((length memory.nodes, length other.nodes) ∷ ps) in
     record {
-      nodes_one_to_one = fresh_one ps (length memory.nodes) (length other.nodes) h.nodes_one_to_one h.nodes_in_range;
+      nodes_one_to_one = fresh_one ps memory.nodes other.nodes h.nodes_in_range h.nodes_one_to_one;
       records_one_to_one = h.records_one_to_one;
       root = inr h.root;
-      nodes_in_range = fresh_range ps memory.nodes other.nodes a b h.nodes_in_range;
+      nodes_in_range = fresh_within ps memory.nodes other.nodes h.nodes_in_range a b;
       records_in_range = h.records_in_range;
-      nodes = fresh_at ps memory.nodes other.nodes a b h.nodes_in_range
-          (λ x y. AreNodesPaired Q R (unwrap_or x (Leaf 0)) (unwrap_or y (Leaf 0))) g
+      nodes = fresh_paired ps memory.nodes other.nodes h.nodes_in_range a b (AreFoundPaired Q R) g
           (λ x y p. nodes_weaker P Q R R (λ v w q. inr q) (λ v w q. q) (node_at memory x) (node_at other y)
           (h.nodes x y p));
       records =

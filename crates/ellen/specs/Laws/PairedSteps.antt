@@ -33,7 +33,8 @@ use Rattle.ellen.specs.Table.{After, with_base, settled, top_taken, unwound, ret
 use Rattle.ellen.specs.Table.{flagging, decide, arrived, search_act, unflagged, help_act, act}
 use Rattle.ellen.specs.Pairs.{AreBoth, AreWordsPaired, AreNodesPaired, AreAbovesPaired, AreSearchesPaired}
 use Rattle.ellen.specs.Pairs.{AreHelpsPaired, AreResumesPaired, ellen_pairs}
-use Rattle.ellen.specs.Laws.PairedAccesses.{same_number, words_compared, key_paired, with_pairs, read_update_keeps}
+use Rattle.tree_machine.specs.Laws.FreshPairs.{same_number}
+use Rattle.ellen.specs.Laws.PairedAccesses.{words_compared, key_paired, with_pairs, read_update_keeps}
 use Rattle.ellen.specs.Laws.PairedAccesses.{read_child_keeps, exchange_update_keeps, exchange_child_keeps}
 use Rattle.ellen.specs.Laws.PairedAccesses.{with_insert_keeps, with_delete_keeps}
 use Rattle.ellen.specs.Laws.PairedAppends.{words_weaker, append_record, append_internal, fresh_nodes}

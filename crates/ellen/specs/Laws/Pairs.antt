@@ -1,28 +1,23 @@
 -- What the pairings of the machine owe: operations begin at paired places, more pairs pair the places that fewer do, of
 -- paired memories both keep search order or neither does, and accesses of paired places keep a pairing.
-use Rattle.std.specs.Prelude.{◌≡◌, ◌↔◌, ℕ, zero, suc, ◌<◌, List, [], ◌∷◌, length, slice_get, Some, unwrap_or, refl}
+use Rattle.std.specs.Prelude.{◌↔◌, ℕ, Some}
 use Rattle.std.specs.Option.{option_map}
-use Rattle.std.proofs.Common.{arith, sym, subst}
 use Rattle.tree_machine.specs.Pairing.{IsAmong, ArePairsLawful}
 use Rattle.tree_machine.specs.SearchOrder.{KeepsSearchOrder}
+use Rattle.tree_machine.specs.Laws.FreshPairs.{paired_as}
 use Rattle.tree_machine.specs.Laws.SearchOrderPairs.{AreShapesPaired, search_order_paired}
 use Rattle.ellen.specs.declared.memory.Node.{Node}
 use Rattle.ellen.specs.declared.memory.Node.TheVariants.{Leaf, Internal}
 use Rattle.ellen.specs.declared.memory.EllenMem.{EllenMem}
 use Rattle.ellen.specs.declared.machine.Ellen.{Ellen}
-use Rattle.ellen.specs.Memory.{shape_in, shapes, node_at}
+use Rattle.ellen.specs.Memory.{shape_in, shapes}
 use Rattle.ellen.specs.Table.{first_place, act}
 use Rattle.ellen.specs.Pairs.{AreNodesPaired, AreMemoriesPaired, ellen_pairs}
+use Rattle.ellen.specs.Laws.PairedAccesses.{AreFoundPaired}
 use Rattle.ellen.specs.Laws.PairedAppends.{places_weaker}
 use Rattle.ellen.specs.Laws.PairedSteps.{act_keeps}
 
 -- ---- search order
-
-pub node_there : (nodes : List Node) (x : ℕ) → x < length nodes
-    → slice_get nodes x ≡ Some (unwrap_or (slice_get nodes x) (Leaf 0))
-node_there [] x below = absurd (omega arith)
-node_there (node ∷ nodes) zero below = refl
-node_there (node ∷ nodes) (suc x) below = node_there nodes x (omega arith)
 
 module _ (P R : ℕ → ℕ → Type 0) where
   shapes_paired : (a b : Node) → AreNodesPaired P R a b → AreShapesPaired P (Some (shape_in a)) (Some (shape_in b))
@@ -33,12 +28,8 @@ module _ (P R : ℕ → ℕ → Type 0) where
   module _ (memory other : EllenMem) (h : AreMemoriesPaired P R memory other) where
     seen : (x y : ℕ) → P x y → AreShapesPaired P (shapes memory x) (shapes other y)
     seen x y p =
-        let below = h.nodes_in_range x y p in
-        subst (λ node. AreShapesPaired P (option_map shape_in node) (shapes other y))
-        (sym (node_there memory.nodes x below.0))
-        (subst (λ node. AreShapesPaired P (Some (shape_in (node_at memory x))) (option_map shape_in node))
-        (sym (node_there other.nodes y below.1))
-        (shapes_paired (node_at memory x) (node_at other y) (h.nodes x y p)))
+        paired_as (AreFoundPaired P R) (λ a b. AreShapesPaired P (option_map shape_in a) (option_map shape_in b))
+        memory.nodes other.nodes x y (h.nodes_in_range x y p) shapes_paired (h.nodes x y p)
 
     ordered_paired : KeepsSearchOrder (shapes memory) ↔ KeepsSearchOrder (shapes other)
     ordered_paired = search_order_paired P (shapes memory) (shapes other) seen h.root

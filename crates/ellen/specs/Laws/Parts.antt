@@ -1,13 +1,11 @@
 -- Parts are paired exactly where what they are of is paired.
-use Rattle.std.specs.Prelude.{◌≡◌, ◌↔◌, ℕ, suc, ◌<◌, List, [], ◌∷◌, map, length, Option, Some, None, unwrap_or, refl}
+use Rattle.std.specs.Prelude.{◌≡◌, ◌↔◌, ℕ, suc, ◌<◌, List, [], ◌∷◌, length, Option, Some, None, refl}
 use Rattle.std.specs.List.{AllZip}
-use Rattle.std.proofs.Common.{arith, ap, sym, subst, ◌∙◌}
-use Rattle.std.proofs.lemmas.List.{length-map}
-use Rattle.tree_machine.proofs.Lists.{get_at}
+use Rattle.std.proofs.Common.{arith, ap, sym, subst}
 use Rattle.tree_machine.specs.Pairing.{IsAmong, AreHeldPaired, AreAlike}
 use Rattle.tree_machine.specs.Cells.{IsPairedOrNone}
-use Rattle.tree_machine.specs.Parts.{Part, part_at, ArePartsPaired, IsPartsPairing, CanPartsBePaired}
-use Rattle.tree_machine.specs.Laws.PartsBy.{part_map_at}
+use Rattle.tree_machine.specs.Parts.{Part, ArePartsPaired, IsPartsPairing, CanPartsBePaired}
+use Rattle.tree_machine.specs.Laws.ValueParts.{zip_map, zip_unmap, parts_within, values_within, parts_at, values_at}
 use Rattle.tree_machine.specs.declared.search_order.Side.{Side}
 use Rattle.tree_machine.specs.declared.search_order.Side.TheVariants as side
 use Rattle.ellen.specs.declared.memory.UpdateWord.{UpdateWord}
@@ -27,12 +25,12 @@ use Rattle.ellen.specs.declared.place.HelpLoc.TheVariants.{InsChild, InsClean, M
 use Rattle.ellen.specs.declared.place.HelpLoc.TheVariants.{Back}
 use Rattle.ellen.specs.declared.place.EllenLoc.{EllenLoc}
 use Rattle.ellen.specs.declared.place.EllenLoc.TheVariants.{Search, Help}
-use Rattle.ellen.specs.Memory.{node_at, record_at}
 use Rattle.ellen.specs.Pairs.{AreBoth, AreWordsPaired, AreNodesPaired, AreRecordsPaired, AreAbovesPaired}
 use Rattle.ellen.specs.Pairs.{AreSearchesPaired, AreHelpsPaired, ArePlacesPaired, AreMemoriesPaired, ellen_pairs}
 use Rattle.ellen.specs.Parts.{word_number, word_record, node_part, record_part, above_number, above_node, above_record}
 use Rattle.ellen.specs.Parts.{search_part, help_number, side_number, help_side, help_record, help_node, base_number}
 use Rattle.ellen.specs.Parts.{place_part, held_part, ellen_parts}
+use Rattle.ellen.specs.Laws.PairedAccesses.{AreFoundPaired}
 
 module _ (P R : ℕ → ℕ → Type 0) where
   abbrev Parted : Part → Part → Type 0
@@ -166,25 +164,13 @@ module _ (P R : ℕ → ℕ → Type 0) where
   base_from Delete Delete e = refl
   base_from _ _ e = absurd (omega arith)
 
-  stack_to : (y z : List ℕ) → AllZip R y z → AllZip (IsPairedOrNone R) (map Some y) (map Some z)
-  stack_to [] [] h = tt
-  stack_to [] (s ∷ z) h = absurd h
-  stack_to (r ∷ y) [] h = absurd h
-  stack_to (r ∷ y) (s ∷ z) h = (h.0, stack_to y z h.1)
-
-  stack_from : (y z : List ℕ) → AllZip (IsPairedOrNone R) (map Some y) (map Some z) → AllZip R y z
-  stack_from [] [] h = tt
-  stack_from [] (s ∷ z) h = absurd h
-  stack_from (r ∷ y) [] h = absurd h
-  stack_from (r ∷ y) (s ∷ z) h = (h.0, stack_from y z h.1)
-
   -- ---- what threads hold
 
   place_to : (a b : EllenLoc) → ArePlacesPaired P R a b → Parted (place_part a) (place_part b)
   place_to (Search a) (Search b) h = search_to a b h
   place_to (Help a y) (Help b z) h =
       let t = help_to a b h.0 in let e = t.0 in let f = t.1 in let g = h.1.1 in
-      record { facts = cc; nodes = (t.2, tt); records = (t.3, stack_to y.stack z.stack h.1.0) }
+      record { facts = cc; nodes = (t.2, tt); records = (t.3, zip_map Some R (IsPairedOrNone R) (λ r s h. h) y.stack z.stack h.1.0) }
   place_to _ _ h = absurd h
 
   search_apart : (a : SearchLoc) (x : ℕ) (facts : List ℕ) → (search_part a).facts ≡ 5 ∷ x ∷ facts → ⊥
@@ -198,7 +184,7 @@ module _ (P R : ℕ → ℕ → Type 0) where
   place_from (Search a) (Search b) h = search_from a b h
   place_from (Help a y) (Help b z) h = let f = h.facts in (
     help_from a b (cc) (cc) h.nodes.0 h.records.0,
-    (stack_from y.stack z.stack h.records.1, base_from y.base z.base (cc)),
+    (zip_unmap Some R (IsPairedOrNone R) (λ r s h. h) y.stack z.stack h.records.1, base_from y.base z.base (cc)),
   )
   place_from (Search a) (Help b z) h = search_apart a _ _ h.facts
   place_from (Help a y) (Search b) h = search_apart b _ _ (sym h.facts)
@@ -222,28 +208,7 @@ module _ (P R : ℕ → ℕ → Type 0) where
   held_from None (Some b) h = place_is_some b (sym h.facts)
   held_from (Some a) None h = place_is_some a h.facts
 
-  all_held_to : (a b : List (Option EllenLoc)) → AllZip (AreHeldPaired (ArePlacesPaired P R)) a b
-      → AllZip Parted (map held_part a) (map held_part b)
-  all_held_to [] [] h = tt
-  all_held_to [] (s ∷ z) h = absurd h
-  all_held_to (r ∷ y) [] h = absurd h
-  all_held_to (r ∷ y) (s ∷ z) h = (held_to r s h.0, all_held_to y z h.1)
-
-  all_held_from : (a b : List (Option EllenLoc)) → AllZip Parted (map held_part a) (map held_part b)
-      → AllZip (AreHeldPaired (ArePlacesPaired P R)) a b
-  all_held_from [] [] h = tt
-  all_held_from [] (s ∷ z) h = absurd h
-  all_held_from (r ∷ y) [] h = absurd h
-  all_held_from (r ∷ y) (s ∷ z) h = (held_from r s h.0, all_held_from y z h.1)
-
 -- ---- memories
-
--- parts of the nodes and the records in range
-part_of_node : (memory : EllenMem) (x : ℕ) → x < length memory.nodes
-    → part_at (map node_part memory.nodes) x ≡ node_part (node_at memory x)
-part_of_node memory x below =
-    let t = get_at memory.nodes x below in
-    part_map_at node_part memory.nodes x t.0 t.1 ∙ ap (λ o. node_part (unwrap_or o (Leaf 0))) (sym t.1)
 
 module _ (P R : ℕ → ℕ → Type 0) (memory other : EllenMem) (held others : List (Option EllenLoc)) where
   pairing_to : AreMemoriesPaired P R memory other → AllZip (AreHeldPaired (ArePlacesPaired P R)) held others
@@ -252,69 +217,37 @@ module _ (P R : ℕ → ℕ → Type 0) (memory other : EllenMem) (held others :
     nodes_one_to_one = h.nodes_one_to_one;
     records_one_to_one = h.records_one_to_one;
     fixed_paired = λ x below. let zeroth : 0 ≡ x = omega arith in subst (λ y. P y y) zeroth h.root;
-    nodes_in_range =
-        λ x y p. let r = h.nodes_in_range x y p in (
-          subst (λ n. x < n) (sym (length-map memory.nodes node_part)) r.0,
-          subst (λ n. y < n) (sym (length-map other.nodes node_part)) r.1,
-        );
-    records_in_range =
-        λ x y p. let r = h.records_in_range x y p in (
-          subst (λ n. x < n) (sym (length-map memory.records record_part)) r.0,
-          subst (λ n. y < n) (sym (length-map other.records record_part)) r.1,
-        );
-    nodes_paired = λ x y p.
-        let r = h.nodes_in_range x y p in
-        subst (λ c. ArePartsPaired P R c (part_at (map node_part other.nodes) y)) (sym (part_of_node memory x r.0))
-        (subst (λ c. ArePartsPaired P R (node_part (node_at memory x)) c) (sym (part_of_node other y r.1))
-        (node_to P R _ _ (h.nodes x y p)));
-    records_paired = λ x y p.
-        let r = h.records_in_range x y p in
-        let s = get_at memory.records x r.0 in
-        let t = get_at other.records y r.1 in
-        subst (λ c. ArePartsPaired P R c (part_at (map record_part other.records) y))
-        (sym (part_map_at record_part memory.records x s.0 s.1))
-        (subst (λ c. ArePartsPaired P R (record_part s.0) c) (sym (part_map_at record_part other.records y t.0 t.1))
-        (record_to P R s.0 t.0
-        (subst (λ c. AreBoth (AreRecordsPaired P R) (Some s.0) c) t.1
-        (subst (λ c. AreBoth (AreRecordsPaired P R) c (record_at other y)) s.1 (h.records x y p)))));
-    held_paired = all_held_to P R held others k;
+    nodes_in_range = λ x y p. parts_within node_part memory.nodes other.nodes x y (h.nodes_in_range x y p);
+    records_in_range = λ x y p. parts_within record_part memory.records other.records x y (h.records_in_range x y p);
+    nodes_paired =
+        λ x y p. parts_at node_part memory.nodes other.nodes x y P R (AreFoundPaired P R) (h.nodes_in_range x y p)
+        (node_to P R) (h.nodes x y p);
+    records_paired =
+        λ x y p. parts_at record_part memory.records other.records x y P R (AreBoth (AreRecordsPaired P R))
+        (h.records_in_range x y p) (record_to P R) (h.records x y p);
+    held_paired =
+        zip_map held_part (AreHeldPaired (ArePlacesPaired P R)) (ArePartsPaired P R) (held_to P R) held others k;
   }
 
   memories_from : IsPartsPairing P R 1 (ellen_parts memory held) (ellen_parts other others)
       → AreMemoriesPaired P R memory other
   memories_from h =
       let nodes_below : (x y : ℕ) → P x y → (x < length memory.nodes) × (y < length other.nodes) =
-      λ x y p. let r = h.nodes_in_range x y p in (
-        subst (λ n. x < n) (length-map memory.nodes node_part) r.0,
-        subst (λ n. y < n) (length-map other.nodes node_part) r.1,
-      ) in
+      λ x y p. values_within node_part memory.nodes other.nodes x y (h.nodes_in_range x y p) in
       let records_below : (x y : ℕ) → R x y → (x < length memory.records) × (y < length other.records) =
-      λ x y p. let r = h.records_in_range x y p in (
-        subst (λ n. x < n) (length-map memory.records record_part) r.0,
-        subst (λ n. y < n) (length-map other.records record_part) r.1,
-      ) in
+      λ x y p. values_within record_part memory.records other.records x y (h.records_in_range x y p) in
       record {
         nodes_one_to_one = h.nodes_one_to_one;
         records_one_to_one = h.records_one_to_one;
         root = h.fixed_paired 0 (omega arith);
         nodes_in_range = nodes_below;
         records_in_range = records_below;
-        nodes = λ x y p.
-            let r = nodes_below x y p in
-            node_from P R _ _
-            (subst (λ c. ArePartsPaired P R c (node_part (node_at other y))) (part_of_node memory x r.0)
-            (subst (λ c. ArePartsPaired P R (part_at (map node_part memory.nodes) x) c) (part_of_node other y r.1)
-            (h.nodes_paired x y p)));
-        records = λ x y p.
-            let r = records_below x y p in
-            let s = get_at memory.records x r.0 in
-            let t = get_at other.records y r.1 in
-            subst (λ c. AreBoth (AreRecordsPaired P R) c (record_at other y)) (sym s.1)
-            (subst (λ c. AreBoth (AreRecordsPaired P R) (Some s.0) c) (sym t.1)
-            (record_from P R s.0 t.0
-            (subst (λ c. ArePartsPaired P R c (record_part t.0)) (part_map_at record_part memory.records x s.0 s.1)
-            (subst (λ c. ArePartsPaired P R (part_at (map record_part memory.records) x) c)
-            (part_map_at record_part other.records y t.0 t.1) (h.records_paired x y p)))));
+        nodes =
+            λ x y p. values_at node_part memory.nodes other.nodes x y P R (AreFoundPaired P R) (nodes_below x y p)
+            (node_from P R) (h.nodes_paired x y p);
+        records =
+            λ x y p. values_at record_part memory.records other.records x y P R (AreBoth (AreRecordsPaired P R))
+            (records_below x y p) (record_from P R) (h.records_paired x y p);
       }
 
 -- some pairing pairs the parts exactly if one pairs the memories and what the threads hold
@@ -322,15 +255,15 @@ pub parts_alike : (memory other : EllenMem) (held others : List (Option EllenLoc
     → CanPartsBePaired 1 (ellen_parts memory held) (ellen_parts other others)
     ↔ AreAlike ellen_pairs memory held other others
 parts_alike memory other held others = (
-  (λ h. (
+  (λ h. let P = IsAmong h.0 in let R = IsAmong h.1 in (
     record { nodes = h.0; records = h.1 },
-    memories_from (IsAmong h.0) (IsAmong h.1) memory other held others h.2,
-    all_held_from (IsAmong h.0) (IsAmong h.1) held others h.2.held_paired,
+    memories_from P R memory other held others h.2,
+    zip_unmap held_part (AreHeldPaired (ArePlacesPaired P R)) (ArePartsPaired P R) (held_from P R) held others
+        h.2.held_paired,
   )),
   (λ h. (
     h.0.nodes,
     h.0.records,
-    pairing_to (IsAmong h.0.nodes) (IsAmong h.0.records) memory other held others h.1
-        h.2,
+    pairing_to (IsAmong h.0.nodes) (IsAmong h.0.records) memory other held others h.1 h.2,
   )),
 )

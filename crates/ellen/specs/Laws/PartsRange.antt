@@ -1,11 +1,12 @@
 -- The numbers of a memory and of places are in range exactly if those of their parts are.
 use Rattle.std.specs.Prelude.{◌≡◌, ℕ, ◌<◌, List, [], ◌∷◌, map, length, Option, Some, None, IfSome, All}
 use Rattle.std.specs.List.{AllByRecursion}
-use Rattle.std.proofs.Common.{arith, sym, subst}
+use Rattle.std.proofs.Common.{arith}
 use Rattle.std.proofs.lemmas.List.{length-map}
-use Rattle.std.proofs.lemmas.List.Elements.{All-nil, All-cons, All-head, All-tail, All-map, All-weaker}
+use Rattle.std.proofs.lemmas.List.Elements.{All-cons, All-head, All-tail, All-map}
 use Rattle.std.proofs.lemmas.List.Elements.{All-from_recursion, recursion_from_All}
-use Rattle.tree_machine.specs.Parts.{Part, IsPartBelow, ArePartsInRange}
+use Rattle.tree_machine.specs.Parts.{IsPartBelow, ArePartsInRange}
+use Rattle.tree_machine.specs.Laws.ValueParts.{from_map, all_below, all_in}
 use Rattle.ellen.specs.declared.memory.UpdateWord.{UpdateWord}
 use Rattle.ellen.specs.declared.memory.UpdateWord.TheVariants as word
 use Rattle.ellen.specs.declared.memory.Node.{Node}
@@ -99,14 +100,6 @@ module _ (n m : ℕ) where
   held_below None h = part_below _ [] [] tt tt
   held_below (Some place) h = place_below place h
 
--- the parts of all elements, each with its numbers below these
-all_below : {A : Type 0} (f : A → Part) (P : A → Type 0) (n m i j : ℕ) → i ≡ n → j ≡ m
-    → ((a : A) → P a → IsPartBelow n m (f a)) → (xs : List A) → All P xs → All (IsPartBelow i j) (map f xs)
-all_below f P n m i j e d below xs h =
-    subst (λ a. All (IsPartBelow a j) (map f xs)) (sym e)
-    (subst (λ b. All (IsPartBelow n b) (map f xs)) (sym d)
-    (All-map (IsPartBelow n m) f xs (All-weaker P (λ x. IsPartBelow n m (f x)) below xs h)))
-
 pub parts_in_range : (memory : EllenMem) (held : List (Option EllenLoc)) → IsInRange memory
     → All (λ place. IfSome place (IsPlaceInRange memory)) held → ArePartsInRange 1 (ellen_parts memory held)
 parts_in_range memory held h at =
@@ -123,14 +116,6 @@ parts_in_range memory held h at =
     }
 
 -- ---- and back
-
--- what holds of the values of a map
-from_map : {A B : Type 0} (f : A → B) (P : A → Type 0) (Q : B → Type 0) → ((a : A) → Q (f a) → P a) → (xs : List A)
-    → All Q (map f xs) → All P xs
-from_map f P Q back [] h = All-nil P
-from_map f P Q back (x ∷ xs) h =
-    All-cons P x xs (back x (All-head Q (f x) (map f xs) h))
-    (from_map f P Q back xs (All-tail Q (f x) (map f xs) h))
 
 word_in : (m : ℕ) (u : UpdateWord) → Below m (word_record u) → IsWordIn m u
 word_in m word.Untouched h = tt
@@ -204,36 +189,17 @@ module _ (n m : ℕ) where
   held_in None h = tt
   held_in (Some place) h = place_in place h
 
--- each element whose part has its numbers below these
-all_in : {A : Type 0} (f : A → Part) (P : A → Type 0) (n m i j : ℕ) → i ≡ n → j ≡ m
-    → ((a : A) → IsPartBelow n m (f a) → P a) → (xs : List A) → All (IsPartBelow i j) (map f xs) → All P xs
-all_in f P n m i j e d inner xs h =
-    from_map f P (IsPartBelow i j)
-    (λ a k. inner a (subst (λ y. IsPartBelow n y (f a)) d (subst (λ x. IsPartBelow x j (f a)) e k))) xs h
-
-module _ (memory : EllenMem) (held : List (Option EllenLoc)) (h : ArePartsInRange 1 (ellen_parts memory held)) where
-  nodes_count : length (map node_part memory.nodes) ≡ length memory.nodes
-  nodes_count = length-map memory.nodes node_part
-
-  records_count : length (map record_part memory.records) ≡ length memory.records
-  records_count = length-map memory.records record_part
-
-  pub memory_in_range : IsInRange memory
-  memory_in_range =
-      let n = length memory.nodes in
-      let m = length memory.records in
+pub values_in_range : (memory : EllenMem) (held : List (Option EllenLoc)) → ArePartsInRange 1 (ellen_parts memory held)
+    → IsInRange memory × All (λ place. IfSome place (IsPlaceInRange memory)) held
+values_in_range memory held h =
+    let n = length memory.nodes in
+    let m = length memory.records in
+    let nodes : length (map node_part memory.nodes) ≡ n = length-map memory.nodes node_part in
+    let records : length (map record_part memory.records) ≡ m = length-map memory.records record_part in (
       record {
-        root = let root = h.fixed_in_range in omega (arith, nodes_count);
-        nodes =
-            all_in node_part (IsNodeIn n m) n m _ _ nodes_count records_count (node_in n m) memory.nodes h.nodes;
-        records =
-            all_in record_part (IsRecordIn n m) n m _ _ nodes_count records_count (record_in n m) memory.records
-            h.records;
-      }
-
-  pub places_in_range : All (λ place. IfSome place (IsPlaceInRange memory)) held
-  places_in_range =
-      let n = length memory.nodes in
-      let m = length memory.records in
-      all_in held_part (λ place. IfSome place (IsPlaceIn n m)) n m _ _ nodes_count records_count (held_in n m) held
-      h.held
+        root = let root = h.fixed_in_range in omega arith;
+        nodes = all_in node_part (IsNodeIn n m) n m _ _ nodes records (node_in n m) memory.nodes h.nodes;
+        records = all_in record_part (IsRecordIn n m) n m _ _ nodes records (record_in n m) memory.records h.records;
+      },
+      all_in held_part (λ place. IfSome place (IsPlaceIn n m)) n m _ _ nodes records (held_in n m) held h.held,
+    )

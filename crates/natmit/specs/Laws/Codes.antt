@@ -1,15 +1,13 @@
 -- The parts of a memory and of the places held determine both.
-use Rattle.std.specs.Prelude.{◌≡◌, ℕ, List, [], ◌∷◌, refl, Option, Some, None}
-use Rattle.std.specs.List.{AllZip}
-use Rattle.std.proofs.Common.{ap, sym, subst, ◌∙◌}
-use Rattle.tree_machine.specs.Cells.{IsPairedOrNone}
-use Rattle.tree_machine.specs.Pairing.{AreHeldPaired}
-use Rattle.tree_machine.specs.Parts.{Part, ArePartsPaired}
-use Rattle.tree_machine.specs.FormCode.{TellsWholly, cut_code}
-use Rattle.tree_machine.specs.Laws.Codes.{map_tells, parts_code_tells}
-use Rattle.tree_machine.specs.Flat.{all_front}
-use Rattle.tree_machine.specs.declared.front.Front.{Front}
+use Rattle.std.specs.Prelude.{◌≡◌, List, Option, Some, None, refl}
+use Rattle.std.proofs.Common.{ap}
 use Rattle.std.proofs.lemmas.List.{length-map}
+use Rattle.tree_machine.specs.Pairing.{AreHeldPaired}
+use Rattle.tree_machine.specs.FormCode.{TellsWholly, cut_code}
+use Rattle.tree_machine.specs.Flat.{all_front}
+use Rattle.tree_machine.specs.Laws.PartForms.{parts_tell_wholly}
+use Rattle.tree_machine.specs.Laws.ValueParts.{Same, values_told}
+use Rattle.tree_machine.specs.declared.front.Front.{Front}
 use Rattle.natmit.specs.declared.memory.Word.{Word}
 use Rattle.natmit.specs.declared.memory.Node.{Node}
 use Rattle.natmit.specs.declared.memory.Node.TheVariants.{Leaf, Internal}
@@ -23,10 +21,6 @@ use Rattle.natmit.specs.Pairs.{AreWordsPaired, AreNodesPaired, AreModesPaired, A
 use Rattle.natmit.specs.Parts.{node_part, held_part, natmit_parts, natmit_code}
 use Rattle.natmit.specs.Parts.{natmit_front_code, natmit_behind_code}
 use Rattle.natmit.specs.Laws.Parts.{nodes_of_parts, held_of_parts}
-
--- a number is paired with itself alone
-abbrev Same : ℕ → ℕ → Type 0
-Same x y = x ≡ y
 
 -- ---- what equality pairs is equal
 
@@ -68,36 +62,21 @@ held_equal None None h = refl
 held_equal (Some place) (Some twin) h = ap Some (places_equal place twin h)
 held_equal _ _ h = absurd h
 
--- ---- equality pairs a part with each part equal to it
-
-names_paired : (xs : List (Option ℕ)) → AllZip (IsPairedOrNone Same) xs xs
-names_paired [] = tt
-names_paired (None ∷ xs) = (tt, names_paired xs)
-names_paired (Some x ∷ xs) = (refl, names_paired xs)
-
-parts_paired : (a b : Part) → a ≡ b → ArePartsPaired Same Same a b
-parts_paired a b e = subst (ArePartsPaired Same Same a) e
-    (record { facts = refl; nodes = names_paired a.nodes; records = names_paired a.records })
-
 -- parts determine the memory and the places that they are of
-pub parts_tell : (memory other : NatMitMem) (held others : List (Option NatMitLoc))
+parts_tell : (memory other : NatMitMem) (held others : List (Option NatMitLoc))
     → natmit_parts memory held ≡ natmit_parts other others → (memory ≡ other) × (held ≡ others)
 parts_tell memory other held others e =
     let nodes : memory.nodes ≡ other.nodes =
-    map_tells node_part (λ a b e. nodes_equal a b (nodes_of_parts Same Same a b (parts_paired _ _ e))) memory.nodes
-    other.nodes (λ i. (e i).nodes) in (
+    values_told node_part (λ a b h. nodes_equal a b (nodes_of_parts Same Same a b h)) memory.nodes other.nodes
+    (λ i. (e i).nodes) in (
       (λ i. record { nodes = nodes i }),
-      map_tells held_part (λ a b e. held_equal a b (held_of_parts Same Same a b (parts_paired _ _ e))) held others
-          (λ i. (e i).held),
+      values_told held_part (λ a b h. held_equal a b (held_of_parts Same Same a b h)) held others (λ i. (e i).held),
     )
 
 -- and so do their bytes
 pub natmit_tells : (front other_front : Front) → TellsWholly (cut_code natmit_front_code natmit_behind_code front)
     (cut_code natmit_front_code natmit_behind_code other_front)
-natmit_tells front other_front memory other held others many e =
-    parts_tell memory other held others
-    (parts_code_tells front other_front (natmit_parts memory held) (natmit_parts other others)
-    (length-map held held_part ∙ (many ∙ sym (length-map others held_part))) e).0
+natmit_tells = parts_tell_wholly natmit_parts (λ memory held. length-map held held_part) parts_tell
 
 -- by own numbers all nodes come in front
 pub natmit_whole : (memory : NatMitMem) (held : List (Option NatMitLoc)) → (front : Front)

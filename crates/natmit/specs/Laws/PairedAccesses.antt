@@ -1,13 +1,13 @@
 -- What is read of paired memories is paired, and each kind of access keeps a pairing.
-use Rattle.std.specs.Prelude.{◌≡◌, ℕ, ◌<◌, true, false, not, ◌&&◌, if◌then◌else◌, nat_eq, length, refl, Option, Some}
+use Rattle.std.specs.Prelude.{◌≡◌, ℕ, true, false, not, ◌&&◌, if◌then◌else◌, nat_eq, refl, Option, Some}
 use Rattle.std.specs.Prelude.{None, unwrap_or, Bool}
-use Rattle.std.proofs.Common.{sym, ◌∙◌, ap, subst, inl, inr}
-use Rattle.std.proofs.lemmas.Bool.Decides.{eqb_tells}
-use Rattle.std.proofs.lemmas.List.{length-set}
+use Rattle.std.proofs.Common.{ap, subst}
 use Rattle.tree_machine.specs.declared.search_order.Side.{Side}
 use Rattle.tree_machine.specs.declared.search_order.Side.TheVariants.{Left, Right}
 use Rattle.tree_machine.specs.SearchOrder.{side_of}
-use Rattle.tree_machine.specs.Pairing.{Pairing, Extends, IsAmong, IsOneToOne, AreOutcomesPaired, AreStepsPaired}
+use Rattle.tree_machine.specs.Pairing.{Pairing, Extends, IsAmong, IsOneToOne, AreHeldPaired, AreOutcomesPaired}
+use Rattle.tree_machine.specs.Pairing.{AreStepsPaired}
+use Rattle.tree_machine.specs.Laws.FreshPairs.{same_number, within_set, paired_set}
 use Rattle.natmit.specs.declared.memory.Word.{Word}
 use Rattle.natmit.specs.declared.memory.Node.{Node}
 use Rattle.natmit.specs.declared.memory.Node.TheVariants.{Leaf, Internal}
@@ -18,7 +18,6 @@ use Rattle.tree_machine.specs.declared.machine.Outcome.{Outcome}
 use Rattle.tree_machine.specs.declared.machine.Outcome.TheVariants.{Astray}
 use Rattle.natmit.specs.declared.place.NatMitLoc.{NatMitLoc}
 use Rattle.natmit.specs.Table.{After, found, after_read, after_exchange, after_tag}
-use Rattle.tree_machine.proofs.Lists.{get-set_same, get-set_other}
 
 -- ---- what is read of paired nodes
 
@@ -28,11 +27,13 @@ module _ (P : ℕ → ℕ → Type 0) where
   key_paired (Internal k l r) (Internal j m s) h = h.0
   key_paired _ _ h = absurd h
 
+  -- nodes that may be there, as they are read
+  abbrev pub AreFoundPaired : Option Node → Option Node → Type 0
+  AreFoundPaired a b = AreNodesPaired P (unwrap_or a (Leaf 0)) (unwrap_or b (Leaf 0))
+
   -- no word in both, or paired words
   abbrev pub AreReadsPaired : Option Word → Option Word → Type 0
-  AreReadsPaired None None = Unit {0}
-  AreReadsPaired (Some v) (Some w) = AreWordsPaired P v w
-  AreReadsPaired _ _ = ⊥
+  AreReadsPaired v w = AreHeldPaired (AreWordsPaired P) v w
 
   word_paired : (d : Side) (a b : Node) → AreNodesPaired P a b → AreReadsPaired (word_on d a) (word_on d b)
   word_paired d (Leaf k) (Leaf j) h = tt
@@ -47,31 +48,15 @@ module _ (P : ℕ → ℕ → Type 0) where
   with_word_paired Right v w (Internal k l r) (Internal j m s) h g = (h.0, h.1, g)
   with_word_paired _ v w _ _ h g = absurd h
 
-  module _ (one : IsOneToOne P) where
-    -- two numbers are the same exactly if those paired with them are
-    pub same_node : (x y a b : ℕ) → P x y → P a b → nat_eq x a ≡ nat_eq y b
-    same_node x y a b p q =
-        elim (eqb_tells x a) [
-          | inl e ↦ elim (eqb_tells y b) [ inl f ↦ e.0 ∙ sym f.0 | inr f ↦ absurd (f.1 ((one x y a b p q).0 e.1)) ]
-          | inr e ↦ elim (eqb_tells y b) [ inl f ↦ absurd (e.1 ((one x y a b p q).1 f.1)) | inr f ↦ e.0 ∙ sym f.0 ]
-        ]
-
-    -- exchanges that compare with the plain word of paired nodes succeed together
-    pub plain_paired : (x y : ℕ) (v w : Word) → P x y → AreWordsPaired P v w → is_plain x v ≡ is_plain y w
-    plain_paired x y v w p h =
-        let flag : v.flag ≡ w.flag = h.0 in
-        let tag : v.tag ≡ w.tag = h.1 in
-        let node : nat_eq v.node x ≡ nat_eq w.node y = same_node v.node w.node x y h.2 p in
-        λ i. not (flag i) && not (tag i) && node i
+  -- exchanges that compare with the plain word of paired nodes succeed together
+  pub plain_paired : IsOneToOne P → (x y : ℕ) (v w : Word) → P x y → AreWordsPaired P v w → is_plain x v ≡ is_plain y w
+  plain_paired one x y v w p h =
+      let flag : v.flag ≡ w.flag = h.0 in
+      let tag : v.tag ≡ w.tag = h.1 in
+      let node : nat_eq v.node x ≡ nat_eq w.node y = same_number P one v.node w.node x y h.2 p in
+      λ i. not (flag i) && not (tag i) && node i
 
 -- ---- a word that is written
-
-node_set_same : (memory : NatMitMem) (x : ℕ) (a : Node) → x < length memory.nodes → node_at (set_node memory x a) x ≡ a
-node_set_same memory x a h = ap (λ o. unwrap_or o (Leaf 0)) (get-set_same memory.nodes x a h)
-
-node_set_other : (memory : NatMitMem) (x y : ℕ) (a : Node) → (y ≡ x → ⊥)
-    → node_at (set_node memory x a) y ≡ node_at memory y
-node_set_other memory x y a h = ap (λ o. unwrap_or o (Leaf 0)) (get-set_other memory.nodes x y a h)
 
 module _ (P : ℕ → ℕ → Type 0) (memory twin : NatMitMem) (h : AreMemoriesPaired P memory twin) where
   pub side_paired : (k x y : ℕ) → P x y → side_at k memory x ≡ side_at k twin y
@@ -88,32 +73,10 @@ module _ (P : ℕ → ℕ → Type 0) (memory twin : NatMitMem) (h : AreMemories
     one_to_one = h.one_to_one;
     root_paired = h.root_paired;
     begin_paired = h.begin_paired;
-    in_range = λ v w q. let r = h.in_range v w q in (
-      subst (λ n. v < n) (sym (length-set memory.nodes x a)) r.0,
-      subst (λ n. w < n) (sym (length-set twin.nodes y b)) r.1,
-    );
-    nodes_paired = λ v w q. elim (eqb_tells v x) [
-      | inl e ↦ same v w e.1 ((h.one_to_one v w x y q p).0 e.1)
-      | inr e ↦ other v w q e.1 (λ f. e.1 ((h.one_to_one v w x y q p).1 f))
-    ];
+    in_range = within_set P memory.nodes twin.nodes x y a b h.in_range;
+    nodes_paired =
+        paired_set P memory.nodes twin.nodes x y a b (AreFoundPaired P) h.one_to_one h.in_range p g h.nodes_paired;
   }
-    where
-      same : (v w : ℕ) → v ≡ x → w ≡ y → AreNodesPaired P (node_at (set_node memory x a) v)
-          (node_at (set_node twin y b) w)
-      same v w e f =
-          let r = h.in_range x y p in
-          let left : node_at (set_node memory x a) v ≡ a =
-          ap (node_at (set_node memory x a)) e ∙ node_set_same memory x a r.0 in
-          let right : node_at (set_node twin y b) w ≡ b =
-          ap (node_at (set_node twin y b)) f ∙ node_set_same twin y b r.1 in
-          subst (λ n. AreNodesPaired P n (node_at (set_node twin y b) w)) (sym left)
-          (subst (AreNodesPaired P a) (sym right) g)
-
-      other : (v w : ℕ) → P v w → (v ≡ x → ⊥) → (w ≡ y → ⊥)
-          → AreNodesPaired P (node_at (set_node memory x a) v) (node_at (set_node twin y b) w)
-      other v w q e f =
-          subst (λ n. AreNodesPaired P n (node_at (set_node twin y b) w)) (sym (node_set_other memory x v a e))
-          (subst (AreNodesPaired P (node_at memory v)) (sym (node_set_other twin y w b f)) (h.nodes_paired v w q))
 
   pub set_word_paired : (x y : ℕ) (d : Side) (v w : Word) → P x y → AreWordsPaired P v w
       → AreMemoriesPaired P (set_word memory x d v) (set_word twin y d w)

@@ -1,10 +1,9 @@
 -- More pairs pair what fewer do, and new nodes, paired under fresh numbers, keep a pairing.
-use Rattle.std.specs.Prelude.{◌≡◌, ℕ, ◌+◌, ◌<◌, true, false, if◌then◌else◌, nat_lt, [], ◌∷◌, ◌++◌, length, refl, Some}
-use Rattle.std.specs.Prelude.{unwrap_or, slice_get}
-use Rattle.std.proofs.Common.{arith, sym, ◌∙◌, ap, subst, inl, inr, length-append}
+use Rattle.std.specs.Prelude.{◌≡◌, ℕ, true, false, if◌then◌else◌, nat_lt, [], ◌∷◌, ◌++◌, length, refl}
+use Rattle.std.proofs.Common.{subst, inl, inr, length-append}
 use Rattle.std.proofs.lemmas.List.{append_assoc}
-use Rattle.tree_machine.proofs.Lists.{get_at, get-append_left, get-append_right}
-use Rattle.tree_machine.specs.Pairing.{Pairing, Extends, IsAmong, IsOneToOne}
+use Rattle.tree_machine.specs.Pairing.{Pairing, Extends, IsAmong}
+use Rattle.tree_machine.specs.Laws.FreshPairs.{fresh_one, fresh_within, fresh_paired}
 use Rattle.natmit.specs.declared.memory.Word.{Word}
 use Rattle.natmit.specs.declared.memory.Node.{Node}
 use Rattle.natmit.specs.declared.memory.Node.TheVariants.{Leaf, Internal}
@@ -16,7 +15,7 @@ use Rattle.natmit.specs.declared.place.Mode.TheVariants.{Plain, Owner}
 use Rattle.natmit.specs.declared.place.NatMitLoc.{NatMitLoc}
 use Rattle.natmit.specs.declared.place.NatMitLoc.TheVariants.{Begin, Down, Put, Flag, Look, CleanRead, Tag, Sibling}
 use Rattle.natmit.specs.declared.place.NatMitLoc.TheVariants.{Swing}
-use Rattle.natmit.specs.Laws.PairedAccesses.{key_paired}
+use Rattle.natmit.specs.Laws.PairedAccesses.{AreFoundPaired, key_paired}
 
 -- ---- more pairs pair what fewer do
 
@@ -55,18 +54,6 @@ module _ (P Q : ℕ → ℕ → Type 0) (f : (x y : ℕ) → P x y → Q x y) wh
 abbrev with_node : NatMitMem → Node → NatMitMem
 with_node memory a = record { nodes = memory.nodes ++ a ∷ [] }
 
-node_old : (memory : NatMitMem) (a : Node) (x : ℕ) → x < length memory.nodes
-    → node_at (with_node memory a) x ≡ node_at memory x
-node_old memory a x h =
-    let t = get_at memory.nodes x h in
-    ap (λ o. unwrap_or o (Leaf 0)) (get-append_left memory.nodes (a ∷ []) x t.0 t.1 ∙ sym t.1)
-
-node_new : (memory : NatMitMem) (a : Node) → node_at (with_node memory a) (length memory.nodes) ≡ a
-node_new memory a =
-    let e : length memory.nodes + 0 ≡ length memory.nodes = omega arith in
-    ap (λ o. unwrap_or o (Leaf 0))
-    (subst (λ x. slice_get (memory.nodes ++ a ∷ []) x ≡ Some a) e (get-append_right memory.nodes (a ∷ []) 0 a refl))
-
 -- the pairs with that of the next new nodes
 abbrev pub with_new : Pairing → NatMitMem → NatMitMem → Pairing
 with_new p memory twin = record { nodes = (length memory.nodes, length twin.nodes) ∷ p.nodes; records = p.records }
@@ -77,45 +64,17 @@ IsIn p = IsAmong p.nodes
 with_node_paired : (p : Pairing) (memory twin : NatMitMem) (a b : Node) → AreMemoriesPaired (IsIn p) memory twin
     → AreNodesPaired (IsIn (with_new p memory twin)) a b
     → AreMemoriesPaired (IsIn (with_new p memory twin)) (with_node memory a) (with_node twin b)
-with_node_paired p memory twin a b h g = record {
-  one_to_one = one;
-  root_paired = inr h.root_paired;
-  begin_paired = inr h.begin_paired;
-  in_range = range;
-  nodes_paired = nodes;
-}
-  where
-    one : IsOneToOne (IsIn (with_new p memory twin))
-    one x y v w (inl e) (inl f) = (λ d. sym e.1 ∙ f.1, λ d. sym e.0 ∙ f.0)
-    one x y v w (inl e) (inr q) = let r = h.in_range v w q in let c = e.0 in
-        let d = e.1 in (λ k. absurd (omega arith), λ k. absurd (omega arith))
-    one x y v w (inr q) (inl e) = let r = h.in_range x y q in let c = e.0 in
-        let d = e.1 in (λ k. absurd (omega arith), λ k. absurd (omega arith))
-    one x y v w (inr q) (inr r) = h.one_to_one x y v w q r
-
-    range : (x y : ℕ) → IsIn (with_new p memory twin) x y → (x < length (with_node memory a).nodes)
-        × (y < length (with_node twin b).nodes)
-    range x y (inl e) = let c = e.0 in
-        let d = e.1 in
-        (omega (arith, length-append memory.nodes (a ∷ [])), omega (arith, length-append twin.nodes (b ∷ [])))
-    range x y (inr q) = let r = h.in_range x y q in
-        (omega (arith, length-append memory.nodes (a ∷ [])), omega (arith, length-append twin.nodes (b ∷ [])))
-
-    nodes : (x y : ℕ) → IsIn (with_new p memory twin) x y
-        → AreNodesPaired (IsIn (with_new p memory twin)) (node_at (with_node memory a) x) (node_at (with_node twin b) y)
-    nodes x y (inl e) =
-        let left : node_at (with_node memory a) x ≡ a =
-        ap (node_at (with_node memory a)) (sym e.0) ∙ node_new memory a in
-        let right : node_at (with_node twin b) y ≡ b = ap (node_at (with_node twin b)) (sym e.1) ∙ node_new twin b in
-        subst (λ n. AreNodesPaired (IsIn (with_new p memory twin)) n (node_at (with_node twin b) y)) (sym left)
-        (subst (AreNodesPaired (IsIn (with_new p memory twin)) a) (sym right) g)
-    nodes x y (inr q) =
-        let r = h.in_range x y q in
-        subst (λ n. AreNodesPaired (IsIn (with_new p memory twin)) n (node_at (with_node twin b) y))
-        (sym (node_old memory a x r.0))
-        (subst (AreNodesPaired (IsIn (with_new p memory twin)) (node_at memory x)) (sym (node_old twin b y r.1))
-        (nodes_extend (IsIn p) (IsIn (with_new p memory twin)) (λ v w s. inr s) (node_at memory x) (node_at twin y)
-        (h.nodes_paired x y q)))
+with_node_paired p memory twin a b h g =
+    let Q = IsIn (with_new p memory twin) in
+    record {
+      one_to_one = fresh_one p.nodes memory.nodes twin.nodes h.in_range h.one_to_one;
+      root_paired = inr h.root_paired;
+      begin_paired = inr h.begin_paired;
+      in_range = fresh_within p.nodes memory.nodes twin.nodes h.in_range a b;
+      nodes_paired =
+          fresh_paired p.nodes memory.nodes twin.nodes h.in_range a b (AreFoundPaired Q) g
+          (λ x y q. nodes_extend (IsIn p) Q (λ v w s. inr s) (node_at memory x) (node_at twin y) (h.nodes_paired x y q));
+    }
 
 -- ---- a new internal node for a key at a leaf, behind its new leaf
 

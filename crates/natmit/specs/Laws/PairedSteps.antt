@@ -4,6 +4,7 @@ use Rattle.std.proofs.Common.{ap}
 use Rattle.tree_machine.specs.declared.search_order.Side.{Side}
 use Rattle.tree_machine.specs.declared.search_order.Side.TheVariants.{Left}
 use Rattle.tree_machine.specs.Pairing.{Pairing, IsAmong, IsOneToOne}
+use Rattle.tree_machine.specs.Laws.FreshPairs.{same_number}
 use Rattle.natmit.specs.declared.memory.Word.{Word}
 use Rattle.natmit.specs.declared.memory.Node.{Node}
 use Rattle.natmit.specs.declared.memory.Node.TheVariants.{Leaf, Internal}
@@ -22,7 +23,7 @@ use Rattle.natmit.specs.declared.place.NatMitLoc.TheVariants.{Begin, Down, Put, 
 use Rattle.natmit.specs.declared.place.NatMitLoc.TheVariants.{Swing}
 use Rattle.natmit.specs.declared.machine.NatMit.{NatMit}
 use Rattle.natmit.specs.Table.{other_side, arrived, went_down, looked, tagging, clean_read, swung, not_swung, act}
-use Rattle.natmit.specs.Laws.PairedAccesses.{AreGoingAlike, AreAccessesPaired, kept, same_node, side_paired, read_keeps}
+use Rattle.natmit.specs.Laws.PairedAccesses.{AreGoingAlike, AreAccessesPaired, kept, side_paired, read_keeps}
 use Rattle.natmit.specs.Laws.PairedAccesses.{exchange_keeps, tag_keeps}
 use Rattle.natmit.specs.Laws.PairedAppends.{with_two_new, two_new_extend, internals_paired, with_internal_paired}
 
@@ -70,14 +71,14 @@ module _ (P : ℕ → ℕ → Type 0) where
     arrived_paired (Delete n) a s p l b u q k t v (Owner x) Plain (Leaf i) (Leaf j) ha hs hp hl ht hm h = absurd hm
     arrived_paired (Delete n) a s p l b u q k t v (Owner x) (Owner y) (Leaf i) (Leaf j) ha hs hp hl ht hm h =
         either_paired (nat_eq l x) (nat_eq k y) (Goes (CleanRead a s p (Owner x))) (Replies true)
-        (Goes (CleanRead b u q (Owner y))) (Replies true) (same_node P one l k x y hl hm) (ha, hs, hp, hm) refl
+        (Goes (CleanRead b u q (Owner y))) (Replies true) (same_number P one l k x y hl hm) (ha, hs, hp, hm) refl
     arrived_paired op a s p l b u q k t v m o (Leaf i) (Internal j z w) ha hs hp hl ht hm h = absurd h
     arrived_paired op a s p l b u q k t v m o (Internal i x y) (Leaf j) ha hs hp hl ht hm h = absurd h
 
     looked_paired : (a s p l b u q k : ℕ) (v w : Word) → P a b → P s u → P p q → P l k → AreWordsPaired P v w
         → AreGoingAlike P (looked a s p l v) (looked b u q k w)
     looked_paired a s p l b u q k v w ha hs hp hl h =
-        let node : nat_eq v.node l ≡ nat_eq w.node k = same_node P one v.node w.node l k h.2 hl in
+        let node : nat_eq v.node l ≡ nat_eq w.node k = same_number P one v.node w.node l k h.2 hl in
         let flag : v.flag ≡ w.flag = h.0 in
         let tag : v.tag ≡ w.tag = h.1 in
         either_paired (nat_eq v.node l && (v.flag || v.tag)) (nat_eq w.node k && (w.flag || w.tag))

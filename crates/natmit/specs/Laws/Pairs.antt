@@ -1,14 +1,13 @@
 -- What the pairings of the machine owe: operations begin at paired places, more pairs pair the places that fewer do, of
 -- paired memories both keep search order or neither does, and accesses of paired places keep a pairing.
-use Rattle.std.specs.Prelude.{◌≡◌, ℕ, ◌<◌, length, Some, unwrap_or, ◌↔◌}
-use Rattle.std.proofs.Common.{sym, ◌∙◌, ap, subst}
+use Rattle.std.specs.Prelude.{ℕ, Some, ◌↔◌}
 use Rattle.tree_machine.specs.SearchOrder.{KeepsSearchOrder}
-use Rattle.tree_machine.proofs.Lists.{get_at}
+use Rattle.tree_machine.specs.Laws.FreshPairs.{paired_as}
 use Rattle.tree_machine.specs.Pairing.{Pairing, IsAmong, ArePairsLawful}
 use Rattle.natmit.specs.declared.memory.Node.{Node}
 use Rattle.natmit.specs.declared.memory.Node.TheVariants.{Leaf, Internal}
 use Rattle.natmit.specs.declared.memory.NatMitMem.{NatMitMem}
-use Rattle.natmit.specs.Memory.{node_at, shape_in, shapes}
+use Rattle.natmit.specs.Memory.{shape_in, shapes}
 use Rattle.natmit.specs.Pairs.{AreNodesPaired, AreMemoriesPaired, natmit_pairs}
 use Rattle.std.specs.Option.{option_map}
 use Rattle.tree_machine.specs.Laws.SearchOrderPairs.{AreShapesPaired, search_order_paired}
@@ -16,6 +15,7 @@ use Rattle.natmit.specs.declared.place.Mode.TheVariants.{Plain}
 use Rattle.natmit.specs.declared.place.NatMitLoc.TheVariants.{Begin}
 use Rattle.natmit.specs.declared.machine.NatMit.{NatMit}
 use Rattle.natmit.specs.Table.{act}
+use Rattle.natmit.specs.Laws.PairedAccesses.{AreFoundPaired}
 use Rattle.natmit.specs.Laws.PairedAppends.{places_extend}
 use Rattle.natmit.specs.Laws.PairedSteps.{act_keeps}
 
@@ -25,12 +25,6 @@ module _ (p : Pairing) (memory twin : NatMitMem) (h : AreMemoriesPaired (IsAmong
   abbrev P : ℕ → ℕ → Type 0
   P = IsAmong p.nodes
 
-  shape_at : (memory : NatMitMem) (x : ℕ) → x < length memory.nodes
-      → shapes memory x ≡ Some (shape_in (node_at memory x))
-  shape_at memory x below =
-      let t = get_at memory.nodes x below in
-      ap (option_map shape_in) t.1 ∙ ap (λ o. Some (shape_in (unwrap_or o (Leaf 0)))) (sym t.1)
-
   shapes_paired : (node node_twin : Node) → AreNodesPaired P node node_twin
       → AreShapesPaired P (Some (shape_in node)) (Some (shape_in node_twin))
   shapes_paired (Leaf k) (Leaf j) g = g
@@ -39,10 +33,8 @@ module _ (p : Pairing) (memory twin : NatMitMem) (h : AreMemoriesPaired (IsAmong
 
   seen : (x y : ℕ) → P x y → AreShapesPaired P (shapes memory x) (shapes twin y)
   seen x y at =
-      let within = h.in_range x y at in
-      subst (λ shape. AreShapesPaired P shape (shapes twin y)) (sym (shape_at memory x within.0))
-      (subst (AreShapesPaired P (Some (shape_in (node_at memory x)))) (sym (shape_at twin y within.1))
-      (shapes_paired (node_at memory x) (node_at twin y) (h.nodes_paired x y at)))
+      paired_as (AreFoundPaired P) (λ a b. AreShapesPaired P (option_map shape_in a) (option_map shape_in b)) memory.nodes
+      twin.nodes x y (h.in_range x y at) shapes_paired (h.nodes_paired x y at)
 
   ordered_paired : KeepsSearchOrder (shapes memory) ↔ KeepsSearchOrder (shapes twin)
   ordered_paired = search_order_paired P (shapes memory) (shapes twin) seen h.root_paired

@@ -1,15 +1,14 @@
 -- Parts are paired exactly if the nodes and what the threads hold are.
-use Rattle.std.specs.Prelude.{◌≡◌, ℕ, zero, suc, ◌+◌, ◌*◌, ◌<◌, ◌↔◌, Bool, true, false, List, [], ◌∷◌, map, length}
-use Rattle.std.specs.Prelude.{refl, Option, Some, None, unwrap_or}
+use Rattle.std.specs.Prelude.{◌≡◌, ℕ, zero, suc, ◌+◌, ◌*◌, ◌<◌, ◌↔◌, Bool, true, false, List, [], ◌∷◌, length, refl}
+use Rattle.std.specs.Prelude.{Option, Some, None}
 use Rattle.std.specs.List.{AllZip}
-use Rattle.std.proofs.Common.{arith, sym, ◌∙◌, ap, subst}
-use Rattle.std.proofs.lemmas.List.{length-map}
-use Rattle.tree_machine.proofs.Lists.{get_at, map-get}
+use Rattle.std.proofs.Common.{arith, sym, ap}
 use Rattle.tree_machine.specs.declared.search_order.Side.{Side}
 use Rattle.tree_machine.specs.declared.search_order.Side.TheVariants.{Left, Right}
 use Rattle.tree_machine.specs.Cells.{IsPairedOrNone}
 use Rattle.tree_machine.specs.Pairing.{IsAmong, AreHeldPaired, AreAlike}
-use Rattle.tree_machine.specs.Parts.{Parts, part_at, ArePartsPaired, IsPartsPairing, CanPartsBePaired}
+use Rattle.tree_machine.specs.Parts.{Parts, ArePartsPaired, IsPartsPairing, CanPartsBePaired}
+use Rattle.tree_machine.specs.Laws.ValueParts.{zip_map, zip_unmap, parts_within, values_within, parts_at, values_at}
 use Rattle.natmit.specs.declared.memory.Word.{Word}
 use Rattle.natmit.specs.declared.memory.Node.{Node}
 use Rattle.natmit.specs.declared.memory.Node.TheVariants.{Leaf, Internal}
@@ -19,10 +18,10 @@ use Rattle.natmit.specs.declared.place.Mode.TheVariants.{Plain, Owner}
 use Rattle.natmit.specs.declared.place.NatMitLoc.{NatMitLoc}
 use Rattle.natmit.specs.declared.place.NatMitLoc.TheVariants.{Begin, Down, Put, Flag, Look, CleanRead, Tag, Sibling}
 use Rattle.natmit.specs.declared.place.NatMitLoc.TheVariants.{Swing}
-use Rattle.natmit.specs.Memory.{node_at}
 use Rattle.natmit.specs.Pairs.{AreNodesPaired, AreModesPaired, ArePlacesPaired, AreMemoriesPaired, natmit_pairs}
 use Rattle.natmit.specs.Parts.{bit, mark_number, side_number, owned, part_of, node_part, place_part, held_part}
 use Rattle.natmit.specs.Parts.{natmit_parts}
+use Rattle.natmit.specs.Laws.PairedAccesses.{AreFoundPaired}
 
 -- ---- facts determine what they are of
 
@@ -161,27 +160,7 @@ module _ (P R : ℕ → ℕ → Type 0) where
   held_of_parts None (Some twin) h = never_idle twin h.facts
   held_of_parts (Some place) None h = never_idle place (sym h.facts)
 
-  all_parts_of_held : (held twins : List (Option NatMitLoc)) → AllZip (AreHeldPaired (ArePlacesPaired P)) held twins
-      → AllZip (ArePartsPaired P R) (map held_part held) (map held_part twins)
-  all_parts_of_held [] [] h = tt
-  all_parts_of_held (place ∷ held) (twin ∷ twins) h = (parts_of_held place twin h.0, all_parts_of_held held twins h.1)
-  all_parts_of_held _ _ h = absurd h
-
-  all_held_of_parts : (held twins : List (Option NatMitLoc))
-      → AllZip (ArePartsPaired P R) (map held_part held) (map held_part twins)
-      → AllZip (AreHeldPaired (ArePlacesPaired P)) held twins
-  all_held_of_parts [] [] h = tt
-  all_held_of_parts (place ∷ held) (twin ∷ twins) h = (held_of_parts place twin h.0, all_held_of_parts held twins h.1)
-  all_held_of_parts _ _ h = absurd h
-
 -- ---- memories, and their parts
-
-part_of_node : (memory : NatMitMem) (x : ℕ) → x < length memory.nodes
-    → part_at (map node_part memory.nodes) x ≡ node_part (node_at memory x)
-part_of_node memory x below =
-    let t = get_at memory.nodes x below in
-    ap (λ o. unwrap_or o (part_of [] [])) (map-get node_part memory.nodes x t.0 t.1)
-    ∙ ap (λ o. node_part (unwrap_or o (Leaf 0))) (sym t.1)
 
 module _ (memory other : NatMitMem) (held others : List (Option NatMitLoc)) where
   abbrev here : Parts
@@ -190,33 +169,10 @@ module _ (memory other : NatMitMem) (held others : List (Option NatMitLoc)) wher
   abbrev there : Parts
   there = natmit_parts other others
 
-  nodes_are : (P R : ℕ → ℕ → Type 0) (x y : ℕ) → x < length memory.nodes → y < length other.nodes
-      → ArePartsPaired P R (node_part (node_at memory x)) (node_part (node_at other y))
-      → ArePartsPaired P R (part_at here.nodes x) (part_at there.nodes y)
-  nodes_are P R x y below under h =
-      subst (λ part. ArePartsPaired P R part (part_at there.nodes y)) (sym (part_of_node memory x below))
-      (subst (ArePartsPaired P R (node_part (node_at memory x))) (sym (part_of_node other y under)) h)
-
-  are_nodes : (P R : ℕ → ℕ → Type 0) (x y : ℕ) → x < length memory.nodes → y < length other.nodes
-      → ArePartsPaired P R (part_at here.nodes x) (part_at there.nodes y)
-      → ArePartsPaired P R (node_part (node_at memory x)) (node_part (node_at other y))
-  are_nodes P R x y below under h =
-      subst (λ part. ArePartsPaired P R part (node_part (node_at other y))) (part_of_node memory x below)
-      (subst (ArePartsPaired P R (part_at here.nodes x)) (part_of_node other y under) h)
-
   first_paired : (P : ℕ → ℕ → Type 0) → P 0 0 → P 1 1 → (x : ℕ) → x < 2 → P x x
   first_paired P root begin zero below = root
   first_paired P root begin (suc zero) below = begin
   first_paired P root begin (suc (suc x)) below = absurd (omega arith)
-
-  node_counts : (x y : ℕ) → (x < length here.nodes) × (y < length there.nodes) ↔ (x < length memory.nodes)
-      × (y < length other.nodes)
-  node_counts x y =
-      let n : length here.nodes ≡ length memory.nodes = length-map memory.nodes node_part in
-      let m : length there.nodes ≡ length other.nodes = length-map other.nodes node_part in (
-        (λ r. let a = r.0 in let b = r.1 in (omega arith, omega arith)),
-        (λ r. let a = r.0 in let b = r.1 in (omega arith, omega arith)),
-      )
 
   parts_alike : AreAlike natmit_pairs memory held other others → CanPartsBePaired 2 here there
   parts_alike alike =
@@ -229,13 +185,15 @@ module _ (memory other : NatMitMem) (held others : List (Option NatMitLoc)) wher
           nodes_one_to_one = h.one_to_one;
           records_one_to_one = λ x y a b none. absurd none;
           fixed_paired = first_paired P h.root_paired h.begin_paired;
-          nodes_in_range = λ x y at. (node_counts x y).1 (h.in_range x y at);
+          nodes_in_range = λ x y at. parts_within node_part memory.nodes other.nodes x y (h.in_range x y at);
           records_in_range = λ x y none. absurd none;
           nodes_paired =
-              λ x y at. nodes_are P R x y (h.in_range x y at).0 (h.in_range x y at).1
-              (parts_of_nodes P R (node_at memory x) (node_at other y) (h.nodes_paired x y at));
+              λ x y at. parts_at node_part memory.nodes other.nodes x y P R (AreFoundPaired P) (h.in_range x y at)
+              (parts_of_nodes P R) (h.nodes_paired x y at);
           records_paired = λ x y none. absurd none;
-          held_paired = all_parts_of_held P R held others alike.2;
+          held_paired =
+              zip_map held_part (AreHeldPaired (ArePlacesPaired P)) (ArePartsPaired P R) (parts_of_held P R) held others
+              alike.2;
         },
       )
 
@@ -245,7 +203,7 @@ module _ (memory other : NatMitMem) (held others : List (Option NatMitLoc)) wher
       let R = IsAmong paired.1 in
       let h : IsPartsPairing P R 2 here there = paired.2 in
       let in_range : (x y : ℕ) → P x y → (x < length memory.nodes) × (y < length other.nodes) =
-      λ x y at. (node_counts x y).0 (h.nodes_in_range x y at) in (
+      λ x y at. values_within node_part memory.nodes other.nodes x y (h.nodes_in_range x y at) in (
         record { nodes = paired.0; records = paired.1 },
         record {
           one_to_one = h.nodes_one_to_one;
@@ -253,10 +211,11 @@ module _ (memory other : NatMitMem) (held others : List (Option NatMitLoc)) wher
           begin_paired = h.fixed_paired 1 (omega arith);
           in_range = in_range;
           nodes_paired =
-              λ x y at. nodes_of_parts P R (node_at memory x) (node_at other y)
-              (are_nodes P R x y (in_range x y at).0 (in_range x y at).1 (h.nodes_paired x y at));
+              λ x y at. values_at node_part memory.nodes other.nodes x y P R (AreFoundPaired P) (in_range x y at)
+              (nodes_of_parts P R) (h.nodes_paired x y at);
         },
-        all_held_of_parts P R held others h.held_paired,
+        zip_unmap held_part (AreHeldPaired (ArePlacesPaired P)) (ArePartsPaired P R) (held_of_parts P R) held others
+            h.held_paired,
       )
 
   -- the parts can be paired exactly if memories and places are alike

@@ -1,11 +1,11 @@
 -- The numbers of a memory and of places are in range exactly if those of their parts are.
-use Rattle.std.specs.Prelude.{◌≡◌, ℕ, ◌<◌, List, [], ◌∷◌, map, length, Option, Some, None, IfSome, All}
+use Rattle.std.specs.Prelude.{◌≡◌, ℕ, ◌<◌, List, [], ◌∷◌, map, length, Option, Some, None, IfSome, All, refl}
 use Rattle.std.specs.List.{AllByRecursion}
-use Rattle.std.proofs.Common.{arith, sym, subst}
+use Rattle.std.proofs.Common.{arith}
 use Rattle.std.proofs.lemmas.List.{length-map}
-use Rattle.std.proofs.lemmas.List.Elements.{All-nil, All-cons, All-head, All-tail, All-map, All-weaker}
-use Rattle.std.proofs.lemmas.List.Elements.{All-from_recursion, recursion_from_All}
-use Rattle.tree_machine.specs.Parts.{Part, IsPartBelow, ArePartsInRange}
+use Rattle.std.proofs.lemmas.List.Elements.{All-nil, All-from_recursion, recursion_from_All}
+use Rattle.tree_machine.specs.Parts.{IsPartBelow, ArePartsInRange}
+use Rattle.tree_machine.specs.Laws.ValueParts.{all_below, all_in}
 use Rattle.natmit.specs.declared.memory.Node.{Node}
 use Rattle.natmit.specs.declared.memory.Node.TheVariants.{Leaf, Internal}
 use Rattle.natmit.specs.declared.memory.NatMitMem.{NatMitMem}
@@ -108,40 +108,22 @@ parts_in_range memory held h places =
     let first = h.first_nodes in
     record {
       fixed_in_range = omega arith;
-      nodes = subst (λ m. All (IsPartBelow m 0) (map node_part memory.nodes)) (sym same)
-          (All-map (IsPartBelow n 0) node_part memory.nodes
-          (All-weaker (IsNodeIn n) (λ node. IsPartBelow n 0 (node_part node)) (node_below n 0) memory.nodes
-          h.nodes));
+      nodes = all_below node_part (IsNodeIn n) n 0 _ _ same refl (node_below n 0) memory.nodes h.nodes;
       records = All-nil (IsPartBelow (length (map node_part memory.nodes)) 0);
-      held = subst (λ m. All (IsPartBelow m 0) (map held_part held)) (sym same)
-          (All-map (IsPartBelow n 0) held_part held
-          (All-weaker (λ place. IfSome place (IsPlaceIn n)) (λ place. IsPartBelow n 0 (held_part place))
-          (held_below n 0) held places));
+      held =
+          all_below held_part (λ place. IfSome place (IsPlaceIn n)) n 0 _ _ same refl (held_below n 0) held places;
     }
 
--- where P holds of each part, and Q of what has such a part, Q holds of each
-all_of_parts : {X : Type 0} (P : Part → Type 0) (part : X → Part) (Q : X → Type 0) → ((x : X) → P (part x) → Q x)
-    → (xs : List X) → All P (map part xs) → All Q xs
-all_of_parts P part Q back [] h = All-nil Q
-all_of_parts P part Q back (x ∷ xs) h =
-    All-cons Q x xs (back x (All-head P (part x) (map part xs) h))
-    (all_of_parts P part Q back xs (All-tail P (part x) (map part xs) h))
-
-pub memory_in_range : (memory : NatMitMem) (held : List (Option NatMitLoc))
+pub values_in_range : (memory : NatMitMem) (held : List (Option NatMitLoc))
     → ArePartsInRange 2 (natmit_parts memory held) → IsInRange memory
-memory_in_range memory held h =
-    let n = length (map node_part memory.nodes) in
-    let same : n ≡ length memory.nodes = length-map memory.nodes node_part in
-    let first = h.fixed_in_range in
-    record {
-      first_nodes = omega arith;
-      nodes = subst (λ m. All (IsNodeIn m) memory.nodes) same
-          (all_of_parts (IsPartBelow n 0) node_part (IsNodeIn n) (node_in n 0) memory.nodes h.nodes);
-    }
-
-pub places_in_range : (memory : NatMitMem) (held : List (Option NatMitLoc))
-    → ArePartsInRange 2 (natmit_parts memory held) → All (λ place. IfSome place (IsPlaceInRange memory)) held
-places_in_range memory held h =
-    let n = length (map node_part memory.nodes) in
-    subst (λ m. All (λ place. IfSome place (IsPlaceIn m)) held) (length-map memory.nodes node_part)
-    (all_of_parts (IsPartBelow n 0) held_part (λ place. IfSome place (IsPlaceIn n)) (held_in n 0) held h.held)
+    × All (λ place. IfSome place (IsPlaceInRange memory)) held
+values_in_range memory held h =
+    let n = length memory.nodes in
+    let same : length (map node_part memory.nodes) ≡ n = length-map memory.nodes node_part in
+    let first = h.fixed_in_range in (
+      record {
+        first_nodes = omega arith;
+        nodes = all_in node_part (IsNodeIn n) n 0 _ _ same refl (node_in n 0) memory.nodes h.nodes;
+      },
+      all_in held_part (λ place. IfSome place (IsPlaceIn n)) n 0 _ _ same refl (held_in n 0) held h.held,
+    )

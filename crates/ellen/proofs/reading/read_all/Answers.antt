@@ -1,7 +1,19 @@
-use Rattle.std.proofs.Common.{◌++◌, sym, ◌∙◌, ap, rules}
-use Rattle.tree_machine.specs.Laws.ReadParts.{front_taken}
-use Rattle.ellen.proofs.ReadParts.{graph_read}
+use Rattle.std.proofs.Common.{◌≡◌, ℕ, List, ◌++◌, length, map, sym, ◌∙◌, ap, rules}
+use Rattle.tree_machine.specs.Flat.{graph_code}
+use Rattle.tree_machine.specs.Laws.ReadParts.{front_taken, take_read}
+use Rattle.ellen.specs.declared.memory.Node.{Node}
+use Rattle.ellen.specs.declared.memory.Record.{Record}
+use Rattle.ellen.specs.Parts.{ellen_front_code, node_part, record_part}
 use Rattle.ellen.proofs.reading.read_all.Goals as goal
+
+-- nodes and records that all come in front
+graph_read : (more nodes : List Node) (others records : List Record) (count many : ℕ) → nodes ≡ more
+    → records ≡ others → length more ≡ count → length others ≡ many
+    → graph_code (map node_part more) (map record_part others)
+    ≡ ellen_front_code (record { nodes = count; records = many }) (record { nodes = nodes; records = records })
+graph_read more nodes others records count many e f l k =
+    λ i. graph_code ((sym (ap (λ ns. take count (map node_part ns)) e ∙ take_read node_part more count l)) i)
+    ((sym (ap (λ ns. take many (map record_part ns)) f ∙ take_read record_part others many k)) i)
 
 pub returns-then-branch : goal.returns-then-branch
 returns-then-branch c =

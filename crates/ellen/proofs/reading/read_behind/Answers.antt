@@ -1,7 +1,7 @@
-use Rattle.std.proofs.Common.{◌≤◌, ◌++◌, take, length, ◌∙◌, ap, arith, rules}
+use Rattle.std.proofs.Common.{◌≤◌, [], ◌++◌, take, length, map, ◌∙◌, ap, arith, rules}
 use Rattle.std.proofs.lemmas.Result.{IfOk-weaker}
-use Rattle.ellen.specs.Parts.{ellen_front_code}
-use Rattle.ellen.proofs.ReadParts.{behind_read, front_kept}
+use Rattle.tree_machine.specs.Laws.ReadBehind.{behind_read, drop_read, front_kept, take_kept}
+use Rattle.ellen.specs.Parts.{ellen_front_code, held_part, node_part, record_part}
 use Rattle.ellen.proofs.reading.read_behind.Goals as goal
 
 pub returns : goal.returns
@@ -18,21 +18,28 @@ returns c =
     let cut = c.truncate.ensures.items ∙ ap (λ n. take n old.items) c.from-2.ensures in
     let short = c.truncate-2.ensures.items ∙ ap (λ n. take n kept.items) c.from-3.ensures in
     let places = rw c.in-Some.is at c.in_ok-rest.ensures.read in
+    let node_list = c.from_vec.result in
+    let record_list = c.from_vec-2.result in
     record {
       read = IfOk-weaker c.read_left-read.result _ _
           (λ told read is.
           let left = read is in
-          behind_read front old.items left.0 c.from_vec.result kept.items left.1 c.from_vec-2.result few less
-          (c.from_vec.ensures ∙ left.2 ∙ ap (λ l. l ++ left.0) cut)
-          (c.from_vec-2.ensures ∙ left.3 ∙ ap (λ l. l ++ left.1) short)
-          c.read_each.new.threads c.args.bytes.now c.in-Some.rest.now places left.4)
+          behind_read held_part front (map node_part node_list) (map record_part record_list) (map node_part left.0)
+          (map record_part left.1) c.read_each.new.threads c.args.bytes.now c.in-Some.rest.now
+          (drop_read node_part front.nodes old.items left.0 node_list few
+          (c.from_vec.ensures ∙ left.2 ∙ ap (λ l. l ++ left.0) cut))
+          (drop_read record_part front.records kept.items left.1 record_list less
+          (c.from_vec-2.ensures ∙ left.3 ∙ ap (λ l. l ++ left.1) short)) places left.4)
           c.read_left-read.ensures;
       front = IfOk-weaker c.read_left-read.result _ _
           (λ told read is.
           let left = read is in
-          front_kept front old.items left.0 c.from_vec.result kept.items left.1 c.from_vec-2.result few less
-          (c.from_vec.ensures ∙ left.2 ∙ ap (λ l. l ++ left.0) cut)
-          (c.from_vec-2.ensures ∙ left.3 ∙ ap (λ l. l ++ left.1) short)
+          front_kept front (map node_part node_list) (map record_part record_list) (map node_part old.items)
+          (map record_part kept.items) []
+          (take_kept node_part front.nodes old.items left.0 node_list few
+          (c.from_vec.ensures ∙ left.2 ∙ ap (λ l. l ++ left.0) cut))
+          (take_kept record_part front.records kept.items left.1 record_list less
+          (c.from_vec-2.ensures ∙ left.3 ∙ ap (λ l. l ++ left.1) short))
           ∙ (λ i. ellen_front_code front (record { nodes = nodes i; records = records i })))
           c.read_left-read.ensures;
       replies = search rules;

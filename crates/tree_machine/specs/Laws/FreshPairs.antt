@@ -1,0 +1,101 @@
+-- Pairs of places in two lists: values that are written or appended on both sides keep them.
+use Rattle.std.specs.Prelude.{◌≡◌, ℕ, zero, suc, ◌+◌, ◌<◌, true, false, nat_eq, List, [], ◌∷◌, ◌++◌, length, slice_get}
+use Rattle.std.specs.Prelude.{slice_set, Option, Some, refl}
+use Rattle.std.proofs.Common.{arith, ap, sym, ◌∙◌, subst, ◌⊎◌, inl, inr, length-append, length-set}
+use Rattle.std.proofs.lemmas.Bool.Decides.{eqb_tells}
+use Rattle.tree_machine.proofs.Lists.{get_at, get-append_left, get-set_same, get-set_other}
+use Rattle.tree_machine.specs.Pairing.{IsAmong, IsOneToOne}
+
+-- ---- numbers that are paired one to one
+
+-- two numbers are the same exactly if those paired with them are
+pub same_number : (P : ℕ → ℕ → Type 0) → IsOneToOne P → (x y a b : ℕ) → P x y → P a b → nat_eq x a ≡ nat_eq y b
+same_number P one x y a b p q =
+    elim (eqb_tells x a) [
+      | inl e ↦ elim (eqb_tells y b) [ inl f ↦ e.0 ∙ sym f.0 | inr f ↦ absurd (f.1 ((one x y a b p q).0 e.1)) ]
+      | inr e ↦ elim (eqb_tells y b) [ inl f ↦ absurd (e.1 ((one x y a b p q).1 f.1)) | inr f ↦ e.0 ∙ sym f.0 ]
+    ]
+
+abbrev pub AreWithin : {A : Type 0} → (ℕ → ℕ → Type 0) → List A → List A → Type 0
+AreWithin P xs ys = (x y : ℕ) → P x y → (x < length xs) × (y < length ys)
+
+-- T of the values at places that P pairs
+abbrev pub AreValuesPaired : {A : Type 0} → (ℕ → ℕ → Type 0) → (Option A → Option A → Type 0) → List A → List A
+    → Type 0
+AreValuesPaired P T xs ys = (x y : ℕ) → P x y → T (slice_get xs x) (slice_get ys y)
+
+-- values that are there are paired in another way
+pub paired_as : {A : Type 0} (T S : Option A → Option A → Type 0) (xs ys : List A) (x y : ℕ)
+    → (x < length xs) × (y < length ys) → ((a b : A) → T (Some a) (Some b) → S (Some a) (Some b))
+    → T (slice_get xs x) (slice_get ys y) → S (slice_get xs x) (slice_get ys y)
+paired_as T S xs ys x y r to h =
+    let s = get_at xs x r.0 in
+    let t = get_at ys y r.1 in
+    subst (λ o. S o (slice_get ys y)) (sym s.1)
+    (subst (S (Some s.0)) (sym t.1)
+    (to s.0 t.0 (subst (λ o. T o (Some t.0)) s.1 (subst (T (slice_get xs x)) t.1 h))))
+
+-- ---- a value is written on both sides
+
+module _ {A : Type 0} (P : ℕ → ℕ → Type 0) (xs ys : List A) (x y : ℕ) (a b : A) where
+  pub within_set : AreWithin P xs ys → AreWithin P (slice_set xs x a) (slice_set ys y b)
+  within_set within v w p =
+      let r = within v w p in
+      (subst (λ n. v < n) (sym (length-set xs x a)) r.0, subst (λ n. w < n) (sym (length-set ys y b)) r.1)
+
+  pub paired_set : (T : Option A → Option A → Type 0) → IsOneToOne P → AreWithin P xs ys → P x y → T (Some a) (Some b)
+      → AreValuesPaired P T xs ys → AreValuesPaired P T (slice_set xs x a) (slice_set ys y b)
+  paired_set T one within at new old v w p =
+      elim (eqb_tells v x) [
+        | inl e ↦
+            let r = within x y at in
+            let left = ap (slice_get (slice_set xs x a)) e.1 ∙ get-set_same xs x a r.0 in
+            let right = ap (slice_get (slice_set ys y b)) ((one v w x y p at).0 e.1) ∙ get-set_same ys y b r.1 in
+            subst (λ o. T o (slice_get (slice_set ys y b) w)) (sym left) (subst (T (Some a)) (sym right) new)
+        | inr e ↦
+            let left = get-set_other xs x v a e.1 in
+            let right = get-set_other ys y w b (λ f. e.1 ((one v w x y p at).1 f)) in
+            subst (λ o. T o (slice_get (slice_set ys y b) w)) (sym left)
+            (subst (T (slice_get xs v)) (sym right) (old v w p))
+      ]
+
+-- ---- a value is appended on both sides, and their places are paired
+
+get_front : {A : Type 0} (xs more : List A) (x : ℕ) → x < length xs → slice_get (xs ++ more) x ≡ slice_get xs x
+get_front xs more x below = let t = get_at xs x below in get-append_left xs more x t.0 t.1 ∙ sym t.1
+
+get_last : {A : Type 0} (xs : List A) (a : A) → slice_get (xs ++ a ∷ []) (length xs) ≡ Some a
+get_last [] a = refl
+get_last (b ∷ xs) a = get_last xs a
+
+module _ {A : Type 0} (pairs : List (ℕ × ℕ)) (xs ys : List A) (within : AreWithin (IsAmong pairs) xs ys) where
+  -- the pair of the next places
+  abbrev pub Fresh : ℕ → ℕ → Type 0
+  Fresh = IsAmong ((length xs, length ys) ∷ pairs)
+
+  pub fresh_one : IsOneToOne (IsAmong pairs) → IsOneToOne Fresh
+  fresh_one one x y v w (inl e) (inl f) = (λ d. sym e.1 ∙ f.1, λ d. sym e.0 ∙ f.0)
+  fresh_one one x y v w (inl e) (inr q) = let r = within v w q in let c = e.0 in
+      let d = e.1 in (λ k. absurd (omega arith), λ k. absurd (omega arith))
+  fresh_one one x y v w (inr p) (inl e) = let r = within x y p in let c = e.0 in
+      let d = e.1 in (λ k. absurd (omega arith), λ k. absurd (omega arith))
+  fresh_one one x y v w (inr p) (inr q) = one x y v w p q
+
+  module _ (a b : A) where
+    pub fresh_within : AreWithin Fresh (xs ++ a ∷ []) (ys ++ b ∷ [])
+    fresh_within x y (inl e) = let c = e.0 in
+        let d = e.1 in (omega (arith, length-append xs (a ∷ [])), omega (arith, length-append ys (b ∷ [])))
+    fresh_within x y (inr p) = let r = within x y p in
+        (omega (arith, length-append xs (a ∷ [])), omega (arith, length-append ys (b ∷ [])))
+
+    pub fresh_paired : (T : Option A → Option A → Type 0) → T (Some a) (Some b)
+        → AreValuesPaired (IsAmong pairs) T xs ys → AreValuesPaired Fresh T (xs ++ a ∷ []) (ys ++ b ∷ [])
+    fresh_paired T new old x y (inl e) =
+        subst (λ z. T (slice_get (xs ++ a ∷ []) z) (slice_get (ys ++ b ∷ []) y)) e.0
+        (subst (λ z. T (slice_get (xs ++ a ∷ []) (length xs)) (slice_get (ys ++ b ∷ []) z)) e.1
+        (subst (λ c. T c (slice_get (ys ++ b ∷ []) (length ys))) (sym (get_last xs a))
+        (subst (λ c. T (Some a) c) (sym (get_last ys b)) new)))
+    fresh_paired T new old x y (inr p) =
+        let r = within x y p in
+        subst (λ c. T c (slice_get (ys ++ b ∷ []) y)) (sym (get_front xs (a ∷ []) x r.0))
+        (subst (λ c. T (slice_get xs x) c) (sym (get_front ys (b ∷ []) y r.1)) (old x y p))
