@@ -94,32 +94,29 @@ fn visit_search<V: PartVisitor>(at: SearchLoc, visitor: &mut V) -> Result<(), Ou
     ensures { OnOk result (V.visited visitor.old (search_part at) visitor.new) }
 {
     match at {
-        SearchLoc::Update { above, parent } => visitor.visit(
-            &[0, above_number(above)],
-            &search_nodes(above, parent),
-            &[above_record(above)],
-            &[],
-        ),
+        SearchLoc::Update { above, parent } => {
+            let facts = [0, above_number(above)];
+            let records = [above_record(above)];
+            visitor.visit(&facts, &search_nodes(above, parent), &records, &[])
+        }
         SearchLoc::Child {
             above,
             parent,
             update,
-        } => visitor.visit(
-            &[1, above_number(above), word_number(update)],
-            &search_nodes(above, parent),
-            &[above_record(above), word_record(update)],
-            &[],
-        ),
+        } => {
+            let facts = [1, above_number(above), word_number(update)];
+            let records = [above_record(above), word_record(update)];
+            visitor.visit(&facts, &search_nodes(above, parent), &records, &[])
+        }
         SearchLoc::IFlag {
             parent,
             update,
             leaf,
-        } => visitor.visit(
-            &[2, word_number(update)],
-            &[Some(parent), Some(leaf)],
-            &[word_record(update)],
-            &[],
-        ),
+        } => {
+            let facts = [2, word_number(update)];
+            let nodes = [Some(parent), Some(leaf)];
+            visitor.visit(&facts, &nodes, &[word_record(update)], &[])
+        }
         SearchLoc::InsOnly { parent, leaf } => {
             visitor.visit(&[3], &[Some(parent), Some(leaf)], &[], &[])
         }

@@ -5,7 +5,7 @@ ghost use Rattle.natmit.specs.Table.{act, other_side, tagging, clean_read, swung
 
 use crate::machine::NatMit;
 use crate::memory::{NatMitMem, Word, is_plain, untagged, word_on};
-use crate::place::{Mode, NatMitLoc, Path, path_of};
+use crate::place::{Mode, NatMitLoc, Path};
 use crate::searching::side_at;
 use sched_program::Op;
 use tree_machine::{Outcome, Side};
@@ -164,21 +164,21 @@ impl NatMit {
                 successor: s,
                 parent: p,
                 mode,
-            } => self.clean_read_row(op, mem, path_of(a, s, p), mode),
+            } => self.clean_read_row(op, mem, Path::of(a, s, p), mode),
             NatMitLoc::Tag {
                 ancestor: a,
                 successor: s,
                 parent: p,
                 side,
                 mode,
-            } => self.tag_row(op, mem, path_of(a, s, p), side, mode),
+            } => self.tag_row(op, mem, Path::of(a, s, p), side, mode),
             NatMitLoc::Sibling {
                 ancestor: a,
                 successor: s,
                 parent: p,
                 side,
                 mode,
-            } => self.sibling_row(op, mem, path_of(a, s, p), side, mode),
+            } => self.sibling_row(op, mem, Path::of(a, s, p), side, mode),
             NatMitLoc::Swing {
                 ancestor: a,
                 successor: s,

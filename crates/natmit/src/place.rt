@@ -21,6 +21,19 @@ pub(crate) struct Path {
     pub(crate) parent: u16,
 }
 
+impl Path {
+    /// The path of these nodes.
+    pub(crate) fn of(ancestor: u16, successor: u16, parent: u16) -> Path
+        ensures { result ≡ record { ancestor = ancestor; successor = successor; parent = parent } }
+    {
+        Path {
+            ancestor,
+            successor,
+            parent,
+        }
+    }
+}
+
 /// A place of the machine. The numbers are those of nodes: of a path, and of the parent's child, a leaf where the
 /// search has ended.
 #[derive(Clone, Copy, PartialEq, Eq, Hash)]
@@ -90,15 +103,4 @@ pub enum NatMitLoc {
         node: u16,
         mode: Mode,
     },
-}
-
-/// The path of these nodes.
-pub(crate) fn path_of(ancestor: u16, successor: u16, parent: u16) -> Path
-    ensures { result ≡ record { ancestor = ancestor; successor = successor; parent = parent } }
-{
-    Path {
-        ancestor,
-        successor,
-        parent,
-    }
 }

@@ -2,7 +2,7 @@
 //! reader returns a value, the bytes it got are those of that value, with the bytes it returns behind them.
 ghost use Rattle.std.specs.Prelude.{◌≡◌, ◌<◌, ◌≤◌, ◌++◌, ◌∷◌, [], List, Some, map, length, take, IsTrue, IfSome, IfOk};
 ghost use Rattle.tree_machine.specs.Alike.{places_of, replies_of, notes_of};
-ghost use Rattle.tree_machine.specs.Flat.{cell_code, graph_code, left_code, part_codes, part_content};
+ghost use Rattle.tree_machine.specs.Flat.{cell_code, graph_code, left_code, part_content};
 ghost use Rattle.tree_machine.specs.FormCode.{cut_code};
 ghost use Rattle.natmit.specs.Parts.{mark_number, node_part, natmit_behind_code, natmit_front_code};
 ghost use Rattle.natmit.specs.declared.memory.Node.{Node};
@@ -17,7 +17,7 @@ use crate::reading::place::read_places;
 use sched_program::{OutOfMemory, Sequence};
 use std::alloc::Global;
 use std::mem::replace;
-use tree_machine::{Front, Thread};
+use tree_machine::{CodedPart, Front, Thread, read_values};
 
 /// The child word of a flag and a tag that are one number, and of a node.
 #[inline(always)]
@@ -51,41 +51,20 @@ fn internal_of(key: u8, marks: u8, left: u8, right: u8) -> Option<Node>
     }
 }
 
-/// Reads a node.
-#[inline(always)]
-fn read_node(bytes: &[u8]) -> Option<(Node, &[u8])>
-    ensures { IfSome result (λ (node, rest). bytes.now ≡ cell_code (part_content (node_part node)) ++ rest.now) }
-{
-    match bytes {
-        [1, key, rest @ ..] if *key < 255 => Some((Node::Leaf { key: *key }, rest)),
-        [72, key, marks, left, right, rest @ ..] => {
-            let node = internal_of(*key, *marks, *left, *right)?;
-            Some((node, rest))
-        }
-        _ => None,
-    }
-}
+impl CodedPart for Node {
+    ghost part = { node_part };
 
-/// Appends `count` nodes to a list, and returns the bytes behind them. It allocates once at most.
-fn read_nodes<'a>(
-    bytes: &'a [u8],
-    count: usize,
-    nodes: &mut Vec<Node>,
-) -> Result<Option<&'a [u8]>, OutOfMemory>
-    ensures { IfOk result (λ read. IfSome read (λ rest. (more : List Node)
-        × (nodes.new.items ≡ nodes.old.items ++ more) × (length more ≡ count)
-        × (bytes.now ≡ part_codes (map node_part more) ++ rest.now))) }
-{
-    nodes.reserve(count)?;
-    let mut rest = bytes;
-    for _each in 0..count {
-        let Some((node, behind)) = read_node(rest) else {
-            return Ok(None);
-        };
-        nodes.push_reserved(node);
-        rest = behind;
+    #[inline(always)]
+    fn read(bytes: &[u8]) -> Option<(Node, &[u8])> {
+        match bytes {
+            [1, key, rest @ ..] if *key < 255 => Some((Node::Leaf { key: *key }, rest)),
+            [72, key, marks, left, right, rest @ ..] => {
+                let node = internal_of(*key, *marks, *left, *right)?;
+                Some((node, rest))
+            }
+            _ => None,
+        }
     }
-    Ok(Some(rest))
 }
 
 /// Reads how many nodes there are, that there is no record, and the nodes, which it appends to a list. It returns the
@@ -99,11 +78,7 @@ fn read_graph<'a>(
         × (bytes.now ≡ graph_code (map node_part more) [] ++ rest.now))) }
 {
     match bytes {
-        [count, 0, rest @ ..] if *count < 255 => match read_nodes(
-            rest,
-            usize::from(*count),
-            nodes,
-        )? {
+        [count, 0, rest @ ..] if *count < 255 => match read_values(rest, *count, nodes)? {
             Some(behind) => Ok(Some((behind, *count))),
             None => Ok(None),
         },

@@ -7,7 +7,7 @@ ghost use Rattle.natmit.specs.Table.{act, arrived, went_down, looked};
 
 use crate::machine::NatMit;
 use crate::memory::{NatMitMem, Node, Word, is_plain, key_in, untagged, word_on};
-use crate::place::{Mode, NatMitLoc, Path, path_of};
+use crate::place::{Mode, NatMitLoc, Path};
 use sched_program::{Op, OutOfMemory};
 use std::alloc::Global;
 use tree_machine::{Outcome, Side, side_of};
@@ -103,10 +103,10 @@ fn went_down(
 {
     let next = mem.node(word.node);
     if tag {
-        let path = path_of(path.ancestor, path.successor, leaf);
+        let path = Path::of(path.ancestor, path.successor, leaf);
         arrived(op, path, word.node, word.tag, mode, next)
     } else {
-        let path = path_of(path.parent, leaf, leaf);
+        let path = Path::of(path.parent, leaf, leaf);
         arrived(op, path, word.node, word.tag, mode, next)
     }
 }
@@ -140,7 +140,7 @@ impl NatMit {
         match word_on(Side::Left, mem.node(1)) {
             Some(word) => {
                 let next = mem.node(word.node);
-                arrived(op, path_of(0, 1, 1), word.node, word.tag, mode, next)
+                arrived(op, Path::of(0, 1, 1), word.node, word.tag, mode, next)
             }
             None => Outcome::Astray,
         }
@@ -238,25 +238,25 @@ impl NatMit {
                 leaf: l,
                 tag,
                 mode,
-            } => Ok(self.down_row(op, mem, path_of(a, s, p), l, tag, mode)),
+            } => Ok(self.down_row(op, mem, Path::of(a, s, p), l, tag, mode)),
             NatMitLoc::Put {
                 ancestor: a,
                 successor: s,
                 parent: p,
                 leaf: l,
-            } => self.put_row(alloc, op, mem, path_of(a, s, p), l),
+            } => self.put_row(alloc, op, mem, Path::of(a, s, p), l),
             NatMitLoc::Flag {
                 ancestor: a,
                 successor: s,
                 parent: p,
                 leaf: l,
-            } => Ok(self.flag_row(op, mem, path_of(a, s, p), l)),
+            } => Ok(self.flag_row(op, mem, Path::of(a, s, p), l)),
             NatMitLoc::Look {
                 ancestor: a,
                 successor: s,
                 parent: p,
                 leaf: l,
-            } => Ok(self.look_row(op, mem, path_of(a, s, p), l)),
+            } => Ok(self.look_row(op, mem, Path::of(a, s, p), l)),
             _ => Ok(self.help_act(op, loc, mem)),
         }
     }

@@ -17,7 +17,6 @@ pub mod FirstBytes
 pub mod Flat
 pub mod Decoded
 pub mod FormCode
-pub mod FreshPairs
 pub mod Fronts
 pub mod Graphs
 pub mod InitialKeys
@@ -36,4 +35,3 @@ pub mod SideExact
 pub mod SmallCodes
 pub mod StateExact
 pub mod Unnumbered
-pub mod ValueParts

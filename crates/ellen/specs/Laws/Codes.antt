@@ -1,5 +1,5 @@
 -- Equal parts are of equal memories and places.
-use Rattle.std.specs.Prelude.{◌≡◌, ℕ, List, Option, Some, None, refl}
+use Rattle.std.specs.Prelude.{◌≡◌, List, Option, Some, None, refl}
 use Rattle.std.proofs.Common.{ap, sym}
 use Rattle.std.proofs.lemmas.List.{length-map}
 use Rattle.std.proofs.lemmas.List.Elements.{same_from_all_zip}
@@ -7,7 +7,7 @@ use Rattle.tree_machine.specs.FormCode.{TellsWholly, cut_code}
 use Rattle.tree_machine.specs.Flat.{all_front}
 use Rattle.tree_machine.specs.Pairing.{AreHeldPaired}
 use Rattle.tree_machine.specs.Laws.PartForms.{parts_tell_wholly}
-use Rattle.tree_machine.specs.Laws.ValueParts.{Same, values_told}
+use Rattle.tree_machine.proofs.ValueParts.{Same, values_told}
 use Rattle.tree_machine.specs.declared.front.Front.{Front}
 use Rattle.ellen.specs.declared.memory.UpdateWord.{UpdateWord}
 use Rattle.ellen.specs.declared.memory.UpdateWord.TheVariants as word

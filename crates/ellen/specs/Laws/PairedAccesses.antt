@@ -1,9 +1,8 @@
 -- Each kind of access keeps a pairing.
-use Rattle.std.specs.Prelude.{◌≡◌, ℕ, Bool, true, false, cond, nat_eq, List, [], ◌∷◌, ◌++◌, Option, Some, None}
-use Rattle.std.specs.Prelude.{unwrap_or, refl}
+use Rattle.std.specs.Prelude.{◌≡◌, ℕ, nat_eq, List, [], ◌∷◌, ◌++◌, Option, Some, None, unwrap_or, refl}
 use Rattle.std.proofs.Common.{◌∙◌, ap, subst, inr}
 use Rattle.tree_machine.specs.Pairing.{IsAmong, IsOneToOne, Pairing, Extends, AreOutcomesPaired, AreStepsPaired}
-use Rattle.tree_machine.specs.Laws.FreshPairs.{same_number, within_set, paired_set}
+use Rattle.tree_machine.proofs.FreshPairs.{choices_paired, same_number, within_set, paired_set}
 use Rattle.tree_machine.specs.SearchOrder.{side_of}
 use Rattle.tree_machine.specs.declared.machine.Outcome.{Outcome}
 use Rattle.tree_machine.specs.declared.machine.Outcome.TheVariants.{Astray}
@@ -198,12 +197,6 @@ module _ (p : Pairing) (m o : EllenMem) (h : ellen_pairs.memories p m o) where
       found_keeps P (child_on c (node_at m x)) (child_on d (node_at o y)) _ _
       (children_paired P R c d _ _ e (h.nodes x y q)) (λ a b w. stay (f a) (g b) (k a b w))
 
-  cond_keeps : (b c : Bool) (s t u v : After) → b ≡ c → Steps s u → Steps t v → Steps (cond b s t) (cond c u v)
-  cond_keeps true true s t u v e k l = k
-  cond_keeps false false s t u v e k l = l
-  cond_keeps true false s t u v e k l = cc
-  cond_keeps false true s t u v e k l = cc
-
   -- an exchange, where a and b are the memories with what is new, which these pairs of nodes and of records pair
   module _ (nodes records : List (ℕ × ℕ)) (a b : EllenMem)
       (after : ellen_pairs.memories (with_pairs nodes records p) a b) where
@@ -223,7 +216,8 @@ module _ (p : Pairing) (m o : EllenMem) (h : ellen_pairs.memories p m o) where
     exchange_update_keeps x y e f d g s t k l q same new won lost =
         found_keeps (AreWordsPaired R) (update_of (node_at m x)) (update_of (node_at o y)) _ _
         (update_paired P R _ _ (h.nodes x y q))
-        (λ u v w. cond_keeps (is_word u e) (is_word v f) _ _ _ _ (words_compared R h.records_one_to_one u v e f w same)
+        (λ u v w. choices_paired Steps (is_word u e) (is_word v f) _ _ _ _
+        (words_compared R h.records_one_to_one u v e f w same)
         (record {
           then = with_pairs nodes records p;
           extends = extends nodes records p;
@@ -243,7 +237,8 @@ module _ (p : Pairing) (m o : EllenMem) (h : ellen_pairs.memories p m o) where
         found_keeps P (child_on (side_of (key_at a n) (key_at m x)) (node_at m x))
         (child_on (side_of (key_at b i) (key_at o y)) (node_at o y)) _ _
         (children_paired P R _ _ _ _ sides (h.nodes x y q))
-        (λ u v w. cond_keeps (nat_eq u c) (nat_eq v d) _ _ _ _ (same_number P h.nodes_one_to_one u v c d w same)
+        (λ u v w. choices_paired Steps (nat_eq u c) (nat_eq v d) _ _ _ _
+        (same_number P h.nodes_one_to_one u v c d w same)
         (record {
           then = with_pairs nodes records p;
           extends = extends nodes records p;

@@ -5,7 +5,7 @@ use Rattle.std.specs.List.{AllZip}
 use Rattle.std.proofs.Common.{◌∙◌, ap, subst, inl, inr, arith, length-append}
 use Rattle.std.proofs.lemmas.List.{append_assoc}
 use Rattle.tree_machine.specs.Pairing.{IsAmong, Pairing}
-use Rattle.tree_machine.specs.Laws.FreshPairs.{fresh_one, fresh_within, fresh_paired}
+use Rattle.tree_machine.proofs.FreshPairs.{fresh_one, fresh_within, fresh_paired}
 use Rattle.ellen.specs.declared.memory.UpdateWord.{UpdateWord}
 use Rattle.ellen.specs.declared.memory.UpdateWord.TheVariants as word
 use Rattle.ellen.specs.declared.memory.Node.{Node}

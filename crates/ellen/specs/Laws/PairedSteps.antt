@@ -33,7 +33,7 @@ use Rattle.ellen.specs.Table.{After, with_base, settled, top_taken, unwound, ret
 use Rattle.ellen.specs.Table.{flagging, decide, arrived, search_act, unflagged, help_act, act}
 use Rattle.ellen.specs.Pairs.{AreBoth, AreWordsPaired, AreNodesPaired, AreAbovesPaired, AreSearchesPaired}
 use Rattle.ellen.specs.Pairs.{AreHelpsPaired, AreResumesPaired, ellen_pairs}
-use Rattle.tree_machine.specs.Laws.FreshPairs.{same_number}
+use Rattle.tree_machine.proofs.FreshPairs.{choices_paired, same_number}
 use Rattle.ellen.specs.Laws.PairedAccesses.{words_compared, key_paired, with_pairs, read_update_keeps}
 use Rattle.ellen.specs.Laws.PairedAccesses.{read_child_keeps, exchange_update_keeps, exchange_child_keeps}
 use Rattle.ellen.specs.Laws.PairedAccesses.{with_insert_keeps, with_delete_keeps}
@@ -50,13 +50,6 @@ module _ (p : Pairing) (root : IsAmong p.nodes 0 0) where
 
   abbrev Outcomes : Outcome EllenLoc → Outcome EllenLoc → Type 0
   Outcomes a b = AreOutcomesPaired (ellen_pairs.places p) a b
-
-  either : (b c : Bool) (s t u v : Outcome EllenLoc) → b ≡ c → Outcomes s u → Outcomes t v
-      → Outcomes (cond b s t) (cond c u v)
-  either true true s t u v e k l = k
-  either false false s t u v e k l = l
-  either true false s t u v e k l = cc
-  either false true s t u v e k l = cc
 
   settled_paired : (done : Bool) (b : Base) → Outcomes (settled done b) (settled done b)
   settled_paired done base.Again = (tt, root)
@@ -135,16 +128,16 @@ module _ (p : Pairing) (root : IsAmong p.nodes 0 0) where
       Outcomes (decide machine op a x l j) (decide machine op b y n i)
   decide_paired machine (Find k) a b x y l n j i ha h hl e = ap (λ z. nat_eq z k) e
   decide_paired machine (Insert k) a b x y l n j i ha h hl e =
-      either (nat_eq j k) (nat_eq i k) _ _ _ _ (ap (λ z. nat_eq z k) e) refl
-      (either (is_clean x.update) (is_clean y.update) _ _ _ _ (clean_paired x.update y.update h.1)
+      choices_paired Outcomes (nat_eq j k) (nat_eq i k) _ _ _ _ (ap (λ z. nat_eq z k) e) refl
+      (choices_paired Outcomes (is_clean x.update) (is_clean y.update) _ _ _ _ (clean_paired x.update y.update h.1)
       (flagging_paired machine x y l n h hl) (help_first_paired machine x.update y.update h.1))
   decide_paired machine (Delete k) None None x y l n j i ha h hl e =
-      either (nat_eq j k) (nat_eq i k) _ _ _ _ (ap (λ z. nat_eq z k) e) tt refl
+      choices_paired Outcomes (nat_eq j k) (nat_eq i k) _ _ _ _ (ap (λ z. nat_eq z k) e) tt refl
   decide_paired machine (Delete k) (Some a) (Some b) x y l n j i ha h hl e =
-      either (nat_eq j k) (nat_eq i k) _ _ _ _ (ap (λ z. nat_eq z k) e)
-      (either (is_clean a.update) (is_clean b.update) _ _ _ _ (clean_paired a.update b.update ha.1)
-      (either (is_clean x.update) (is_clean y.update) _ _ _ _ (clean_paired x.update y.update h.1) (ha, h.0, h.1, hl)
-      (help_first_paired machine x.update y.update h.1))
+      choices_paired Outcomes (nat_eq j k) (nat_eq i k) _ _ _ _ (ap (λ z. nat_eq z k) e)
+      (choices_paired Outcomes (is_clean a.update) (is_clean b.update) _ _ _ _ (clean_paired a.update b.update ha.1)
+      (choices_paired Outcomes (is_clean x.update) (is_clean y.update) _ _ _ _ (clean_paired x.update y.update h.1)
+      (ha, h.0, h.1, hl) (help_first_paired machine x.update y.update h.1))
       (help_first_paired machine a.update b.update ha.1))
       refl
   decide_paired machine (Delete k) None (Some b) x y l n j i ha h hl e = absurd ha
@@ -252,7 +245,7 @@ module _ (machine : Ellen) (op : Op) (p : Pairing) (m o : EllenMem) (h : ellen_p
     mark_keeps r s g =
         with_delete_keeps p m o h _ _ _ _ (h.records r s g)
         (λ i j k. exchange_update_keeps p m o h [] [] m o h i.parent j.parent _ _ _ _ _ _ _ _ k.1 k.3 g (g, rest)
-        (λ u v w. either p h.root (is_word u (word.Mark r)) (is_word v (word.Mark s)) _ _ _ _
+        (λ u v w. choices_paired (Outcomes p h.root) (is_word u (word.Mark r)) (is_word v (word.Mark s)) _ _ _ _
         (words_compared Records h.records_one_to_one u v (word.Mark r) (word.Mark s) w g) (g, rest)
         (help_paired p h.root machine u v _ _ w (stacks_paired p h.root r s y.stack z.stack g rest.0, rest.1))))
 
@@ -260,7 +253,7 @@ module _ (machine : Ellen) (op : Op) (p : Pairing) (m o : EllenMem) (h : ellen_p
     right_keeps r s g =
         with_delete_keeps p m o h _ _ _ _ (h.records r s g)
         (λ i j k. read_child_keeps p m o h i.parent j.parent side.Right side.Right _ _ k.1 refl
-        (λ c d w. either p h.root (nat_eq c i.leaf) (nat_eq d j.leaf) _ _ _ _
+        (λ c d w. choices_paired (Outcomes p h.root) (nat_eq c i.leaf) (nat_eq d j.leaf) _ _ _ _
         (same_number Nodes h.nodes_one_to_one c d i.leaf j.leaf w k.2) ((g, refl), rest) ((g, refl), rest)))
 
     splice_keeps : (r s x t : ℕ) → Records r s → Nodes x t

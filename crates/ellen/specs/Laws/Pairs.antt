@@ -4,7 +4,7 @@ use Rattle.std.specs.Prelude.{◌↔◌, ℕ, Some}
 use Rattle.std.specs.Option.{option_map}
 use Rattle.tree_machine.specs.Pairing.{IsAmong, ArePairsLawful}
 use Rattle.tree_machine.specs.SearchOrder.{KeepsSearchOrder}
-use Rattle.tree_machine.specs.Laws.FreshPairs.{paired_as}
+use Rattle.tree_machine.proofs.FreshPairs.{paired_as}
 use Rattle.tree_machine.specs.Laws.SearchOrderPairs.{AreShapesPaired, search_order_paired}
 use Rattle.ellen.specs.declared.memory.Node.{Node}
 use Rattle.ellen.specs.declared.memory.Node.TheVariants.{Leaf, Internal}

@@ -5,7 +5,7 @@ use Rattle.std.proofs.Common.{arith, ap, sym, subst}
 use Rattle.tree_machine.specs.Pairing.{IsAmong, AreHeldPaired, AreAlike}
 use Rattle.tree_machine.specs.Cells.{IsPairedOrNone}
 use Rattle.tree_machine.specs.Parts.{Part, ArePartsPaired, IsPartsPairing, CanPartsBePaired}
-use Rattle.tree_machine.specs.Laws.ValueParts.{zip_map, zip_unmap, parts_within, values_within, parts_at, values_at}
+use Rattle.tree_machine.proofs.ValueParts.{zip_map, zip_unmap, parts_within, values_within, parts_at, values_at}
 use Rattle.tree_machine.specs.declared.search_order.Side.{Side}
 use Rattle.tree_machine.specs.declared.search_order.Side.TheVariants as side
 use Rattle.ellen.specs.declared.memory.UpdateWord.{UpdateWord}

@@ -6,7 +6,7 @@ use Rattle.std.proofs.lemmas.List.{length-map}
 use Rattle.std.proofs.lemmas.List.Elements.{All-cons, All-head, All-tail, All-map}
 use Rattle.std.proofs.lemmas.List.Elements.{All-from_recursion, recursion_from_All}
 use Rattle.tree_machine.specs.Parts.{IsPartBelow, ArePartsInRange}
-use Rattle.tree_machine.specs.Laws.ValueParts.{from_map, all_below, all_in}
+use Rattle.tree_machine.proofs.ValueParts.{from_map, all_below, all_in}
 use Rattle.ellen.specs.declared.memory.UpdateWord.{UpdateWord}
 use Rattle.ellen.specs.declared.memory.UpdateWord.TheVariants as word
 use Rattle.ellen.specs.declared.memory.Node.{Node}

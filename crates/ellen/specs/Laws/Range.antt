@@ -2,6 +2,7 @@
 use Rattle.std.specs.Prelude.{◌≡◌, ℕ, zero, suc, ◌+◌, ◌<◌, ◌≤◌, Bool, true, false, if◌then◌else◌, nat_eq, nat_lt}
 use Rattle.std.specs.Prelude.{List, [], ◌∷◌, length, refl, Option, Some, None, IfSome, slice_get, slice_set, All}
 use Rattle.std.proofs.Common.{arith, sym, subst, length-append}
+use Rattle.std.proofs.lemmas.Bool.{cond_both}
 use Rattle.std.proofs.lemmas.List.{length-set}
 use Rattle.std.proofs.lemmas.List.Elements.{All-nil, All-cons, All-head, All-tail, All-append, All-set, All-push}
 use Rattle.std.proofs.lemmas.List.Elements.{All-weaker, All-from_recursion}
@@ -243,11 +244,6 @@ found_kept : {A : Type 0} (memory : EllenMem) (o : Option A) (goes : A → After
 found_kept memory None goes h f = stays memory Astray h tt
 found_kept memory (Some a) goes h f = f a refl
 
-cond_kept : (memory : EllenMem) (b : Bool) (first second : After) → IsKept memory first → IsKept memory second
-    → IsKept memory (if b then first else second)
-cond_kept memory true first second h k = h
-cond_kept memory false first second h k = k
-
 module _ (memory : EllenMem) (h : IsInRange memory) where
   pub read_update_kept : (x : ℕ) (goes : UpdateWord → Outcome EllenLoc)
       → ((u : UpdateWord) → IsWordIn (length memory.records) u
@@ -299,11 +295,12 @@ module _ (memory : EllenMem) (h : IsInRange memory) where
     exchange_update_kept x expected desired success failure d o f =
         found_kept memory (update_of (node_at memory x))
         (λ w. if is_word w expected then (set_update appended x desired, success) else (memory, failure w)) h
-        (λ w e. cond_kept memory (is_word w expected) (set_update appended x desired, success) (memory, failure w)
-        (set_kept memory appended x (with_update desired (node_at appended x)) success more_nodes more_records k
+        (λ w e. cond_both (is_word w expected) (set_update appended x desired, success) (memory, failure w)
+        (IsKept memory)
+        (λ _. set_kept memory appended x (with_update desired (node_at appended x)) success more_nodes more_records k
         (with_update_in (length appended.nodes) (length appended.records) desired (node_at appended x)
         (node_in appended x k) d) o)
-        (stays memory (failure w) h
+        (λ _. stays memory (failure w) h
         (f w (word_in (length memory.nodes) (length memory.records) (node_at memory x) w (node_in memory x h) e))))
 
     pub exchange_child_kept : (x a b : ℕ) (success failure : Outcome EllenLoc)
@@ -314,11 +311,11 @@ module _ (memory : EllenMem) (h : IsInRange memory) where
         let s = side_of (key_at appended b) (key_at memory x) in
         found_kept memory (child_on s (node_at memory x))
         (λ c. if nat_eq c a then (set_child appended x s b, success) else (memory, failure)) h
-        (λ c e. cond_kept memory (nat_eq c a) (set_child appended x s b, success) (memory, failure)
-        (set_kept memory appended x (with_child s b (node_at appended x)) success more_nodes more_records k
+        (λ c e. cond_both (nat_eq c a) (set_child appended x s b, success) (memory, failure) (IsKept memory)
+        (λ _. set_kept memory appended x (with_child s b (node_at appended x)) success more_nodes more_records k
         (with_child_in (length appended.nodes) (length appended.records) s b (node_at appended x)
         (node_in appended x k) d) o)
-        (stays memory failure h f))
+        (λ _. stays memory failure h f))
 
 -- ---- what is appended
 

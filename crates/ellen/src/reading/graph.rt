@@ -1,6 +1,6 @@
 //! The nodes and the records of a memory read back from their bytes, where each number is one byte.
 ghost use Rattle.std.specs.Prelude.{◌≡◌, ◌++◌, List, length, map, IsTrue, IfSome, IfOk};
-ghost use Rattle.tree_machine.specs.Flat.{cell_code, graph_code, left_code, part_codes, part_content};
+ghost use Rattle.tree_machine.specs.Flat.{graph_code, left_code};
 ghost use Rattle.ellen.specs.Parts.{node_part, record_part};
 ghost use Rattle.ellen.specs.declared.memory.Node.{Node};
 ghost use Rattle.ellen.specs.declared.memory.Record.{Record};
@@ -8,118 +8,79 @@ ghost use Rattle.ellen.specs.declared.memory.Record.{Record};
 use crate::memory::{DeleteRecord, InsertRecord, Node, Record};
 use crate::reading::words::word_of;
 use sched_program::OutOfMemory;
+use tree_machine::{CodedPart, read_values};
 
-/// Reads a node, and returns the bytes behind it. The length is tested once for all bytes of a node.
-#[inline(always)]
-fn read_node(bytes: &[u8]) -> Option<(Node, &[u8])>
-    ensures { IfSome result (λ read. bytes.now ≡ cell_code (part_content (node_part read.0)) ++ read.1.now) }
-{
-    match bytes {
-        [
-            102,
-            key @ 0..=254,
-            kind,
-            left @ 1..=254,
-            right @ 1..=254,
-            named,
-            rest @ ..,
-        ] => {
-            let node = Node::Internal {
-                key: *key,
-                update: word_of(*kind, *named)?,
-                left: u16::from(*left) - 1,
-                right: u16::from(*right) - 1,
-            };
-            Some((node, rest))
+impl CodedPart for Node {
+    ghost part = { node_part };
+
+    /// The length is tested once for all bytes of a node.
+    #[inline(always)]
+    fn read(bytes: &[u8]) -> Option<(Node, &[u8])> {
+        match bytes {
+            [
+                102,
+                key @ 0..=254,
+                kind,
+                left @ 1..=254,
+                right @ 1..=254,
+                named,
+                rest @ ..,
+            ] => {
+                let node = Node::Internal {
+                    key: *key,
+                    update: word_of(*kind, *named)?,
+                    left: u16::from(*left) - 1,
+                    right: u16::from(*right) - 1,
+                };
+                Some((node, rest))
+            }
+            [1, key @ 0..=254, rest @ ..] => Some((Node::Leaf { key: *key }, rest)),
+            _ => None,
         }
-        [1, key @ 0..=254, rest @ ..] => Some((Node::Leaf { key: *key }, rest)),
-        _ => None,
     }
 }
 
-/// Appends `count` nodes to a list, and returns the bytes behind them.
-fn read_nodes<'a>(
-    bytes: &'a [u8],
-    count: u8,
-    nodes: &mut Vec<Node>,
-) -> Result<Option<&'a [u8]>, OutOfMemory>
-    ensures { IfOk result (λ read. IfSome read (λ rest. (more : List Node)
-        × (nodes.new.items ≡ nodes.old.items ++ more) × (length more ≡ count)
-        × (bytes.now ≡ part_codes (map node_part more) ++ rest.now))) }
-{
-    nodes.reserve(usize::from(count))?;
-    let mut rest = bytes;
-    for _each in 0..count {
-        let Some((node, behind)) = read_node(rest) else {
-            return Ok(None);
-        };
-        nodes.push_reserved(node);
-        rest = behind;
-    }
-    Ok(Some(rest))
-}
+impl CodedPart for Record {
+    ghost part = { record_part };
 
-/// Reads a record, and returns the bytes behind it. The length is tested once for all bytes of a record.
-#[inline(always)]
-fn read_record(bytes: &[u8]) -> Option<(Record, &[u8])>
-    ensures { IfSome result (λ read. bytes.now ≡ cell_code (part_content (record_part read.0)) ++ read.1.now) }
-{
-    match bytes {
-        [
-            105,
-            parent @ 1..=254,
-            leaf @ 1..=254,
-            new @ 1..=254,
-            rest @ ..,
-        ] => {
-            let insert = InsertRecord {
-                parent: u16::from(*parent) - 1,
-                leaf: u16::from(*leaf) - 1,
-                new: u16::from(*new) - 1,
-            };
-            Some((Record::Ins(insert), rest))
+    /// The length is tested once for all bytes of a record.
+    #[inline(always)]
+    fn read(bytes: &[u8]) -> Option<(Record, &[u8])> {
+        match bytes {
+            [
+                105,
+                parent @ 1..=254,
+                leaf @ 1..=254,
+                new @ 1..=254,
+                rest @ ..,
+            ] => {
+                let insert = InsertRecord {
+                    parent: u16::from(*parent) - 1,
+                    leaf: u16::from(*leaf) - 1,
+                    new: u16::from(*new) - 1,
+                };
+                Some((Record::Ins(insert), rest))
+            }
+            [
+                136,
+                kind,
+                grandparent @ 1..=254,
+                parent @ 1..=254,
+                leaf @ 1..=254,
+                named,
+                rest @ ..,
+            ] => {
+                let delete = DeleteRecord {
+                    grandparent: u16::from(*grandparent) - 1,
+                    parent: u16::from(*parent) - 1,
+                    leaf: u16::from(*leaf) - 1,
+                    parent_update: word_of(*kind, *named)?,
+                };
+                Some((Record::Del(delete), rest))
+            }
+            _ => None,
         }
-        [
-            136,
-            kind,
-            grandparent @ 1..=254,
-            parent @ 1..=254,
-            leaf @ 1..=254,
-            named,
-            rest @ ..,
-        ] => {
-            let delete = DeleteRecord {
-                grandparent: u16::from(*grandparent) - 1,
-                parent: u16::from(*parent) - 1,
-                leaf: u16::from(*leaf) - 1,
-                parent_update: word_of(*kind, *named)?,
-            };
-            Some((Record::Del(delete), rest))
-        }
-        _ => None,
     }
-}
-
-/// Appends `count` records to a list, and returns the bytes behind them.
-fn read_records<'a>(
-    bytes: &'a [u8],
-    count: u8,
-    records: &mut Vec<Record>,
-) -> Result<Option<&'a [u8]>, OutOfMemory>
-    ensures { IfOk result (λ read. IfSome read (λ rest. (more : List Record)
-        × (records.new.items ≡ records.old.items ++ more) × (length more ≡ count)
-        × (bytes.now ≡ part_codes (map record_part more) ++ rest.now))) }
-{
-    records.reserve(usize::from(count))?;
-    let mut rest = bytes;
-    for _each in 0..count {
-        let Some((record, behind)) = read_record(rest) else {
-            return Ok(None);
-        };
-        records.push_reserved(record);
-        rest = behind;
-    }
-    Ok(Some(rest))
 }
 
 /// Reads how many nodes and records there are, and all of them, which it appends to lists. It returns the bytes behind
@@ -138,10 +99,10 @@ pub(crate) fn read_graph<'a>(
     let [node_count @ 0..=254, record_count @ 0..=254, rest @ ..] = bytes else {
         return Ok(None);
     };
-    let Some(behind) = read_nodes(rest, *node_count, nodes)? else {
+    let Some(behind) = read_values(rest, *node_count, nodes)? else {
         return Ok(None);
     };
-    match read_records(behind, *record_count, records)? {
+    match read_values(behind, *record_count, records)? {
         Some(rest) => Ok(Some((rest, *node_count, *record_count))),
         None => Ok(None),
     }

@@ -6,7 +6,7 @@ use Rattle.tree_machine.specs.Pairing.{AreHeldPaired}
 use Rattle.tree_machine.specs.FormCode.{TellsWholly, cut_code}
 use Rattle.tree_machine.specs.Flat.{all_front}
 use Rattle.tree_machine.specs.Laws.PartForms.{parts_tell_wholly}
-use Rattle.tree_machine.specs.Laws.ValueParts.{Same, values_told}
+use Rattle.tree_machine.proofs.ValueParts.{Same, values_told}
 use Rattle.tree_machine.specs.declared.front.Front.{Front}
 use Rattle.natmit.specs.declared.memory.Word.{Word}
 use Rattle.natmit.specs.declared.memory.Node.{Node}

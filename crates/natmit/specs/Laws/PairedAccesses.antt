@@ -1,13 +1,12 @@
 -- What is read of paired memories is paired, and each kind of access keeps a pairing.
-use Rattle.std.specs.Prelude.{◌≡◌, ℕ, true, false, not, ◌&&◌, if◌then◌else◌, nat_eq, refl, Option, Some}
-use Rattle.std.specs.Prelude.{None, unwrap_or, Bool}
+use Rattle.std.specs.Prelude.{◌≡◌, ℕ, true, not, ◌&&◌, if◌then◌else◌, nat_eq, refl, Option, Some, None, unwrap_or}
 use Rattle.std.proofs.Common.{ap, subst}
 use Rattle.tree_machine.specs.declared.search_order.Side.{Side}
 use Rattle.tree_machine.specs.declared.search_order.Side.TheVariants.{Left, Right}
 use Rattle.tree_machine.specs.SearchOrder.{side_of}
 use Rattle.tree_machine.specs.Pairing.{Pairing, Extends, IsAmong, IsOneToOne, AreHeldPaired, AreOutcomesPaired}
 use Rattle.tree_machine.specs.Pairing.{AreStepsPaired}
-use Rattle.tree_machine.specs.Laws.FreshPairs.{same_number, within_set, paired_set}
+use Rattle.tree_machine.proofs.FreshPairs.{choices_paired, same_number, within_set, paired_set}
 use Rattle.natmit.specs.declared.memory.Word.{Word}
 use Rattle.natmit.specs.declared.memory.Node.{Node}
 use Rattle.natmit.specs.declared.memory.Node.TheVariants.{Leaf, Internal}
@@ -153,16 +152,11 @@ module _ (p : Pairing) (memory twin : NatMitMem) (h : AreMemoriesPaired (IsAmong
       (λ w. if is_plain l w then (set_word grown x d desired, success) else (memory, failure))
       (λ w. if is_plain k w then (set_word grown_twin y e desired_twin, success_twin) else (twin, failure_twin))
       (at_paired x y d e at same)
-      (λ v w r. either (is_plain l v) (is_plain k w) (plain_paired P h.one_to_one l k v w expected r))
-    where
-      either : (b c : Bool) → b ≡ c
-          → AreAccessesPaired (if b then (set_word grown x d desired, success) else (memory, failure))
-          (if c then (set_word grown_twin y e desired_twin, success_twin) else (twin, failure_twin))
-      either true true agree =
-          written q more grown grown_twin grow x y d e desired desired_twin success success_twin at same words won
-      either true false agree = cc
-      either false true agree = cc
-      either false false agree = stays failure failure_twin lost
+      (λ v w r. choices_paired AreAccessesPaired (is_plain l v) (is_plain k w) (set_word grown x d desired, success)
+      (memory, failure) (set_word grown_twin y e desired_twin, success_twin) (twin, failure_twin)
+      (plain_paired P h.one_to_one l k v w expected r)
+      (written q more grown grown_twin grow x y d e desired desired_twin success success_twin at same words won)
+      (stays failure failure_twin lost))
 
   pub tag_keeps : (x y : ℕ) (d e : Side) (goes goes_twin : Outcome NatMitLoc) → P x y → d ≡ e
       → AreGoingAlike P goes goes_twin → AreAccessesPaired (after_tag memory x d goes) (after_tag twin y e goes_twin)

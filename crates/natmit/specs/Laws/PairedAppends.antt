@@ -3,7 +3,7 @@ use Rattle.std.specs.Prelude.{◌≡◌, ℕ, true, false, if◌then◌else◌, 
 use Rattle.std.proofs.Common.{subst, inl, inr, length-append}
 use Rattle.std.proofs.lemmas.List.{append_assoc}
 use Rattle.tree_machine.specs.Pairing.{Pairing, Extends, IsAmong}
-use Rattle.tree_machine.specs.Laws.FreshPairs.{fresh_one, fresh_within, fresh_paired}
+use Rattle.tree_machine.proofs.FreshPairs.{fresh_one, fresh_within, fresh_paired}
 use Rattle.natmit.specs.declared.memory.Word.{Word}
 use Rattle.natmit.specs.declared.memory.Node.{Node}
 use Rattle.natmit.specs.declared.memory.Node.TheVariants.{Leaf, Internal}

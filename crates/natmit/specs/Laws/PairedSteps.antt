@@ -4,7 +4,7 @@ use Rattle.std.proofs.Common.{ap}
 use Rattle.tree_machine.specs.declared.search_order.Side.{Side}
 use Rattle.tree_machine.specs.declared.search_order.Side.TheVariants.{Left}
 use Rattle.tree_machine.specs.Pairing.{Pairing, IsAmong, IsOneToOne}
-use Rattle.tree_machine.specs.Laws.FreshPairs.{same_number}
+use Rattle.tree_machine.proofs.FreshPairs.{choices_paired, same_number}
 use Rattle.natmit.specs.declared.memory.Word.{Word}
 use Rattle.natmit.specs.declared.memory.Node.{Node}
 use Rattle.natmit.specs.declared.memory.Node.TheVariants.{Leaf, Internal}
@@ -14,7 +14,6 @@ use Rattle.natmit.specs.Pairs.{AreWordsPaired, AreNodesPaired, AreMemoriesPaired
 use Rattle.sched_program.specs.Program.{key_of}
 use Rattle.sched_program.specs.declared.operation.Op.{Op}
 use Rattle.sched_program.specs.declared.operation.Op.TheVariants.{Insert, Delete, Find}
-use Rattle.tree_machine.specs.declared.machine.Outcome.{Outcome}
 use Rattle.tree_machine.specs.declared.machine.Outcome.TheVariants.{Goes, Replies}
 use Rattle.natmit.specs.declared.place.Mode.{Mode}
 use Rattle.natmit.specs.declared.place.Mode.TheVariants.{Plain, Owner}
@@ -30,14 +29,6 @@ use Rattle.natmit.specs.Laws.PairedAppends.{with_two_new, two_new_extend, intern
 -- ---- where the operations go
 
 module _ (P : ℕ → ℕ → Type 0) where
-  either_paired : (b c : Bool) (first second first_twin second_twin : Outcome NatMitLoc) → b ≡ c
-      → AreGoingAlike P first first_twin → AreGoingAlike P second second_twin
-      → AreGoingAlike P (if b then first else second) (if c then first_twin else second_twin)
-  either_paired true true first second first_twin second_twin e h g = h
-  either_paired true false first second first_twin second_twin e h g = cc
-  either_paired false true first second first_twin second_twin e h g = cc
-  either_paired false false first second first_twin second_twin e h g = g
-
   swung_paired : (m o : Mode) → AreModesPaired P m o → AreGoingAlike P (swung m) (swung o)
   swung_paired Plain Plain h = tt
   swung_paired (Owner x) (Owner y) h = refl
@@ -62,15 +53,15 @@ module _ (P : ℕ → ℕ → Type 0) where
         (ha, hs, hp, hl, ht, hm)
     arrived_paired (Find n) a s p l b u q k t v m o (Leaf i) (Leaf j) ha hs hp hl ht hm h = ap (λ z. nat_eq z n) h
     arrived_paired (Insert n) a s p l b u q k t v m o (Leaf i) (Leaf j) ha hs hp hl ht hm h =
-        either_paired (nat_eq i n) (nat_eq j n) (Replies false) (Goes (Put a s p l)) (Replies false)
+        choices_paired (AreGoingAlike P) (nat_eq i n) (nat_eq j n) (Replies false) (Goes (Put a s p l)) (Replies false)
         (Goes (Put b u q k)) (ap (λ z. nat_eq z n) h) refl (ha, hs, hp, hl)
     arrived_paired (Delete n) a s p l b u q k t v Plain Plain (Leaf i) (Leaf j) ha hs hp hl ht hm h =
-        either_paired (nat_eq i n) (nat_eq j n) (Goes (Flag a s p l)) (Replies false) (Goes (Flag b u q k))
-        (Replies false) (ap (λ z. nat_eq z n) h) (ha, hs, hp, hl) refl
+        choices_paired (AreGoingAlike P) (nat_eq i n) (nat_eq j n) (Goes (Flag a s p l)) (Replies false)
+        (Goes (Flag b u q k)) (Replies false) (ap (λ z. nat_eq z n) h) (ha, hs, hp, hl) refl
     arrived_paired (Delete n) a s p l b u q k t v Plain (Owner y) (Leaf i) (Leaf j) ha hs hp hl ht hm h = absurd hm
     arrived_paired (Delete n) a s p l b u q k t v (Owner x) Plain (Leaf i) (Leaf j) ha hs hp hl ht hm h = absurd hm
     arrived_paired (Delete n) a s p l b u q k t v (Owner x) (Owner y) (Leaf i) (Leaf j) ha hs hp hl ht hm h =
-        either_paired (nat_eq l x) (nat_eq k y) (Goes (CleanRead a s p (Owner x))) (Replies true)
+        choices_paired (AreGoingAlike P) (nat_eq l x) (nat_eq k y) (Goes (CleanRead a s p (Owner x))) (Replies true)
         (Goes (CleanRead b u q (Owner y))) (Replies true) (same_number P one l k x y hl hm) (ha, hs, hp, hm) refl
     arrived_paired op a s p l b u q k t v m o (Leaf i) (Internal j z w) ha hs hp hl ht hm h = absurd h
     arrived_paired op a s p l b u q k t v m o (Internal i x y) (Leaf j) ha hs hp hl ht hm h = absurd h
@@ -81,7 +72,7 @@ module _ (P : ℕ → ℕ → Type 0) where
         let node : nat_eq v.node l ≡ nat_eq w.node k = same_number P one v.node w.node l k h.2 hl in
         let flag : v.flag ≡ w.flag = h.0 in
         let tag : v.tag ≡ w.tag = h.1 in
-        either_paired (nat_eq v.node l && (v.flag || v.tag)) (nat_eq w.node k && (w.flag || w.tag))
+        choices_paired (AreGoingAlike P) (nat_eq v.node l && (v.flag || v.tag)) (nat_eq w.node k && (w.flag || w.tag))
         (Goes (CleanRead a s p Plain)) (Goes (Begin Plain)) (Goes (CleanRead b u q Plain)) (Goes (Begin Plain))
         (λ i. node i && (flag i || tag i)) (ha, hs, hp, tt) tt
 
@@ -107,7 +98,7 @@ module _ (p : Pairing) (memory twin : NatMitMem) (h : AreMemoriesPaired (IsAmong
       → AreGoingAlike P (went_down op a s q l t m memory v) (went_down op b u r k c o twin w)
   down_keeps op a s q l b u r k t c m o g v w words =
       let there = h.nodes_paired v.node w.node words.2 in
-      either_paired P t c (arrived op a s l v.node v.tag m (node_at memory v.node))
+      choices_paired (AreGoingAlike P) t c (arrived op a s l v.node v.tag m (node_at memory v.node))
       (arrived op q l l v.node v.tag m (node_at memory v.node))
       (arrived op b u k w.node w.tag o (node_at twin w.node))
       (arrived op r k k w.node w.tag o (node_at twin w.node)) g.4
@@ -120,8 +111,8 @@ module _ (p : Pairing) (memory twin : NatMitMem) (h : AreMemoriesPaired (IsAmong
       → ArePlacesPaired P (CleanRead a s q m) (CleanRead b u r o) → (v w : Word) → AreWordsPaired P v w
       → AreGoingAlike P (clean_read machine a s q d m v) (clean_read machine b u r e o w)
   clean_keeps machine a s q b u r d e m o agree g v w words =
-      either_paired P v.flag w.flag (Goes (tagging machine a s q (other_side d) m)) (Goes (tagging machine a s q d m))
-      (Goes (tagging machine b u r (other_side e) o)) (Goes (tagging machine b u r e o)) words.0
+      choices_paired (AreGoingAlike P) v.flag w.flag (Goes (tagging machine a s q (other_side d) m))
+      (Goes (tagging machine a s q d m)) (Goes (tagging machine b u r (other_side e) o)) (Goes (tagging machine b u r e o)) words.0
       (tagging_paired P machine a s q b u r (other_side d) (other_side e) m o g.0 g.1 g.2 (ap other_side agree) g.3)
       (tagging_paired P machine a s q b u r d e m o g.0 g.1 g.2 agree g.3)
 

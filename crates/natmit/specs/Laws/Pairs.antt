@@ -2,7 +2,7 @@
 -- paired memories both keep search order or neither does, and accesses of paired places keep a pairing.
 use Rattle.std.specs.Prelude.{ℕ, Some, ◌↔◌}
 use Rattle.tree_machine.specs.SearchOrder.{KeepsSearchOrder}
-use Rattle.tree_machine.specs.Laws.FreshPairs.{paired_as}
+use Rattle.tree_machine.proofs.FreshPairs.{paired_as}
 use Rattle.tree_machine.specs.Pairing.{Pairing, IsAmong, ArePairsLawful}
 use Rattle.natmit.specs.declared.memory.Node.{Node}
 use Rattle.natmit.specs.declared.memory.Node.TheVariants.{Leaf, Internal}

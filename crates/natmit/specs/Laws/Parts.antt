@@ -8,7 +8,7 @@ use Rattle.tree_machine.specs.declared.search_order.Side.TheVariants.{Left, Righ
 use Rattle.tree_machine.specs.Cells.{IsPairedOrNone}
 use Rattle.tree_machine.specs.Pairing.{IsAmong, AreHeldPaired, AreAlike}
 use Rattle.tree_machine.specs.Parts.{Parts, ArePartsPaired, IsPartsPairing, CanPartsBePaired}
-use Rattle.tree_machine.specs.Laws.ValueParts.{zip_map, zip_unmap, parts_within, values_within, parts_at, values_at}
+use Rattle.tree_machine.proofs.ValueParts.{zip_map, zip_unmap, parts_within, values_within, parts_at, values_at}
 use Rattle.natmit.specs.declared.memory.Word.{Word}
 use Rattle.natmit.specs.declared.memory.Node.{Node}
 use Rattle.natmit.specs.declared.memory.Node.TheVariants.{Leaf, Internal}

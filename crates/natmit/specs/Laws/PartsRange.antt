@@ -5,7 +5,7 @@ use Rattle.std.proofs.Common.{arith}
 use Rattle.std.proofs.lemmas.List.{length-map}
 use Rattle.std.proofs.lemmas.List.Elements.{All-nil, All-from_recursion, recursion_from_All}
 use Rattle.tree_machine.specs.Parts.{IsPartBelow, ArePartsInRange}
-use Rattle.tree_machine.specs.Laws.ValueParts.{all_below, all_in}
+use Rattle.tree_machine.proofs.ValueParts.{all_below, all_in}
 use Rattle.natmit.specs.declared.memory.Node.{Node}
 use Rattle.natmit.specs.declared.memory.Node.TheVariants.{Leaf, Internal}
 use Rattle.natmit.specs.declared.memory.NatMitMem.{NatMitMem}

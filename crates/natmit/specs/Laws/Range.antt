@@ -2,6 +2,7 @@
 use Rattle.std.specs.Prelude.{◌≡◌, ℕ, ◌+◌, ◌<◌, ◌≤◌, Bool, true, false, if◌then◌else◌, nat_eq, nat_lt, [], ◌∷◌}
 use Rattle.std.specs.Prelude.{length, refl, Option, Some, None, slice_set, All}
 use Rattle.std.proofs.Common.{arith, sym, subst, length-append}
+use Rattle.std.proofs.lemmas.Bool.{cond_both}
 use Rattle.std.proofs.lemmas.List.{length-set}
 use Rattle.std.proofs.lemmas.List.Elements.{All-nil, All-cons, All-append, All-set, All-weaker}
 use Rattle.sched_program.specs.declared.operation.Op.{Op}
@@ -188,11 +189,6 @@ found_kept : (memory : NatMitMem) (o : Option Word) (goes : Word → After) → 
 found_kept memory None goes h f = stays memory Astray h tt
 found_kept memory (Some w) goes h f = f w refl
 
-cond_kept : (memory : NatMitMem) (b : Bool) (first second : After) → IsKept memory first → IsKept memory second
-    → IsKept memory (if b then first else second)
-cond_kept memory true first second h k = h
-cond_kept memory false first second h k = k
-
 module _ (memory : NatMitMem) (h : IsInRange memory) where
   pub read_kept : (x : ℕ) (d : Side) (goes : Word → Outcome NatMitLoc)
       → ((w : Word) → w.node < length memory.nodes → IsOutcomeIn (length memory.nodes) (goes w))
@@ -210,9 +206,9 @@ module _ (memory : NatMitMem) (h : IsInRange memory) where
   exchange_kept appended more k x d l desired success failure b o f =
       found_kept memory (word_on d (node_at memory x))
       (λ w. if is_plain l w then (set_word appended x d desired, success) else (memory, failure)) h
-      (λ w e. cond_kept memory (is_plain l w) (set_word appended x d desired, success) (memory, failure)
-      (set_kept memory appended x d desired success more k b o)
-      (stays memory failure h f))
+      (λ w e. cond_both (is_plain l w) (set_word appended x d desired, success) (memory, failure) (IsKept memory)
+      (λ _. set_kept memory appended x d desired success more k b o)
+      (λ _. stays memory failure h f))
 
   pub tag_kept : (x : ℕ) (d : Side) (place : NatMitLoc) → IsPlaceIn (length memory.nodes) place
       → IsKept memory (after_tag memory x d (Goes place))

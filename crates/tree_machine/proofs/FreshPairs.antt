@@ -1,7 +1,7 @@
 -- Pairs of places in two lists: values that are written or appended on both sides keep them.
-use Rattle.std.specs.Prelude.{◌≡◌, ℕ, zero, suc, ◌+◌, ◌<◌, true, false, nat_eq, List, [], ◌∷◌, ◌++◌, length, slice_get}
+use Rattle.std.specs.Prelude.{◌≡◌, ℕ, ◌<◌, Bool, true, false, cond, nat_eq, List, [], ◌∷◌, ◌++◌, length, slice_get}
 use Rattle.std.specs.Prelude.{slice_set, Option, Some, refl}
-use Rattle.std.proofs.Common.{arith, ap, sym, ◌∙◌, subst, ◌⊎◌, inl, inr, length-append, length-set}
+use Rattle.std.proofs.Common.{arith, ap, sym, ◌∙◌, subst, inl, inr, length-append, length-set}
 use Rattle.std.proofs.lemmas.Bool.Decides.{eqb_tells}
 use Rattle.tree_machine.proofs.Lists.{get_at, get-append_left, get-set_same, get-set_other}
 use Rattle.tree_machine.specs.Pairing.{IsAmong, IsOneToOne}
@@ -15,6 +15,14 @@ same_number P one x y a b p q =
       | inl e ↦ elim (eqb_tells y b) [ inl f ↦ e.0 ∙ sym f.0 | inr f ↦ absurd (f.1 ((one x y a b p q).0 e.1)) ]
       | inr e ↦ elim (eqb_tells y b) [ inl f ↦ absurd (e.1 ((one x y a b p q).1 f.1)) | inr f ↦ e.0 ∙ sym f.0 ]
     ]
+
+-- of paired values, equal tests choose paired ones
+pub choices_paired : {A : Type 0} (R : A → A → Type 0) (b c : Bool) (x y u v : A) → b ≡ c → R x u → R y v
+    → R (cond b x y) (cond c u v)
+choices_paired R true true x y u v e h k = h
+choices_paired R false false x y u v e h k = k
+choices_paired R true false x y u v e h k = cc
+choices_paired R false true x y u v e h k = cc
 
 abbrev pub AreWithin : {A : Type 0} → (ℕ → ℕ → Type 0) → List A → List A → Type 0
 AreWithin P xs ys = (x y : ℕ) → P x y → (x < length xs) × (y < length ys)

@@ -4,7 +4,7 @@ use Rattle.tree_machine.specs.Flat.{reference_number}
 use Rattle.tree_machine.specs.Laws.FirstBytes.{first_six}
 use Rattle.ellen.specs.Parts.{word_record}
 use Rattle.ellen.proofs.ReadBytes.{byte_is, name_is, word_is}
-use Rattle.ellen.proofs.reading.graph.read_record.Goals as goal
+use Rattle.ellen.proofs.reading.graph.RecordCodedPart.read.Goals as goal
 
 pub returns-in_ok-word_of-in-136 : goal.returns-in_ok-word_of-in-136
 returns-in_ok-word_of-in-136 c =
