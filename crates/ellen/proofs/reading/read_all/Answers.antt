@@ -1,4 +1,4 @@
-use Rattle.std.proofs.Common.{◌≡◌, ℕ, List, ◌++◌, length, map, sym, ◌∙◌, ap, rules}
+use Rattle.std.proofs.Common.{◌≡◌, ℕ, List, ◌++◌, length, map, take, sym, ◌∙◌, ap, rules}
 use Rattle.tree_machine.specs.Flat.{graph_code}
 use Rattle.tree_machine.specs.Laws.ReadParts.{front_taken, take_read}
 use Rattle.ellen.specs.declared.memory.Node.{Node}
