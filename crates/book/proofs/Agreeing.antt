@@ -1,11 +1,11 @@
 -- What holds by one relation of states holds by another that agrees with it on the states of the machine.
 use Rattle.std.proofs.Common.{ℕ, List}
 use Rattle.std.specs.Prelude.{◌↔◌}
-use Rattle.book.specs.declared.finding.Finding.{Finding}
+use Rattle.replay.specs.declared.finding.Finding.{Finding}
 use Rattle.book.specs.Counts.{IsCount}
 use Rattle.book.specs.Entries.{At, Contents, Entry}
 use Rattle.book.specs.Law.{FindsAlike, IsLawfulBook, StandsFor, StandsForReached}
-use Rattle.book.specs.Schedule.{StepMachine, IsMachine}
+use Rattle.replay.specs.Schedule.{StepMachine, IsMachine}
 use Rattle.book.proofs.Ways.{fits_after, fits_along}
 
 -- relations that are so of the same pairs of states of the machine

@@ -21,7 +21,6 @@ use Rattle.tree_machine.specs.declared.state.Thread.{Thread}
 use Rattle.tree_machine.specs.declared.state.State.{State}
 use Rattle.tree_machine.proofs.States.{step_parts}
 use Rattle.tree_machine.proofs.Lists.{get_at, map-get}
-use Rattle.book.proofs.EntryLemmas.{get_within}
 use Rattle.book.proofs.Loans.{told_at, name, value_from_start, grown_value, map-set, get_set, more_notes, pushed_there}
 
 -- ---- lists
@@ -143,7 +142,7 @@ module _ {Machine Memory Place Form : Type 0} (rules : Rules Memory Place) (prog
   -- the operation began, since each reply has its note
   note_there : length thread.replies < length answered.now.notes
   note_there =
-      let below : t < length next.threads = get_within next.threads t answered.now now_there in
+      let below : t < length next.threads = slice_get_within next.threads t answered.now now_there in
       let count : length next.threads ≡ length program.threads = fits.thread_count in
       let ops = get_at program.threads t (omega arith) in
       let own : ThreadFits rules program next.memory ops.0 answered.now =

@@ -1,12 +1,3 @@
--- Book files.
-pub mod Replayed
-pub mod Passing
-pub mod Twins
-pub mod Amiss
-pub mod Known
-pub mod Exclusive
+-- The text that a book writes.
 pub mod Written
 pub mod Writable
-pub mod Whole
-pub mod Placed
-pub mod Recalled

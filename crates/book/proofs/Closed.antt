@@ -1,37 +1,18 @@
--- Closed states stand for every state that a schedule reaches, and so does a book with no entry left.
-use Rattle.std.proofs.Common.{◌≡◌, ℕ, Bool, true, not, Some, None, List, [], ◌∷◌, position, sym, ap, ◌∙◌, subst}
+-- The states of a book with no entry left are closed, so they stand for every state that a schedule reaches.
+use Rattle.std.proofs.Common.{◌≡◌, ℕ, Bool, true, not, Some, None, List, position, sym, ap, ◌∙◌}
 use Rattle.std.proofs.lemmas.Bool.{true≢false}
-use Rattle.std.proofs.lemmas.Option.{option_and_then_some}
-use Rattle.book.specs.declared.finding.Finding.{Finding}
-use Rattle.book.specs.Schedule.{AreOneBy, StepMachine, IsMachine, Merges, run, after}
+use Rattle.replay.specs.declared.finding.Finding.{Finding}
+use Rattle.replay.specs.Schedule.{AreOneBy, StepMachine, IsMachine, Merges}
 use Rattle.book.specs.Entries.{Entry, At, is_expanded, states}
 use Rattle.book.specs.Law.{IsLawful}
-use Rattle.book.specs.Findings.{IsSound}
-use Rattle.book.specs.Closed.{IsAlikeToOneOf, AreClosed, IsWorkedOut, AreSound, HoldsForEvery}
+use Rattle.replay.specs.Findings.{IsSound}
+use Rattle.replay.specs.Closed.{IsAlikeToOneOf, AreClosed, HoldsForEvery}
+use Rattle.replay.specs.Laws.Schedules.{covered}
+use Rattle.book.specs.Closed.{IsWorkedOut, AreSound}
 use Rattle.book.proofs.Marks.{expanded_from}
 use Rattle.book.proofs.Next.{first_passes, none_passes}
 use Rattle.book.proofs.Unknown.{at-states, states-at}
 use Rattle.book.proofs.Ways.{fits_after}
-
-module _ {S : Type 0} (m : StepMachine S) (machine : IsMachine m) (Alike : S → S → Type 0)
-    (joined : (r s u : S) → Alike r s → Alike s u → Alike r u)
-    (steps_alike : (r s u : S) (t : ℕ) → m.Fits r → m.Fits s → Alike r s → m.step s t ≡ Some u
-    → (v : S) × (m.step r t ≡ Some v) × Alike v u)
-    (states : List S) (closed : AreClosed m Alike states) where
-  covered_along : (c : List ℕ) (r s : S) → m.Fits r → IsAlikeToOneOf Alike states r → run m r c ≡ Some s
-      → IsAlikeToOneOf Alike states s
-  covered_along [] r s fits here leads = let e : r ≡ s = cc in subst (λ x. IsAlikeToOneOf Alike states x) e here
-  covered_along (t ∷ c) r s fits here leads =
-      option_and_then_some (λ (u : S). run m u c) (m.step r t) s leads
-      (λ (u : S) (first : m.step r t ≡ Some u) (rest : run m u c ≡ Some s).
-      let twin = steps_alike here.1 r u t (closed.fit here.0 here.1 here.2) fits here.3 first in
-      let there = closed.steps here.0 t here.1 twin.0 here.2 twin.1 in
-      covered_along c u s (machine.step_fits r u t fits first)
-      (there.0, there.1, there.2, joined there.1 twin.0 u there.3 twin.2) rest)
-
-  -- one of them is alike to each state that a schedule reaches
-  pub covered : (c : List ℕ) (s : S) → after m c ≡ Some s → IsAlikeToOneOf Alike states s
-  covered c s leads = covered_along c m.start s machine.start_fits closed.start leads
 
 -- the first entry that is left shows whether one is
 pub worked_out : {S : Type 0} (es : List (Entry S)) → position (λ e. not (is_expanded e.mark)) es ≡ None

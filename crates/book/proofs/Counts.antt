@@ -1,18 +1,17 @@
 -- How many states the schedules reach.
 use Rattle.std.proofs.Common.{◌≡◌, ℕ, zero, suc, ◌+◌, ◌<◌, ◌≤◌, inl, inr, Bool, true, false, Some, None, List, [], ◌∷◌}
 use Rattle.std.proofs.Common.{◌++◌, length, take, count_by, cond, refl, sym, ap, ◌∙◌, arith, slice_get, leb}
-use Rattle.std.specs.Option.{option_and_then}
 use Rattle.std.proofs.Math.ListN.{length-map}
 use Rattle.std.proofs.lemmas.Bool.{true≢false, cases_lt, le-leb, leb-true, cases_Bool, false_from_ne_true}
 use Rattle.std.proofs.lemmas.List.{length_push, length-take-le}
 use Rattle.std.proofs.lemmas.List.Sums.{sum_by-cons, count_by-le-length}
-use Rattle.std.proofs.lemmas.Option.{option_and_then_some}
-use Rattle.book.specs.declared.finding.Finding.{Finding}
+use Rattle.replay.specs.declared.finding.Finding.{Finding}
 use Rattle.book.specs.declared.entry.Mark.TheVariants.{Expanded}
-use Rattle.book.specs.Schedule.{StepMachine, AreOneBy, IsMachine, Merges, run, after}
+use Rattle.replay.specs.Schedule.{StepMachine, AreOneBy, IsMachine, Merges, after}
 use Rattle.book.specs.Entries.{Entry, At, states}
 use Rattle.book.specs.Law.{IsLawful}
 use Rattle.book.specs.Counts.{IsCount}
+use Rattle.replay.specs.Laws.Schedules.{run_push}
 use Rattle.book.proofs.Unknown.{at-states, states-at}
 use Rattle.book.proofs.Coverage.{stands_after}
 
@@ -32,25 +31,6 @@ take-get zero xs i x l h = absurd (omega arith)
 take-get (suc k) [] i x l h = absurd (let q : None ≡ Some x = h in cc)
 take-get (suc k) (y ∷ xs) zero x l h = h
 take-get (suc k) (y ∷ xs) (suc i) x l h = take-get k xs i x (omega arith) h
-
-module _ {S : Type 0} (m : StepMachine S) where
-  pub run_push : (c : List ℕ) (r u v : S) (t : ℕ) → run m r c ≡ Some u → m.step u t ≡ Some v
-      → run m r (c ++ t ∷ []) ≡ Some v
-  run_push [] r u v t h leads = let e : r ≡ u = cc in
-      let q : m.step r t ≡ Some v =
-      ap (λ (x : S). m.step x t) e ∙ leads in ap (λ o. option_and_then (λ (x : S). Some x) o) q
-  run_push (w ∷ c) r u v t h leads =
-      option_and_then_some (λ (x : S). run m x c) (m.step r w) u h
-      (λ (x : S) (first : m.step r w ≡ Some x) (rest : run m x c ≡ Some u).
-      ap (λ o. option_and_then (λ (y : S). run m y (c ++ t ∷ [])) o) first ∙ run_push c x u v t rest leads)
-
-  pub run_stops : (c : List ℕ) (r u : S) (t : ℕ) → run m r c ≡ Some u → m.step u t ≡ None → run m r (c ++ t ∷ []) ≡ None
-  run_stops [] r u t h stuck = let e : r ≡ u = cc in let q : m.step r t ≡ None = ap (λ (x : S). m.step x t) e ∙ stuck in
-      ap (λ o. option_and_then (λ (x : S). Some x) o) q
-  run_stops (w ∷ c) r u t h stuck =
-      option_and_then_some (λ (x : S). run m x c) (m.step r w) u h
-      (λ (x : S) (first : m.step r w ≡ Some x) (rest : run m x c ≡ Some u).
-      ap (λ o. option_and_then (λ (y : S). run m y (c ++ t ∷ [])) o) first ∙ run_stops c x u t rest stuck)
 
 module _ {S : Type 0} (m : StepMachine S) (same : S → S → Bool) (right : S → Finding → Type 0)
     (machine : IsMachine m) (merges : Merges m same) (es : List (Entry S))

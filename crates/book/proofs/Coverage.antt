@@ -1,9 +1,9 @@
 -- What a lawful book says of all schedules.
 use Rattle.std.proofs.Common.{◌≡◌, ℕ, ◌+◌, ◌<◌, ◌≤◌, Bool, true, Some, List, [], ◌∷◌, length, ap, arith}
 use Rattle.std.proofs.lemmas.Option.{option_and_then_some}
-use Rattle.book.specs.declared.finding.Finding.{Finding}
+use Rattle.replay.specs.declared.finding.Finding.{Finding}
 use Rattle.book.specs.declared.entry.Mark.TheVariants.{Expanded}
-use Rattle.book.specs.Schedule.{AreOneBy, StepMachine, IsMachine, Merges, run, after}
+use Rattle.replay.specs.Schedule.{AreOneBy, StepMachine, IsMachine, Merges, run, after}
 use Rattle.book.specs.Entries.{Entry, At}
 use Rattle.book.specs.Law.{StandsFor, StandsForReached, IsLawful}
 

@@ -3,14 +3,14 @@ use Rattle.std.proofs.Common.{◌≡◌, ℕ, zero, suc, ◌+◌, ◌<◌, ◌�
 use Rattle.std.proofs.Common.{Some, None, List, [], ◌∷◌, ◌++◌, length, map, refl, sym, ap, ◌∙◌, arith, slice_get}
 use Rattle.std.proofs.Common.{position, length-append, subst}
 use Rattle.std.proofs.lemmas.Bool.{true≢false, cases_lt, not-false}
+use Rattle.std.proofs.lemmas.Option.{slice_get_within}
 use Rattle.tree_machine.proofs.Lists.{get-append_cases, get-append_left, get_at}
 use Rattle.book.specs.declared.entry.Mark.{Mark}
 use Rattle.book.specs.declared.entry.Mark.TheVariants.{Open, Taken, Expanded}
 use Rattle.book.specs.Entries.{Entry, Successor, At, IsTaken, is_open, is_expanded, opened, with_mark}
-use Rattle.book.specs.Findings.{is_sound}
+use Rattle.replay.specs.Findings.{is_sound}
 use Rattle.book.specs.Slots.{IsFirstLeft, AreCursors}
 use Rattle.book.proofs.EntryLemmas.{at-with_mark, length-with_mark}
-use Rattle.book.proofs.EntryLemmas.{get_within}
 use Rattle.book.proofs.Next.{first_passes, none_passes}
 use Rattle.book.proofs.Marks.{expanded_fails, left_passes, open_fails, open_from, open_passes}
 
@@ -65,7 +65,7 @@ fault-with_mark {S} es i k = go (position p es) refl
     go (Some a) h =
         let first = first_passes p es a h in
         let at : (f : Entry S) × At (with_mark es i k) a f =
-        get_at (with_mark es i k) a (let w : a < length es = get_within es a first.0 first.1 in
+        get_at (with_mark es i k) a (let w : a < length es = slice_get_within es a first.0 first.1 in
         let l : length (with_mark es i k) ≡ length es = length-with_mark es i k in omega arith) in
         let o = at-with_mark es i k a at.0 at.1 in
         let same : o.0 ≡ first.0 = (let u : slice_get es a ≡ Some o.0 = o.1 in
@@ -81,7 +81,7 @@ module _ {S : Type 0} (es : List (Entry S)) where
       → position (λ (e : Entry S). not (is_sound e.finding)) (es ++ fs) ≡ Some a
   fault-append fs a h =
       let first = first_passes (λ (e : Entry S). not (is_sound e.finding)) es a h in
-      let w : a < length es = get_within es a first.0 first.1 in
+      let w : a < length es = slice_get_within es a first.0 first.1 in
       first_is (λ (e : Entry S). not (is_sound e.finding)) (es ++ fs) a first.0
       (get-append_left es fs a first.0 first.1) first.2
       (λ j f there less. elim (get-append_cases es fs j f there) [
@@ -109,7 +109,7 @@ module _ {S : Type 0} (es : List (Entry S)) where
     pub open_none : length es ≤ next_open → position (λ (e : Entry S). is_open e.mark) es ≡ None
     open_none le =
         none_is (λ (e : Entry S). is_open e.mark) es (λ k y there.
-        open_fails y.mark (cursors.below k y there (let w : k < length es = get_within es k y there in omega arith)))
+        open_fails y.mark (cursors.below k y there (let w : k < length es = slice_get_within es k y there in omega arith)))
 
     pub left_at : first_left < length es → position (λ (e : Entry S). not (is_expanded e.mark)) es ≡ Some first_left
     left_at less =
@@ -122,14 +122,14 @@ module _ {S : Type 0} (es : List (Entry S)) where
     left_none le =
         none_is (λ (e : Entry S). not (is_expanded e.mark)) es (λ k y there.
         expanded_fails y.mark
-        (cursors.left.expanded k y there (let w : k < length es = get_within es k y there in omega arith)))
+        (cursors.left.expanded k y there (let w : k < length es = slice_get_within es k y there in omega arith)))
 
     -- where some entry is open, the cursor is at the first
     pub cursor_is : (i : ℕ) → position (λ (e : Entry S). is_open e.mark) es ≡ Some i → i ≡ next_open
     cursor_is i first =
         let f = first_passes (λ (e : Entry S). is_open e.mark) es i first in
         let was : f.0.mark ≡ Open = open_from f.0.mark f.2 in
-        let w : i < length es = get_within es i f.0 f.1 in
+        let w : i < length es = slice_get_within es i f.0 f.1 in
         elim (cases_lt i next_open) [
           | inl l ↦ absurd (cursors.below i f.0 f.1 l was)
           | inr ge ↦ elim (cases_lt next_open i) [
@@ -147,7 +147,7 @@ module _ {S : Type 0} (es : List (Entry S)) where
     cursors_taken i first =
         let f = first_passes (λ (e : Entry S). is_open e.mark) es i first in
         let was : f.0.mark ≡ Open = open_from f.0.mark f.2 in
-        let w : i < length es = get_within es i f.0 f.1 in
+        let w : i < length es = slice_get_within es i f.0 f.1 in
         let l : length (with_mark es i Taken) ≡ length es = length-with_mark es i Taken in
         let is_next : i ≡ next_open = cursor_is i first in
         record {

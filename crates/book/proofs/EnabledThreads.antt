@@ -3,7 +3,7 @@ use Rattle.std.proofs.Common.{◌≡◌, ℕ, zero, suc, ◌+◌, ◌<◌, Bool,
 use Rattle.std.proofs.Common.{ap, ◌∙◌, arith, slice_get}
 use Rattle.std.specs.List.{range_with_len}
 use Rattle.std.proofs.lemmas.Bool.{cond_both}
-use Rattle.book.specs.Schedule.{StepMachine, IsMachine, enabled_threads}
+use Rattle.replay.specs.Schedule.{StepMachine, IsMachine, enabled_threads}
 
 get-range : (a n t : ℕ) → t < n → slice_get (range_with_len a n) t ≡ Some (a + t)
 get-range a zero t h = absurd (omega arith)

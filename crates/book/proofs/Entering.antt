@@ -3,17 +3,17 @@ use Rattle.std.proofs.Common.{◌≡◌, ℕ, zero, suc, ◌+◌, ◌-◌, ◌^�
 use Rattle.std.proofs.Common.{length-append}
 use Rattle.std.proofs.lemmas.Bool.{cond_both}
 use Rattle.std.proofs.Math.ListN.{length-map}
+use Rattle.std.proofs.lemmas.Option.{slice_get_within}
 use Rattle.sched_program.specs.Program.{Program}
 use Rattle.tree_machine.proofs.Lists.{get-append_left}
-use Rattle.book.specs.declared.finding.Finding.{Finding}
+use Rattle.replay.specs.declared.finding.Finding.{Finding}
 use Rattle.book.specs.declared.entry.Mark.{Mark}
 use Rattle.book.specs.declared.entry.Mark.TheVariants.{Taken, Expanded}
-use Rattle.book.specs.Schedule.{AreOneBy, StepMachine, IsMachine, Merges}
+use Rattle.replay.specs.Schedule.{AreOneBy, StepMachine, IsMachine, Merges}
 use Rattle.book.specs.Entries.{Entry, Successor, Contents, At, IsOwn, IsTaken, with_mark}
 use Rattle.book.specs.Entries.{opened, states}
 use Rattle.book.specs.Unknown.{with_successors, knows, unknown}
 use Rattle.book.specs.Law.{IsLawfulBook, IsExpansion}
-use Rattle.book.proofs.EntryLemmas.{get_within}
 use Rattle.book.proofs.LawfulBooks.{entered_book, met_fits}
 
 -- an entry's machine and state are its own
@@ -88,7 +88,7 @@ module _ {X S : Type 0} (m : StepMachine S) (same : S → S → Bool) (right : S
   entered_entries new marked =
       marked ∙ ap (λ es. with_mark es i Expanded) is
       ∙ with_mark-append b.entries (map (opened i) (unknown same (states b.entries) xs)) i Expanded
-      (get_within b.entries i e at)
+      (slice_get_within b.entries i e at)
 
   pub lawful_entered : (new : List (Entry S)) (entered met : ℕ) → new ≡ with_mark appended i Expanded
       → entered ≡ length (unknown same (states b.entries) xs)

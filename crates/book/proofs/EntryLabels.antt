@@ -8,11 +8,11 @@ use Rattle.tree_machine.specs.FormCode.{state_code}
 use Rattle.tree_machine.specs.declared.state.State.{State}
 use Rattle.book.specs.declared.book.Merge.{Merge}
 use Rattle.book.specs.declared.book.Merge.TheVariants.{Exact}
-use Rattle.book.specs.declared.finding.Finding.{Finding}
+use Rattle.replay.specs.declared.finding.Finding.{Finding}
 use Rattle.book.specs.Books.{IsBook}
 use Rattle.book.specs.ByLabel.{IsTakenOf}
 use Rattle.book.specs.Entries.{Contents, Entry, At}
-use Rattle.book.specs.Findings.{IsFindingOf}
+use Rattle.replay.specs.Findings.{IsFindingOf}
 use Rattle.book.specs.Labels.{AreKnownBy, Kept, label_by}
 use Rattle.book.proofs.InBook.{state_few}
 

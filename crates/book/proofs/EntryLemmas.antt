@@ -1,21 +1,10 @@
 -- An entry by its number, in lists of entries that are made of others.
-use Rattle.std.proofs.Common.{◌≡◌, ◌≢◌, ℕ, zero, suc, ◌+◌, ◌<◌, ◌≤◌, ◌⊎◌, inl, inr, Some, None, List, [], ◌∷◌}
-use Rattle.std.proofs.Common.{length, refl, sym, ap, arith, slice_get, count_by, cond}
+use Rattle.std.proofs.Common.{◌≡◌, ◌≢◌, ℕ, zero, suc, ◌+◌, ◌⊎◌, inl, inr, List, [], ◌∷◌, length, refl, sym, ap}
+use Rattle.std.proofs.Common.{arith, count_by, cond}
 use Rattle.std.proofs.lemmas.List.Sums.{sum_by-cons}
 use Rattle.book.specs.declared.entry.Mark.{Mark}
 use Rattle.book.specs.declared.entry.Mark.TheVariants.{Open, Taken, Expanded}
 use Rattle.book.specs.Entries.{Entry, At, is_open, is_taken, is_expanded, with_mark}
-
-module _ {X : Type 0} where
-  pub get_within : (xs : List X) (i : ℕ) (x : X) → slice_get xs i ≡ Some x → i < length xs
-  get_within [] i x h = cc
-  get_within (y ∷ xs) zero x h = omega arith
-  get_within (y ∷ xs) (suc i) x h = let l : i < length xs = get_within xs i x h in omega arith
-
-  pub get_none : (xs : List X) (i : ℕ) → length xs ≤ i → slice_get xs i ≡ None
-  get_none [] i h = refl
-  get_none (y ∷ xs) zero h = absurd (omega arith)
-  get_none (y ∷ xs) (suc i) h = get_none xs i (omega arith)
 
 -- one entry and another that differ in the mark alone
 pub record SameButMark {S : Type 0} (e f : Entry S) : Type 0 where

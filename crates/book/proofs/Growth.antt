@@ -4,17 +4,18 @@ use Rattle.std.proofs.Common.{None, List, [], ◌∷◌, length, map, refl, sym,
 use Rattle.std.proofs.Common.{count_by}
 use Rattle.std.proofs.lemmas.Bool.{cases_lt}
 use Rattle.std.proofs.lemmas.List.Sums.{sum_by-cons, sum_by-append}
-use Rattle.book.specs.declared.finding.Finding.{Finding}
+use Rattle.std.proofs.lemmas.Option.{slice_get_within}
+use Rattle.replay.specs.declared.finding.Finding.{Finding}
 use Rattle.book.specs.declared.entry.Mark.{Mark}
 use Rattle.book.specs.declared.entry.Mark.TheVariants.{Open, Taken, Expanded}
-use Rattle.book.specs.Schedule.{AreOneBy, StepMachine, IsMachine, Merges}
+use Rattle.replay.specs.Schedule.{AreOneBy, StepMachine, IsMachine, Merges}
 use Rattle.book.specs.Entries.{Entry, Successor, Takes, At, IsNext, with_mark, opened, states}
 use Rattle.book.specs.Unknown.{with_successors, unknown}
 use Rattle.book.specs.Entries.{is_expanded}
 use Rattle.book.specs.Law.{IsLawful, IsExpansion}
 use Rattle.book.specs.Layers.{IsExpandedTo, IsLeftTo, NoneTaken, GrowsFrom, IsThrough}
-use Rattle.book.specs.Findings.{is_sound}
-use Rattle.book.proofs.EntryLemmas.{at-with_mark, with_mark-at, get_within}
+use Rattle.replay.specs.Findings.{is_sound}
+use Rattle.book.proofs.EntryLemmas.{at-with_mark, with_mark-at}
 use Rattle.book.proofs.Next.{first_passes, none_passes}
 use Rattle.book.proofs.Kept.{entered_grows, entered_rests}
 use Rattle.book.proofs.Marks.{expanded_from, not_expanded_from, open_between}
@@ -49,7 +50,7 @@ module _ {S : Type 0} (m : StepMachine S) (same : S → S → Bool) (right : S �
   pub few_steps : (i n : ℕ) (e : Entry S) → At es i e → length es ≤ n → m.steps e.state < n
   few_steps i n e at within =
       let f : m.steps e.state ≤ i = few_by (i + 1) i e at (omega arith) in
-      let w : i < length es = get_within es i e at in omega arith
+      let w : i < length es = slice_get_within es i e at in omega arith
 
   pub all_expanded : (n : ℕ) → position (λ (r : Entry S). not (is_expanded r.mark)) es ≡ None
       → IsExpandedTo m.steps es n

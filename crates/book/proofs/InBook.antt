@@ -18,7 +18,7 @@ use Rattle.book.specs.Labels.{Kept, same_as}
 use Rattle.book.specs.Slots.{AllStates, AreStatesOf, IsOpenFrom}
 use Rattle.book.specs.Layers.{IsExpandedTo, IsLeftTo}
 use Rattle.book.specs.Ways.{IsWay}
-use Rattle.book.specs.Schedule.{after, AreOneBy, IsDecided}
+use Rattle.replay.specs.Schedule.{after, AreOneBy, IsDecided}
 use Rattle.book.proofs.Agreeing.{book_as, finds_as, reached_as}
 use Rattle.book.proofs.Coverage.{stands_along}
 use Rattle.book.proofs.Growth.{all_expanded, few_steps, is_left, none_left}

@@ -2,15 +2,16 @@
 use Rattle.std.proofs.Common.{◌≡◌, ◌≢◌, ℕ, ◌+◌, ◌<◌, ◌≤◌, ◌⊎◌, inl, inr, Bool, true, false, Some, List, ◌++◌, length}
 use Rattle.std.proofs.Common.{map, refl, sym, ap, ◌∙◌, arith, slice_get, subst}
 use Rattle.std.proofs.lemmas.Bool.{true≢false}
+use Rattle.std.proofs.lemmas.Option.{slice_get_within}
 use Rattle.tree_machine.proofs.Lists.{get-append_cases, get-append_left, get-append_right, get-map, map-get}
-use Rattle.book.specs.declared.finding.Finding.{Finding}
+use Rattle.replay.specs.declared.finding.Finding.{Finding}
 use Rattle.book.specs.declared.entry.Mark.TheVariants.{Open, Taken, Expanded}
-use Rattle.book.specs.Schedule.{AreOneBy, StepMachine, IsMachine, Merges}
+use Rattle.replay.specs.Schedule.{AreOneBy, StepMachine, IsMachine, Merges}
 use Rattle.book.specs.Entries.{Entry, Successor, At, IsNext, with_mark, opened, states}
 use Rattle.book.specs.Unknown.{with_successors, unknown}
 use Rattle.book.specs.Layers.{GrowsFrom, NoneTaken}
 use Rattle.book.specs.Law.{StandsFor, IsStep, IsLawful, IsExpansion}
-use Rattle.book.proofs.EntryLemmas.{SameButMark, at-with_mark, with_mark-at, length-with_mark, get_within}
+use Rattle.book.proofs.EntryLemmas.{SameButMark, at-with_mark, with_mark-at, length-with_mark}
 use Rattle.book.proofs.Unknown.{list_any-true, list_any-false, at-states, states-at, unknown_is, unknown_apart}
 use Rattle.book.proofs.Unknown.{known_or_kept}
 use Rattle.book.proofs.EnabledThreads.{among_enabled}
@@ -235,7 +236,7 @@ module _ {S : Type 0} (m : StepMachine S) (same : S → S → Bool) (right : S �
           origin = record { parent = i; thread = y.thread };
           parent = w.0;
           recorded = ap (λ (q : Entry S). q.origin) opens;
-          earlier = (let within : i < length es = get_within es i e at_i in omega arith);
+          earlier = (let within : i < length es = slice_get_within es i e at_i in omega arith);
           entered = w.1;
           expanded = elim w.3 [ inl l ↦ l.1 | inr r ↦ absurd (r.0 refl) ];
           step = step_of_same e.state w.0.state y.state f.state y.thread w.2.state (ap (λ (q : Entry S). q.state) opens)
@@ -298,7 +299,7 @@ module _ {S : Type 0} (m : StepMachine S) (same : S → S → Bool) (right : S �
         let r : m.steps g.state ≡ m.steps y.state = ap (λ (v : Entry S). m.steps v.state) opens in
         let u : m.steps y.state ≡ m.steps e.state + 1 = fresh_steps n y there in omega arith
     in_order j k f g (New n y is at opens) (Old b there but which) le =
-        let w : k < length es = get_within es k b there in absurd (omega arith)
+        let w : k < length es = slice_get_within es k b there in absurd (omega arith)
     in_order j k f g (New n y is at opens) (New n' y' is' at' opens') le =
         let q : m.steps f.state ≡ m.steps y.state = ap (λ (v : Entry S). m.steps v.state) opens in
         let r : m.steps g.state ≡ m.steps y'.state = ap (λ (v : Entry S). m.steps v.state) opens' in

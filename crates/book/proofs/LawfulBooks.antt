@@ -5,17 +5,18 @@ use Rattle.std.specs.List.{range_with_len, count_by}
 use Rattle.std.proofs.Math.ListN.{length-map}
 use Rattle.std.proofs.lemmas.List.FromFn.{length-range_with_len}
 use Rattle.std.proofs.lemmas.List.Sums.{sum_by-cons, sum_by-append, length-filter, count_by-le-length}
+use Rattle.std.proofs.lemmas.Option.{slice_get_within}
 use Rattle.sched_program.specs.Program.{Program}
-use Rattle.book.specs.declared.finding.Finding.{Finding}
+use Rattle.replay.specs.declared.finding.Finding.{Finding}
 use Rattle.book.specs.declared.book.Merge.{Merge}
 use Rattle.book.specs.declared.entry.Mark.{Mark}
 use Rattle.book.specs.declared.entry.Mark.TheVariants.{Open, Taken, Expanded}
-use Rattle.book.specs.Schedule.{AreOneBy, StepMachine, IsMachine, Merges, enabled_threads}
+use Rattle.replay.specs.Schedule.{AreOneBy, StepMachine, IsMachine, Merges, enabled_threads}
 use Rattle.book.specs.Entries.{Entry, Successor, Contents, At, IsNext, with_mark, opened}
 use Rattle.book.specs.Unknown.{with_successors, unknown}
 use Rattle.book.specs.Entries.{states, is_expanded}
 use Rattle.book.specs.Law.{IsExpansion, IsLawfulBook, steps_entered}
-use Rattle.book.proofs.EntryLemmas.{length-with_mark, get_within}
+use Rattle.book.proofs.EntryLemmas.{length-with_mark}
 use Rattle.book.proofs.Kept.{taken_keeps, entered_keeps}
 use Rattle.book.proofs.Marks.{open_left, taken_left}
 
@@ -97,10 +98,10 @@ module _ {X S : Type 0} (m : StepMachine S) (same : S → S → Bool) (right : S
       record {
         law = record {
           start = (e, refl, is_start, refl);
-          origins = (λ i d at pos. absurd (let w : i < 1 = get_within (e ∷ []) i d at in omega arith));
+          origins = (λ i d at pos. absurd (let w : i < 1 = slice_get_within (e ∷ []) i d at in omega arith));
           distinct =
-              (λ i j d g at_i at_j h. let w : i < 1 = get_within (e ∷ []) i d at_i in
-              let v : j < 1 = get_within (e ∷ []) j g at_j in omega arith);
+              (λ i j d g at_i at_j h. let w : i < 1 = slice_get_within (e ∷ []) i d at_i in
+              let v : j < 1 = slice_get_within (e ∷ []) j g at_j in omega arith);
           findings = (λ i d at. subst (λ (v : Entry S). right v.state v.finding) (only e i d at) is_right);
           fit = (λ i d at. subst (λ (v : Entry S). m.Fits v.state) (only e i d at) is_fit);
           stands =

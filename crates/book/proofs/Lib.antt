@@ -27,9 +27,7 @@ pub mod Ranges
 mod InBook
 pub mod Crossing
 mod Putting
-pub mod Text
 pub mod BookFile
-mod Stopping
 mod EntryLabels
 mod OwnSteps
 mod ShownSent

@@ -4,7 +4,7 @@ use Rattle.std.proofs.Common.{None, IsSome, List, [], ◌∷◌, ◌++◌, lengt
 use Rattle.std.proofs.Common.{slice_set, get_or, subst, append-nil, ap₂, ◌==◌, ◌&&◌, eqb-true, eq-eqb}
 use Rattle.std.specs.Prelude.{IfSome, IsSomeAnd, option_and_then, slice_index}
 use Rattle.std.specs.Option.{option_or}
-use Rattle.std.proofs.lemmas.Option.{get_or_from_slice_get}
+use Rattle.std.proofs.lemmas.Option.{get_or_from_slice_get, slice_get_within}
 use Rattle.std.proofs.lemmas.Bool.{true≢false, false_from_ne_true}
 use Rattle.sched_program.specs.Program.{Program, op_at}
 use Rattle.sched_program.specs.Name.{same_name, value_at}
@@ -22,7 +22,6 @@ use Rattle.tree_machine.specs.declared.state.Thread.{Thread}
 use Rattle.tree_machine.specs.declared.state.State.{State}
 use Rattle.tree_machine.proofs.Lists.{get-append_left, map-get}
 use Rattle.tree_machine.proofs.States.{step_parts}
-use Rattle.book.proofs.EntryLemmas.{get_within}
 
 -- ---- values beside names
 abbrev pub told_at : {V : Type 0} → List (List V) → ℕ → ℕ → Option V
@@ -163,7 +162,7 @@ module _ (program : Program) (old new : History) (finished : new.finished ≡ ol
     distinct = is.distinct;
     complete = (λ a h. is.complete a (rw (← finished) h));
     in_time = (λ i j a b at_i at_j before.
-        let less : j < length order = get_within order j b at_j in
+        let less : j < length order = slice_get_within order j b at_j in
         let same : get_or order j b ≡ b = get_or_from_slice_get order j b b at_j in
         let note = begun_value b (subst (λ x. IsBegun old x) same (is.begun j b less)) in
         is.in_time i j a b at_i at_j

@@ -1,10 +1,8 @@
--- A machine that runs a program is a step machine.
-use Rattle.std.proofs.Common.{◌≡◌, ℕ, ◌+◌, ◌<◌, ◌≤◌, true, Option, Some, None, List, [], ◌∷◌, ◌++◌, length}
-use Rattle.std.proofs.Common.{refl, ap, ◌∙◌, arith, slice_get, subst}
+-- States of a machine that runs a program are known by their labels.
+use Rattle.std.proofs.Common.{◌≡◌, ℕ, ◌≤◌, true, Option, Some, None, List, [], ◌∷◌, ◌++◌, refl, ap, ◌∙◌, subst}
 use Rattle.std.specs.Cmp.{IsEquivalence}
 use Rattle.std.specs.Cmp.Lexicographic.{lists_equiv}
 use Rattle.std.proofs.lemmas.List.{append_cancel_left}
-use Rattle.std.proofs.lemmas.Option.{option_and_then_some}
 use Rattle.sched_program.specs.Laws.Exact.{nat_exact, list_exact}
 use Rattle.sched_program.specs.Program.{Program, IsWithinLimits}
 use Rattle.tree_machine.specs.Rules.{Rules, AreLawful, AreFormsExact}
@@ -13,60 +11,23 @@ use Rattle.tree_machine.specs.Flat.{number_code}
 use Rattle.tree_machine.specs.FormCode.{IsInjective, content_code, state_code}
 use Rattle.tree_machine.specs.Laws.CellOrder.{nat_equivalence}
 use Rattle.tree_machine.specs.Laws.FormCode.{content_readable}
-use Rattle.tree_machine.specs.Step.{start, step, after_access, Fits}
-use Rattle.tree_machine.specs.declared.machine.Outcome.{Outcome}
-use Rattle.tree_machine.specs.declared.machine.Outcome.TheVariants.{Goes, Replies, Astray}
-use Rattle.tree_machine.specs.declared.state.Thread.{Thread}
+use Rattle.tree_machine.specs.Step.{start, step, Fits}
 use Rattle.tree_machine.specs.declared.state.State.{State}
 use Rattle.tree_machine.proofs.Alike.{alike_step}
 use Rattle.tree_machine.proofs.Forms.{forms_alike, alike_turned}
-use Rattle.tree_machine.proofs.States.{step_parts, start_fits, step_fits}
+use Rattle.replay.specs.Laws.Machines.{is_machine}
 use Rattle.book.specs.declared.book.Merge.{Merge}
 use Rattle.book.specs.declared.book.Merge.TheVariants.{Exact, Names}
 use Rattle.book.specs.declared.entry.Mark.TheVariants.{Open}
-use Rattle.book.specs.declared.finding.Finding.{Finding}
-use Rattle.book.specs.Schedule.{StepMachine, AreOneBy, IsMachine, Merges}
+use Rattle.replay.specs.declared.finding.Finding.{Finding}
+use Rattle.replay.specs.Schedule.{StepMachine, AreOneBy, IsMachine, Merges}
 use Rattle.book.specs.Law.{FindsAlike}
-use Rattle.book.specs.Findings.{machine_of, IsFindingOf}
+use Rattle.replay.specs.Findings.{machine_of, IsFindingOf}
 use Rattle.book.specs.Labels.{label_by, same_as, same_label}
 use Rattle.book.specs.Books.{CountsAsOne, IsBook}
 use Rattle.book.proofs.Agreeing.{Agree}
-use Rattle.book.proofs.EntryLemmas.{get_within}
 use Rattle.book.proofs.LawfulBooks.{opened_book}
 use Rattle.book.proofs.StandingIn.{found_alike}
-
-module _ {Machine Memory Place Form : Type 0} (rules : Rules Memory Place) (program : Program) where
-  access_counts : (state : State Machine Memory Place Form) (t : ℕ) (thread : Thread Place)
-      (acted : Memory × Outcome Place) → (after_access state t thread acted).steps ≡ state.steps + 1
-  access_counts state t thread (memory, Goes place) = refl
-  access_counts state t thread (memory, Replies reply) = refl
-  access_counts state t thread (memory, Astray) = refl
-
-  -- a step is counted
-  pub step_counts : (state next : State Machine Memory Place Form) (t : ℕ) → step rules program state t ≡ Some next
-      → next.steps ≡ state.steps + 1
-  step_counts state next t is =
-      step_parts rules program (next.steps ≡ state.steps + 1) state next t is (λ thread there op op_is same.
-      ap (λ (s : State Machine Memory Place Form). s.steps) same ∙ access_counts state t _ _)
-
-  -- only a thread takes a step
-  step_of_thread : (state next : State Machine Memory Place Form) (t : ℕ) → step rules program state t ≡ Some next
-      → t < length program.threads
-  step_of_thread state next t is =
-      step_parts rules program (t < length program.threads) state next t is (λ thread there op op_is same.
-      option_and_then_some _ (slice_get program.threads t) op op_is
-      (λ ops at_t _. get_within program.threads t ops at_t))
-
-  pub is_machine : AreLawful rules → IsWithinLimits program
-      → IsMachine (machine_of {Machine = Machine} {Form = Form} rules program)
-  is_machine lawful limits = record {
-    from_zero = refl;
-    one_more = (λ s r t leads. step_counts s r t leads);
-    few_threads = (let few : length program.threads ≤ 4 = limits.thread_count in omega arith);
-    is_thread = (λ s r t leads. step_of_thread s r t leads);
-    start_fits = start_fits rules program (start rules program) refl lawful limits.initial;
-    step_fits = (λ s r t fits leads. step_fits rules program s fits lawful t r leads);
-  }
 
 module _ {Machine Memory Place Form : Type 0} (rules : Rules Memory Place) (program : Program) (lawful : AreLawful rules)
     (form_of : Memory → List (Option Place) → Form) (forms : AreFormsExact rules form_of)

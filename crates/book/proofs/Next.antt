@@ -3,17 +3,16 @@ use Rattle.std.proofs.Common.{◌≡◌, ◌≢◌, ℕ, ◌<◌, ◌≤◌, inl
 use Rattle.std.proofs.Common.{◌∷◌, length, refl, sym, ap, ◌∙◌, arith, slice_get, position, get_or}
 use Rattle.std.specs.List.{position_or_len}
 use Rattle.std.proofs.lemmas.Bool.{true≢false, cases_lt, lt-ltb}
-use Rattle.std.proofs.lemmas.Option.{get_or_from_slice_get}
+use Rattle.std.proofs.lemmas.Option.{get_or_from_slice_get, slice_get_within}
 use Rattle.std.proofs.lemmas.List.Quantifiers.{position-Some}
 use Rattle.std.proofs.lemmas.List.Sums.{fails_before_first}
 use Rattle.tree_machine.proofs.Lists.{get_at}
-use Rattle.book.specs.declared.finding.Finding.{Finding}
+use Rattle.replay.specs.declared.finding.Finding.{Finding}
 use Rattle.book.specs.declared.entry.Mark.{Mark}
 use Rattle.book.specs.declared.entry.Mark.TheVariants.{Open, Taken, Expanded}
-use Rattle.book.specs.Schedule.{AreOneBy, StepMachine}
+use Rattle.replay.specs.Schedule.{AreOneBy, StepMachine}
 use Rattle.book.specs.Entries.{Entry, At, IsNext, is_open, is_expanded}
 use Rattle.book.specs.Law.{IsLawful}
-use Rattle.book.proofs.EntryLemmas.{get_within}
 use Rattle.book.proofs.Marks.{expanded_from, not_expanded_from, open_passes}
 
 module _ {X : Type 0} (p : X → Bool) where
@@ -38,7 +37,7 @@ module _ {X : Type 0} (p : X → Bool) (xs : List X) where
   pub none_passes : position p xs ≡ None → (k : ℕ) (y : X) → slice_get xs k ≡ Some y → p y ≡ false
   none_passes h k y a =
       let e : get_or xs k y ≡ y = get_or_from_slice_get xs k y y a in
-      let w : k < length xs = get_within xs k y a in
+      let w : k < length xs = slice_get_within xs k y a in
       elim (cases_lt (position_or_len p xs) (length xs)) [
         | inl l ↦ absurd
             (let t : ltb (position_or_len p xs) (length xs) ≡ true = lt-ltb (position_or_len p xs) (length xs) l in

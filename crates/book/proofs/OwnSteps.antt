@@ -10,14 +10,14 @@ use Rattle.book.specs.declared.book.Entered.{Entered}
 use Rattle.book.specs.declared.book.EnterFault.{EnterFault}
 use Rattle.book.specs.declared.book.EnterFault.TheVariants.{NotTaken, Stranger, Full, OutOfMemory}
 use Rattle.book.specs.declared.book.Merge.{Merge}
-use Rattle.book.specs.declared.finding.Finding.{Finding}
+use Rattle.replay.specs.declared.finding.Finding.{Finding}
 use Rattle.book.specs.Books.{machine_in, right_in, CountsAsOne, HoldsSteps}
 use Rattle.book.specs.ByLabel.{expansion_of, AreStepsOf, ExpandedView, IsEntryOf, IsExpandedOf, RefusesEntry}
 use Rattle.book.specs.Entries.{At, Contents, Enters, Entry, IsFullFor, IsOwn, IsTaken, Refuses, Steps, Successor}
-use Rattle.book.specs.Findings.{machine_of, IsFindingOf}
+use Rattle.replay.specs.Findings.{machine_of, IsFindingOf}
 use Rattle.book.specs.Labels.{label_by, labelled, steps_of}
 use Rattle.book.specs.Law.{IsExpansion}
-use Rattle.book.specs.Schedule.{StepMachine}
+use Rattle.replay.specs.Schedule.{StepMachine}
 
 -- the steps of a state that are labelled are its steps
 steps_back : {S : Type 0} (step : S → ℕ → Option S) (s : S) (label_of : S → List ℕ) (ys : List (Successor S))

@@ -15,7 +15,7 @@ use Rattle.book.specs.Entries.{AreNew, At, Contents, Enters, Entry, IsFullFor, I
 use Rattle.book.specs.Entries.{states, with_mark}
 use Rattle.book.specs.Unknown.{knows, unknown}
 use Rattle.book.specs.Labels.{same_as, steps_of}
-use Rattle.book.specs.Schedule.{AreOneBy, StepMachine}
+use Rattle.replay.specs.Schedule.{AreOneBy, StepMachine}
 use Rattle.book.proofs.Agreeing.{Agree}
 use Rattle.book.proofs.Entering.{length_appended, entered_is, few_entered, still_taken, entered_entries, lawful_entered}
 use Rattle.book.proofs.Entering.{small_met}

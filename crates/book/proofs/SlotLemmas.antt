@@ -8,16 +8,16 @@ use Rattle.std.proofs.Math.ListN.{length-map}
 use Rattle.std.proofs.lemmas.Bool.{cases_lt}
 use Rattle.std.proofs.lemmas.List.{map-append, take-append-drop}
 use Rattle.std.proofs.lemmas.Map.Made.{is_some-lookup}
+use Rattle.std.proofs.lemmas.Option.{slice_get_within}
 use Rattle.tree_machine.proofs.Lists.{get-append_cases}
 use Rattle.indexmap.specs.IndexMap.{insert_entry, set_value_at}
 use Rattle.book.specs.declared.entry.Mark.{Mark}
 use Rattle.book.specs.declared.entry.Mark.TheVariants.{Open}
 use Rattle.book.specs.declared.entry.Origin.{Origin}
-use Rattle.book.specs.declared.finding.Finding.{Finding}
+use Rattle.replay.specs.declared.finding.Finding.{Finding}
 use Rattle.book.specs.Entries.{Entry, Successor, with_mark, opened, states}
 use Rattle.book.specs.Unknown.{knows, unknown}
 use Rattle.book.specs.Slots.{AreSteps, IsGrown, unlisted, keyed_of, entries_of, labels_of}
-use Rattle.book.proofs.EntryLemmas.{get_within}
 
 module _ {K V : Type 0} (eq : K → K → Bool) where
   -- a key that is not there goes last
@@ -141,7 +141,7 @@ module _ {S : Type 0} (step : S → ℕ → Option S) (s : S) where
   pub no_steps : (es new : List (List ℕ × Entry S)) → new ≡ es → AreSteps step s es new
   no_steps es new is i slot le at =
       let at_old : slice_get es i ≡ Some slot = ap (λ (xs : List (List ℕ × Entry S)). slice_get xs i) (sym is) ∙ at in
-      let less : i < length es = get_within es i slot at_old in
+      let less : i < length es = slice_get_within es i slot at_old in
       absurd (omega arith)
 
   pub one_step : (eq : List ℕ → List ℕ → Bool) (es new : List (List ℕ × Entry S)) (k : List ℕ) (w : Entry S)
@@ -153,7 +153,7 @@ module _ {S : Type 0} (step : S → ℕ → Option S) (s : S) where
       by : (b : Bool) → slice_get (es ++ cond b [] ((k, w) ∷ [])) i ≡ Some slot
           → (p : Origin) × (slot.1.origin ≡ Some p) × (step s p.thread ≡ Some slot.1.state)
       by b there = elim (get-append_cases es (cond b [] ((k, w) ∷ [])) i slot there) [
-        | inl old ↦ absurd (let less : i < length es = get_within es i slot old in omega arith)
+        | inl old ↦ absurd (let less : i < length es = slice_get_within es i slot old in omega arith)
         | inr r ↦ only b r.0 r.2
       ]
         where

@@ -18,14 +18,14 @@ use Rattle.sched_program.specs.declared.operation.OpId.{OpId}
 use Rattle.lin.specs.Linearization.{IsLinearization, IsLinearizable}
 use Rattle.book.specs.declared.book.Merge.{Merge}
 use Rattle.book.specs.declared.book.Merge.TheVariants.{Exact, Names}
-use Rattle.book.specs.declared.finding.Finding.{Finding}
-use Rattle.book.specs.declared.finding.Finding.TheVariants as found
+use Rattle.replay.specs.declared.finding.Finding.{Finding}
+use Rattle.replay.specs.declared.finding.Finding.TheVariants as found
 use Rattle.book.specs.Books.{CountsAsOne}
 use Rattle.book.specs.ByLabel.{IsTakenOf, TakenView}
 use Rattle.book.specs.Decoding.{IsRead, IsSource, StandsIn}
 use Rattle.book.specs.declared.successor.Successor.{Successor}
 use Rattle.book.specs.Expanding.{Puts, PutsStep}
-use Rattle.book.specs.Findings.{machine_of, IsFindingOf}
+use Rattle.replay.specs.Findings.{machine_of, IsFindingOf}
 use Rattle.book.specs.Labels.{label_by}
 use Rattle.book.proofs.ThreadSteps.{puts_next}
 

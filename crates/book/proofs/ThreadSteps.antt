@@ -6,8 +6,8 @@ use Rattle.std.specs.List.{range_with_len}
 use Rattle.std.proofs.lemmas.List.{map_push}
 use Rattle.std.proofs.lemmas.List.Elements.{filter-append}
 use Rattle.tree_machine.proofs.Lists.{get-append_cases}
-use Rattle.book.specs.declared.finding.Finding.{Finding}
-use Rattle.book.specs.Schedule.{StepMachine}
+use Rattle.replay.specs.declared.finding.Finding.{Finding}
+use Rattle.replay.specs.Schedule.{StepMachine}
 use Rattle.book.specs.Entries.{Successor}
 use Rattle.book.specs.Law.{IsExpansion}
 use Rattle.book.specs.Labels.{labelled, steps_of}

@@ -3,7 +3,7 @@ use Rattle.std.proofs.Common.{◌≡◌, ℕ, zero, suc, ◌⊎◌, inl, inr, Bo
 use Rattle.std.proofs.Common.{refl, sym, ap, ◌∙◌, slice_get}
 use Rattle.std.specs.List.{list_any}
 use Rattle.std.proofs.lemmas.Bool.{or_cases, or_parts, true≢false, cond_both}
-use Rattle.book.specs.Schedule.{StepMachine, Merges}
+use Rattle.replay.specs.Schedule.{StepMachine, Merges}
 use Rattle.book.specs.Entries.{Entry, Successor, At, states}
 use Rattle.book.specs.Unknown.{knows, unknown}
 

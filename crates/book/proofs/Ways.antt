@@ -4,14 +4,13 @@ use Rattle.std.proofs.Common.{sym, ap, ◌∙◌, arith, slice_get, subst}
 use Rattle.std.proofs.lemmas.Bool.{cases_lt}
 use Rattle.std.proofs.lemmas.List.{reverse-append, reverse-reverse}
 use Rattle.std.specs.Option.{option_and_then}
-use Rattle.std.proofs.lemmas.Option.{option_and_then_some, same_Some}
-use Rattle.book.specs.declared.finding.Finding.{Finding}
+use Rattle.std.proofs.lemmas.Option.{option_and_then_some, same_Some, slice_get_within}
+use Rattle.replay.specs.declared.finding.Finding.{Finding}
 use Rattle.book.specs.declared.entry.Origin.{Origin}
-use Rattle.book.specs.Schedule.{AreOneBy, StepMachine, IsMachine, run, after}
+use Rattle.replay.specs.Schedule.{AreOneBy, StepMachine, IsMachine, run, after}
 use Rattle.book.specs.Entries.{Entry, At}
 use Rattle.book.specs.Law.{IsLawful}
 use Rattle.book.specs.Ways.{IsWay}
-use Rattle.book.proofs.EntryLemmas.{get_within}
 
 module _ {S : Type 0} (m : StepMachine S) (machine : IsMachine m) where
   -- how many steps the state after a schedule has
@@ -67,7 +66,7 @@ module _ {S : Type 0} (m : StepMachine S) (same : S → S → Bool) (right : S �
       → (o.parent < length es) × IsWay es o.parent (reverse (noted ++ o.thread ∷ [])) id
   way_back at id noted e o there origin way =
       let made = step_of at e o there origin in
-      (get_within es o.parent made.0 made.1, rw (reverse-append noted (o.thread ∷ [])) (at, e, there, origin, way))
+      (slice_get_within es o.parent made.0 made.1, rw (reverse-append noted (o.thread ∷ [])) (at, e, there, origin, way))
 
   -- an entry that has none is the start
   no_origin : (k : ℕ) (e : Entry S) → At es k e → e.origin ≡ None → k ≡ 0

@@ -1,8 +1,3 @@
--- Book files.
-pub mod Replays
-pub mod Closing
-pub mod Places
-pub mod Kept
-pub mod Checks
+-- The text that a book writes.
 pub mod Writing
 pub mod Written

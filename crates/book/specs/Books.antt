@@ -8,9 +8,9 @@ use Rattle.tree_machine.specs.declared.state.State.{State}
 use Rattle.book.specs.declared.book.Merge.{Merge}
 use Rattle.book.specs.declared.book.Merge.TheVariants.{Exact, Names}
 use Rattle.book.specs.declared.book.Totals.{Totals}
-use Rattle.book.specs.declared.finding.Finding.{Finding}
-use Rattle.book.specs.Schedule.{AreOneBy, StepMachine, IsMachine, Merges}
-use Rattle.book.specs.Findings.{machine_of, IsFindingOf}
+use Rattle.replay.specs.declared.finding.Finding.{Finding}
+use Rattle.replay.specs.Schedule.{AreOneBy, StepMachine, IsMachine, Merges}
+use Rattle.replay.specs.Findings.{machine_of, IsFindingOf}
 use Rattle.book.specs.Entries.{Contents, Steps, is_open, is_taken, is_expanded}
 use Rattle.book.specs.Labels.{same_as}
 use Rattle.book.specs.Law.{FindsAlike, IsLawfulBook, IsExpansion}

@@ -7,14 +7,14 @@ use Rattle.tree_machine.specs.declared.state.State.{State}
 use Rattle.book.specs.Books.{CountsAsOne}
 use Rattle.book.specs.Entries.{Contents, Entry, Steps, At, IsFullFor, IsTaken}
 use Rattle.book.specs.Expanding.{PutsStep}
-use Rattle.book.specs.Findings.{machine_of, IsFindingOf}
+use Rattle.replay.specs.Findings.{machine_of, IsFindingOf}
 use Rattle.book.specs.Labels.{HoldsOfLabel, label_by, labelled, steps_of}
 use Rattle.book.specs.Law.{IsExpansion}
-use Rattle.book.specs.Schedule.{StepMachine}
+use Rattle.replay.specs.Schedule.{StepMachine}
 use Rattle.book.specs.declared.book.EnterFault.{EnterFault}
 use Rattle.book.specs.declared.book.EnterFault.TheVariants.{NotTaken, Stranger, Full, OutOfMemory}
 use Rattle.book.specs.declared.book.Merge.{Merge}
-use Rattle.book.specs.declared.finding.Finding.{Finding}
+use Rattle.replay.specs.declared.finding.Finding.{Finding}
 use Rattle.book.specs.declared.successor.Successor.{Successor}
 
 -- labelled steps are all enabled steps of a state, each with a right finding and by its label

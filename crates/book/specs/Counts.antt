@@ -1,6 +1,6 @@
 -- How many states schedules of at most n steps reach.
 use Rattle.std.specs.Prelude.{◌≡◌, ℕ, ◌<◌, Some, List, length, slice_get}
-use Rattle.book.specs.Schedule.{StepMachine, IsReachableWithin}
+use Rattle.replay.specs.Schedule.{StepMachine, IsReachableWithin}
 
 -- k states, each reached by a schedule of at most n steps: no two are the same, and each state that is so reached is
 -- the same as one of them

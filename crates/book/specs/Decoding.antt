@@ -9,10 +9,10 @@ use Rattle.tree_machine.specs.declared.state.State.{State}
 use Rattle.book.specs.declared.book.Merge.{Merge}
 use Rattle.tree_machine.specs.declared.code_offsets.CodeOffsets.{CodeOffsets}
 use Rattle.tree_machine.specs.declared.front.Front.{Front}
-use Rattle.book.specs.declared.finding.Finding.TheVariants.{Sound}
+use Rattle.replay.specs.declared.finding.Finding.TheVariants.{Sound}
 use Rattle.book.specs.Books.{CountsAsOne}
 use Rattle.book.specs.ByLabel.{HoldsOfKey, Key}
-use Rattle.book.specs.Findings.{IsFindingOf}
+use Rattle.replay.specs.Findings.{IsFindingOf}
 use Rattle.book.specs.Labels.{HoldsOfLabel, label_by}
 
 -- a state counts as one with another, so that its steps may be made in place of that one's

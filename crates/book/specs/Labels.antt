@@ -1,7 +1,7 @@
 -- The labels by which a book knows states.
 use Rattle.std.specs.Prelude.{◌≡◌, ℕ, Bool, Option, List, map, nat_eq, unwrap_or}
 use Rattle.std.specs.Cmp.Lexicographic.{pointwise}
-use Rattle.tree_machine.specs.FormCode.{label_code, named_code}
+use Rattle.tree_machine.specs.FormCode.{label_code}
 use Rattle.sched_program.specs.Program.{Program}
 use Rattle.tree_machine.specs.Rules.{Rules}
 use Rattle.tree_machine.specs.Step.{Fits}
@@ -12,11 +12,6 @@ use Rattle.tree_machine.specs.declared.naming.Naming.TheVariants.{Own, Canonical
 use Rattle.book.specs.declared.book.Merge.{Merge}
 use Rattle.book.specs.declared.book.Merge.TheVariants.{Exact, Names}
 use Rattle.book.specs.declared.successor.Successor.{Successor}
-
--- the code of a state by names, given the bytes of forms and what the machine's form is
-abbrev pub named_by : {Machine Memory Place Form : Type 0} → (Form → List ℕ) → (Memory → List (Option Place) → Form)
-    → State Machine Memory Place Form → List ℕ
-named_by form_code form_of state = named_code form_code form_of state
 
 -- the numbers by which labels name nodes and records
 abbrev pub naming_of : Merge → Naming

@@ -1,10 +1,10 @@
 -- When a book is lawful.
 use Rattle.std.specs.Prelude.{◌≡◌, ◌≢◌, ℕ, ◌+◌, ◌<◌, ◌≤◌, Some, None, List, length, map, slice_get, sum_by}
 use Rattle.std.specs.Prelude.{if◌then◌else◌}
-use Rattle.book.specs.declared.finding.Finding.{Finding}
+use Rattle.replay.specs.declared.finding.Finding.{Finding}
 use Rattle.book.specs.declared.entry.Mark.TheVariants.{Taken, Expanded}
 use Rattle.book.specs.declared.entry.Origin.{Origin}
-use Rattle.book.specs.Schedule.{StepMachine, enabled_threads, run}
+use Rattle.replay.specs.Schedule.{StepMachine, enabled_threads, run}
 use Rattle.book.specs.Entries.{Entry, Successor, Contents, At, is_expanded}
 use Rattle.book.specs.Layers.{IsExpandedBelow}
 

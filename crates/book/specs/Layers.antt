@@ -2,7 +2,7 @@
 use Rattle.std.specs.Prelude.{◌≡◌, ◌≢◌, ℕ, ◌+◌, ◌<◌, ◌≤◌, ◌⊎◌, true, List}
 use Rattle.book.specs.declared.entry.Mark.TheVariants.{Taken, Expanded}
 use Rattle.book.specs.Entries.{Entry, At}
-use Rattle.book.specs.Findings.{is_sound}
+use Rattle.replay.specs.Findings.{is_sound}
 
 -- each entry of at most n steps is expanded
 abbrev pub IsExpandedTo : {S : Type 0} → (S → ℕ) → List (Entry S) → ℕ → Type 0

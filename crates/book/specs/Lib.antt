@@ -1,5 +1,3 @@
-pub mod Schedule
-pub mod Findings
 pub mod Entries
 pub mod Unknown
 pub mod Ways
@@ -10,13 +8,9 @@ pub mod Law
 pub mod Layers
 pub mod Counts
 pub mod Closed
-pub mod Correct
 pub mod Books
 pub mod ByLabel
 pub mod Decoding
 pub mod Packed
-pub mod Replay
 pub mod Slots
-pub mod Text
-pub mod StoredNames
 pub mod BookFile

@@ -6,7 +6,7 @@ use Rattle.std.specs.declared.sync.Arc.{Arc}
 use Rattle.book.specs.declared.entry.Origin.{Origin}
 use Rattle.book.specs.declared.entry.Mark.TheVariants.{Open, Expanded}
 use Rattle.book.specs.Entries.{Entry, At}
-use Rattle.book.specs.Findings.{is_sound}
+use Rattle.replay.specs.Findings.{is_sound}
 
 module _ {K V : Type 0} (eq : K → K → Bool) where
   -- the pairs, in order, whose keys are neither known nor those of earlier ones

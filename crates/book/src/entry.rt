@@ -1,10 +1,10 @@
 //! An entry, packed.
 ghost use Rattle.std.specs.Prelude.{◌≡◌, ◌<◌, IfSome};
-ghost use Rattle.book.specs.Findings.{is_sound};
+ghost use Rattle.replay.specs.Findings.{is_sound};
 ghost use Rattle.book.specs.Entries.{is_open, is_taken, is_expanded};
 
-use crate::finding::Finding;
 use crate::shown::Shown;
+use replay::Finding;
 use std::marker::Model;
 
 /// How far an entry is worked on.

@@ -3,11 +3,11 @@
 ghost use Rattle.std.specs.Prelude.{◌≡◌, IfOk, IfSome, length};
 
 use crate::book::Merge;
-use crate::finding::Finding;
 use crate::in_place::steps_here;
 use crate::label::Label;
 use crate::scratch::Scratch;
 use crate::successor::Successor;
+use replay::Finding;
 use sched_program::{OutOfMemory, Program};
 use std::alloc::Global;
 use std::marker::Model;

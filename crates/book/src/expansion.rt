@@ -5,13 +5,13 @@ ghost use Rattle.tree_machine.specs.FormCode.{state_code};
 ghost use Rattle.tree_machine.specs.Step.{Fits};
 ghost use Rattle.book.specs.Books.{HoldsSteps};
 ghost use Rattle.book.specs.Expanding.{PutsStep};
-ghost use Rattle.book.specs.Findings.{machine_of, IsFindingOf};
+ghost use Rattle.replay.specs.Findings.{machine_of, IsFindingOf};
 ghost use Rattle.book.specs.Labels.{label_by, labelled};
 
 use crate::book::Merge;
-use crate::finding::find;
 use crate::label::Label;
 use crate::successor::{Successor, label};
+use replay::find;
 use sched_program::{OutOfMemory, Program, same};
 use std::alloc::Global;
 use std::marker::Model;

@@ -4,12 +4,12 @@ ghost use Rattle.book.specs.Decoding.{IsSource};
 ghost use Rattle.book.specs.ByLabel.{IsExpandedOf, PutsStepOf};
 
 use crate::expanding::TakenEntry;
-use crate::finding::Finding;
 use crate::label::Label;
 use crate::lending::find_here;
 use crate::scratch::Scratch;
 use crate::successor::Successor;
 use lin::Order;
+use replay::Finding;
 use sched_program::OutOfMemory;
 use std::alloc::Global;
 use std::snapshot::Snapshot;

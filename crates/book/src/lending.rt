@@ -6,11 +6,11 @@ ghost use Rattle.tree_machine.specs.Step.{Fits, step};
 ghost use Rattle.tree_machine.specs.Undoing.{TakesBack};
 ghost use Rattle.tree_machine.specs.declared.state.State.{State};
 ghost use Rattle.tree_machine.specs.declared.state.Thread.{Thread as Standing};
-ghost use Rattle.book.specs.declared.finding.Finding.TheVariants.{Sound};
-ghost use Rattle.book.specs.Findings.{IsFindingOf};
+ghost use Rattle.replay.specs.declared.finding.Finding.TheVariants.{Sound};
+ghost use Rattle.replay.specs.Findings.{IsFindingOf};
 
-use crate::finding::{Finding, fault_in, judged};
 use lin::{Order, order_with_reply};
+use replay::{Finding, fault_in, judged};
 use sched_program::{OpId, OutOfMemory, Program};
 use std::alloc::Global;
 use tree_machine::{Encode, ShortNote, State, StepOrigin, Thread};

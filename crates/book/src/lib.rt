@@ -1,5 +1,5 @@
-//! The book of the states of a bounded exploration, each with the step that reached it and its finding; the text of a
-//! closed book and the check of any such text; and the replay of a schedule.
+//! The book of the states of a bounded exploration, each with the step that reached it and its finding; and the text of
+//! a closed book.
 #![tactic(auto)]
 
 mod book;
@@ -7,31 +7,25 @@ mod decoding;
 mod entry;
 mod expanding;
 mod expansion;
-mod file;
-mod finding;
 mod in_place;
 mod label;
 mod lending;
 mod placing;
 mod recycled;
-mod replayed;
-mod replaying;
 mod rows;
 mod scratch;
 mod shown;
 mod slots;
 mod successor;
 mod table;
+mod writing;
 
 pub use crate::book::{Book, EnterFault, Entered, Merge, Totals};
 pub use crate::entry::{Mark, Origin};
 pub use crate::expanding::{ExpandedEntry, TakenEntry};
 pub use crate::expansion::Expansion;
-pub use crate::file::{CheckFault, check_book};
-pub use crate::finding::Finding;
 pub use crate::recycled::Recycled;
-pub use crate::replayed::{Replay, ReplayFault};
-pub use crate::replaying::replay;
 pub use crate::scratch::Scratch;
 pub use crate::successor::Successor;
 pub use lin::{Order, ShortName};
+pub use replay::{CheckFault, Finding, Replay, ReplayFault, check_book, replay};

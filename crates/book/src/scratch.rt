@@ -8,8 +8,8 @@ use sched_program::{OutOfMemory, Program};
 use std::alloc::Global;
 use tree_machine::{Encode, EncodeBuffer, State, Undo};
 
-/// What one worker makes expansions in, or a check the steps of entries: a state to decode others
-/// into, a buffer for labels, what takes steps back, and lists to reuse.
+/// What one worker makes expansions in: a state to decode others into, a buffer for labels, what takes
+/// steps back, and lists to reuse.
 #[derive(Drop)]
 pub struct Scratch<M: Encode> {
     pub(crate) buffer: EncodeBuffer,

@@ -3,7 +3,7 @@
 //! A book is held in a box: dropping it takes one call, and not one for each of its lists, which
 //! keeps the proofs short.
 ghost use Rattle.std.specs.Prelude.{◌≡◌, ◌+◌, ◌^◌, ◌<◌, ◌≤◌, IfOk};
-ghost use Rattle.book.specs.Findings.{IsFindingOf};
+ghost use Rattle.replay.specs.Findings.{IsFindingOf};
 ghost use Rattle.tree_machine.specs.Step.{Fits};
 
 use book::{Book, EnterFault, Entered, Expansion, Merge, Replay, ReplayFault, replay};

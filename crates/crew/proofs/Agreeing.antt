@@ -1,8 +1,8 @@
 -- An answer that is due by one relation is due by another that holds of the same states of the machine.
 use Rattle.std.proofs.Common.{ℕ, ◌+◌, length}
-use Rattle.book.specs.declared.finding.Finding.{Finding}
+use Rattle.replay.specs.declared.finding.Finding.{Finding}
 use Rattle.book.specs.declared.book.Merge.{Merge}
-use Rattle.book.specs.Schedule.{StepMachine, IsMachine}
+use Rattle.replay.specs.Schedule.{StepMachine, IsMachine}
 use Rattle.book.proofs.Agreeing.{Agree, count_as, turned}
 use Rattle.crew.specs.declared.answer.Answer.{Answer}
 use Rattle.crew.specs.declared.answer.Answer.TheVariants as answer

@@ -2,15 +2,15 @@
 use Rattle.std.proofs.Common.{◌≡◌, ℕ, ◌+◌, ◌<◌, ◌≤◌, inl, inr, Bool, true, Some, None, List, length, refl, arith}
 use Rattle.std.proofs.lemmas.Bool.{cases_lt}
 use Rattle.book.specs.declared.successor.Successor.{Successor}
-use Rattle.book.specs.declared.finding.Finding.{Finding}
-use Rattle.book.specs.Schedule.{AreOneBy, StepMachine, IsMachine, Merges, after}
+use Rattle.replay.specs.declared.finding.Finding.{Finding}
+use Rattle.replay.specs.Schedule.{AreOneBy, StepMachine, IsMachine, Merges, after}
 use Rattle.book.specs.Entries.{Entry, Contents, At, states}
 use Rattle.book.specs.Unknown.{unknown}
 use Rattle.book.specs.declared.entry.Mark.TheVariants.{Taken}
 use Rattle.book.specs.Law.{IsExpansion, IsLawfulBook}
 use Rattle.book.specs.Layers.{IsExpandedBelow}
 use Rattle.book.specs.Counts.{IsCount}
-use Rattle.book.specs.Findings.{is_sound, IsSound}
+use Rattle.replay.specs.Findings.{is_sound, IsSound}
 use Rattle.crew.specs.Due.{IsAbove, IsFirstAbove}
 use Rattle.crew.specs.Faults.{LeadsToFault, IsLeastFault}
 use Rattle.crew.specs.Reading.{first_fault, IsLastLayer}

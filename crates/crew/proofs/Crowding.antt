@@ -2,7 +2,7 @@
 use Rattle.std.proofs.Common.{◌≡◌, ◌≢◌, ℕ, zero, suc, ◌+◌, ◌<◌, ◌≤◌, inl, inr, Bool, true, Some, None, List, [], ◌∷◌}
 use Rattle.std.proofs.Common.{length, refl, ap, ◌∙◌, arith, slice_get}
 use Rattle.std.proofs.lemmas.Bool.{cases_eq}
-use Rattle.book.specs.Schedule.{AreOneBy, StepMachine, Merges}
+use Rattle.replay.specs.Schedule.{AreOneBy, StepMachine, Merges}
 use Rattle.book.specs.Counts.{IsCount, IsMoreThan}
 
 -- the list without its element i

@@ -5,8 +5,8 @@ use Rattle.std.proofs.lemmas.Bool.{cases_Bool, true≢false}
 use Rattle.tree_machine.proofs.Lists.{get-append_cases}
 use Rattle.book.specs.declared.successor.Successor.{Successor}
 use Rattle.book.specs.declared.entry.Mark.TheVariants.{Expanded}
-use Rattle.book.specs.declared.finding.Finding.{Finding}
-use Rattle.book.specs.Schedule.{AreOneBy, StepMachine, IsDecided}
+use Rattle.replay.specs.declared.finding.Finding.{Finding}
+use Rattle.replay.specs.Schedule.{AreOneBy, StepMachine, IsDecided}
 use Rattle.book.specs.Entries.{AreNew, Contents, Enters, IsFullFor, Knows, Steps, opened, states, with_mark}
 use Rattle.book.specs.Law.{IsExpansion, IsLawfulBook}
 use Rattle.book.specs.Unknown.{knows, unknown, with_successors}

@@ -4,9 +4,9 @@ use Rattle.std.proofs.Common.{slice_get, count_by, length-append}
 use Rattle.std.proofs.Math.ListN.{length-map}
 use Rattle.std.proofs.lemmas.Bool.{cases_lt}
 use Rattle.book.specs.declared.successor.Successor.{Successor}
-use Rattle.book.specs.declared.finding.Finding.{Finding}
+use Rattle.replay.specs.declared.finding.Finding.{Finding}
 use Rattle.book.specs.declared.entry.Mark.TheVariants.{Open, Taken, Expanded}
-use Rattle.book.specs.Schedule.{AreOneBy, StepMachine, IsMachine, Merges}
+use Rattle.replay.specs.Schedule.{AreOneBy, StepMachine, IsMachine, Merges}
 use Rattle.book.specs.Entries.{Entry, Contents, IsFullFor, Takes, is_expanded, with_mark}
 use Rattle.book.specs.Unknown.{with_successors, unknown}
 use Rattle.book.specs.Entries.{opened, states}

@@ -6,8 +6,8 @@ use Rattle.std.proofs.lemmas.Option.{option_and_then_some}
 use Rattle.sched_program.specs.Program.{Program}
 use Rattle.tree_machine.specs.Rules.{Rules}
 use Rattle.tree_machine.specs.declared.state.State.{State}
-use Rattle.book.specs.Schedule.{StepMachine, after, run}
-use Rattle.book.specs.Findings.{machine_of}
+use Rattle.replay.specs.Schedule.{StepMachine, after, run}
+use Rattle.replay.specs.Findings.{machine_of}
 use Rattle.book.specs.declared.book.Merge.{Merge}
 use Rattle.book.specs.Entries.{Contents}
 use Rattle.book.specs.Books.{machine_in}

@@ -2,11 +2,11 @@
 use Rattle.std.proofs.Common.{◌≡◌, ℕ, suc, Bool, true, false, cond, Some, List, [], ◌∷◌, ◌++◌, length, map, refl, sym}
 use Rattle.std.proofs.Common.{ap, ◌∙◌, slice_get, subst}
 use Rattle.book.specs.declared.successor.Successor.{Successor}
-use Rattle.book.specs.declared.finding.Finding.{Finding}
+use Rattle.replay.specs.declared.finding.Finding.{Finding}
 use Rattle.tree_machine.specs.Rules.{Rules}
 use Rattle.tree_machine.specs.declared.state.State.{State}
-use Rattle.book.specs.Schedule.{StepMachine}
-use Rattle.book.specs.Findings.{machine_of, IsFindingOf}
+use Rattle.replay.specs.Schedule.{StepMachine}
+use Rattle.replay.specs.Findings.{machine_of, IsFindingOf}
 use Rattle.sched_program.specs.Program.{Program}
 use Rattle.book.specs.Entries.{At, Contents, Entry, IsOwn, Steps}
 use Rattle.book.specs.Unknown.{knows, unknown}

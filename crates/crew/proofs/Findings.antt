@@ -4,10 +4,10 @@ use Rattle.std.proofs.lemmas.Bool.{true≢false}
 use Rattle.sched_program.specs.Program.{Program}
 use Rattle.tree_machine.specs.Rules.{Rules}
 use Rattle.tree_machine.specs.declared.state.State.{State}
-use Rattle.book.specs.declared.finding.Finding.{Finding}
-use Rattle.book.specs.declared.finding.Finding.TheVariants.{Astray, Order, History, Sound}
-use Rattle.book.specs.Findings.{is_sound, IsSound, IsFindingOf}
-use Rattle.book.specs.Correct.{IsCorrect}
+use Rattle.replay.specs.declared.finding.Finding.{Finding}
+use Rattle.replay.specs.declared.finding.Finding.TheVariants.{Astray, Order, History, Sound}
+use Rattle.replay.specs.Findings.{is_sound, IsSound, IsFindingOf}
+use Rattle.replay.specs.Correct.{IsCorrect}
 
 module _ {Machine Memory Place Form : Type 0} (rules : Rules Memory Place) (program : Program) where
   -- a state that some right finding shows sound is correct

@@ -4,20 +4,22 @@ use Rattle.std.proofs.Common.{sym, ap, ◌∙◌, arith, subst, slice_get, lengt
 use Rattle.std.proofs.Math.ListN.{length-map}
 use Rattle.std.proofs.lemmas.List.{length_push}
 use Rattle.std.proofs.lemmas.List.Sums.{count_by-le-length}
+use Rattle.std.proofs.lemmas.Option.{slice_get_within}
 use Rattle.tree_machine.proofs.Lists.{get-append_cases}
 use Rattle.book.specs.declared.successor.Successor.{Successor}
-use Rattle.book.specs.declared.finding.Finding.{Finding}
+use Rattle.replay.specs.declared.finding.Finding.{Finding}
 use Rattle.book.specs.declared.entry.Mark.{Mark}
 use Rattle.book.specs.declared.entry.Mark.TheVariants.{Open, Taken, Expanded}
-use Rattle.book.specs.Schedule.{AreOneBy, StepMachine, IsMachine, Merges, IsReachableWithin}
+use Rattle.replay.specs.Schedule.{AreOneBy, StepMachine, IsMachine, Merges, IsReachableWithin}
 use Rattle.book.specs.Entries.{Entry, At, with_mark, opened, states}
 use Rattle.book.specs.Unknown.{with_successors, unknown}
 use Rattle.book.specs.Law.{IsLawful, IsExpansion}
 use Rattle.book.specs.Layers.{IsShallow, IsExpandedBelow}
 use Rattle.book.specs.Counts.{IsCount, IsMoreThan}
-use Rattle.book.proofs.EntryLemmas.{at-with_mark, get_within}
+use Rattle.book.proofs.EntryLemmas.{at-with_mark}
 use Rattle.book.proofs.Unknown.{at-states, unknown_is}
-use Rattle.book.proofs.Counts.{recorded, run_push, count_is, count_to_is}
+use Rattle.replay.specs.Laws.Schedules.{run_push}
+use Rattle.book.proofs.Counts.{recorded, count_is, count_to_is}
 use Rattle.book.proofs.Ways.{steps_after}
 use Rattle.crew.specs.Reading.{IsFresh}
 use Rattle.crew.proofs.Crowding.{count_above}
@@ -144,4 +146,4 @@ module _ {S : Type 0} (m : StepMachine S) (same : S → S → Bool) (right : S �
       → IsCount m (AreOneBy same) n (length es)
   count_all n done shallow =
       count_is m same right machine merges es law n (length es) done (omega arith)
-      (λ i e at _. shallow i e at) (λ i e at _. get_within es i e at) (λ s c leads. steps_after m machine c s leads)
+      (λ i e at _. shallow i e at) (λ i e at _. slice_get_within es i e at) (λ s c leads. steps_after m machine c s leads)

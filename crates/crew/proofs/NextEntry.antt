@@ -3,7 +3,7 @@ use Rattle.std.proofs.Common.{◌≡◌, ℕ, ◌+◌, ◌^◌, ◌<◌, ◌≤�
 use Rattle.std.proofs.lemmas.List.Sums.{count_by-le-length}
 use Rattle.tree_machine.specs.Rules.{Rules}
 use Rattle.tree_machine.specs.declared.state.State.{State}
-use Rattle.book.specs.Schedule.{AreOneBy, IsDecided, IsMachine}
+use Rattle.replay.specs.Schedule.{AreOneBy, IsDecided, IsMachine}
 use Rattle.book.specs.Entries.{Entry, Contents, Steps, Takes, Enters, IsFullFor, IsTaken, IsOwn, is_expanded, states}
 use Rattle.book.specs.Unknown.{unknown, with_successors}
 use Rattle.book.specs.Law.{IsLawfulBook, IsExpansion}

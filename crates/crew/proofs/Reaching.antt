@@ -7,12 +7,12 @@ use Rattle.std.proofs.lemmas.List.{length_push}
 use Rattle.std.proofs.lemmas.Option.{option_and_then_some}
 use Rattle.tree_machine.proofs.Lists.{get-append_cases, get-append_left, get-append_right}
 use Rattle.book.specs.declared.successor.Successor.{Successor}
-use Rattle.book.specs.declared.finding.Finding.TheVariants.{Astray}
-use Rattle.book.specs.Schedule.{AreOneBy, StepMachine, IsMachine, Merges, run, after}
+use Rattle.replay.specs.declared.finding.Finding.TheVariants.{Astray}
+use Rattle.replay.specs.Schedule.{AreOneBy, StepMachine, IsMachine, Merges, run, after}
 use Rattle.book.specs.Unknown.{unknown}
 use Rattle.book.specs.Counts.{IsCount, IsMoreThan}
 use Rattle.book.proofs.Unknown.{unknown_is, unknown_apart, known_or_kept, list_any-true, list_any-false}
-use Rattle.book.proofs.Counts.{run_push}
+use Rattle.replay.specs.Laws.Schedules.{run_push}
 use Rattle.book.proofs.Ways.{fits_after}
 use Rattle.crew.specs.Due.{IsAbove}
 use Rattle.crew.proofs.Crowding.{count_above}

@@ -6,14 +6,14 @@ use Rattle.std.specs.Global.{Vec}
 use Rattle.tree_machine.specs.Rules.{Rules}
 use Rattle.tree_machine.specs.declared.state.State.{State}
 use Rattle.book.specs.declared.successor.Successor.{Successor}
-use Rattle.book.specs.declared.finding.Finding.{Finding}
+use Rattle.replay.specs.declared.finding.Finding.{Finding}
 use Rattle.book.specs.Books.{CountsAsOne, IsLawfulIn, machine_in, right_in}
 use Rattle.book.specs.Closed.{IsClosed}
 use Rattle.book.specs.Entries.{At, Contents, Enters, Entry, IsFullFor, Steps, states}
 use Rattle.book.specs.Unknown.{unknown}
-use Rattle.book.specs.Findings.{IsSound, is_sound}
+use Rattle.replay.specs.Findings.{IsSound, is_sound}
 use Rattle.book.specs.Law.{FindsAlike, IsExpansion, IsLawfulBook}
-use Rattle.book.specs.Schedule.{AreOneBy, IsDecided, IsMachine, Merges, after}
+use Rattle.replay.specs.Schedule.{AreOneBy, IsDecided, IsMachine, Merges, after}
 use Rattle.book.proofs.Agreeing.{Agree, book_back, count_as, turned}
 use Rattle.book.proofs.Growth.{few_steps}
 use Rattle.crew.specs.Faults.{LeadsToFault}

@@ -4,9 +4,9 @@ use Rattle.sched_program.specs.Program.{Program}
 use Rattle.tree_machine.specs.Rules.{Rules}
 use Rattle.tree_machine.specs.declared.state.State.{State}
 use Rattle.book.specs.declared.book.Totals.{Totals}
-use Rattle.book.specs.Schedule.{AreOneBy, IsDecided, IsMachine}
+use Rattle.replay.specs.Schedule.{AreOneBy, IsDecided, IsMachine}
 use Rattle.book.specs.Entries.{Contents}
-use Rattle.book.specs.Findings.{machine_of, IsFindingOf}
+use Rattle.replay.specs.Findings.{machine_of, IsFindingOf}
 use Rattle.book.specs.Books.{CountsAsOne, machine_in, right_in, totals_of}
 use Rattle.book.proofs.Agreeing.{turned}
 use Rattle.crew.specs.declared.answer.Answer.{Answer}

@@ -1,14 +1,15 @@
 -- A book in which nothing is left, by its numbers of states.
 use Rattle.std.proofs.Common.{◌≡◌, ℕ, ◌+◌, ◌≤◌, Bool, true, None, List, length, count_by, leb, arith}
 use Rattle.std.proofs.lemmas.Bool.{leb-true}
-use Rattle.book.specs.declared.finding.Finding.{Finding}
-use Rattle.book.specs.Schedule.{AreOneBy, StepMachine, IsMachine, Merges}
+use Rattle.replay.specs.declared.finding.Finding.{Finding}
+use Rattle.replay.specs.Schedule.{AreOneBy, StepMachine, IsMachine, Merges}
 use Rattle.book.specs.Entries.{Entry}
 use Rattle.book.specs.Law.{IsLawful}
 use Rattle.book.specs.Layers.{IsExpandedBelow, IsShallow}
 use Rattle.book.specs.Counts.{IsCount}
-use Rattle.book.specs.Findings.{IsSound}
-use Rattle.book.specs.Closed.{IsWorkedOut, HoldsForEvery}
+use Rattle.replay.specs.Findings.{IsSound}
+use Rattle.replay.specs.Closed.{HoldsForEvery}
+use Rattle.book.specs.Closed.{IsWorkedOut}
 use Rattle.book.proofs.Closed.{closed_holds}
 use Rattle.book.proofs.Counts.{count_to_is}
 use Rattle.book.proofs.Ways.{steps_after}

@@ -3,14 +3,14 @@ use Rattle.std.proofs.Common.{◌≡◌, ◌≢◌, ℕ, ◌+◌, ◌<◌, ◌�
 use Rattle.std.proofs.Common.{List, length, refl, sym, ap, ◌∙◌, arith, slice_get}
 use Rattle.std.proofs.lemmas.Bool.{true≢false, cases_lt, not-false, not-true}
 use Rattle.std.specs.Option.{option_map}
-use Rattle.book.specs.declared.finding.Finding.{Finding}
+use Rattle.replay.specs.declared.finding.Finding.{Finding}
 use Rattle.book.specs.declared.entry.Mark.{Mark}
 use Rattle.book.specs.declared.entry.Mark.TheVariants.{Open, Taken, Expanded}
-use Rattle.book.specs.Schedule.{AreOneBy, StepMachine, IsMachine, Merges, after}
+use Rattle.replay.specs.Schedule.{AreOneBy, StepMachine, IsMachine, Merges, after}
 use Rattle.book.specs.Entries.{Entry, At}
 use Rattle.book.specs.Law.{IsLawful}
 use Rattle.book.specs.Layers.{IsExpandedBelow}
-use Rattle.book.specs.Findings.{is_sound, IsSound}
+use Rattle.replay.specs.Findings.{is_sound, IsSound}
 use Rattle.book.proofs.Coverage.{stands_after}
 use Rattle.book.proofs.Next.{first_passes, none_passes}
 use Rattle.book.proofs.Ways.{fits_after, steps_after}

@@ -1,9 +1,9 @@
 -- One verdict is due.
 use Rattle.std.proofs.Common.{◌≡◌, ℕ, ◌+◌, ◌<◌, ◌≤◌, Bool, inl, inr, length, sym, ◌∙◌, arith, subst}
 use Rattle.std.proofs.lemmas.Bool.{cases_lt}
-use Rattle.book.specs.declared.finding.Finding.{Finding}
+use Rattle.replay.specs.declared.finding.Finding.{Finding}
 use Rattle.book.specs.declared.book.Merge.{Merge}
-use Rattle.book.specs.Schedule.{AreOneBy, StepMachine, Merges}
+use Rattle.replay.specs.Schedule.{AreOneBy, StepMachine, Merges}
 use Rattle.book.specs.Counts.{IsCount}
 use Rattle.crew.specs.declared.answer.Answer.{Answer}
 use Rattle.crew.specs.declared.answer.Answer.TheVariants as answer

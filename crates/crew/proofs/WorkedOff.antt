@@ -1,7 +1,7 @@
 -- Where the layers are worked off, the last one is at hand.
 use Rattle.std.proofs.Common.{◌≡◌, ℕ, zero, suc, ◌≤◌, inl, inr, false, List, sym, ◌∙◌, arith, subst}
 use Rattle.std.proofs.lemmas.Bool.{true≢false, cases_lt}
-use Rattle.book.specs.Findings.{is_sound}
+use Rattle.replay.specs.Findings.{is_sound}
 use Rattle.book.specs.Entries.{Entry, At}
 use Rattle.book.specs.declared.book.Merge.{Merge}
 use Rattle.book.specs.declared.book.Merge.TheVariants.{Names}

@@ -1,9 +1,9 @@
 -- The due answer.
 use Rattle.std.specs.Prelude.{◌≡◌, ℕ, ◌+◌, ◌<◌, ◌≤◌, length}
-use Rattle.book.specs.declared.finding.Finding.{Finding}
+use Rattle.replay.specs.declared.finding.Finding.{Finding}
 use Rattle.book.specs.declared.book.Merge.{Merge}
 use Rattle.book.specs.declared.book.Merge.TheVariants.{Names}
-use Rattle.book.specs.Schedule.{StepMachine}
+use Rattle.replay.specs.Schedule.{StepMachine}
 use Rattle.book.specs.Counts.{IsCount}
 use Rattle.crew.specs.declared.answer.Answer.{Answer}
 use Rattle.crew.specs.declared.answer.Answer.TheVariants as answer

@@ -1,8 +1,8 @@
 -- Schedules that reach a fault.
 use Rattle.std.specs.Prelude.{◌≡◌, ℕ, ◌≤◌, false, Some, List, length}
-use Rattle.book.specs.declared.finding.Finding.{Finding}
-use Rattle.book.specs.Findings.{is_sound}
-use Rattle.book.specs.Schedule.{StepMachine, after}
+use Rattle.replay.specs.declared.finding.Finding.{Finding}
+use Rattle.replay.specs.Findings.{is_sound}
+use Rattle.replay.specs.Schedule.{StepMachine, after}
 
 module _ {S : Type 0} (m : StepMachine S) (right : S → Finding → Type 0) where
   -- the schedule reaches a state, and the finding is right for it and is a fault

@@ -3,10 +3,10 @@ use Rattle.std.specs.Prelude.{◌≡◌, ◌≢◌, ℕ, ◌+◌, ◌<◌, ◌�
 use Rattle.tree_machine.specs.Rules.{Rules}
 use Rattle.tree_machine.specs.declared.state.State.{State}
 use Rattle.book.specs.declared.successor.Successor.{Successor}
-use Rattle.book.specs.declared.finding.Finding.{Finding}
+use Rattle.replay.specs.declared.finding.Finding.{Finding}
 use Rattle.book.specs.declared.entry.Mark.TheVariants.{Taken, Expanded}
-use Rattle.book.specs.Schedule.{StepMachine, after}
-use Rattle.book.specs.Findings.{is_sound}
+use Rattle.replay.specs.Schedule.{StepMachine, after}
+use Rattle.replay.specs.Findings.{is_sound}
 use Rattle.book.specs.Entries.{Entry, Contents, At, IsFullFor}
 use Rattle.book.specs.Books.{CountsAsOne, machine_in, right_in}
 use Rattle.book.specs.Law.{IsExpansion}

@@ -6,7 +6,7 @@ use Rattle.tree_machine.specs.declared.state.State.{State}
 use Rattle.book.specs.declared.book.Totals.{Totals}
 use Rattle.book.specs.Entries.{Contents}
 use Rattle.book.specs.Books.{CountsAsOne, totals_of}
-use Rattle.book.specs.Findings.{machine_of, IsFindingOf}
+use Rattle.replay.specs.Findings.{machine_of, IsFindingOf}
 use Rattle.crew.specs.declared.answer.Answer.{Answer}
 use Rattle.crew.specs.declared.answer.Share.{Share}
 use Rattle.crew.specs.Due.{IsDue, IsSameVerdict}

@@ -2,7 +2,7 @@
 //! not give the answer.
 ghost use Rattle.std.specs.Prelude.{◌≡◌, ℕ, ◌+◌, ◌<◌, IfOk, IfSome, length};
 ghost use Rattle.book.specs.Books.{machine_in, totals_of, CountsAsOne};
-ghost use Rattle.book.specs.Findings.{machine_of, IsFindingOf};
+ghost use Rattle.replay.specs.Findings.{machine_of, IsFindingOf};
 ghost use Rattle.crew.specs.declared.answer.Answer.{Answer};
 ghost use Rattle.crew.specs.Due.{IsDue, IsSameVerdict};
 ghost use Rattle.crew.specs.Headline.{IsTrueOf};

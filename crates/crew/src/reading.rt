@@ -5,8 +5,8 @@ ghost use Rattle.book.specs.Books.{machine_in};
 ghost use Rattle.tree_machine.specs.Step.{Fits};
 ghost use Rattle.tree_machine.specs.declared.state.State.{State};
 ghost use Rattle.book.specs.Entries.{At, Entry};
-ghost use Rattle.book.specs.Schedule.{after};
-ghost use Rattle.book.specs.Findings.{is_sound};
+ghost use Rattle.replay.specs.Schedule.{after};
+ghost use Rattle.replay.specs.Findings.{is_sound};
 ghost use Rattle.book.specs.Layers.{IsExpandedBelow};
 ghost use Rattle.crew.specs.Reading.{first_fault, IsAtRest, IsCutIn, IsFullIn, IsLastLayer, IsReadOff, IsWorkedOff};
 

@@ -4,12 +4,12 @@ use Rattle.std.specs.Prelude.{IfOk}
 use Rattle.std.proofs.lemmas.Result.{IfOk-weaker}
 use Rattle.sched_program.specs.Program.{Program}
 use Rattle.tree_machine.specs.Rules.{Rules}
-use Rattle.book.specs.BookFile.Checks.{IsRefusedFor}
+use Rattle.replay.specs.BookFile.Checks.{IsRefusedFor}
 use Rattle.book.specs.Closed.{AreSound, IsClosed}
 use Rattle.book.specs.Entries.{Contents}
-use Rattle.book.specs.Schedule.{StepMachine}
-use Rattle.book.specs.declared.file.fault.CheckFault.{CheckFault}
-use Rattle.book.specs.declared.file.fault.CheckFault.TheVariants as check_fault
+use Rattle.replay.specs.Schedule.{StepMachine}
+use Rattle.replay.specs.declared.file.fault.CheckFault.{CheckFault}
+use Rattle.replay.specs.declared.file.fault.CheckFault.TheVariants as check_fault
 use Rattle.book.proofs.BookFile.Writable.{all_sound}
 use Rattle.crew.specs.Reading.{TellsClosed, TellsFirst}
 use Rattle.crew.specs.declared.answer.Answer.{Answer}

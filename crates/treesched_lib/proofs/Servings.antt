@@ -4,16 +4,16 @@ use Rattle.std.proofs.Common.{subst, arith, refl, sym, ap, inl, inr, ◌⊎◌}
 use Rattle.std.specs.Prelude.{IsSome}
 use Rattle.std.proofs.lemmas.Bool.Decides.{nat_tests}
 use Rattle.std.proofs.lemmas.List.{take_all}
-use Rattle.book.specs.Replay.{StopsAt}
-use Rattle.book.specs.Schedule.{StepMachine, after}
-use Rattle.book.specs.declared.replayed.ReplayFault.TheVariants.{NotEnabled}
+use Rattle.replay.specs.Replay.{StopsAt}
+use Rattle.replay.specs.Schedule.{StepMachine, after}
+use Rattle.replay.specs.declared.replayed.ReplayFault.TheVariants.{NotEnabled}
 use Rattle.std.specs.Prelude.{IfOk, Result, ◌-◌, get_or}
 use Rattle.std.proofs.lemmas.Option.{slice_get-get_or}
 use Rattle.std.proofs.lemmas.Result.{IfOk-weaker}
 use Rattle.sched_program.specs.Program.{Program}
 use Rattle.tree_machine.specs.Rules.{Rules}
-use Rattle.book.specs.Findings.{machine_of}
-use Rattle.book.specs.declared.replayed.ReplayFault.{ReplayFault}
+use Rattle.replay.specs.Findings.{machine_of}
+use Rattle.replay.specs.declared.replayed.ReplayFault.{ReplayFault}
 use Rattle.treesched_lib.specs.Lines.{IsRefusal, no_step_text}
 use Rattle.treesched_lib.specs.Serving.{IsAnswerTo, IsKept, IsReplayed, IsServedBySome, IsStuck}
 use Rattle.clap.specs.Walk.{Text}

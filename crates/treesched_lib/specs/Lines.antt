@@ -12,11 +12,11 @@ use Rattle.sched_program.specs.declared.operation.OpId.{OpId}
 use Rattle.sched_program.specs.History.{History, reply}
 use Rattle.sched_program.specs.Program.{Program, op_at}
 use Rattle.std.specs.Option.{option_map_or}
-use Rattle.book.specs.declared.finding.Finding.{Finding}
-use Rattle.book.specs.declared.finding.Finding.TheVariants as finding
+use Rattle.replay.specs.declared.finding.Finding.{Finding}
+use Rattle.replay.specs.declared.finding.Finding.TheVariants as finding
 use Rattle.book.specs.declared.book.Totals.{Totals}
-use Rattle.book.specs.declared.file.fault.CheckFault.{CheckFault}
-use Rattle.book.specs.declared.file.fault.CheckFault.TheVariants as check_fault
+use Rattle.replay.specs.declared.file.fault.CheckFault.{CheckFault}
+use Rattle.replay.specs.declared.file.fault.CheckFault.TheVariants as check_fault
 use Rattle.crew.specs.declared.answer.Answer.{Answer}
 use Rattle.crew.specs.declared.answer.Answer.TheVariants as answer
 use Rattle.crew.specs.declared.answer.Share.{Share}

@@ -24,17 +24,17 @@ use Rattle.tree_machine.specs.declared.atomic.AtomicForm.{AtomicForm}
 use Rattle.tree_machine.specs.declared.state.State.{State}
 use Rattle.book.specs.Books.{CountsAsOne, totals_of}
 use Rattle.book.specs.Entries.{Contents, Entry}
-use Rattle.book.specs.Findings.{IsFindingOf, is_sound, machine_of}
-use Rattle.book.specs.Replay.{StopsAt}
-use Rattle.book.specs.Schedule.{after}
+use Rattle.replay.specs.Findings.{IsFindingOf, is_sound, machine_of}
+use Rattle.replay.specs.Replay.{StopsAt}
+use Rattle.replay.specs.Schedule.{after}
 use Rattle.book.specs.Law.{IsLawfulBook}
-use Rattle.book.specs.BookFile.Checks.{IsRefusedFor, PassAs}
+use Rattle.replay.specs.BookFile.Checks.{IsRefusedFor, PassAs}
 use Rattle.book.specs.BookFile.Written.{IsFileOf}
-use Rattle.book.specs.Correct.{HoldsAlways}
-use Rattle.book.specs.declared.file.fault.CheckFault.{CheckFault}
-use Rattle.book.specs.declared.file.fault.CheckFault.TheVariants as check_fault
-use Rattle.book.specs.declared.finding.Finding.{Finding}
-use Rattle.book.specs.declared.replayed.ReplayFault.TheVariants as replay_fault
+use Rattle.replay.specs.Correct.{HoldsAlways}
+use Rattle.replay.specs.declared.file.fault.CheckFault.{CheckFault}
+use Rattle.replay.specs.declared.file.fault.CheckFault.TheVariants as check_fault
+use Rattle.replay.specs.declared.finding.Finding.{Finding}
+use Rattle.replay.specs.declared.replayed.ReplayFault.TheVariants as replay_fault
 use Rattle.crew.specs.Due.{IsDue}
 use Rattle.crew.specs.Headline.{IsTrueOf}
 use Rattle.crew.specs.Ledger.{ledger}

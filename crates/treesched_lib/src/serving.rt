@@ -5,7 +5,7 @@ ghost use Rattle.std.specs.String.{string_bytes};
 ghost use Rattle.tree_machine.specs.History.{history_of};
 ghost use Rattle.tree_machine.specs.Step.{Fits};
 ghost use Rattle.book.specs.Closed.{AreSound, IsClosed};
-ghost use Rattle.book.specs.Findings.{is_sound};
+ghost use Rattle.replay.specs.Findings.{is_sound};
 ghost use Rattle.treesched_lib.specs.Devices.{LeavesBehind};
 ghost use Rattle.treesched_lib.specs.Lines as lines;
 ghost use Rattle.treesched_lib.specs.Serving.{IsAnswered, IsAnsweredBy, IsAsked, IsBookDue, IsBookRead};

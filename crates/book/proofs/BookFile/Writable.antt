@@ -5,7 +5,7 @@ use Rattle.std.specs.Prelude.{IfSome}
 use Rattle.std.proofs.lemmas.Bool.{true≢false, not-false}
 use Rattle.std.proofs.lemmas.List.{length-take-le, take_more}
 use Rattle.std.proofs.lemmas.List.Elements.{All-nil, All-cons, All-push}
-use Rattle.std.proofs.lemmas.Option.{get_or_from_slice_get}
+use Rattle.std.proofs.lemmas.Option.{get_or_from_slice_get, slice_get_within}
 use Rattle.std.proofs.lemmas.Slice.Zip.{AllZip-long}
 use Rattle.indexmap.proofs.SetLemmas.{AllZip-push}
 use Rattle.sched_program.specs.declared.operation.OpId.{OpId}
@@ -19,20 +19,19 @@ use Rattle.tree_machine.specs.declared.state.State.{State}
 use Rattle.lin.specs.Keys.{Keys, reply_on, keys_after}
 use Rattle.lin.specs.Linearization.{GivesReplies}
 use Rattle.lin.proofs.Lists.{IsSomeAnd-value}
-use Rattle.book.specs.declared.file.line.Line.{Line}
-use Rattle.book.specs.Text.Files.{ended, start_text, IsName, IsBookText}
-use Rattle.book.specs.Text.Written.{head_text, IsProper}
-use Rattle.book.proofs.Text.Printing.{text_of, book_text, is_written, written_push, written_start}
-use Rattle.book.specs.declared.finding.Finding.{Finding}
-use Rattle.book.specs.declared.finding.Finding.TheVariants as found
+use Rattle.replay.specs.declared.file.line.Line.{Line}
+use Rattle.replay.specs.Text.Files.{ended, start_text, IsName, IsBookText}
+use Rattle.replay.specs.Text.Written.{head_text, IsProper}
+use Rattle.replay.proofs.Text.Printing.{text_of, book_text, is_written, written_push, written_start}
+use Rattle.replay.specs.declared.finding.Finding.{Finding}
+use Rattle.replay.specs.declared.finding.Finding.TheVariants as found
 use Rattle.book.specs.Closed.{AreSound}
 use Rattle.book.specs.Entries.{Entry, At}
-use Rattle.book.specs.Findings.{machine_of, IsFindingOf, is_sound}
+use Rattle.replay.specs.Findings.{machine_of, IsFindingOf, is_sound}
 use Rattle.book.specs.Law.{IsLawful}
-use Rattle.book.specs.Schedule.{AreOneBy, IsMachine}
+use Rattle.replay.specs.Schedule.{AreOneBy, IsMachine}
 use Rattle.book.specs.BookFile.Writing.{FindsOrder, IsLineOf, AreLinesOf}
 use Rattle.book.specs.BookFile.Written.{AreWritable, IsFileOf}
-use Rattle.book.proofs.EntryLemmas.{get_within}
 use Rattle.book.proofs.Next.{first_passes, none_passes}
 
 -- the operations of an order that gives replies have small names
@@ -69,7 +68,7 @@ module _ {Machine Memory Place Form : Type 0} (rules : Rules Memory Place) (prog
       let from = law.origins i e at some in
       let thread : from.origin.thread < length program.threads =
       machine.is_thread from.parent.state e.state from.origin.thread from.step in
-      let within : i < length es = get_within es i e at in
+      let within : i < length es = slice_get_within es i e at in
       let threads : length program.threads ≤ 4 = limits.thread_count in
       let earlier : from.origin.parent < i = from.earlier in
       let named = found_names e.state e.finding (law.findings i e at) (sound i e at) in (
@@ -106,7 +105,7 @@ pub written_next : {S : Type 0} (count : ℕ) (es : List (Entry S)) (i : ℕ) (e
     → more ≡ text ++ ended (text_of line ∷ []) → HasWritten count (take i es) text
     → HasWritten count (take (i + 1) es) more
 written_next {S} count es i e line text more at some is proper added so =
-    let within : i < length es = get_within es i e at in
+    let within : i < length es = slice_get_within es i e at in
     let longer : take (i + 1) es ≡ take i es ++ e ∷ [] =
     take_more es i e within ∙ ap (λ x. take i es ++ x ∷ []) (get_or_from_slice_get es i e e at) in
     let taken : length (take i es) ≡ i = length-take-le i es (omega arith) in

@@ -17,21 +17,22 @@ use Rattle.tree_machine.specs.declared.state.State.{State}
 use Rattle.lin.specs.Linearization.{IsLinearization}
 use Rattle.tree_machine.proofs.Lists.{get-append_left, get-append_right, get_at}
 use Rattle.book.specs.declared.entry.Origin.{Origin}
-use Rattle.book.specs.declared.finding.Finding.{Finding}
-use Rattle.book.specs.declared.finding.Finding.TheVariants as found
+use Rattle.replay.specs.declared.finding.Finding.{Finding}
+use Rattle.replay.specs.declared.finding.Finding.TheVariants as found
 use Rattle.book.specs.Entries.{Entry, Contents, At, states}
 use Rattle.book.specs.Law.{IsLawful}
-use Rattle.book.specs.Findings.{machine_of, IsFindingOf, is_sound, IsSound}
-use Rattle.book.specs.Schedule.{AreOneBy, IsMachine, Merges}
+use Rattle.replay.specs.Findings.{machine_of, IsFindingOf, is_sound, IsSound}
+use Rattle.replay.specs.Schedule.{AreOneBy, IsMachine, Merges}
 use Rattle.book.proofs.Closed.{worked_out_closed}
-use Rattle.book.specs.Closed.{AreClosed, IsWorkedOut, IsClosed, AreSound}
+use Rattle.replay.specs.Closed.{AreClosed}
+use Rattle.book.specs.Closed.{IsWorkedOut, IsClosed, AreSound}
 use Rattle.book.specs.Books.{CountsAsOne, machine_in, right_in, IsLawfulIn}
 use Rattle.book.specs.declared.book.Merge.{Merge}
 use Rattle.book.proofs.Agreeing.{Agree, book_back}
 use Rattle.book.proofs.Unknown.{states-at}
-use Rattle.book.specs.declared.file.line.Line.{Line}
-use Rattle.book.specs.BookFile.Replays.{IsWell, IsShown, Tells, Continues}
-use Rattle.book.specs.BookFile.Checks.{Pass}
+use Rattle.replay.specs.declared.file.line.Line.{Line}
+use Rattle.replay.specs.BookFile.Replays.{IsWell, IsShown, Tells, Continues}
+use Rattle.replay.specs.BookFile.Checks.{Pass}
 use Rattle.book.specs.BookFile.Writing.{FindsOrder, IsLineOf, AreLinesOf}
 
 -- nothing began in threads that began nothing

@@ -3,10 +3,10 @@ use Rattle.std.specs.Prelude.{◌≡◌, List, [], ◌∷◌, Option, Some}
 use Rattle.std.specs.List.{AllZip}
 use Rattle.sched_program.specs.declared.operation.OpId.{OpId}
 use Rattle.book.specs.declared.entry.Origin.{Origin}
-use Rattle.book.specs.declared.finding.Finding.{Finding}
-use Rattle.book.specs.declared.finding.Finding.TheVariants as found
+use Rattle.replay.specs.declared.finding.Finding.{Finding}
+use Rattle.replay.specs.declared.finding.Finding.TheVariants as found
 use Rattle.book.specs.Entries.{Entry}
-use Rattle.book.specs.declared.file.line.Line.{Line}
+use Rattle.replay.specs.declared.file.line.Line.{Line}
 
 -- the finding is sound, with this linearization
 abbrev pub FindsOrder : Finding → List OpId → Type 0

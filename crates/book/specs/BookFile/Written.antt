@@ -1,8 +1,8 @@
 -- The text that a book writes.
 use Rattle.std.specs.Prelude.{ℕ, ◌<◌, List}
-use Rattle.book.specs.declared.file.line.Line.{Line}
-use Rattle.book.specs.Text.Files.{IsBookText}
-use Rattle.book.specs.Text.Written.{IsProper}
+use Rattle.replay.specs.declared.file.line.Line.{Line}
+use Rattle.replay.specs.Text.Files.{IsBookText}
+use Rattle.replay.specs.Text.Written.{IsProper}
 use Rattle.book.specs.Entries.{Entry, At}
 use Rattle.book.specs.BookFile.Writing.{IsLineOf, AreLinesOf}
 

@@ -4,19 +4,20 @@ ghost use Rattle.std.specs.Prelude.{None, not, position, true, false, count_by, 
 ghost use Rattle.std.specs.Option.{option_copied, option_map};
 ghost use Rattle.tree_machine.specs.declared.state.State.{State};
 ghost use Rattle.book.specs.Entries.{Entry, At};
-ghost use Rattle.book.specs.Findings.{is_sound};
+ghost use Rattle.replay.specs.Findings.{is_sound};
 ghost use Rattle.book.specs.Books.{machine_in, right_in, totals_of, CountsAsOne};
 ghost use Rattle.book.specs.Counts.{IsCount};
 ghost use Rattle.book.specs.Layers.{IsExpandedTo, IsExpandedBelow, IsLeftTo};
-ghost use Rattle.book.specs.BookFile.Checks.{PassAs};
+ghost use Rattle.replay.specs.BookFile.Checks.{PassAs};
 ghost use Rattle.book.specs.BookFile.Written.{IsFileOf};
-ghost use Rattle.book.specs.Closed.{AreSound, HoldsForEvery, IsClosed};
-ghost use Rattle.book.specs.Schedule.{after};
+ghost use Rattle.replay.specs.Closed.{HoldsForEvery};
+ghost use Rattle.book.specs.Closed.{AreSound, IsClosed};
+ghost use Rattle.replay.specs.Schedule.{after};
 ghost use Rattle.book.specs.Ways.{IsWay};
 
 use crate::book::{Book, Merge, Totals};
-use crate::file::write_entries;
-use crate::finding::Finding;
+use crate::writing::write_entries;
+use replay::Finding;
 use sched_program::{OutOfMemory, Program};
 use std::alloc::Global;
 use tree_machine::Encode;

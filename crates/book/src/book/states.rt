@@ -6,7 +6,7 @@ ghost use Rattle.book.specs.Entries.{Entry, At};
 ghost use Rattle.book.specs.Slots.{AreStatesOf};
 
 use crate::book::Book;
-use crate::replaying::state_after;
+use replay::state_after;
 use sched_program::OutOfMemory;
 use std::sync::Arc;
 use tree_machine::{Encode, State};

@@ -1,6 +1,6 @@
 -- The step is appended as the state that it reaches, with its finding.
 use Rattle.std.proofs.Common.{ap, Err, refl, ◌∙◌}
-use Rattle.book.specs.Findings.{machine_of, IsFindingOf}
+use Rattle.replay.specs.Findings.{machine_of, IsFindingOf}
 use Rattle.book.proofs.ThreadSteps.{puts_next}
 use Rattle.book.proofs.expansion.put_step.Goals as goal
 

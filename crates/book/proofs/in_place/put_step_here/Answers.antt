@@ -1,7 +1,7 @@
 -- The step appended for the decoded state is right for each state with the label, and the decoded state is what it was.
 use Rattle.std.proofs.Common.{ap, refl, Err, sym, ◌∙◌}
 use Rattle.tree_machine.proofs.Forms.{numbers_fit}
-use Rattle.book.specs.Findings.{IsFindingOf}
+use Rattle.replay.specs.Findings.{IsFindingOf}
 use Rattle.book.specs.Labels.{label_by}
 use Rattle.book.proofs.Lent.{found_or}
 use Rattle.book.proofs.StandingIn.{puts_none, puts_twin}

@@ -1,6 +1,6 @@
 -- The steps are appended thread by thread, and after each the state is what it was.
 use Rattle.std.proofs.Common.{◌≡◌, ◌≤◌, length, ap, refl, subst, arith, ◌∙◌}
-use Rattle.book.specs.Findings.{machine_of, IsFindingOf}
+use Rattle.replay.specs.Findings.{machine_of, IsFindingOf}
 use Rattle.book.specs.ByLabel.{label_in}
 use Rattle.book.proofs.ThreadSteps.{IsFrontBy, front_by_none, front_by_put, steps_from_front}
 use Rattle.book.proofs.in_place.steps_here.Goals as goal

@@ -1,7 +1,7 @@
 use Rattle.std.proofs.Common.{◌≡◌, ◌≤◌}
 use Rattle.std.specs.Prelude.{vec_len, vec_capacity}
 use Rattle.tree_machine.specs.declared.state.State.{State}
-use Rattle.book.specs.Findings.{machine_of, IsFindingOf}
+use Rattle.replay.specs.Findings.{machine_of, IsFindingOf}
 use Rattle.book.specs.ByLabel.{HoldsOfKey, label_in}
 use Rattle.book.proofs.ThreadSteps.{IsFrontBy}
 use Rattle.book.proofs.in_place.steps_here.Given as goal

@@ -1,8 +1,8 @@
 use Rattle.std.proofs.Common.{◌≡◌, ◌<◌, ◌≤◌, length, true, not, sym, ap, ◌∙◌, arith}
+use Rattle.std.proofs.lemmas.Option.{slice_get_within}
 use Rattle.book.specs.Entries.{Entry}
-use Rattle.book.specs.Findings.{is_sound}
+use Rattle.replay.specs.Findings.{is_sound}
 use Rattle.book.specs.Slots.{entries_of}
-use Rattle.book.proofs.EntryLemmas.{get_within}
 use Rattle.book.proofs.SlotLemmas.{length-entries}
 use Rattle.book.proofs.Cursors.{first_is, none_is, below_next}
 use Rattle.book.proofs.table.first_fault_from.Goals as goal
@@ -29,5 +29,5 @@ returns g c =
     sym (none_is (λ (e : Entry g.row.S.Denot). not (is_sound e.finding)) (entries_of c.args.slots.now.entries)
     (λ k y there. ap not
     (c.loop-index.invariant k y there
-    (let w : k < length (entries_of c.args.slots.now.entries) = get_within (entries_of c.args.slots.now.entries) k y
+    (let w : k < length (entries_of c.args.slots.now.entries) = slice_get_within (entries_of c.args.slots.now.entries) k y
     there in omega arith))))

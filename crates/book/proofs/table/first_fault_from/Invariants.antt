@@ -1,6 +1,6 @@
 use Rattle.std.proofs.Common.{◌≡◌, ℕ, ◌<◌, true}
 use Rattle.book.specs.Entries.{Entry, At}
-use Rattle.book.specs.Findings.{is_sound}
+use Rattle.replay.specs.Findings.{is_sound}
 use Rattle.book.specs.Slots.{entries_of}
 use Rattle.book.proofs.table.first_fault_from.Given as goal
 

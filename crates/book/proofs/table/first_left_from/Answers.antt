@@ -1,8 +1,8 @@
 use Rattle.std.proofs.Common.{◌≡◌, ◌<◌, ◌≤◌, length, sym, ◌∙◌, arith}
+use Rattle.std.proofs.lemmas.Option.{slice_get_within}
 use Rattle.book.specs.declared.entry.Mark.TheVariants.{Expanded}
 use Rattle.book.specs.Entries.{Entry}
 use Rattle.book.specs.Slots.{entries_of}
-use Rattle.book.proofs.EntryLemmas.{get_within}
 use Rattle.book.proofs.SlotLemmas.{length-entries}
 use Rattle.book.proofs.Cursors.{below_next}
 use Rattle.book.proofs.Marks.{expanded_by}
@@ -24,7 +24,7 @@ returns g c =
     record {
       expanded = (λ i e at less. c.loop-index.invariant i e at (omega arith));
       stops = (λ e at. absurd
-          (let w : c.len.result < length (entries_of c.args.slots.now.entries) = get_within
+          (let w : c.len.result < length (entries_of c.args.slots.now.entries) = slice_get_within
           (entries_of c.args.slots.now.entries) c.len.result e at in omega arith));
       within = omega arith;
     }

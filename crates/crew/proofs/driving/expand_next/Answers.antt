@@ -1,6 +1,6 @@
 use Rattle.std.proofs.Common.{◌∙◌}
 use Rattle.book.specs.Books.{machine_in, right_in}
-use Rattle.book.specs.Schedule.{AreOneBy}
+use Rattle.replay.specs.Schedule.{AreOneBy}
 use Rattle.book.proofs.Agreeing.{book_back}
 use Rattle.book.proofs.Growth.{one_is_next}
 use Rattle.crew.proofs.NextEntry.{IsNext, there_it_is, its_own, ledger_of_refused, cut_of_full, one_more, in_layer}

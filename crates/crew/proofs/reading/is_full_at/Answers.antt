@@ -1,8 +1,8 @@
 use Rattle.std.proofs.Common.{sym}
 use Rattle.tree_machine.specs.Step.{Fits}
-use Rattle.book.specs.Findings.{machine_of}
-use Rattle.book.specs.Replay.{StopsAt}
-use Rattle.book.specs.declared.replayed.ReplayFault.TheVariants.{NotEnabled}
+use Rattle.replay.specs.Findings.{machine_of}
+use Rattle.replay.specs.Replay.{StopsAt}
+use Rattle.replay.specs.declared.replayed.ReplayFault.TheVariants.{NotEnabled}
 use Rattle.crew.proofs.Ends.{given_own, no_stop, same_end}
 use Rattle.crew.proofs.reading.is_full_at.Goals as goal
 

@@ -1,5 +1,5 @@
 use Rattle.std.proofs.Common.{◌≡◌, ◌<◌, ◌∙◌, sym, ap, arith}
-use Rattle.book.specs.Schedule.{after}
+use Rattle.replay.specs.Schedule.{after}
 use Rattle.book.specs.Books.{machine_in}
 use Rattle.crew.proofs.ReadOff.{stopped_read_off}
 use Rattle.crew.proofs.reading.read_stopped.Goals as goal

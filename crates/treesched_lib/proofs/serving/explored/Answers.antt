@@ -1,7 +1,7 @@
 use Rattle.std.proofs.Common.{◌∙◌, ap, refl, subst, sym}
 use Rattle.std.proofs.lemmas.Result.{IfOk-weaker}
 use Rattle.book.specs.Books.{CountsAsOne}
-use Rattle.book.specs.Findings.{machine_of, IsFindingOf}
+use Rattle.replay.specs.Findings.{machine_of, IsFindingOf}
 use Rattle.book.specs.Law.{IsLawfulBook}
 use Rattle.book.specs.declared.book.Totals.{Totals}
 use Rattle.crew.specs.Due.{IsDue}

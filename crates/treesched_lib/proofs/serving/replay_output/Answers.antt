@@ -3,7 +3,7 @@ use Rattle.std.specs.Prelude.{if◌then◌else◌}
 use Rattle.std.specs.String.{string_bytes}
 use Rattle.sched_program.specs.History.{History}
 use Rattle.tree_machine.specs.History.{history_of}
-use Rattle.book.specs.Findings.{is_sound}
+use Rattle.replay.specs.Findings.{is_sound}
 use Rattle.treesched_lib.specs.Lines.{operations_text, verdict_text}
 use Rattle.treesched_lib.proofs.Ledgers.{as_page, both_on_empty}
 use Rattle.treesched_lib.proofs.serving.replay_output.Goals as goal

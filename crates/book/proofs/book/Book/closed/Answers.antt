@@ -3,7 +3,7 @@ use Rattle.std.specs.Prelude.{◌↔◌, IsTrue}
 use Rattle.std.proofs.lemmas.Bool.{true≢false}
 use Rattle.book.specs.declared.book.Merge.TheVariants.{Names}
 use Rattle.book.specs.Books.{machine_in, right_in}
-use Rattle.book.specs.Schedule.{AreOneBy}
+use Rattle.replay.specs.Schedule.{AreOneBy}
 use Rattle.book.proofs.Agreeing.{book_back}
 use Rattle.book.proofs.Closed.{worked_out, left_out, closed_holds}
 use Rattle.book.proofs.book.Book.closed.Goals as goal

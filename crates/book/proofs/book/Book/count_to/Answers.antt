@@ -4,7 +4,7 @@ use Rattle.book.specs.Books.{machine_in, right_in, CountsAsOne}
 use Rattle.book.specs.Entries.{Entry}
 use Rattle.std.proofs.lemmas.Bool.{le-leb}
 use Rattle.book.specs.Counts.{IsCount}
-use Rattle.book.specs.Schedule.{AreOneBy}
+use Rattle.replay.specs.Schedule.{AreOneBy}
 use Rattle.book.proofs.Agreeing.{book_back, count_as}
 use Rattle.book.proofs.Counts.{count_to_is, count_upto, gt-leb}
 use Rattle.book.proofs.Ways.{steps_after}

@@ -1,17 +1,17 @@
 use Rattle.std.proofs.Common.{◌≡◌, ap, refl, sym, ◌∙◌}
+use Rattle.std.proofs.lemmas.Option.{slice_get_within}
 use Rattle.tree_machine.specs.FormCode.{state_code}
 use Rattle.tree_machine.specs.Laws.Codes.{state_code_tells, whole_tells}
 use Rattle.tree_machine.specs.declared.state.State.{State}
 use Rattle.book.specs.Entries.{Contents}
 use Rattle.book.proofs.Entering.{own_from}
 use Rattle.book.proofs.EntryLabels.{exact_label}
-use Rattle.book.proofs.EntryLemmas.{get_within}
 use Rattle.book.proofs.book.Book.is_expansion_of.Goals as goal
 
 pub label-requires : goal.label-requires
 label-requires g c =
     let taken = rw (← c.self.view_is) at c.requires in
-    get_within c.self.inside.table.entries c.args.id taken.0 taken.1
+    slice_get_within c.self.inside.table.entries c.args.id taken.0 taken.1
 
 pub returns-in-Exact-clause-answer : goal.returns-in-Exact-clause-answer
 returns-in-Exact-clause-answer g c =

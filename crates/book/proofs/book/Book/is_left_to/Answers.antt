@@ -1,6 +1,6 @@
 use Rattle.std.proofs.Common.{sym, ◌∙◌}
 use Rattle.std.proofs.lemmas.Bool.{leb-false, leb-true}
-use Rattle.book.proofs.EntryLemmas.{get_within}
+use Rattle.std.proofs.lemmas.Option.{slice_get_within}
 use Rattle.book.proofs.Left.{first_is_left}
 use Rattle.book.proofs.InBook.{all_expanded_to, left_to, none_left_to}
 use Rattle.book.proofs.book.Book.is_left_to.Goals as goal
@@ -8,7 +8,7 @@ use Rattle.book.proofs.book.Book.is_left_to.Goals as goal
 pub steps_to-requires-after_bounds : goal.steps_to-requires-after_bounds
 steps_to-requires-after_bounds g c κs within =
     let here = first_is_left c.self.inside.table.entries c.in-Some.first (sym c.first_left.ensures ∙ c.in-Some.is) in
-    rw (← c.self.view_is) (get_within c.self.inside.table.entries c.in-Some.first here.0 here.1)
+    rw (← c.self.view_is) (slice_get_within c.self.inside.table.entries c.in-Some.first here.0 here.1)
 
 pub returns-in-None-clause-none : goal.returns-in-None-clause-none
 returns-in-None-clause-none g c =

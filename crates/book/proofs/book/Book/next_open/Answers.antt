@@ -1,5 +1,5 @@
 use Rattle.std.proofs.Common.{sym, ◌∙◌}
-use Rattle.book.proofs.EntryLemmas.{get_within}
+use Rattle.std.proofs.lemmas.Option.{slice_get_within}
 use Rattle.book.proofs.Left.{first_is_left, open_is_left}
 use Rattle.book.proofs.InBook.{none_of_expanded, none_of_open, open_is_later, open_is_next}
 use Rattle.book.proofs.book.Book.next_open.Goals as goal
@@ -8,13 +8,13 @@ pub steps_to-requires-after_bounds : goal.steps_to-requires-after_bounds
 steps_to-requires-after_bounds g c κs within =
     let here =
     open_is_left c.self.inside.table.entries c.in_ok-open.open (sym c.first_open.ensures.first ∙ c.in_ok-open.was) in
-    rw (← c.self.view_is) (get_within c.self.inside.table.entries c.in_ok-open.open here.0 here.1)
+    rw (← c.self.view_is) (slice_get_within c.self.inside.table.entries c.in_ok-open.open here.0 here.1)
 
 pub steps_to-requires-2-after_bounds : goal.steps_to-requires-2-after_bounds
 steps_to-requires-2-after_bounds g c κs within =
     let here =
     first_is_left c.self.inside.table.entries c.in_ok-first.first (sym c.first_left.ensures ∙ c.in_ok-first.was) in
-    rw (← c.self.view_is) (get_within c.self.inside.table.entries c.in_ok-first.first here.0 here.1)
+    rw (← c.self.view_is) (slice_get_within c.self.inside.table.entries c.in_ok-first.first here.0 here.1)
 
 pub returns-in_err-first-clause-none : goal.returns-in_err-first-clause-none
 returns-in_err-first-clause-none g c =

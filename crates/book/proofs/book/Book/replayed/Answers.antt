@@ -1,7 +1,7 @@
 use Rattle.std.proofs.Common.{◌≡◌, Some, ap, refl, sym, ◌∙◌}
 use Rattle.std.proofs.lemmas.Result.{IfOk-weaker}
-use Rattle.book.specs.Findings.{machine_of}
-use Rattle.book.specs.Schedule.{after}
+use Rattle.replay.specs.Findings.{machine_of}
+use Rattle.replay.specs.Schedule.{after}
 use Rattle.book.proofs.book.Book.replayed.Goals as goal
 
 pub state_after-requires-clause-leads : goal.state_after-requires-clause-leads

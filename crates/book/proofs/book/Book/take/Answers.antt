@@ -1,7 +1,7 @@
 use Rattle.std.proofs.Common.{refl}
+use Rattle.std.proofs.lemmas.Option.{slice_get_within}
 use Rattle.book.specs.declared.entry.Mark.TheVariants.{Taken}
 use Rattle.book.specs.Labels.{label_by}
-use Rattle.book.proofs.EntryLemmas.{get_within}
 use Rattle.book.proofs.Left.{open_is_left}
 use Rattle.book.proofs.InBook.{next_taken, taken_one}
 use Rattle.book.proofs.Labels.{known_mark}
@@ -10,7 +10,7 @@ use Rattle.book.proofs.book.Book.take.Goals as goal
 pub state_of-requires-after_bounds : goal.state_of-requires-after_bounds
 state_of-requires-after_bounds g c κs within =
     let here = open_is_left c.args.self.now.entries c.in-Some.id c.in-Some.ensures.open in
-    get_within c.args.self.now.entries c.in-Some.id here.0 here.1
+    slice_get_within c.args.self.now.entries c.in-Some.id here.0 here.1
 
 pub invariant_of-self : goal.invariant_of-self
 invariant_of-self g c =

@@ -1,11 +1,11 @@
 use Rattle.std.specs.List.{range_with_len}
 use Rattle.std.proofs.Common.{◌≡◌, ◌-◌, ◌<◌, ap, arith, inl, inr, position, ◌∙◌}
 use Rattle.std.proofs.lemmas.Bool.{cases_lt}
+use Rattle.std.proofs.lemmas.Option.{slice_get_within}
 use Rattle.tree_machine.specs.declared.state.State.{State}
 use Rattle.book.specs.declared.entry.Mark.TheVariants.{Taken}
 use Rattle.book.specs.Entries.{Contents, Entry, is_open}
 use Rattle.book.specs.Labels.{label_by}
-use Rattle.book.proofs.EntryLemmas.{get_within}
 use Rattle.book.proofs.Left.{open_is_left}
 use Rattle.book.proofs.InBook.{layer_taken, range_given}
 use Rattle.book.proofs.Labels.{known_marks}
@@ -14,7 +14,7 @@ use Rattle.book.proofs.book.Book.take_range.Goals as goal
 pub steps_to-requires-after_bounds : goal.steps_to-requires-after_bounds
 steps_to-requires-after_bounds g c κs within =
     let here = open_is_left c.args.self.now.entries c.in-Some.start c.in-Some.ensures.open in
-    get_within c.args.self.now.entries c.in-Some.start here.0 here.1
+    slice_get_within c.args.self.now.entries c.in-Some.start here.0 here.1
 
 pub invariant_of-self : goal.invariant_of-self
 invariant_of-self g c =

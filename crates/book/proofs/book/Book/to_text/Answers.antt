@@ -1,12 +1,12 @@
 use Rattle.std.proofs.Common.{◌<◌, ◌≤◌, ◌∙◌, arith, length, sym, ap, subst, List}
+use Rattle.std.proofs.lemmas.Option.{slice_get_within}
 use Rattle.tree_machine.specs.declared.state.State.{State}
 use Rattle.book.specs.Books.{machine_in, right_in}
 use Rattle.book.specs.BookFile.Written.{AreWritable, IsFileOf}
 use Rattle.book.specs.Closed.{AreSound}
 use Rattle.book.specs.Entries.{Contents, Entry}
-use Rattle.book.specs.Schedule.{AreOneBy}
+use Rattle.replay.specs.Schedule.{AreOneBy}
 use Rattle.book.proofs.Agreeing.{book_back}
-use Rattle.book.proofs.EntryLemmas.{get_within}
 use Rattle.book.proofs.BookFile.Writable.{all_sound, one_unsound, writable, lines_count}
 use Rattle.book.proofs.BookFile.Written.{written_pass}
 use Rattle.book.proofs.book.Book.to_text.Goals as goal
@@ -61,6 +61,6 @@ returns-clause-passes g c =
     ready.0 ready.1 is.lines is.of_entries in
     let some : 1
     ≤ length b.entries =
-    (let within : 0 < length b.entries = get_within b.entries 0 law.law.law.start.0 law.law.law.start.1 in
+    (let within : 0 < length b.entries = slice_get_within b.entries 0 law.law.law.start.0 law.law.law.start.1 in
     omega arith) in
     (is.lines, is.whole, pass, lines_count b.entries is.lines some is.of_entries)

@@ -1,6 +1,6 @@
 -- The steps are put thread by thread.
 use Rattle.std.proofs.Common.{◌≡◌, ◌≤◌, length, ap, subst, arith}
-use Rattle.book.specs.Findings.{machine_of, IsFindingOf}
+use Rattle.replay.specs.Findings.{machine_of, IsFindingOf}
 use Rattle.book.proofs.ThreadSteps.{IsFront, front_none, front_put, expansion_from_front}
 use Rattle.book.proofs.expansion.Expansion.of.Goals as goal
 

@@ -1,6 +1,6 @@
 use Rattle.std.proofs.Common.{◌≤◌}
 use Rattle.std.specs.Prelude.{vec_len, vec_capacity}
-use Rattle.book.specs.Findings.{machine_of, IsFindingOf}
+use Rattle.replay.specs.Findings.{machine_of, IsFindingOf}
 use Rattle.book.proofs.ThreadSteps.{IsFront}
 use Rattle.book.proofs.expansion.Expansion.of.Given as goal
 

@@ -4,7 +4,7 @@ use Rattle.tree_machine.specs.Step.{step}
 use Rattle.tree_machine.specs.declared.state.State.{State}
 use Rattle.book.specs.Entries.{Entry, At, opened, states}
 use Rattle.book.specs.Unknown.{unknown}
-use Rattle.book.specs.Findings.{is_sound}
+use Rattle.replay.specs.Findings.{is_sound}
 use Rattle.book.specs.Labels.{same_label}
 use Rattle.book.specs.Slots.{entries_of, labels_of, keyed_of}
 use Rattle.book.proofs.SlotLemmas.{length-entries}

@@ -1,7 +1,7 @@
 use Rattle.std.proofs.Common.{◌≡◌, ◌<◌, ◌≤◌, length, ap, sym, arith}
+use Rattle.std.proofs.lemmas.Option.{slice_get_past}
 use Rattle.book.specs.Labels.{Kept}
 use Rattle.book.specs.Slots.{entries_of}
-use Rattle.book.proofs.EntryLemmas.{get_none}
 use Rattle.book.proofs.SlotLemmas.{length-entries}
 use Rattle.book.proofs.table.Table.row.Goals as goal
 
@@ -24,4 +24,4 @@ returns-else-index-len g c =
     let l : length (entries_of s.slots.entries) ≡ length s.slots.entries = length-entries s.slots.entries in
     let n : c.len.result ≡ length s.slots.entries = c.len.ensures.len in
     let le : c.len.result ≤ c.args.index = c.if-index-len.false in
-    rw (← c.self.view_is) (sym (get_none (entries_of s.slots.entries) c.args.index (omega arith)))
+    rw (← c.self.view_is) (sym (slice_get_past (entries_of s.slots.entries) c.args.index (omega arith)))

@@ -1,6 +1,0 @@
-use Rattle.std.proofs.Common.{◌≡◌, ◌++◌, take}
-use Rattle.book.specs.Text.Files.{commaed}
-use Rattle.book.proofs.file.printing.push_order.Given as goal
-
-abbrev pub invariant-loop-id : goal.invariant-loop-id
-invariant-loop-id l = l.text.items ≡ l.initial.text.items ++ commaed (take l.id-index l.rest)

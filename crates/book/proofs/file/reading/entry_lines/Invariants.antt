@@ -1,9 +1,0 @@
-use Rattle.std.proofs.Common.{length}
-use Rattle.book.proofs.Text.Entries.{HasReadLines}
-use Rattle.book.proofs.file.reading.entry_lines.Given as goal
-
-abbrev pub invariant-loop-text : goal.invariant-loop-text
-invariant-loop-text l = HasReadLines l.bytes l.lines l.rest
-
-abbrev pub decreases-loop-text : goal.decreases-loop-text
-decreases-loop-text l = length l.rest

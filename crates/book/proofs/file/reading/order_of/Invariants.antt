@@ -1,9 +1,0 @@
-use Rattle.std.proofs.Common.{length}
-use Rattle.book.proofs.Text.Orders.{HasOrder}
-use Rattle.book.proofs.file.reading.order_of.Given as goal
-
-abbrev pub invariant-loop-tail : goal.invariant-loop-tail
-invariant-loop-tail l = HasOrder l.fn.text l.order l.rest
-
-abbrev pub decreases-loop-tail : goal.decreases-loop-tail
-decreases-loop-tail l = length l.rest

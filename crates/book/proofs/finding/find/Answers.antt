@@ -1,4 +1,0 @@
-use Rattle.book.proofs.finding.find.Goals as goal
-
-pub returns-in-Some : goal.returns-in-Some
-returns-in-Some g c = c.in-Some.ensures.some c.args.program.now

@@ -1,0 +1,10 @@
+-- Book files.
+pub mod Replayed
+pub mod Passing
+pub mod Twins
+pub mod Amiss
+pub mod Known
+pub mod Exclusive
+pub mod Whole
+pub mod Placed
+pub mod Recalled

@@ -1,0 +1,232 @@
+-- States that lines describe, one line after the other.
+use Rattle.std.proofs.Common.{◌≡◌, ℕ, zero, suc, ◌+◌, ◌<◌, ◌≤◌, ◌⊎◌, inl, inr, get_or, take, drop, None, Some, Option}
+use Rattle.std.proofs.Common.{List, [], ◌∷◌, ◌++◌, length, refl, sym, ap, ◌∙◌, arith, slice_get, subst}
+use Rattle.std.proofs.Math.ListN.{length-map}
+use Rattle.std.proofs.lemmas.List.{drop_more, length_push, length-take-le, map-append, take-append-drop, take_more}
+use Rattle.std.proofs.lemmas.Option.{slice_get_within}
+use Rattle.sched_program.specs.Program.{Program, IsWithinLimits}
+use Rattle.tree_machine.specs.Rules.{Rules, AreLawful, AreFormsExact}
+use Rattle.tree_machine.specs.Alike.{AreStatesAlike}
+use Rattle.tree_machine.specs.Step.{start, Fits}
+use Rattle.tree_machine.specs.declared.state.State.{State}
+use Rattle.tree_machine.proofs.Forms.{alike_itself}
+use Rattle.tree_machine.proofs.Lists.{get-append_cases, get-append_left}
+use Rattle.replay.specs.Closed.{IsAlikeToOneOf}
+use Rattle.replay.specs.Schedule.{IsMachine}
+use Rattle.replay.specs.Findings.{machine_of}
+use Rattle.replay.specs.Laws.Machines.{is_machine, step_counts}
+use Rattle.replay.specs.declared.file.line.Line.{Line}
+use Rattle.replay.specs.declared.file.fault.CheckFault.{CheckFault}
+use Rattle.replay.specs.declared.file.fault.CheckFault.TheVariants.{OutOfMemory}
+use Rattle.replay.specs.BookFile.Replays.{IsShown, IsUnshown, Reaches, Tells, IsAmiss, Continues, FirstAmiss}
+use Rattle.replay.specs.BookFile.Replays.{IsFirstAmiss, AreReplayed}
+use Rattle.replay.specs.BookFile.Kept.{AreLabelsOf}
+
+-- the one item after a list, or an item of it
+pub last_item_or : {X : Type 0} (P : ℕ → X → Type 0) (xs : List X) (y : X)
+    → ((i : ℕ) (x : X) → slice_get xs i ≡ Some x → P i x) → P (length xs) y
+    → (i : ℕ) (x : X) → slice_get (xs ++ y ∷ []) i ≡ Some x → P i x
+last_item_or {X} P xs y all last i x at =
+    elim (get-append_cases xs (y ∷ []) i x at) [
+      | inl l ↦ all i x l
+      | inr r ↦ only r.0 r.1 r.2
+    ]
+  where
+    only : (k : ℕ) → i ≡ length xs + k → slice_get (y ∷ []) k ≡ Some x → P i x
+    only zero e h = let same : y ≡ x = cc in
+        let n : length xs ≡ i = omega arith in subst (λ (v : X). P i v) same (subst (λ j. P j y) n last)
+    only (suc k) e h = absurd (let q : None ≡ Some x = h in cc)
+
+-- a list before, at and after a place
+split_at : {X : Type 0} (xs : List X) (i : ℕ) (x : X) → i < length xs → x ≡ get_or xs i x
+    → xs ≡ take i xs ++ x ∷ drop (i + 1) xs
+split_at xs i x less is =
+    sym (take-append-drop i xs)
+    ∙ ap (λ zs. take i xs ++ zs) (drop_more xs i x less ∙ ap (λ z. z ∷ drop (i + 1) xs) (sym is))
+
+module _ {Machine Memory Place Form : Type 0} (rules : Rules Memory Place) (program : Program) where
+  -- one more line
+  continues_push : (before : List (State Machine Memory Place Form)) (lines : List Line) (line : Line)
+      (states : List (State Machine Memory Place Form)) (state : State Machine Memory Place Form)
+      → Continues rules program before lines states → Tells rules program states line state
+      → Continues rules program before (lines ++ line ∷ []) (states ++ state ∷ [])
+  continues_push before [] line states state so tells = (
+    state,
+    subst (λ (b : List (State Machine Memory Place Form)). Tells rules program b line state) so tells,
+    ap (λ b. b ++ state ∷ []) so,
+  )
+  continues_push before (first ∷ lines) line states state so tells =
+      (so.0, so.1, continues_push (before ++ so.0 ∷ []) lines line states state so.2 tells)
+
+  -- what is amiss with the next line is the first that is
+  amiss_next : (before : List (State Machine Memory Place Form)) (lines : List Line) (line : Line) (rest : List Line)
+      (states : List (State Machine Memory Place Form)) (fault : CheckFault)
+      → Continues rules program before lines states → IsAmiss rules program states line fault
+      → FirstAmiss rules program before (lines ++ line ∷ rest) fault
+  amiss_next before [] line rest states fault so amiss =
+      inl (subst (λ (b : List (State Machine Memory Place Form)). IsAmiss rules program b line fault) so amiss)
+  amiss_next before (first ∷ lines) line rest states fault so amiss =
+      inr (so.0, so.1, amiss_next (before ++ so.0 ∷ []) lines line rest states fault so.2 amiss)
+
+  -- what holds of the first states, and of each that a line describes, holds of all
+  pub along : (P : ℕ → State Machine Memory Place Form → Type 0)
+      → ((before : List (State Machine Memory Place Form)) (line : Line) (state : State Machine Memory Place Form)
+      → ((i : ℕ) (s : State Machine Memory Place Form) → slice_get before i ≡ Some s → P i s)
+      → Tells rules program before line state → P (length before) state)
+      → (before : List (State Machine Memory Place Form)) (lines : List Line)
+      (states : List (State Machine Memory Place Form)) → Continues rules program before lines states
+      → ((i : ℕ) (s : State Machine Memory Place Form) → slice_get before i ≡ Some s → P i s)
+      → (i : ℕ) (s : State Machine Memory Place Form) → slice_get states i ≡ Some s → P i s
+  along P next before [] states so all i s at =
+      all i s (let e : states ≡ before = so in
+      subst (λ (b : List (State Machine Memory Place Form)). slice_get b i ≡ Some s) e at)
+  along P next before (line ∷ lines) states so all i s at =
+      along P next (before ++ so.0 ∷ []) lines states so.2
+      (last_item_or P before so.0 all (next before line so.0 all so.1)) i s at
+
+  pub only_start : (P : ℕ → State Machine Memory Place Form → Type 0) (first : State Machine Memory Place Form)
+      → P 0 first → (i : ℕ) (s : State Machine Memory Place Form) → slice_get (first ∷ []) i ≡ Some s → P i s
+  only_start P first h zero s at = let e : first ≡ s = cc in subst (λ (v : State Machine Memory Place Form). P 0 v) e h
+  only_start P first h (suc i) s at = absurd (let q : None ≡ Some s = at in cc)
+
+  -- the first states stay where they are
+  pub front : (before : List (State Machine Memory Place Form)) (lines : List Line)
+      (states : List (State Machine Memory Place Form)) → Continues rules program before lines states
+      → (i : ℕ) (s : State Machine Memory Place Form) → slice_get before i ≡ Some s → slice_get states i ≡ Some s
+  front before [] states so i s at = let e : states ≡ before = so in
+      subst (λ (b : List (State Machine Memory Place Form)). slice_get b i ≡ Some s) (sym e) at
+  front before (line ∷ lines) states so i s at =
+      front (before ++ so.0 ∷ []) lines states so.2 i s (get-append_left before (so.0 ∷ []) i s at)
+
+  count_from : (before : List (State Machine Memory Place Form)) (lines : List Line)
+      (states : List (State Machine Memory Place Form)) → Continues rules program before lines states
+      → length states ≡ length before + length lines
+  count_from before [] states so = let e : length states ≡ length before = ap length so in omega arith
+  count_from before (line ∷ lines) states so =
+      let rest = count_from (before ++ so.0 ∷ []) lines states so.2 in
+      let one : length (before ++ so.0 ∷ []) ≡ length before + 1 = length_push before so.0 in omega arith
+
+  -- each line describes one state, and the start is before them
+  pub count_states : (lines : List Line) (states : List (State Machine Memory Place Form))
+      → AreReplayed rules program lines states → length states ≡ length lines + 1
+  count_states lines states so =
+      let all = count_from (start rules program ∷ []) lines states so.1 in omega arith
+
+  pub count_labels : (label_of : State Machine Memory Place Form → List ℕ) (lines : List Line)
+      (labels : List (List ℕ)) → AreLabelsOf rules program label_of lines labels → length labels ≡ length lines + 1
+  count_labels label_of lines labels so =
+      ap length so.labelled ∙ length-map so.states label_of ∙ count_states lines so.states so.replayed
+
+  module _ (lawful : AreLawful rules) (limits : IsWithinLimits program) where
+    machine : IsMachine (machine_of {Machine = Machine} {Form = Form} rules program)
+    machine = is_machine rules program lawful limits
+
+    module _ (lines : List Line) (states : List (State Machine Memory Place Form))
+        (so : AreReplayed rules program lines states) where
+      -- each state fits, and has no more steps than its index
+      pub each_fits : (i : ℕ) (s : State Machine Memory Place Form) → slice_get states i ≡ Some s → Fits rules program s
+      each_fits =
+          along (λ _ s. Fits rules program s) (λ before line state all tells.
+          let reached : Reaches rules program before line state = tells.0 in
+          machine.step_fits reached.parent state line.thread (all line.parent reached.parent reached.at) reached.step)
+          (start rules program ∷ []) lines states so.1
+          (only_start (λ _ s. Fits rules program s) (start rules program) machine.start_fits)
+
+      pub few_steps : (i : ℕ) (s : State Machine Memory Place Form) → slice_get states i ≡ Some s → s.steps ≤ i
+      few_steps =
+          along (λ i s. s.steps ≤ i) (λ before line state all tells.
+          let reached : Reaches rules program before line state = tells.0 in
+          let up : state.steps ≡ reached.parent.steps + 1 =
+          step_counts rules program reached.parent state line.thread reached.step in
+          let few : reached.parent.steps ≤ line.parent = all line.parent reached.parent reached.at in
+          let less : line.parent < length before = slice_get_within before line.parent reached.parent reached.at in
+          omega arith)
+          (start rules program ∷ []) lines states so.1
+          (only_start (λ i s. s.steps ≤ i) (start rules program) (omega arith))
+
+    -- the start is one of the states that lines describe
+    pub begins : (form_of : Memory → List (Option Place) → Form) → AreFormsExact rules form_of
+        → (lines : List Line) (states : List (State Machine Memory Place Form))
+        → AreReplayed rules program lines states → IsAlikeToOneOf (AreStatesAlike rules) states (start rules program)
+    begins form_of forms lines states so = (
+      0,
+      start rules program,
+      front (start rules program ∷ []) lines states so.1 0 (start rules program) refl,
+      alike_itself rules form_of forms program (start rules program) machine.start_fits,
+    )
+
+module _ {Machine Memory Place Form : Type 0} (rules : Rules Memory Place) (program : Program)
+    (label_of : State Machine Memory Place Form → List ℕ) where
+  -- the label of the start
+  pub labels_start : (first : State Machine Memory Place Form) (label : List ℕ) (labels : List (List ℕ))
+      → first ≡ start rules program → IsShown rules program first [] → label ≡ label_of first
+      → labels ≡ label ∷ [] → AreLabelsOf rules program label_of [] labels
+  labels_start first label labels is shown same made = record {
+    states = first ∷ [];
+    replayed = (
+      subst (λ (v : State Machine Memory Place Form). IsShown rules program v []) is shown,
+      ap (λ (v : State Machine Memory Place Form). v ∷ []) is,
+    );
+    labelled = made ∙ ap (λ l. l ∷ []) same;
+  }
+
+  module _ (lines : List Line) (labels : List (List ℕ)) (i : ℕ) (line : Line) (less : i < length lines)
+      (is : line ≡ get_or lines i line) (so : AreLabelsOf rules program label_of (take i lines) labels) where
+    -- one more line
+    pub labels_next : (label : List ℕ) (longer : List (List ℕ))
+        → ((states : List (State Machine Memory Place Form)) → AreReplayed rules program (take i lines) states
+        → (state : State Machine Memory Place Form) × Tells rules program states line state × (label ≡ label_of state))
+        → longer ≡ labels ++ label ∷ [] → AreLabelsOf rules program label_of (take (i + 1) lines) longer
+    labels_next label longer tells made =
+        let w = tells so.states so.replayed in
+        let more : take i lines ++ line ∷ [] ≡ take (i + 1) lines =
+        sym (take_more lines i line less ∙ ap (λ x. take i lines ++ x ∷ []) (sym is)) in
+        record {
+          states = so.states ++ w.0 ∷ [];
+          replayed = (
+            so.replayed.0,
+            subst (λ ls. Continues rules program (start rules program ∷ []) ls (so.states ++ w.0 ∷ [])) more
+                (continues_push rules program (start rules program ∷ []) (take i lines) line so.states w.0
+                so.replayed.1 w.1),
+          );
+          labelled = made ∙ (λ j. so.labelled j ++ w.2 j ∷ []) ∙ sym (map-append label_of so.states (w.0 ∷ []));
+        }
+
+    -- what is amiss with it
+    pub amiss_of_next : (fault : CheckFault) → (fault ≡ OutOfMemory)
+        ⊎ ((states : List (State Machine Memory Place Form)) → AreReplayed rules program (take i lines) states
+        → IsAmiss rules program states line fault)
+        → (fault ≡ OutOfMemory) ⊎ IsFirstAmiss Machine Form rules program lines fault
+    amiss_of_next fault h =
+        elim h [
+          | inl l ↦ inl l
+          | inr r ↦ inr (inr (
+            so.replayed.0,
+            subst (λ (ls : List Line). FirstAmiss {Machine = Machine} {Form = Form} rules program
+                (start rules program ∷ []) ls fault) (sym (split_at lines i line less is))
+                (amiss_next rules program (start rules program ∷ []) (take i lines) line (drop (i + 1) lines) so.states
+                fault so.replayed.1 (r so.states so.replayed)),
+          ))
+        ]
+
+-- the labels of the first lines are fewer than a file may have
+pub labels_few : {Machine Memory Place Form : Type 0} (rules : Rules Memory Place) (program : Program)
+    (label_of : State Machine Memory Place Form → List ℕ) (lines : List Line) (labels : List (List ℕ)) (i : ℕ)
+    → AreLabelsOf rules program label_of (take i lines) labels → i < length lines → length lines < 2000000
+    → length labels < 2000000
+labels_few rules program label_of lines labels i so less most =
+    let all : length labels ≡ length (take i lines) + 1 =
+    count_labels rules program label_of (take i lines) labels so in
+    let taken : length (take i lines) ≡ i = length-take-le i lines (omega arith) in
+    omega arith
+
+-- what is amiss with the start
+pub amiss_at_start : {Machine Memory Place Form : Type 0} (rules : Rules Memory Place) (program : Program)
+    (lines : List Line) (first : State Machine Memory Place Form) (fault : CheckFault)
+    → first ≡ start rules program → (fault ≡ OutOfMemory) ⊎ IsUnshown rules program first [] 2 fault
+    → (fault ≡ OutOfMemory) ⊎ IsFirstAmiss Machine Form rules program lines fault
+amiss_at_start {Machine} {Memory} {Place} {Form} rules program lines first fault is h =
+    elim h [
+      | inl l ↦ inl l
+      | inr r ↦ inr (inl (subst (λ (v : State Machine Memory Place Form). IsUnshown rules program v [] 2 fault) is r))
+    ]

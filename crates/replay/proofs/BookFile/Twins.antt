@@ -1,0 +1,120 @@
+-- States that stand in for those that lines tell: their steps are amiss, shown and labelled as those of these.
+use Rattle.std.proofs.Common.{◌≡◌, ℕ, ◌≤◌, inl, inr, Option, None, Some, List, [], ◌∷◌, ◌++◌, map, refl, sym, ap, ◌∙◌}
+use Rattle.std.proofs.Common.{arith, slice_get, subst}
+use Rattle.std.proofs.lemmas.Option.{same_Some}
+use Rattle.sched_program.specs.Program.{Program, IsWithinLimits}
+use Rattle.sched_program.specs.declared.operation.OpId.{OpId}
+use Rattle.lin.specs.Linearization.{IsLinearization}
+use Rattle.tree_machine.specs.Alike.{AreStatesAlike}
+use Rattle.tree_machine.specs.Flat.{number_code}
+use Rattle.tree_machine.specs.FormCode.{content_code}
+use Rattle.tree_machine.specs.InRange.{AreNumbersInRange}
+use Rattle.tree_machine.specs.Rules.{Rules, AreLawful, AreFormsExact}
+use Rattle.tree_machine.specs.Step.{start, step, Fits}
+use Rattle.tree_machine.specs.declared.state.State.{State}
+use Rattle.tree_machine.proofs.Alike.{alike_step, alike_history, alike_ordered}
+use Rattle.tree_machine.proofs.Forms.{forms_alike, alike_itself, alike_turned, numbers_fit}
+use Rattle.tree_machine.proofs.Lists.{get-map}
+use Rattle.tree_machine.proofs.States.{step_fits}
+use Rattle.replay.specs.declared.file.fault.CheckFault.{CheckFault}
+use Rattle.replay.specs.declared.file.line.Line.{Line}
+use Rattle.replay.specs.BookFile.Kept.{AreLabelsOf, StandsForEntry}
+use Rattle.replay.specs.BookFile.Replays.{AreReplayed, IsShown, IsUnshown, IsWell}
+use Rattle.replay.specs.Findings.{machine_of}
+use Rattle.replay.specs.Labels.{named_by}
+use Rattle.replay.specs.Schedule.{after}
+use Rattle.replay.proofs.BookFile.Exclusive.{one_continued}
+use Rattle.replay.proofs.BookFile.Replayed.{each_fits, few_steps}
+
+module _ {Machine Memory Place Form : Type 0} (rules : Rules Memory Place) (program : Program)
+    (lawful : AreLawful rules) (limits : IsWithinLimits program)
+    (form_of : Memory → List (Option Place) → Form) (forms : AreFormsExact rules form_of) where
+  module _ (s c : State Machine Memory Place Form) (s_fits : Fits rules program s) (c_fits : Fits rules program c)
+      (alike : AreStatesAlike rules s c) where
+    -- alike states have one label
+    pub one_label : (code : Form → List ℕ) → named_by code form_of s ≡ named_by code form_of c
+    one_label code = ap (λ f. number_code 0 ++ content_code code f)
+        ((forms_alike rules form_of forms program program s c s_fits c_fits).1 alike)
+
+    -- a step of the one is a step of the other
+    pub step_there : (t : ℕ) (n : State Machine Memory Place Form) → step rules program c t ≡ Some n
+        → (u : State Machine Memory Place Form) × (step rules program s t ≡ Some u) × Fits rules program u
+        × Fits rules program n × AreStatesAlike rules n u
+    step_there t n leads =
+        let w = alike_step rules c s lawful (alike_turned rules form_of forms program s c s_fits c_fits alike) program t
+        n leads in (
+          w.0,
+          w.1,
+          step_fits rules program s s_fits lawful t w.0 w.1,
+          step_fits rules program c c_fits lawful t n leads,
+          w.2,
+        )
+
+    pub stuck_there : (t : ℕ) → step rules program c t ≡ None → step rules program s t ≡ None
+    stuck_there t none = by (step rules program s t) refl
+      where
+        by : (o : Option (State Machine Memory Place Form)) → step rules program s t ≡ o → o ≡ None
+        by None is = refl
+        by (Some u) is =
+            absurd (let v = alike_step rules s c lawful alike program t u is in
+            let q : None ≡ Some v.0 = sym none ∙ v.1 in cc)
+
+    -- an order that shows the one shows the other, and what it leaves amiss is the same
+    well_there : IsWell rules program s → IsWell rules program c
+    well_there well = (sym alike.astray ∙ well.0, alike_ordered rules s c lawful alike well.1)
+
+    pub shown_there : (order : List OpId) → IsShown rules program s order → IsShown rules program c order
+    shown_there order shown =
+        (well_there shown.0, subst (λ h. IsLinearization program h order) (alike_history rules s c alike) shown.1)
+
+  pub unshown_there : (s c : State Machine Memory Place Form) → Fits rules program s → Fits rules program c
+      → AreStatesAlike rules s c → (order : List OpId) (number : ℕ) (fault : CheckFault)
+      → IsUnshown rules program s order number fault → IsUnshown rules program c order number fault
+  unshown_there s c s_fits c_fits alike order number fault (inl h) =
+      let back = alike_turned rules form_of forms program s c s_fits c_fits alike in
+      inl (h.0, λ well. h.1 (well_there c s c_fits s_fits back well))
+  unshown_there s c s_fits c_fits alike order number fault (inr h) =
+      inr (
+        h.0,
+        well_there s c s_fits c_fits alike h.1,
+        λ explains. h.2 (subst (λ k. IsLinearization program k order) (sym (alike_history rules s c alike)) explains),
+      )
+
+  module _ (lines : List Line) (index : ℕ) where
+    -- what is read from the label of an entry stands in for its state
+    pub read_stands_for : (code : Form → List ℕ) (labels : List (List ℕ))
+        → AreLabelsOf {Machine = Machine} rules program (named_by code form_of) lines labels
+        → (label : List ℕ) (twin : State Machine Memory Place Form) → slice_get labels index ≡ Some label
+        → ((s : State Machine Memory Place Form) → AreNumbersInRange rules s → label ≡ named_by code form_of s
+        → AreStatesAlike rules s twin × ((p : Program) → Fits rules p s → Fits rules p twin) × (twin.steps ≡ 0))
+        → StandsForEntry rules program lines index twin
+    read_stands_for code labels kept label twin at named states so =
+        let same : kept.states ≡ states =
+        one_continued rules program (start rules program ∷ []) lines kept.states states kept.replayed.1 so.1 in
+        let there : slice_get (map (named_by code form_of) states) index ≡ Some label =
+        ap (λ (xs : List (State Machine Memory Place Form)). slice_get (map (named_by code form_of) xs) index) (sym same)
+        ∙ ap (λ ls. slice_get ls index) (sym kept.labelled) ∙ at in
+        let w = get-map (named_by code form_of) states index label there in
+        let fits : Fits rules program w.0 = each_fits rules program lawful limits lines states so index w.0 w.1 in
+        let law = named w.0 (numbers_fit rules program w.0 fits) w.2 in
+        (w.0, w.1, record { alike = law.0; fits = law.1 program fits; steps = (let none = law.2 in omega (arith, none)) })
+
+    -- and so does what the way to the entry leads to
+    pub run_stands_for : (way : List ℕ) (end : State Machine Memory Place Form)
+        → ((states : List (State Machine Memory Place Form)) → AreReplayed rules program lines states
+        → (s : State Machine Memory Place Form) × (slice_get states index ≡ Some s)
+        × (after (machine_of rules program) way ≡ Some s))
+        → after (machine_of rules program) way ≡ Some end → Fits rules program end
+        → StandsForEntry rules program lines index end
+    run_stands_for way end leads ends fits states so =
+        let w = leads states so in
+        let same : w.0 ≡ end = same_Some w.0 end (sym w.2 ∙ ends) in
+        let few : w.0.steps ≤ index = few_steps rules program lawful limits lines states so index w.0 w.1 in (
+          end,
+          w.1 ∙ ap (λ (v : State Machine Memory Place Form). Some v) same,
+          record {
+            alike = alike_itself rules form_of forms program end fits;
+            fits = fits;
+            steps = subst (λ (v : State Machine Memory Place Form). v.steps ≤ index) same few;
+          },
+        )

@@ -1,0 +1,3 @@
+pub mod Text
+mod BookFile
+mod Stopping

@@ -1,0 +1,107 @@
+-- A list is cut in one way only at its first element that fails a test.
+use Rattle.std.proofs.Common.{◌≡◌, ◌≢◌, ℕ, ◌+◌, ◌-◌, ◌<◌, List, [], ◌∷◌, ◌++◌, ◌∙◌, length, get_or, take, drop, refl}
+use Rattle.std.proofs.Common.{sym, ap, subst}
+use Rattle.std.proofs.lemmas.List.{take_more, drop_more, take_rest, take-append-drop, append_assoc}
+use Rattle.std.specs.List.{AllByRecursion}
+use Rattle.replay.specs.Text.Files.{ended, AreLines}
+
+-- what comes before the first element that fails the test, that element, and what follows it
+pub same_cut : {A : Type 0} (P : A → Type 0) (front : List A) (x : A) (rest : List A) (other : List A) (y : A)
+    (more : List A)
+    → front ++ x ∷ rest ≡ other ++ y ∷ more → AllByRecursion P front → ¬ P x → AllByRecursion P other → ¬ P y
+    → (front ≡ other) × (x ≡ y) × (rest ≡ more)
+same_cut P [] x rest [] y more e all fails also lacks = (refl, cc, cc)
+same_cut P [] x rest (b ∷ other) y more e all fails also lacks = let same : b ≡ x = cc in
+    absurd (fails (subst P same also.0))
+same_cut P (a ∷ front) x rest [] y more e all fails also lacks = let same : a ≡ y = cc in
+    absurd (lacks (subst P same all.0))
+same_cut P (a ∷ front) x rest (b ∷ other) y more e all fails also lacks =
+    let tails : front ++ x ∷ rest ≡ other ++ y ∷ more = cc in
+    let same = same_cut P front x rest other y more tails all.1 fails also.1 lacks in
+    (cc, same.1, same.2)
+
+-- a list that passes the test has no element that fails it
+pub no_cut : {A : Type 0} (P : A → Type 0) (all front : List A) (x : A) (rest : List A)
+    → all ≡ front ++ x ∷ rest → AllByRecursion P all → ¬ P x → ⊥
+no_cut P [] [] x rest e passes fails = cc
+no_cut P [] (b ∷ front) x rest e passes fails = cc
+no_cut P (a ∷ all) [] x rest e passes fails = let same : a ≡ x = cc in fails (subst P same passes.0)
+no_cut P (a ∷ all) (b ∷ front) x rest e passes fails =
+    let tails : all ≡ front ++ x ∷ rest = cc in
+    no_cut P all front x rest tails passes.1 fails
+
+-- nothing is cut in no way
+pub not_nil : {A : Type 0} (front : List A) (x : A) (rest : List A) → [] ≡ front ++ x ∷ rest → ⊥
+not_nil [] x rest e = cc
+not_nil (b ∷ front) x rest e = cc
+
+-- a line feed is none of the bytes that a line may have
+pub feed_fails : ¬ (let n : ℕ = 10 in n ≢ 10)
+feed_fails differs = differs refl
+
+pub same_ended : (texts others : List (List ℕ)) → ended texts ≡ ended others
+    → AllByRecursion (AllByRecursion (λ b. b ≢ 10)) texts → AllByRecursion (AllByRecursion (λ b. b ≢ 10)) others
+    → texts ≡ others
+same_ended [] [] e bare also = refl
+same_ended [] (other ∷ others) e bare also = absurd (not_nil other 10 (ended others) e)
+same_ended (text ∷ texts) [] e bare also = absurd (not_nil text 10 (ended texts) (sym e))
+same_ended (text ∷ texts) (other ∷ others) e bare also =
+    let same =
+    same_cut (λ b. b ≢ 10) text 10 (ended texts) other 10 (ended others) e bare.0 feed_fails also.0 feed_fails in
+    let first : text ≡ other = same.0 in
+    let rest : texts ≡ others = same_ended texts others same.2 bare.1 also.1 in
+    cc
+
+-- the bytes are lines in one way only
+pub same_lines : (bytes : List ℕ) (texts others : List (List ℕ)) → AreLines bytes texts → AreLines bytes others
+    → texts ≡ others
+same_lines bytes texts others are also = same_ended texts others (sym are.whole ∙ also.whole) are.bare also.bare
+
+pub all_append : {A : Type 0} (P : A → Type 0) (xs ys : List A) → AllByRecursion P xs → AllByRecursion P ys
+    → AllByRecursion P (xs ++ ys)
+all_append P [] ys all also = also
+all_append P (x ∷ xs) ys all also = (all.0, all_append P xs ys all.1 also)
+
+pub all_more : {A : Type 0} (P : A → Type 0) (xs : List A) (i : ℕ) (d : A) → i < length xs
+    → AllByRecursion P (take i xs) → P (get_or xs i d)
+    → AllByRecursion P (take (i + 1) xs)
+all_more P xs i d less all here =
+    subst (AllByRecursion P) (sym (take_more xs i d less))
+    (all_append P (take i xs) (get_or xs i d ∷ []) all (here, tt))
+
+-- a list is what comes before an element, that element, and what follows it
+pub cut_at : (bytes : List ℕ) (i at : ℕ) → i < length bytes → get_or bytes i 0 ≡ at
+    → bytes ≡ take i bytes ++ at ∷ take (length bytes - (i + 1)) (drop (i + 1) bytes)
+cut_at bytes i at less is =
+    let cell : drop i bytes ≡ at ∷ drop (i + 1) bytes =
+    drop_more bytes i 0 less ∙ ap (λ b. b ∷ drop (i + 1) bytes) is in
+    sym (take-append-drop i bytes) ∙ ap (λ rest. take i bytes ++ rest)
+    (cell ∙ ap (λ rest. at ∷ rest) (sym (take_rest bytes (i + 1))))
+
+-- the first of some lines, and those after it
+abbrev pub NextLine : List ℕ → List ℕ → List (List ℕ) → Type 0
+NextLine text tail texts = (later : List (List ℕ)) × (texts ≡ text ∷ later) × AreLines tail later
+
+-- where lines have a first line feed, the first line comes before it
+pub next_line : (bytes text tail : List ℕ) (texts : List (List ℕ)) → AreLines bytes texts → bytes ≡ text ++ 10 ∷ tail
+    → AllByRecursion (λ b. b ≢ 10) text
+    → NextLine text tail texts
+next_line bytes text tail [] are e bare = absurd (not_nil text 10 tail (sym are.whole ∙ e))
+next_line bytes text tail (first ∷ later) are e bare =
+    let same =
+    same_cut (λ b. b ≢ 10) first 10 (ended later) text 10 tail (sym are.whole ∙ e) are.bare.0 feed_fails bare
+    feed_fails in
+    (later, ap (λ (t : List ℕ). t ∷ later) same.0, record { whole = sym same.2; bare = are.bare.1 })
+
+-- bytes without a line feed are no lines
+pub no_line : (bytes : List ℕ) (texts : List (List ℕ)) → AreLines bytes texts → AllByRecursion (λ b. b ≢ 10) bytes
+    → texts ≡ []
+no_line bytes [] are bare = refl
+no_line bytes (first ∷ later) are bare =
+    absurd (no_cut (λ b. b ≢ 10) bytes first 10 (ended later) are.whole bare feed_fails)
+
+pub ended_append : (texts others : List (List ℕ)) → ended (texts ++ others) ≡ ended texts ++ ended others
+ended_append [] others = refl
+ended_append (text ∷ texts) others =
+    ap (λ rest. text ++ 10 ∷ rest) (ended_append texts others)
+    ∙ sym (append_assoc text (10 ∷ ended texts) (ended others))

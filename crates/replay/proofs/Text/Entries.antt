@@ -1,0 +1,103 @@
+-- Lines of entries that have been read, and those that are left.
+use Rattle.std.proofs.Common.{◌≡◌, ◌≢◌, ℕ, ◌+◌, ◌<◌, List, [], ◌∷◌, ◌++◌, ◌∙◌, length, sym, ap, subst, arith}
+use Rattle.std.proofs.lemmas.List.{append_assoc, append-nil}
+use Rattle.std.proofs.lemmas.Slice.Zip.{AllZip-long}
+use Rattle.std.specs.List.{AllByRecursion, AllZip}
+use Rattle.indexmap.proofs.SetLemmas.{AllZip-push}
+use Rattle.replay.specs.declared.file.fault.CheckFault.TheVariants.{Form}
+use Rattle.replay.specs.declared.file.line.Line.{Line}
+use Rattle.replay.specs.Text.Files.{AreLines, IsNumber, IsOrder, IsEntryLine, IsEntryText, IsEntriesFault}
+use Rattle.replay.proofs.Text.Cuts.{same_cut, no_cut, next_line, no_line}
+use Rattle.replay.proofs.Text.OneReading.{digits_bare, space_fails, entries_formed}
+
+-- a text without a space is no entry's line
+pub no_pieces : (text : List ℕ) → AllByRecursion (λ b. b ≢ 32) text → ¬ IsEntryText text
+no_pieces text none (line, is) =
+    no_cut (λ b. b ≢ 32) text is.parent 32 ((48 + line.thread) ∷ 32 ∷ is.order) is.whole none space_fails
+
+-- what comes before the first space of an entry's line is the parent's number, and what follows are the thread and the
+-- order
+entry_pieces : (text parent rest : List ℕ) (line : Line) → text ≡ parent ++ 32 ∷ rest
+    → AllByRecursion (λ b. b ≢ 32) parent → (is : IsEntryLine text line)
+    → (is.parent ≡ parent) × (rest ≡ (48 + line.thread) ∷ 32 ∷ is.order)
+entry_pieces text parent rest line e none is =
+    let same =
+    same_cut (λ b. b ≢ 32) is.parent 32 ((48 + line.thread) ∷ 32 ∷ is.order) parent 32 rest (sym is.whole ∙ e)
+    (digits_bare 32 (omega arith) is.parent is.is_number.digits.1) space_fails none space_fails in
+    (same.0, sym same.2)
+
+pub no_parent : (text parent rest : List ℕ) → text ≡ parent ++ 32 ∷ rest → AllByRecursion (λ b. b ≢ 32) parent
+    → ((number : ℕ) → ¬ IsNumber parent number)
+    → ¬ IsEntryText text
+no_parent text parent rest e none not (line, is) =
+    let pieces = entry_pieces text parent rest line e none is in
+    not is.number (subst (λ (p : List ℕ). IsNumber p is.number) pieces.0 is.is_number)
+
+pub no_thread : (text parent rest : List ℕ) → text ≡ parent ++ 32 ∷ rest → AllByRecursion (λ b. b ≢ 32) parent
+    → ((thread : ℕ) (order : List ℕ) → thread < 10 → rest ≢ (48 + thread) ∷ 32 ∷ order) → ¬ IsEntryText text
+no_thread text parent rest e none not (line, is) =
+    let pieces = entry_pieces text parent rest line e none is in
+    not line.thread is.order is.thread pieces.1
+
+pub no_order : (text parent rest : List ℕ) (thread : ℕ) (order : List ℕ) → text ≡ parent ++ 32 ∷ rest
+    → AllByRecursion (λ b. b ≢ 32) parent
+    → rest ≡ (48 + thread) ∷ 32 ∷ order → ((names : _) → ¬ IsOrder order names) → ¬ IsEntryText text
+no_order text parent rest thread order e none split not (line, is) =
+    let pieces = entry_pieces text parent rest line e none is in
+    let ends : (48 + thread) ∷ 32 ∷ order ≡ (48 + line.thread) ∷ 32 ∷ is.order = sym split ∙ pieces.1 in
+    let same : is.order ≡ order = cc in
+    not line.order (subst (λ (o : List ℕ). IsOrder o line.order) same is.is_order)
+
+-- the bytes are lines: first those of these entries, and then the rest
+pub record HasReadLines (bytes : List ℕ) (lines : List Line) (rest : List ℕ) : Type 0 where
+  pub done : List (List ℕ)
+  pub ahead : List (List ℕ)
+  pub whole : AreLines bytes (done ++ ahead)
+  pub left : AreLines rest ahead
+  pub each : AllZip IsEntryLine done lines
+  pub few : length (done ++ ahead) < 2000000
+
+pub lines_none : (bytes : List ℕ) (texts : List (List ℕ)) → AreLines bytes texts → length texts < 2000000
+    → HasReadLines bytes [] bytes
+lines_none bytes texts are few = record { done = []; ahead = texts; whole = are; left = are; each = tt; few = few }
+
+pub lines_push : (bytes : List ℕ) (lines : List Line) (rest text tail : List ℕ) (line : Line)
+    → HasReadLines bytes lines rest → rest ≡ text ++ 10 ∷ tail
+    → AllByRecursion (λ b. b ≢ 10) text → IsEntryLine text line → HasReadLines bytes (lines ++ line ∷ []) tail
+lines_push bytes lines rest text tail line has e bare is =
+    let (later, split, left) = next_line rest text tail has.ahead has.left e bare in
+    let same : has.done ++ has.ahead ≡ (has.done ++ text ∷ []) ++ later =
+    ap (λ (ts : List (List ℕ)). has.done ++ ts) split ∙ sym (append_assoc has.done (text ∷ []) later) in
+    record {
+      done = has.done ++ text ∷ [];
+      ahead = later;
+      whole = subst (AreLines bytes) same has.whole;
+      left = left;
+      each = AllZip-push IsEntryLine has.done lines text line has.each is;
+      few = subst (λ (ts : List (List ℕ)). length ts < 2000000) same has.few;
+    }
+
+pub lines_all : (bytes : List ℕ) (lines : List Line) (rest : List ℕ) → HasReadLines bytes lines rest
+    → AllByRecursion (λ b. b ≢ 10) rest
+    → (texts : List (List ℕ)) × AreLines bytes texts × AllZip IsEntryLine texts lines
+lines_all bytes lines rest has bare =
+    let none : has.ahead ≡ [] = no_line rest has.ahead has.left bare in
+    let same : has.done ++ has.ahead ≡ has.done =
+    ap (λ (ts : List (List ℕ)). has.done ++ ts) none ∙ append-nil has.done in
+    (has.done, subst (AreLines bytes) same has.whole, has.each)
+
+pub lines_fault : (bytes : List ℕ) (lines : List Line) (rest text tail : List ℕ) → HasReadLines bytes lines rest
+    → rest ≡ text ++ 10 ∷ tail
+    → AllByRecursion (λ b. b ≢ 10) text → ¬ IsEntryText text → IsEntriesFault bytes (Form (length lines + 3))
+lines_fault bytes lines rest text tail has e bare not =
+    let (later, split, left) = next_line rest text tail has.ahead has.left e bare in
+    let same : has.done ++ has.ahead ≡ has.done ++ text ∷ later = ap (λ (ts : List (List ℕ)). has.done ++ ts) split in
+    let count : length lines ≡ length has.done = AllZip-long IsEntryLine has.done lines has.each in (
+      has.done,
+      text,
+      later,
+      subst (AreLines bytes) same has.whole,
+      entries_formed has.done lines has.each,
+      not,
+      ap (λ n. Form (n + 3)) count,
+    )

@@ -1,0 +1,94 @@
+-- What has been read of an order's text, and what is left of it.
+use Rattle.std.proofs.Common.{◌≡◌, ◌≢◌, ℕ, ◌+◌, ◌≤◌, List, [], ◌∷◌, ◌++◌, ◌∙◌, length, get_or, refl, sym, ap}
+use Rattle.std.proofs.Common.{subst, arith}
+use Rattle.std.proofs.lemmas.List.{append_assoc, length-append}
+use Rattle.std.specs.List.{AllByRecursion}
+use Rattle.sched_program.specs.declared.operation.OpId.{OpId}
+use Rattle.replay.specs.Text.Files.{IsName, name_text, commaed, order_text, IsOrder}
+use Rattle.replay.proofs.Text.Cuts.{all_append}
+use Rattle.replay.proofs.Text.OneReading.{same_id}
+
+-- the text is these names, at least one, and the rest
+pub record HasOrder (text : List ℕ) (order : List OpId) (rest : List ℕ) : Type 0 where
+  pub names : AllByRecursion IsName order
+  pub some : 1 ≤ length order
+  pub whole : text ≡ order_text order ++ rest
+
+commaed_push : (order : List OpId) (id : OpId) → commaed (order ++ id ∷ []) ≡ commaed order ++ 44 ∷ name_text id
+commaed_push [] id = refl
+commaed_push (first ∷ order) id = ap (λ (l : List ℕ). 44 ∷ name_text first ++ l) (commaed_push order id)
+
+order_text_push : (order : List OpId) (id : OpId) → 1 ≤ length order
+    → order_text (order ++ id ∷ []) ≡ order_text order ++ 44 ∷ name_text id
+order_text_push [] id some = absurd (omega arith)
+order_text_push (first ∷ order) id some = ap (λ (l : List ℕ). name_text first ++ l) (commaed_push order id)
+
+pub order_push : (text : List ℕ) (order : List OpId) (rest tail : List ℕ) (id : OpId) (later : List ℕ)
+    → HasOrder text order rest
+    → rest ≡ 44 ∷ tail → tail ≡ name_text id ++ later → IsName id → HasOrder text (order ++ id ∷ []) later
+order_push text order rest tail id later has comma e is = record {
+  names = all_append IsName order (id ∷ []) has.names (is, tt);
+  some = omega (arith, length-append order (id ∷ []));
+  whole = has.whole ∙ ap (λ (l : List ℕ). order_text order ++ l) (comma ∙ ap (λ (l : List ℕ). 44 ∷ l) e)
+      ∙ sym (append_assoc (order_text order) (44 ∷ name_text id) later)
+      ∙ ap (λ (l : List ℕ). l ++ later) (sym (order_text_push order id has.some));
+}
+
+-- an order goes on after another with some names, which are the rest of the text
+abbrev pub GoesOn : List OpId → List OpId → List ℕ → Type 0
+GoesOn order other rest = (more : List OpId) × (other ≡ order ++ more) × (rest ≡ commaed more)
+
+commaed_left : (order other : List OpId) (rest : List ℕ) → commaed other ≡ commaed order ++ rest
+    → GoesOn order other rest
+commaed_left [] other rest e = (other, refl, sym e)
+commaed_left (id ∷ order) [] rest e = cc
+commaed_left (id ∷ order) (first ∷ other) rest e =
+    let thread : 48 + id.thread ≡ 48 + first.thread = cc in
+    let index : 48 + id.index ≡ 48 + first.index = cc in
+    let tails : commaed other ≡ commaed order ++ rest = cc in
+    let same : id ≡ first = same_id id first thread index in
+    let (more, split, left) = commaed_left order other rest tails in
+    (more, cc, left)
+
+order_left : (text : List ℕ) (order other : List OpId) (rest : List ℕ) → HasOrder text order rest → IsOrder text other
+    → GoesOn order other rest
+order_left text [] other rest has is = absurd (omega (arith, has.some))
+order_left text (id ∷ order) [] rest has is =
+    absurd (omega (arith, ap (λ (l : List ℕ). get_or l 0 0) (sym is.whole ∙ has.whole)))
+order_left text (id ∷ order) (first ∷ other) rest has is =
+    let whole : name_text first ++ commaed other ≡ name_text id ++ (commaed order ++ rest) = sym is.whole ∙ has.whole in
+    let thread : 48 + id.thread ≡ 48 + first.thread = cc in
+    let index : 48 + id.index ≡ 48 + first.index = cc in
+    let tails : commaed other ≡ commaed order ++ rest = cc in
+    let same : id ≡ first = same_id id first thread index in
+    let (more, split, left) = commaed_left order other rest tails in
+    (more, cc, left)
+
+among : (order : List OpId) (id : OpId) (more : List OpId) → AllByRecursion IsName (order ++ id ∷ more) → IsName id
+among [] id more all = all.0
+among (first ∷ order) id more all = among order id more all.1
+
+-- nor is one where no name follows a comma
+pub no_name : (text : List ℕ) (order : List OpId) (rest tail : List ℕ) → HasOrder text order rest → rest ≡ 44 ∷ tail
+    → ((id : OpId) (later : List ℕ) → IsName id → tail ≢ name_text id ++ later) → (other : List OpId)
+    → ¬ IsOrder text other
+no_name text order rest tail has comma none other is =
+    let (more, split, left) = order_left text order other rest has is in
+    go more split left
+  where
+    go : (more : List OpId) → other ≡ order ++ more → rest ≡ commaed more → ⊥
+    go [] split left = cc
+    go (id ∷ more) split left =
+        let tails : tail ≡ name_text id ++ commaed more = cc in
+        none id (commaed more) (among order id more (subst (AllByRecursion IsName) split is.names)) tails
+
+-- nor one that goes on and not with a comma
+pub no_comma : (text : List ℕ) (order : List OpId) (rest : List ℕ) → HasOrder text order rest → length rest ≢ 0
+    → ((tail : List ℕ) → rest ≢ 44 ∷ tail) → (other : List OpId) → ¬ IsOrder text other
+no_comma text order rest has some none other is =
+    let (more, split, left) = order_left text order other rest has is in
+    go more split left
+  where
+    go : (more : List OpId) → other ≡ order ++ more → rest ≡ commaed more → ⊥
+    go [] split left = some (ap length left)
+    go (id ∷ more) split left = none (name_text id ++ commaed more) left

@@ -1,0 +1,41 @@
+-- What is kept of the entries of a book file, and the states that stand in for theirs.
+use Rattle.std.specs.Prelude.{◌≡◌, ℕ, ◌≤◌, Some, List, Contains, map, slice_get}
+use Rattle.sched_program.specs.Program.{Program}
+use Rattle.tree_machine.specs.Rules.{Rules}
+use Rattle.tree_machine.specs.Alike.{AreStatesAlike}
+use Rattle.tree_machine.specs.Step.{step, Fits}
+use Rattle.tree_machine.specs.declared.state.State.{State}
+use Rattle.replay.specs.declared.file.line.Line.{Line}
+use Rattle.replay.specs.BookFile.Replays.{AreReplayed}
+
+module _ {Machine Memory Place Form : Type 0} (rules : Rules Memory Place) (program : Program) where
+  -- the lines describe states, and these are their labels
+  pub record AreLabelsOf (label_of : State Machine Memory Place Form → List ℕ) (lines : List Line)
+      (labels : List (List ℕ)) : Type 0 where
+    pub states : List (State Machine Memory Place Form)
+    pub replayed : AreReplayed rules program lines states
+    pub labelled : labels ≡ map label_of states
+
+  -- `twin` is alike to `state` and has at most `most` steps, so that its steps may be made in place of those of `state`
+  pub record StandsFor (most : ℕ) (state twin : State Machine Memory Place Form) : Type 0 where
+    pub alike : AreStatesAlike rules state twin
+    pub fits : Fits rules program twin
+    pub steps : twin.steps ≤ most
+
+  -- `twin` stands for the state at this index of those that the lines describe
+  abbrev pub StandsForEntry : List Line → ℕ → State Machine Memory Place Form → Type 0
+  StandsForEntry lines index twin = (states : List (State Machine Memory Place Form))
+      → AreReplayed rules program lines states
+      → (state : State Machine Memory Place Form) × (slice_get states index ≡ Some state) × StandsFor index state twin
+
+  module _ (label_of : State Machine Memory Place Form → List ℕ) (labels : List (List ℕ))
+      (state : State Machine Memory Place Form) where
+    -- the label of each step of the state is known
+    abbrev pub AreStepsKnown : Type 0
+    AreStepsKnown = (t : ℕ) (next : State Machine Memory Place Form) → step rules program state t ≡ Some next
+        → Contains labels (label_of next)
+
+    -- the label of some step is not
+    abbrev pub IsStepUnknown : Type 0
+    IsStepUnknown = (t : ℕ) × (next : State Machine Memory Place Form) × (step rules program state t ≡ Some next)
+        × (Contains labels (label_of next) → ⊥)

@@ -1,0 +1,10 @@
+pub mod Schedule
+pub mod Findings
+pub mod Closed
+pub mod Correct
+pub mod Labels
+pub mod Replay
+pub mod Text
+pub mod StoredNames
+pub mod BookFile
+pub mod Laws

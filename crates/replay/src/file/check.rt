@@ -1,0 +1,68 @@
+//! Whether the bytes of a book file pass.
+ghost use Rattle.std.specs.Prelude.{◌≡◌, ◌≢◌, ℕ, ◌⊎◌, IfOk, IfErr};
+ghost use Rattle.replay.specs.Correct.{HoldsAlways};
+ghost use Rattle.replay.specs.declared.file.fault.CheckFault.{CheckFault};
+ghost use Rattle.replay.specs.BookFile.Checks.{IsRefusedFor, PassAs};
+
+use crate::file::closing::test_closed;
+use crate::file::fault::CheckFault;
+use crate::file::reading::read_lines;
+use crate::file::recalling::Input;
+use crate::file::replayer::Replayer;
+use crate::file::replaying::replay_lines;
+use sched_program::Program;
+use std::alloc::Global;
+use tree_machine::Encode;
+
+/// The number of entries of a book file whose bytes pass: each line but the first two states the step of an earlier
+/// entry, and its order shows that the state reached is correct; and each step of an entry reaches a state that is
+/// alike to some entry's.
+fn entries_checked<M: Encode>(
+    alloc: Global,
+    machine: M,
+    program: &Program,
+    bytes: &[u8],
+) -> Result<usize, CheckFault>
+    ensures pass { IfOk result (PassAs M M.Form (M.rules machine) program.now bytes.now) }
+    ensures refused { IfErr result (λ fault. (fault ≡ CheckFault.OutOfMemory)
+        ⊎ IsRefusedFor M M.Form (M.rules machine) program.now bytes.now fault) }
+{
+    let lines = read_lines(alloc, bytes)?;
+    let input = Input {
+        machine,
+        program,
+        lines: lines.as_slice(),
+    };
+    let mut replayer = Replayer::new(alloc, machine, program)?;
+    let labels = replay_lines(alloc, &input, &mut replayer)?;
+    test_closed(alloc, &input, &labels, &mut replayer)?;
+    Ok(lines.len() + 1)
+}
+
+/// Whether the bytes of a book file pass, and how many entries it has: they are in the form, and their lines pass. Then
+/// every schedule of any length reaches a correct state, whoever wrote the bytes. The form is in docs/FORMATS.md.
+///
+/// # Errors
+///
+/// The first [`CheckFault`] of the bytes, with its line, or `OutOfMemory` where a growth was refused.
+pub fn check_book<M: Encode>(
+    alloc: Global,
+    machine: M,
+    program: &Program,
+    bytes: &[u8],
+) -> Result<usize, CheckFault>
+    ensures pass { IfOk result (PassAs M M.Form (M.rules machine) program.now bytes.now) }
+    ensures every { IfOk result (λ _. HoldsAlways M M.Form (M.rules machine) program.now) }
+    ensures none { IfOk result (λ _. (fault : CheckFault)
+        → IsRefusedFor M M.Form (M.rules machine) program.now bytes.now fault → ⊥) }
+    ensures refused { IfErr result (λ fault. (fault ≡ CheckFault.OutOfMemory)
+        ⊎ IsRefusedFor M M.Form (M.rules machine) program.now bytes.now fault) }
+    ensures only { IfErr result (λ fault. fault ≢ CheckFault.OutOfMemory → (other : CheckFault)
+        → IsRefusedFor M M.Form (M.rules machine) program.now bytes.now other → other ≡ fault) }
+    ensures passes { IfErr result (λ fault. fault ≢ CheckFault.OutOfMemory → (entries : ℕ)
+        → PassAs M M.Form (M.rules machine) program.now bytes.now entries → ⊥) }
+{
+    // Whoever reads a program knows that it meets the limits.
+    let _ = program.initial();
+    entries_checked(alloc, machine, program, bytes)
+}

@@ -1,0 +1,136 @@
+//! Whether a step leads out of the states of entries.
+ghost use Rattle.std.specs.Prelude.{◌≡◌, ◌+◌, ◌^◌, ◌<◌, ◌⊎◌, Contains, length, true, false, IfOk, IfErr, OnOk};
+ghost use Rattle.std.specs.Prelude.{IsTrue, Some, slice_get};
+ghost use Rattle.tree_machine.specs.Step.{Fits, step};
+ghost use Rattle.tree_machine.specs.declared.state.State.{State};
+ghost use Rattle.replay.specs.BookFile.Checks.{AreRefused, Pass};
+ghost use Rattle.replay.specs.BookFile.Kept.{AreLabelsOf, AreStepsKnown, IsStepUnknown, StandsForEntry};
+ghost use Rattle.replay.specs.Labels.{named_by};
+ghost use Rattle.replay.specs.declared.file.line.Line.{Line};
+
+use crate::file::fault::CheckFault;
+use crate::file::labels::Labels;
+use crate::file::line::Line;
+use crate::file::recalling::{Input, recall};
+use crate::file::replayer::Replayer;
+use sched_program::OutOfMemory;
+use std::alloc::Global;
+use std::mem::replace;
+use std::snapshot::Snapshot;
+use tree_machine::{Encode, Naming, StepFault};
+
+/// Whether the step of a thread, if it is enabled, has one of the labels. The step is made in the state itself, and
+/// taken back.
+fn knows_step<M: Encode>(
+    alloc: Global,
+    input: &Input<'_, M>,
+    labels: &Labels,
+    thread: u8,
+    replayer: &mut Replayer<M>,
+) -> Result<bool, OutOfMemory>
+    requires fits { Fits (M.rules input.now.machine) input.now.program.now replayer.old.state }
+    requires room { replayer.old.state.steps + 1 < 2 ^ 64 }
+    ensures known { IfOk result (λ yes. yes ≡ true → (next : State M M.Mem M.Loc M.Form)
+        → step (M.rules input.now.machine) input.now.program.now replayer.old.state thread ≡ Some next
+        → Contains labels.now (named_by M.form_code (M.form_of input.now.machine) next)) }
+    ensures new { IfOk result (λ yes. yes ≡ false → (next : State M M.Mem M.Loc M.Form)
+        × (step (M.rules input.now.machine) input.now.program.now replayer.old.state thread ≡ Some next)
+        × (Contains labels.now (named_by M.form_code (M.form_of input.now.machine) next) → ⊥)) }
+    ensures state { OnOk result (replayer.new.state ≡ replayer.old.state) }
+{
+    // Whoever reads a program knows that it meets the limits.
+    let _ = input.program.initial();
+    let machine = input.machine;
+    let state = &mut replayer.state;
+    let source = Snapshot::of(&*state);
+    match state.step_here(alloc, machine, input.program, thread, &mut replayer.undo) {
+        Ok(()) => {}
+        Err(StepFault::NotEnabled) => return Ok(true),
+        Err(StepFault::OutOfMemory) => return Err(OutOfMemory),
+    }
+    let spare = replace(&mut replayer.spare, Vec::new(alloc));
+    let label = state.label(
+        alloc,
+        machine,
+        Naming::Canonical,
+        &mut replayer.buffer,
+        spare,
+    )?;
+    state.take_back(alloc, &source, thread, &mut replayer.undo);
+    let is_known = labels.contains(&label);
+    replayer.spare = label.into_vec();
+    Ok(is_known)
+}
+
+/// Whether the next line has the step of a thread from an entry.
+fn has_step(lines: &[Line], next: usize, parent: usize, thread: u8) -> bool
+    ensures { IsTrue result → (line : Line) × (slice_get lines.now next ≡ Some line) × (line.parent ≡ parent)
+        × (line.thread ≡ thread) }
+{
+    match lines.get(next) {
+        Some(line) => line.parent as usize == parent && line.thread == thread,
+        None => false,
+    }
+}
+
+/// Whether some step of an entry has none of the labels. The replayer's state stands in for the entry's; after a
+/// refusal of memory it no longer does. A step that the next line states need not be made, since that line's own entry
+/// has its label.
+fn leads_out<M: Encode>(
+    alloc: Global,
+    input: &Input<'_, M>,
+    labels: &Labels,
+    index: usize,
+    next: &mut usize,
+    replayer: &mut Replayer<M>,
+) -> Result<bool, OutOfMemory>
+    requires kept { AreLabelsOf {Machine = M} (M.rules input.now.machine) input.now.program.now
+        (named_by M.form_code (M.form_of input.now.machine)) input.now.lines.now labels.now }
+    requires few { length input.now.lines.now < 2000000 }
+    requires within { index < length labels.now }
+    requires stands { StandsForEntry (M.rules input.now.machine) input.now.program.now input.now.lines.now index
+        replayer.old.state }
+    ensures out { IfOk result (λ yes. yes ≡ true → IsStepUnknown (M.rules input.now.machine) input.now.program.now
+        (named_by M.form_code (M.form_of input.now.machine)) labels.now replayer.old.state) }
+    ensures none { IfOk result (λ yes. yes ≡ false → AreStepsKnown (M.rules input.now.machine) input.now.program.now
+        (named_by M.form_code (M.form_of input.now.machine)) labels.now replayer.old.state) }
+{
+    for thread in 0..input.program.threads().len() as u8 {
+        if has_step(input.lines, *next, index, thread) {
+            *next += 1;
+            continue;
+        }
+        if !knows_step(alloc, input, labels, thread, replayer)? {
+            return Ok(true);
+        }
+    }
+    Ok(false)
+}
+
+/// Whether each step of each entry's state reaches a state with the label of an entry. The fault names the line of the
+/// first entry with another step; the start is on line 2.
+pub fn test_closed<M: Encode>(
+    alloc: Global,
+    input: &Input<'_, M>,
+    labels: &Labels,
+    replayer: &mut Replayer<M>,
+) -> Result<(), CheckFault>
+    requires kept { AreLabelsOf {Machine = M} (M.rules input.now.machine) input.now.program.now
+        (named_by M.form_code (M.form_of input.now.machine)) input.now.lines.now labels.now }
+    requires few { length input.now.lines.now < 2000000 }
+    ensures pass { IfOk result
+        (λ _. Pass M M.Form (M.rules input.now.machine) input.now.program.now input.now.lines.now) }
+    ensures refused { IfErr result (λ fault. (fault ≡ CheckFault.OutOfMemory)
+        ⊎ AreRefused M M.Form (M.rules input.now.machine) input.now.program.now input.now.lines.now fault) }
+{
+    // Whoever reads a program knows that it meets the limits.
+    let _ = input.program.initial();
+    let mut next = 0;
+    for i in 0..labels.len() {
+        recall(alloc, input, labels, i, &mut replayer.state)?;
+        if leads_out(alloc, input, labels, i, &mut next, replayer)? {
+            return Err(CheckFault::Open(i + 2));
+        }
+    }
+    Ok(())
+}

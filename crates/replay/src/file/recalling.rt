@@ -1,0 +1,79 @@
+//! States that stand in for those of entries.
+ghost use Rattle.std.specs.Prelude.{◌≡◌, ◌<◌, List, Some, length, slice_get, IfOk, OnOk};
+ghost use Rattle.tree_machine.specs.declared.state.State.{State};
+ghost use Rattle.replay.specs.BookFile.Kept.{AreLabelsOf, StandsForEntry};
+ghost use Rattle.replay.specs.BookFile.Replays.{AreReplayed};
+ghost use Rattle.replay.specs.Findings.{machine_of};
+ghost use Rattle.replay.specs.Labels.{named_by};
+ghost use Rattle.replay.specs.Schedule.{after};
+
+use crate::file::labels::Labels;
+use crate::file::line::Line;
+use crate::replaying::state_after;
+use sched_program::{OutOfMemory, Program};
+use std::alloc::Global;
+use tree_machine::{Encode, State};
+
+/// What is checked: the lines of a book file, for a program on a machine.
+#[derive(Clone, Copy)]
+pub struct Input<'a, M: Encode> {
+    pub machine: M,
+    pub program: &'a Program,
+    pub lines: &'a [Line],
+}
+
+/// The threads on the way from the start to an entry, as its line and those of its ancestors have it.
+fn way_to<M: Encode>(
+    alloc: Global,
+    input: &Input<'_, M>,
+    labels: &Labels,
+    index: usize,
+) -> Result<Vec<u8>, OutOfMemory>
+    requires kept { AreLabelsOf {Machine = M} (M.rules input.now.machine) input.now.program.now
+        (named_by M.form_code (M.form_of input.now.machine)) input.now.lines.now labels.now }
+    requires within { index < length labels.now }
+    ensures { IfOk result (λ way. (states : List (State M M.Mem M.Loc M.Form))
+        → AreReplayed (M.rules input.now.machine) input.now.program.now input.now.lines.now states
+        → (s : State M M.Mem M.Loc M.Form) × (slice_get states index ≡ Some s)
+        × (after (machine_of (M.rules input.now.machine) input.now.program.now) way.items ≡ Some s)) }
+{
+    // Proofs alone read these.
+    let _ = labels;
+    let mut way = Vec::new(alloc);
+    let mut at = index;
+    'back: while at > 0 {
+        let line = &input.lines[at - 1];
+        way.push(line.thread)?;
+        at = line.parent as usize;
+    }
+    way.reverse();
+    Ok(way)
+}
+
+/// Makes `state` stand in for that of an entry: it is decoded from the entry's label or, if that can't be done,
+/// replayed from the start.
+pub fn recall<M: Encode>(
+    alloc: Global,
+    input: &Input<'_, M>,
+    labels: &Labels,
+    index: usize,
+    state: &mut State<M>,
+) -> Result<(), OutOfMemory>
+    requires kept { AreLabelsOf {Machine = M} (M.rules input.now.machine) input.now.program.now
+        (named_by M.form_code (M.form_of input.now.machine)) input.now.lines.now labels.now }
+    requires within { index < length labels.now }
+    ensures { OnOk result (StandsForEntry (M.rules input.now.machine) input.now.program.now input.now.lines.now index
+        state.new) }
+{
+    // Whoever reads a program knows that it meets the limits.
+    let _ = input.program.initial();
+    if let Some(label) = labels.get(index)
+        && let Some(_) = state.read_in(alloc, input.machine, label)?
+    {
+        state.decoded_law(input.machine);
+        return Ok(());
+    }
+    let way = way_to(alloc, input, labels, index)?;
+    *state = state_after(alloc, input.machine, input.program, way.as_slice())?;
+    Ok(())
+}
