@@ -6,8 +6,8 @@ use Rattle.tree_machine.specs.Step.{Fits}
 use Rattle.tree_machine.proofs.Lists.{map-get}
 use Rattle.tree_machine.specs.FormCode.{state_code}
 use Rattle.tree_machine.specs.declared.state.State.{State}
-use Rattle.book.specs.declared.book.Merge.{Merge}
-use Rattle.book.specs.declared.book.Merge.TheVariants.{Exact}
+use Rattle.options.specs.declared.options.Merge.{Merge}
+use Rattle.options.specs.declared.options.Merge.TheVariants.{Exact}
 use Rattle.replay.specs.declared.finding.Finding.{Finding}
 use Rattle.book.specs.Books.{IsBook}
 use Rattle.book.specs.ByLabel.{IsTakenOf}

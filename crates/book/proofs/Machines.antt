@@ -16,8 +16,8 @@ use Rattle.tree_machine.specs.declared.state.State.{State}
 use Rattle.tree_machine.proofs.Alike.{alike_step}
 use Rattle.tree_machine.proofs.Forms.{forms_alike, alike_turned}
 use Rattle.replay.specs.Laws.Machines.{is_machine}
-use Rattle.book.specs.declared.book.Merge.{Merge}
-use Rattle.book.specs.declared.book.Merge.TheVariants.{Exact, Names}
+use Rattle.options.specs.declared.options.Merge.{Merge}
+use Rattle.options.specs.declared.options.Merge.TheVariants.{Exact, Names}
 use Rattle.book.specs.declared.entry.Mark.TheVariants.{Open}
 use Rattle.replay.specs.declared.finding.Finding.{Finding}
 use Rattle.replay.specs.Schedule.{StepMachine, AreOneBy, IsMachine, Merges}

@@ -16,8 +16,8 @@ use Rattle.tree_machine.proofs.States.{step_fits}
 use Rattle.sched_program.specs.Program.{Program, IsWithinLimits}
 use Rattle.sched_program.specs.declared.operation.OpId.{OpId}
 use Rattle.lin.specs.Linearization.{IsLinearization, IsLinearizable}
-use Rattle.book.specs.declared.book.Merge.{Merge}
-use Rattle.book.specs.declared.book.Merge.TheVariants.{Exact, Names}
+use Rattle.options.specs.declared.options.Merge.{Merge}
+use Rattle.options.specs.declared.options.Merge.TheVariants.{Exact, Names}
 use Rattle.replay.specs.declared.finding.Finding.{Finding}
 use Rattle.replay.specs.declared.finding.Finding.TheVariants as found
 use Rattle.book.specs.Books.{CountsAsOne}

@@ -13,7 +13,7 @@ use Rattle.book.specs.Law.{IsExpansion}
 use Rattle.replay.specs.Schedule.{StepMachine}
 use Rattle.book.specs.declared.book.EnterFault.{EnterFault}
 use Rattle.book.specs.declared.book.EnterFault.TheVariants.{NotTaken, Stranger, Full, OutOfMemory}
-use Rattle.book.specs.declared.book.Merge.{Merge}
+use Rattle.options.specs.declared.options.Merge.{Merge}
 use Rattle.replay.specs.declared.finding.Finding.{Finding}
 use Rattle.book.specs.declared.successor.Successor.{Successor}
 

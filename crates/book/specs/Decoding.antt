@@ -6,7 +6,7 @@ use Rattle.tree_machine.specs.Offsets.{AreOffsetsOf}
 use Rattle.tree_machine.specs.Rules.{Rules}
 use Rattle.tree_machine.specs.Step.{Fits}
 use Rattle.tree_machine.specs.declared.state.State.{State}
-use Rattle.book.specs.declared.book.Merge.{Merge}
+use Rattle.options.specs.declared.options.Merge.{Merge}
 use Rattle.tree_machine.specs.declared.code_offsets.CodeOffsets.{CodeOffsets}
 use Rattle.tree_machine.specs.declared.front.Front.{Front}
 use Rattle.replay.specs.declared.finding.Finding.TheVariants.{Sound}

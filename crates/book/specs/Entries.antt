@@ -8,8 +8,8 @@ use Rattle.book.specs.declared.entry.Mark.{Mark}
 use Rattle.book.specs.declared.entry.Mark.TheVariants.{Open, Taken, Expanded}
 use Rattle.book.specs.declared.entry.Origin.{Origin}
 pub use Rattle.book.specs.declared.successor.Successor.{Successor}
-use Rattle.book.specs.declared.book.Merge.{Merge}
-use Rattle.book.specs.declared.book.Merge.TheVariants.{Exact}
+use Rattle.options.specs.declared.options.Merge.{Merge}
+use Rattle.options.specs.declared.options.Merge.TheVariants.{Exact}
 use Rattle.sched_program.specs.Program.{Program}
 use Rattle.book.specs.declared.book.EnterFault.{EnterFault}
 use Rattle.book.specs.declared.book.EnterFault.TheVariants.{NotTaken, Stranger, Full, OutOfMemory}

@@ -9,8 +9,8 @@ use Rattle.tree_machine.specs.declared.state.State.{State}
 use Rattle.book.specs.Entries.{Entry}
 use Rattle.tree_machine.specs.declared.naming.Naming.{Naming}
 use Rattle.tree_machine.specs.declared.naming.Naming.TheVariants.{Own, Canonical}
-use Rattle.book.specs.declared.book.Merge.{Merge}
-use Rattle.book.specs.declared.book.Merge.TheVariants.{Exact, Names}
+use Rattle.options.specs.declared.options.Merge.{Merge}
+use Rattle.options.specs.declared.options.Merge.TheVariants.{Exact, Names}
 use Rattle.book.specs.declared.successor.Successor.{Successor}
 
 -- the numbers by which labels name nodes and records

@@ -9,7 +9,7 @@ ghost use Rattle.book.specs.Entries.{Entry, At, IsNext, Takes, TakesLayer, is_op
 ghost use Rattle.replay.specs.Findings.{IsFindingOf};
 ghost use Rattle.replay.specs.declared.finding.Finding.{Finding};
 ghost use Rattle.book.specs.Slots.{AllStates, IsOpenFrom};
-ghost use Rattle.book.specs.Labels.{label_by, naming_of};
+ghost use Rattle.book.specs.Labels.{label_by};
 ghost use Rattle.book.specs.Books.{machine_in, right_in, CountsAsOne, IsLawfulIn};
 ghost use Rattle.book.specs.Law.{FindsAlike, StandsForReached};
 ghost use Rattle.replay.specs.Schedule.{IsDecided, IsMachine};
@@ -19,38 +19,17 @@ use crate::shown::Shown;
 use crate::successor::label;
 use crate::table::Table;
 use replay::find;
+use options::Merge;
 use sched_program::{OutOfMemory, Program};
 use std::alloc::Global;
 use std::marker::Model;
 use std::sync::Arc;
-use tree_machine::{Encode, EncodeBuffer, Naming, State};
+use tree_machine::{Encode, EncodeBuffer, State};
 
 mod entering;
 mod handing;
 mod reading;
 mod states;
-
-/// Which states a book counts as one.
-#[derive(Clone, Copy, Debug, PartialEq, Eq)]
-pub enum Merge {
-    /// Equal states, their step counts included.
-    Exact,
-    /// States that differ in nothing but the numbers of their nodes and records, their step counts, and what neither
-    /// the root nor a thread reaches.
-    Names,
-}
-
-impl Merge {
-    /// The numbers by which labels name nodes and records.
-    pub(crate) fn naming(self) -> Naming
-        ensures { result ≡ naming_of self }
-    {
-        match self {
-            Merge::Exact => Naming::Own,
-            Merge::Names => Naming::Canonical,
-        }
-    }
-}
 
 /// How many entries a book has, and what became of the steps that were entered.
 #[derive(Clone, Copy, Debug, PartialEq, Eq)]

@@ -2,12 +2,12 @@
 //! without it, and enters under it again.
 ghost use Rattle.std.specs.Prelude.{◌≡◌, IfOk, IfSome, length};
 
-use crate::book::Merge;
 use crate::in_place::steps_here;
 use crate::label::Label;
 use crate::scratch::Scratch;
 use crate::successor::Successor;
 use replay::Finding;
+use options::Merge;
 use sched_program::{OutOfMemory, Program};
 use std::alloc::Global;
 use std::marker::Model;

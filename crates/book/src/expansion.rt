@@ -8,10 +8,10 @@ ghost use Rattle.book.specs.Expanding.{PutsStep};
 ghost use Rattle.replay.specs.Findings.{machine_of, IsFindingOf};
 ghost use Rattle.book.specs.Labels.{label_by, labelled};
 
-use crate::book::Merge;
 use crate::label::Label;
 use crate::successor::{Successor, label};
 use replay::find;
+use options::Merge;
 use sched_program::{OutOfMemory, Program, same};
 use std::alloc::Global;
 use std::marker::Model;

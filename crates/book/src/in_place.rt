@@ -7,7 +7,7 @@ use crate::expanding::TakenEntry;
 use crate::label::Label;
 use crate::lending::find_here;
 use crate::scratch::Scratch;
-use crate::successor::Successor;
+use crate::successor::{Successor, naming};
 use lin::Order;
 use replay::Finding;
 use sched_program::OutOfMemory;
@@ -55,7 +55,7 @@ fn put_step_here<M: Encode>(
         undo: &scratch.undo,
     };
     let found = find_here(alloc, from.machine, from.program, &origin, &*state, order)?;
-    let naming = from.merge.naming();
+    let naming = naming(from.merge);
     let buffer = &mut scratch.buffer;
     let label = state.label_after(alloc, from.machine, naming, &origin, buffer, spare)?;
     state.take_back(alloc, &source, thread, &mut scratch.undo);

@@ -20,7 +20,7 @@ mod successor;
 mod table;
 mod writing;
 
-pub use crate::book::{Book, EnterFault, Entered, Merge, Totals};
+pub use crate::book::{Book, EnterFault, Entered, Totals};
 pub use crate::entry::{Mark, Origin};
 pub use crate::expanding::{ExpandedEntry, TakenEntry};
 pub use crate::expansion::Expansion;
@@ -28,4 +28,5 @@ pub use crate::recycled::Recycled;
 pub use crate::scratch::Scratch;
 pub use crate::successor::Successor;
 pub use lin::{Order, ShortName};
+pub use options::Merge;
 pub use replay::{CheckFault, Finding, Replay, ReplayFault, check_book, replay};

@@ -1,13 +1,13 @@
 //! Steps, and the labels by which a book looks up the states that they reach.
 ghost use Rattle.std.specs.Prelude.{◌≡◌, IfOk};
 ghost use Rattle.tree_machine.specs.Step.{Fits};
-ghost use Rattle.book.specs.Labels.{label_by};
+ghost use Rattle.book.specs.Labels.{label_by, naming_of};
 
-use crate::book::Merge;
 use crate::label::Label;
 use replay::Finding;
+use options::Merge;
 use sched_program::{OutOfMemory, Program};
-use tree_machine::{Encode, EncodeBuffer, State};
+use tree_machine::{Encode, EncodeBuffer, Naming, State};
 
 /// The step of a thread: the state that it reaches, or the label of that state, and its finding.
 #[derive(Drop)]
@@ -18,6 +18,16 @@ pub struct Successor<T> {
     pub state: T,
     /// The finding of that state.
     pub finding: Finding,
+}
+
+/// The numbers by which labels name nodes and records.
+pub(crate) fn naming(merge: Merge) -> Naming
+    ensures { result ≡ naming_of merge }
+{
+    match merge {
+        Merge::Exact => Naming::Own,
+        Merge::Names => Naming::Canonical,
+    }
 }
 
 /// The label of a state of a program, for a book with this merge. It is encoded in `buffer` and
@@ -37,6 +47,6 @@ pub(crate) fn label<M: Encode>(
     // Whoever reads a program knows that it meets the limits.
     let _ = program.initial();
     let alloc = *spare.allocator();
-    let bytes = state.label(alloc, machine, merge.naming(), buffer, spare)?;
+    let bytes = state.label(alloc, machine, naming(merge), buffer, spare)?;
     Ok(Label::new(bytes))
 }

@@ -1,7 +1,7 @@
 -- An answer that is due by one relation is due by another that holds of the same states of the machine.
 use Rattle.std.proofs.Common.{ℕ, ◌+◌, length}
 use Rattle.replay.specs.declared.finding.Finding.{Finding}
-use Rattle.book.specs.declared.book.Merge.{Merge}
+use Rattle.options.specs.declared.options.Merge.{Merge}
 use Rattle.replay.specs.Schedule.{StepMachine, IsMachine}
 use Rattle.book.proofs.Agreeing.{Agree, count_as, turned}
 use Rattle.crew.specs.declared.answer.Answer.{Answer}

@@ -8,7 +8,7 @@ use Rattle.tree_machine.specs.Rules.{Rules}
 use Rattle.tree_machine.specs.declared.state.State.{State}
 use Rattle.replay.specs.Schedule.{StepMachine, after, run}
 use Rattle.replay.specs.Findings.{machine_of}
-use Rattle.book.specs.declared.book.Merge.{Merge}
+use Rattle.options.specs.declared.options.Merge.{Merge}
 use Rattle.book.specs.Entries.{Contents}
 use Rattle.book.specs.Books.{machine_in}
 

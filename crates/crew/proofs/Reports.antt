@@ -11,7 +11,7 @@ use Rattle.book.specs.Books.{CountsAsOne, machine_in, right_in, totals_of}
 use Rattle.book.proofs.Agreeing.{turned}
 use Rattle.crew.specs.declared.answer.Answer.{Answer}
 use Rattle.crew.specs.declared.answer.Share.{Share}
-use Rattle.crew.specs.Settings.{Settings}
+use Rattle.options.specs.Settings.{Settings}
 use Rattle.crew.specs.Driving.{IsLedgerOf}
 use Rattle.crew.specs.Due.{IsDue, IsSameVerdict}
 use Rattle.crew.specs.Headline.{IsTrueOf}

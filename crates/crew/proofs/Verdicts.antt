@@ -2,7 +2,7 @@
 use Rattle.std.proofs.Common.{◌≡◌, ℕ, ◌+◌, ◌<◌, ◌≤◌, Bool, inl, inr, length, sym, ◌∙◌, arith, subst}
 use Rattle.std.proofs.lemmas.Bool.{cases_lt}
 use Rattle.replay.specs.declared.finding.Finding.{Finding}
-use Rattle.book.specs.declared.book.Merge.{Merge}
+use Rattle.options.specs.declared.options.Merge.{Merge}
 use Rattle.replay.specs.Schedule.{AreOneBy, StepMachine, Merges}
 use Rattle.book.specs.Counts.{IsCount}
 use Rattle.crew.specs.declared.answer.Answer.{Answer}

@@ -3,8 +3,8 @@ use Rattle.std.proofs.Common.{◌≡◌, ℕ, zero, suc, ◌≤◌, inl, inr, fa
 use Rattle.std.proofs.lemmas.Bool.{true≢false, cases_lt}
 use Rattle.replay.specs.Findings.{is_sound}
 use Rattle.book.specs.Entries.{Entry, At}
-use Rattle.book.specs.declared.book.Merge.{Merge}
-use Rattle.book.specs.declared.book.Merge.TheVariants.{Names}
+use Rattle.options.specs.declared.options.Merge.{Merge}
+use Rattle.options.specs.declared.options.Merge.TheVariants.{Names}
 use Rattle.book.specs.Closed.{IsWorkedOut}
 use Rattle.crew.specs.Reading.{IsAtRest, IsLastLayer, IsWorkedOff}
 

@@ -1,4 +1,3 @@
-pub mod Settings
 pub mod Ledger
 pub mod Faults
 pub mod Due

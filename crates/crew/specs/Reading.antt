@@ -11,8 +11,8 @@ use Rattle.book.specs.Entries.{Entry, Contents, At, IsFullFor}
 use Rattle.book.specs.Books.{CountsAsOne, machine_in, right_in}
 use Rattle.book.specs.Law.{IsExpansion}
 use Rattle.book.specs.Closed.{IsClosed}
-use Rattle.book.specs.declared.book.Merge.{Merge}
-use Rattle.book.specs.declared.book.Merge.TheVariants.{Names}
+use Rattle.options.specs.declared.options.Merge.{Merge}
+use Rattle.options.specs.declared.options.Merge.TheVariants.{Names}
 use Rattle.book.specs.Layers.{IsExpandedBelow, IsShallow, IsThrough, NoneTaken}
 use Rattle.crew.specs.declared.answer.Answer.{Answer}
 use Rattle.crew.specs.declared.answer.Answer.TheVariants as answer

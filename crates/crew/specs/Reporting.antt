@@ -13,7 +13,7 @@ use Rattle.crew.specs.Due.{IsDue, IsSameVerdict}
 use Rattle.crew.specs.Headline.{IsTrueOf}
 use Rattle.crew.specs.Ledger.{ledger}
 use Rattle.crew.specs.Reading.{TellsFirst, TellsClosed}
-use Rattle.crew.specs.Settings.{Settings}
+use Rattle.options.specs.Settings.{Settings}
 
 -- the book is of the machine, the program, the limit and the merge that are asked for
 pub record IsBookOf {X S : Type 0} (asked : X) (text : Program) (settings : Settings) (book : Contents X S) : Type

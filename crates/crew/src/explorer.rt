@@ -15,7 +15,7 @@ use crate::answer::{Answer, Report, Share};
 use crate::driving::drive;
 use crate::gate::Gate;
 use crate::layer_run::Exploration;
-use crate::options::Options;
+use options::Options;
 use crate::reporting::{let_go, report_of, told_of};
 use crate::worker::{cut_of, shares_of, workers_of};
 use book::{Book, Totals};

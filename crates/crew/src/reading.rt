@@ -11,7 +11,7 @@ ghost use Rattle.book.specs.Layers.{IsExpandedBelow};
 ghost use Rattle.crew.specs.Reading.{first_fault, IsAtRest, IsCutIn, IsFullIn, IsLastLayer, IsReadOff, IsWorkedOff};
 
 use crate::answer::Answer;
-use crate::options::Options;
+use options::Options;
 use book::{Book, EnterFault, Expansion, Finding, Merge, ReplayFault, replay};
 use sched_program::{OutOfMemory, Program};
 use std::alloc::Global;

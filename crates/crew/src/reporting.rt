@@ -7,7 +7,7 @@ ghost use Rattle.crew.specs.Reading.{IsCutIn, IsWorkedOff};
 ghost use Rattle.crew.specs.Reporting.{IsBookOf, IsReport};
 
 use crate::answer::{Answer, Report, Share};
-use crate::options::Options;
+use options::Options;
 use crate::reading::read_answer;
 use book::{Book, Totals};
 use sched_program::{OutOfMemory, Program};

@@ -1,11 +1,4 @@
-mod Accepted
-mod Entered
 mod Given
 mod Ledgers
 mod Loaded
-mod Parsed
-mod Requests
-mod Schedules
 mod Servings
-mod Subcommands
-mod Values

@@ -11,7 +11,7 @@ use Rattle.sched_program.specs.declared.fault.ProgramFault.TheVariants as fault
 use Rattle.sched_program.specs.declared.loading.LoadFault.{LoadFault}
 use Rattle.sched_program.specs.declared.loading.LoadFault.TheVariants as load
 use Rattle.treesched_lib.specs.Serving.{IsAnsweredBy, IsAsked, IsServedFrom, TellsUnloaded}
-use Rattle.treesched_lib.specs.declared.request.Request.{Request}
+use Rattle.words.specs.declared.request.Request.{Request}
 use Rattle.treesched_lib.specs.declared.serving.BookRead.{BookRead}
 use Rattle.treesched_lib.specs.declared.serving.BookRead.TheVariants as book_read
 use Rattle.treesched_lib.specs.declared.serving.Output.{Output}

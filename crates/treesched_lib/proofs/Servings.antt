@@ -17,8 +17,8 @@ use Rattle.replay.specs.declared.replayed.ReplayFault.{ReplayFault}
 use Rattle.treesched_lib.specs.Lines.{IsRefusal, no_step_text}
 use Rattle.treesched_lib.specs.Serving.{IsAnswerTo, IsKept, IsReplayed, IsServedBySome, IsStuck}
 use Rattle.clap.specs.Walk.{Text}
-use Rattle.treesched_lib.specs.Reading.{AskFor}
-use Rattle.treesched_lib.specs.declared.request.Request.{Request}
+use Rattle.words.specs.Reading.{AskFor}
+use Rattle.words.specs.declared.request.Request.{Request}
 use Rattle.treesched_lib.specs.declared.serving.Output.{Output}
 
 module _ {S : Type 0} (m : StepMachine S) (schedule : List ℕ) where

@@ -20,8 +20,8 @@ use Rattle.replay.specs.declared.file.fault.CheckFault.TheVariants as check_faul
 use Rattle.crew.specs.declared.answer.Answer.{Answer}
 use Rattle.crew.specs.declared.answer.Answer.TheVariants as answer
 use Rattle.crew.specs.declared.answer.Share.{Share}
-use Rattle.treesched_lib.specs.declared.request.WordsFault.{WordsFault}
-use Rattle.treesched_lib.specs.declared.request.WordsFault.TheVariants as words
+use Rattle.words.specs.declared.request.WordsFault.{WordsFault}
+use Rattle.words.specs.declared.request.WordsFault.TheVariants as words
 use Rattle.treesched_lib.specs.declared.serving.Output.{Output}
 
 abbrev pub line_end : List ℕ

@@ -40,7 +40,7 @@ use Rattle.crew.specs.Headline.{IsTrueOf}
 use Rattle.crew.specs.Ledger.{ledger}
 use Rattle.crew.specs.Reading.{TellsClosed, TellsFirst}
 use Rattle.crew.specs.Reporting.{IsBookOf}
-use Rattle.crew.specs.Settings.{Settings}
+use Rattle.options.specs.Settings.{Settings}
 use Rattle.crew.specs.declared.answer.Answer.{Answer}
 use Rattle.crew.specs.declared.answer.Answer.TheVariants as answer
 use Rattle.crew.specs.declared.answer.Share.{Share}
@@ -48,11 +48,11 @@ use Rattle.treesched_lib.specs.Lines.{IsPage, IsRefusal, IsUnreadable, IsUnwrita
 use Rattle.treesched_lib.specs.Lines.{fault_text, no_step_text, operations_text, passed_text, report_text, status_of}
 use Rattle.treesched_lib.specs.Lines.{verdict_text}
 use Rattle.clap.specs.Walk.{Text}
-use Rattle.treesched_lib.specs.Reading.{AreRefused, AskFor, file_of, out_of}
+use Rattle.words.specs.Reading.{AreRefused, AskFor, file_of, out_of}
 use Rattle.sched_program.specs.declared.counted.Counted.{Counted}
-use Rattle.treesched_lib.specs.declared.request.Request.{Request}
-use Rattle.treesched_lib.specs.declared.request.Request.TheVariants as request
-use Rattle.treesched_lib.specs.declared.request.WordsFault.{WordsFault}
+use Rattle.words.specs.declared.request.Request.{Request}
+use Rattle.words.specs.declared.request.Request.TheVariants as request
+use Rattle.words.specs.declared.request.WordsFault.{WordsFault}
 use Rattle.treesched_lib.specs.declared.serving.BookRead.{BookRead}
 use Rattle.treesched_lib.specs.declared.serving.BookRead.TheVariants as book_read
 use Rattle.treesched_lib.specs.declared.serving.Output.{Output}

@@ -4,7 +4,6 @@ ghost use Rattle.treesched_lib.specs.Serving.{IsAnswerTo};
 
 use crate::files::{kept, serve_files};
 use crate::refusals::{refusal, refused};
-use crate::request::read_words;
 use crate::serving::Output;
 use sched_program::OutOfMemory;
 use std::env::Env;
@@ -12,6 +11,7 @@ use std::fs::Files;
 use std::io;
 use std::sync::Wait;
 use std::thread::Threads;
+use words::read_words;
 
 /// The output for these words. The first one is the program's name.
 ///

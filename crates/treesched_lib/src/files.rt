@@ -5,7 +5,6 @@ ghost use Rattle.treesched_lib.specs.Serving.{IsKept, IsServedBySome};
 
 use crate::output::{CountedWriter, put_all};
 use crate::refusals::unwritable;
-use crate::request::Request;
 use crate::serving::{Output, serve};
 use sched_program::{Counted, OutOfMemory};
 use std::alloc::Global;
@@ -13,6 +12,7 @@ use std::fs::{File, Files};
 use std::io::Write;
 use std::sync::Wait;
 use std::thread::Threads;
+use words::Request;
 
 /// The book file to check, if the request is to check one and it can be opened.
 fn open_book<R: Files>(rt: &R, request: &Request<'_>) -> Option<R::File> {

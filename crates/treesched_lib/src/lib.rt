@@ -3,14 +3,11 @@
 #![tactic(auto)]
 
 mod answering;
-mod command;
 mod files;
 mod lines;
 mod output;
 mod printing;
 mod refusals;
-mod request;
-mod schedule;
 mod serving;
 
 pub use crate::answering::{answer, run};
@@ -19,5 +16,5 @@ pub use crate::lines::put_report;
 pub use crate::output::{CountedWriter, WriteFault, put_all};
 pub use crate::printing::{print, tell};
 pub use crate::refusals::{check_fault_text, fault_text, refused};
-pub use crate::request::{Request, WordsFault, read_words};
 pub use crate::serving::{Output, serve};
+pub use words::{Request, WordsFault, read_words};

@@ -4,11 +4,11 @@ ghost use Rattle.std.specs.String.{string_bytes};
 ghost use Rattle.treesched_lib.specs.Lines as lines;
 ghost use Rattle.treesched_lib.specs.Serving.{TellsUnloaded};
 
-use crate::request::{Request, WordsFault};
 use crate::serving::Output;
 use book::CheckFault;
 use sched_program::{LoadFault, OutOfMemory, ProgramFault};
 use std::alloc::Global;
+use words::{Request, WordsFault};
 
 /// The output of a refusal: nothing on the standard output, and one line on the standard error.
 pub fn refusal(alloc: Global, status: u8, text: &str) -> Result<Output, OutOfMemory>

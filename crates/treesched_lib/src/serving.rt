@@ -14,7 +14,6 @@ ghost use Rattle.treesched_lib.specs.Serving.{IsExplored, IsReplayed, IsServed, 
 
 use crate::lines::{put_operations, put_passed, put_report, put_verdict};
 use crate::refusals::{book_refused, no_step, not_loaded, unreadable};
-use crate::request::Request;
 use book::{Finding, Replay, ReplayFault, check_book, replay};
 use crew::{Answer, Open, Options, Report, explore};
 use ellen::Ellen;
@@ -26,6 +25,7 @@ use std::mem::forget;
 use std::sync::Wait;
 use std::thread::Threads;
 use tree_machine::{Atomic, Encode};
+use words::Request;
 
 /// What the program writes, and the status that it ends with.
 #[derive(Debug, Drop)]

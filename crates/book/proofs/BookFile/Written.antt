@@ -27,7 +27,7 @@ use Rattle.book.proofs.Closed.{worked_out_closed}
 use Rattle.replay.specs.Closed.{AreClosed}
 use Rattle.book.specs.Closed.{IsWorkedOut, IsClosed, AreSound}
 use Rattle.book.specs.Books.{CountsAsOne, machine_in, right_in, IsLawfulIn}
-use Rattle.book.specs.declared.book.Merge.{Merge}
+use Rattle.options.specs.declared.options.Merge.{Merge}
 use Rattle.book.proofs.Agreeing.{Agree, book_back}
 use Rattle.book.proofs.Unknown.{states-at}
 use Rattle.replay.specs.declared.file.line.Line.{Line}

@@ -5,14 +5,15 @@ ghost use Rattle.book.specs.Books.{machine_in, right_in, CountsAsOne};
 ghost use Rattle.book.specs.Entries.{Entry, At, Enters, IsFullFor, IsOwn, IsTaken, Refuses};
 ghost use Rattle.book.specs.ByLabel.{expansion_of, AreStepsOf, IsEntryOf, IsOf, RefusesEntry};
 ghost use Rattle.book.specs.Labels.{label_by, steps_of};
-ghost use Rattle.book.specs.declared.book.Merge.TheVariants.{Exact};
+ghost use Rattle.options.specs.declared.options.Merge.TheVariants.{Exact};
 
-use crate::book::{Book, EnterFault, Entered, Merge};
+use crate::book::{Book, EnterFault, Entered};
 use crate::expanding::ExpandedEntry;
 use crate::expansion::Expansion;
 use crate::label::Label;
 use crate::recycled::Recycled;
 use crate::successor::Successor;
+use options::Merge;
 use sched_program::OutOfMemory;
 use tree_machine::{Encode, State};
 

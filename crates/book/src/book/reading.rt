@@ -15,9 +15,10 @@ ghost use Rattle.book.specs.Closed.{AreSound, IsClosed};
 ghost use Rattle.replay.specs.Schedule.{after};
 ghost use Rattle.book.specs.Ways.{IsWay};
 
-use crate::book::{Book, Merge, Totals};
+use crate::book::{Book, Totals};
 use crate::writing::write_entries;
 use replay::Finding;
+use options::Merge;
 use sched_program::{OutOfMemory, Program};
 use std::alloc::Global;
 use tree_machine::Encode;

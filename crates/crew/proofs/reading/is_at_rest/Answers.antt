@@ -1,7 +1,7 @@
 use Rattle.std.proofs.Common.{◌≡◌, ◌∙◌, ◌+◌, ◌≤◌, sym, length, count_by, leb, arith}
 use Rattle.std.proofs.lemmas.Bool.{eqb-true, eq-eqb, false≢true, leb-true, le-leb}
 use Rattle.tree_machine.specs.declared.state.State.{State}
-use Rattle.book.specs.declared.book.Merge.TheVariants.{Exact, Names}
+use Rattle.options.specs.declared.options.Merge.TheVariants.{Exact, Names}
 use Rattle.book.specs.Entries.{Entry}
 use Rattle.crew.proofs.Counting.{count_every, every_counted}
 use Rattle.crew.proofs.reading.is_at_rest.Goals as goal

@@ -1,7 +1,7 @@
 use Rattle.std.proofs.Common.{rules, ◌≡◌, ◌∙◌, sym}
 use Rattle.std.specs.Prelude.{◌↔◌, IsTrue}
 use Rattle.std.proofs.lemmas.Bool.{true≢false}
-use Rattle.book.specs.declared.book.Merge.TheVariants.{Names}
+use Rattle.options.specs.declared.options.Merge.TheVariants.{Names}
 use Rattle.book.specs.Books.{machine_in, right_in}
 use Rattle.replay.specs.Schedule.{AreOneBy}
 use Rattle.book.proofs.Agreeing.{book_back}

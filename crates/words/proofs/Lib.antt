@@ -1,0 +1,7 @@
+mod Accepted
+mod Entered
+mod Parsed
+mod Requests
+mod Schedules
+mod Subcommands
+mod Values

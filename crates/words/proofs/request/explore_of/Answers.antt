@@ -1,0 +1,9 @@
+-- A book file needs merging by names.
+use Rattle.std.proofs.Common.{rules}
+use Rattle.words.proofs.request.explore_of.Goals as goal
+
+pub returns-then-eq : goal.returns-then-eq
+returns-then-eq c = search rules
+
+pub returns : goal.returns
+returns c = search rules
