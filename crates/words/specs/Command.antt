@@ -5,32 +5,21 @@ use Rattle.clap.specs.Words.{App, Rule, Text, new_app, new_rule, with_rule, with
 use Rattle.clap.specs.declared.builder.ArgAction.TheVariants.{SetTrue}
 use Rattle.clap.specs.declared.builder.value_parser.ValueParser.TheVariants.{Names, Unsigned}
 
+-- an option with one value
+abbrev pub option : Text → Rule
+option id = record (new_rule id) { long = Some id; value_names = 1 }
+
 abbrev pub file : Rule
 file = record (new_rule (codes "file")) { value_names = 1; required = true }
 
 abbrev pub steps : Rule
-steps = record (new_rule (codes "steps")) {
-  long = Some (codes "steps");
-  value_names = 1;
-  required = true;
-  parser = Some (Unsigned 0 400);
-}
+steps = record (option (codes "steps")) { required = true; parser = Some (Unsigned 0 400) }
 
 abbrev pub workers : Rule
-workers = record (new_rule (codes "workers")) {
-  long = Some (codes "workers");
-  value_names = 1;
-  defaults = codes "1" ∷ [];
-  parser = Some (Unsigned 1 8);
-}
+workers = record (option (codes "workers")) { defaults = codes "1" ∷ []; parser = Some (Unsigned 1 8) }
 
 abbrev pub states : Rule
-states = record (new_rule (codes "states")) {
-  long = Some (codes "states");
-  value_names = 1;
-  defaults = codes "200000" ∷ [];
-  parser = Some (Unsigned 1 2000000);
-}
+states = record (option (codes "states")) { defaults = codes "200000" ∷ []; parser = Some (Unsigned 1 2000000) }
 
 -- a list of words, as the command line holds it
 abbrev pub Choices : Type 0
@@ -41,12 +30,7 @@ abbrev pub AreMerges : Choices → Type 0
 AreMerges choices = map (λ c. c.now) choices.now ≡ codes "exact" ∷ codes "names" ∷ []
 
 abbrev pub merge : Choices → Rule
-merge choices = record (new_rule (codes "merge")) {
-  long = Some (codes "merge");
-  value_names = 1;
-  defaults = codes "exact" ∷ [];
-  parser = Some (Names choices);
-}
+merge choices = record (option (codes "merge")) { defaults = codes "exact" ∷ []; parser = Some (Names choices) }
 
 abbrev pub IsMerge : Rule → Type 0
 IsMerge rule = (choices : Choices) × AreMerges choices × (rule ≡ merge choices)
@@ -55,15 +39,11 @@ abbrev pub ledger : Rule
 ledger = record (new_rule (codes "ledger")) { long = Some (codes "ledger"); action = Some SetTrue }
 
 abbrev pub schedule : Rule
-schedule = record (new_rule (codes "schedule")) {
-  long = Some (codes "schedule");
-  value_names = 1;
-  required = true;
-}
+schedule = record (option (codes "schedule")) { required = true }
 
 -- where the book file goes
 abbrev pub book_out : Rule
-book_out = record (new_rule (codes "book")) { long = Some (codes "book"); value_names = 1 }
+book_out = option (codes "book")
 
 -- the book file to check
 abbrev pub book_file : Rule

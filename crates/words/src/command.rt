@@ -24,6 +24,14 @@ docs/REFUSALS.md has each line that is printed, with its repair.";
 /// The words for the ways to merge states.
 static MERGES: [&str; 2] = ["exact", "names"];
 
+/// An option with one value.
+fn option<'a>(alloc: Global, id: &'a str, value: &'a str) -> Arg<'a>
+    ensures rule { rule_of result ≡ line.option id.entry.now }
+    ensures local { result.global ≡ false }
+{
+    Arg::new(alloc, id).long(id).value_name(value)
+}
+
 fn file<'a>(alloc: Global) -> Arg<'a>
     ensures rule { rule_of result ≡ line.file }
     ensures local { result.global ≡ false }
@@ -38,9 +46,7 @@ fn steps<'a>(alloc: Global) -> Arg<'a>
     ensures rule { rule_of result ≡ line.steps }
     ensures local { result.global ≡ false }
 {
-    Arg::new(alloc, "steps")
-        .long("steps")
-        .value_name("N")
+    option(alloc, "steps", "N")
         .required(true)
         .value_parser(value_parser!(u64).range(..=400))
         .help("The longest schedules that are explored: 0 to 400 steps")
@@ -50,9 +56,7 @@ fn workers<'a>(alloc: Global) -> Arg<'a>
     ensures rule { rule_of result ≡ line.workers }
     ensures local { result.global ≡ false }
 {
-    Arg::new(alloc, "workers")
-        .long("workers")
-        .value_name("W")
+    option(alloc, "workers", "W")
         .default_value("1")
         .value_parser(value_parser!(u64).range(1..=8))
         .help("The threads that explore: 1 to 8")
@@ -62,9 +66,7 @@ fn states<'a>(alloc: Global) -> Arg<'a>
     ensures rule { rule_of result ≡ line.states }
     ensures local { result.global ≡ false }
 {
-    Arg::new(alloc, "states")
-        .long("states")
-        .value_name("M")
+    option(alloc, "states", "M")
         .default_value("200000")
         .value_parser(value_parser!(u64).range(1..=2_000_000))
         .help("The most states that are kept: 1 to 2000000")
@@ -74,9 +76,7 @@ fn merge<'a>(alloc: Global) -> Arg<'a>
     ensures rule { line.IsMerge (rule_of result) }
     ensures local { result.global ≡ false }
 {
-    Arg::new(alloc, "merge")
-        .long("merge")
-        .value_name("STATES")
+    option(alloc, "merge", "STATES")
         .default_value("exact")
         .value_parser(MERGES.as_slice())
         .help("Which states count as one; 'holds for every schedule' needs names")
@@ -96,18 +96,16 @@ fn schedule<'a>(alloc: Global) -> Arg<'a>
     ensures rule { rule_of result ≡ line.schedule }
     ensures local { result.global ≡ false }
 {
-    Arg::new(alloc, "schedule")
-        .long("schedule")
-        .value_name("LIST")
-        .required(true)
-        .help("The thread of each step, single digits with commas between them, at most 400")
+    option(alloc, "schedule", "LIST").required(true).help(
+        "The thread of each step, single digits with commas between them, at most 400",
+    )
 }
 
 fn book_out<'a>(alloc: Global) -> Arg<'a>
     ensures rule { rule_of result ≡ line.book_out }
     ensures local { result.global ≡ false }
 {
-    Arg::new(alloc, "book").long("book").value_name("OUT").help(
+    option(alloc, "book", "OUT").help(
         "Writes the book file to OUT, over what stands there, if the answer is for every schedule; needs --merge names",
     )
 }
