@@ -10,8 +10,8 @@ ghost use Rattle.book.specs.Labels.{label_by, labelled};
 
 use crate::label::Label;
 use crate::successor::{Successor, label};
-use replay::find;
 use options::Merge;
+use replay::find;
 use sched_program::{OutOfMemory, Program, same};
 use std::alloc::Global;
 use std::marker::Model;

@@ -4,8 +4,8 @@ ghost use Rattle.tree_machine.specs.Step.{Fits};
 ghost use Rattle.book.specs.Labels.{label_by, naming_of};
 
 use crate::label::Label;
-use replay::Finding;
 use options::Merge;
+use replay::Finding;
 use sched_program::{OutOfMemory, Program};
 use tree_machine::{Encode, EncodeBuffer, Naming, State};
 

@@ -11,8 +11,8 @@ ghost use Rattle.book.specs.Layers.{IsExpandedBelow};
 ghost use Rattle.crew.specs.Reading.{first_fault, IsAtRest, IsCutIn, IsFullIn, IsLastLayer, IsReadOff, IsWorkedOff};
 
 use crate::answer::Answer;
-use options::Options;
 use book::{Book, EnterFault, Expansion, Finding, Merge, ReplayFault, replay};
+use options::Options;
 use sched_program::{OutOfMemory, Program};
 use std::alloc::Global;
 use tree_machine::{Encode, State};

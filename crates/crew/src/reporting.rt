@@ -7,9 +7,9 @@ ghost use Rattle.crew.specs.Reading.{IsCutIn, IsWorkedOff};
 ghost use Rattle.crew.specs.Reporting.{IsBookOf, IsReport};
 
 use crate::answer::{Answer, Report, Share};
-use options::Options;
 use crate::reading::read_answer;
 use book::{Book, Totals};
+use options::Options;
 use sched_program::{OutOfMemory, Program};
 use std::alloc::Global;
 use tree_machine::Encode;

@@ -17,8 +17,8 @@ ghost use Rattle.book.specs.Ways.{IsWay};
 
 use crate::book::{Book, Totals};
 use crate::writing::write_entries;
-use replay::Finding;
 use options::Merge;
+use replay::Finding;
 use sched_program::{OutOfMemory, Program};
 use std::alloc::Global;
 use tree_machine::Encode;
