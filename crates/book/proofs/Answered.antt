@@ -21,7 +21,7 @@ use Rattle.tree_machine.specs.declared.state.Thread.{Thread}
 use Rattle.tree_machine.specs.declared.state.State.{State}
 use Rattle.tree_machine.proofs.States.{step_parts}
 use Rattle.tree_machine.proofs.Lists.{get_at, map-get}
-use Rattle.book.proofs.Loans.{told_at, name, value_from_start, grown_value, map-set, get_set, more_notes, pushed_there}
+use Rattle.book.proofs.Loans.{value_in, name, value_from_start, grown_value, map-set, get_set, more_notes, pushed_there}
 
 -- ---- lists
 pushed_elsewhere : {X : Type 0} (xs : List X) (x : X) (i : ℕ) → i ≢ length xs
@@ -47,19 +47,19 @@ some_below xs i less = let there = get_at xs i less in subst IsSome (sym there.1
 
 module _ {V : Type 0} (all : List (List V)) (t : ℕ) (xs : List V) (x : V) (there : slice_get all t ≡ Some xs) where
   -- one thread's list has one value more
-  grown_here : told_at (slice_set all t (xs ++ x ∷ [])) t (length xs) ≡ Some x
+  grown_here : value_in (slice_set all t (xs ++ x ∷ [])) t (length xs) ≡ Some x
   grown_here = ap (option_and_then (λ ys. slice_get ys (length xs))) (get_set all t (xs ++ x ∷ []) xs there)
       ∙ pushed_there xs x
 
   grown_elsewhere : (u i : ℕ) → name t (length xs) ≢ name u i
-      → told_at (slice_set all t (xs ++ x ∷ [])) u i ≡ told_at all u i
+      → value_in (slice_set all t (xs ++ x ∷ [])) u i ≡ value_in all u i
   grown_elsewhere u i apart = by (u == t) refl
     where
-      by : (b : Bool) → (u == t) ≡ b → told_at (slice_set all t (xs ++ x ∷ [])) u i ≡ told_at all u i
+      by : (b : Bool) → (u == t) ≡ b → value_in (slice_set all t (xs ++ x ∷ [])) u i ≡ value_in all u i
       by true e =
           let same : u ≡ t = eqb-true u t e in
           let other : i ≢ length xs = λ h. apart (ap₂ name (sym same) (sym h)) in
-          subst (λ v. told_at (slice_set all t (xs ++ x ∷ [])) v i ≡ told_at all v i) (sym same)
+          subst (λ v. value_in (slice_set all t (xs ++ x ∷ [])) v i ≡ value_in all v i) (sym same)
           (ap (option_and_then (λ ys. slice_get ys i)) (get_set all t (xs ++ x ∷ []) xs there)
           ∙ pushed_elsewhere xs x i other ∙ sym (ap (option_and_then (λ ys. slice_get ys i)) there))
       by false e =
@@ -91,16 +91,16 @@ module _ {Machine Memory Place Form : Type 0} (state : State Machine Memory Plac
       → slice_get (after_access state t begun acted).threads t ≡ Some b
       → slice_get b.replies (length thread.replies) ≡ Some r
       → HasAnswered state.threads t thread r (after_access state t begun acted).threads
-  has_answered (memory, Goes place) b r at told =
+  has_answered (memory, Goes place) b r at stated =
       absurd (let none = same_replies (record begun { place = Some place }) refl b at in
-      let q : None ≡ Some r = sym none ∙ told in cc)
-  has_answered (memory, Replies reply) b r at told =
+      let q : None ≡ Some r = sym none ∙ stated in cc)
+  has_answered (memory, Replies reply) b r at stated =
       let now : Thread Place = record begun { replies = begun.replies ++ reply ∷ []; place = None } in
       let is : now ≡ b = (let q : Some now ≡ Some b = sym (get_set state.threads t now thread there) ∙ at in cc) in
       let all : b.replies ≡ thread.replies ++ reply ∷ [] =
       sym (ap (λ (x : Thread Place). x.replies) is) ∙ ap (λ (xs : List Bool). xs ++ reply ∷ []) replies in
       let one : reply ≡ r = (let q : Some reply ≡ Some r = sym (pushed_there thread.replies reply)
-      ∙ sym (ap (λ (xs : List Bool). slice_get xs (length thread.replies)) all) ∙ told in cc) in
+      ∙ sym (ap (λ (xs : List Bool). slice_get xs (length thread.replies)) all) ∙ stated in cc) in
       record {
         now = now;
         threads = refl;
@@ -109,8 +109,8 @@ module _ {Machine Memory Place Form : Type 0} (state : State Machine Memory Plac
         more = more;
         notes = notes;
       }
-  has_answered (memory, Astray) b r at told =
-      absurd (let none = same_replies begun refl b at in let q : None ≡ Some r = sym none ∙ told in cc)
+  has_answered (memory, Astray) b r at stated =
+      absurd (let none = same_replies begun refl b at in let q : None ≡ Some r = sym none ∙ stated in cc)
 
 module _ {Machine Memory Place Form : Type 0} (rules : Rules Memory Place) (program : Program)
     (state next : State Machine Memory Place Form) (t : ℕ) (thread : Thread Place) (r : Bool)
@@ -154,7 +154,7 @@ module _ {Machine Memory Place Form : Type 0} (rules : Rules Memory Place) (prog
 
   ended_began : IsBegun (history_of next) ended
   ended_began =
-      let own : told_at (map (λ (x : Thread Place). x.notes) next.threads) t (length thread.replies)
+      let own : value_in (map (λ (x : Thread Place). x.notes) next.threads) t (length thread.replies)
       ≡ slice_get answered.now.notes (length thread.replies) =
       ap (option_and_then (λ (ns : List (List ℕ)). slice_get ns (length thread.replies)))
       (map-get (λ (x : Thread Place). x.notes) next.threads t answered.now now_there) in
@@ -200,11 +200,11 @@ module _ {Machine Memory Place Form : Type 0} (rules : Rules Memory Place) (prog
       record {
         began = ended_began;
         replied = value_from_start t (length thread.replies) (map (λ (x : Thread Place). x.replies) next.threads)
-            ∙ ap (λ all. told_at all t (length thread.replies)) replies_now
+            ∙ ap (λ all. value_in all t (length thread.replies)) replies_now
             ∙ grown_here (map (λ (x : Thread Place). x.replies) state.threads) t thread.replies r own;
         others = λ b apart.
             value_from_start b.thread b.index (map (λ (x : Thread Place). x.replies) next.threads)
-            ∙ ap (λ all. told_at all b.thread b.index) replies_now
+            ∙ ap (λ all. value_in all b.thread b.index) replies_now
             ∙ grown_elsewhere (map (λ (x : Thread Place). x.replies) state.threads) t thread.replies r own b.thread
             b.index apart
             ∙ sym (value_from_start b.thread b.index (map (λ (x : Thread Place). x.replies) state.threads));
@@ -225,19 +225,19 @@ pub step_replied : {Machine Memory Place Form : Type 0} (rules : Rules Memory Pl
     → All (λ (x : Thread Place). All (λ note. slice_index note ended.thread ≤ ended.index) x.notes) next.threads
     → HasReplied (history_of state) (history_of next) ended r
 step_replied {Machine} {Memory} {Place} {Form} rules program state next t leads fits a b at_a at_b ended r thread index
-    told last =
+    stated last =
     step_parts rules program (HasReplied (history_of state) (history_of next) ended r) state next t leads
     (λ own there op op_is made.
     let same : own ≡ a = (let q : Some own ≡ Some a = sym there ∙ at_a in cc) in
     let more = more_notes own.place own.notes (finished_counts state.threads) in
     let at_made : slice_get (stepped rules state t op own).threads t ≡ Some b =
     ap (λ (s : State Machine Memory Place Form). slice_get s.threads t) (sym made) ∙ at_b in
-    let told_own : slice_get b.replies (length own.replies) ≡ Some r =
-    subst (λ (x : Thread Place). slice_get b.replies (length x.replies) ≡ Some r) (sym same) told in
+    let own_stated : slice_get b.replies (length own.replies) ≡ Some r =
+    subst (λ (x : Thread Place). slice_get b.replies (length x.replies) ≡ Some r) (sym same) stated in
     let answered : HasAnswered state.threads t own r next.threads =
     subst (λ (s : State Machine Memory Place Form). HasAnswered state.threads t own r s.threads) (sym made)
     (has_answered state t own (at_step rules state op own) there refl more.0 more.1
-    (rules.act op (place_or own.place (rules.first op)) state.memory) b r at_made told_own) in
+    (rules.act op (place_or own.place (rules.first op)) state.memory) b r at_made own_stated) in
     let index_own : ended.index ≡ length own.replies = index ∙ ap (λ (x : Thread Place). length x.replies) (sym same) in
     let named : name t (length own.replies) ≡ ended = ap₂ name (sym thread) (sym index_own) in
     let last_own : All (λ (x : Thread Place). All (λ note. slice_index note t ≤ length own.replies) x.notes)

@@ -24,8 +24,8 @@ use Rattle.tree_machine.proofs.Lists.{get-append_left, map-get}
 use Rattle.tree_machine.proofs.States.{step_parts}
 
 -- ---- values beside names
-abbrev pub told_at : {V : Type 0} → List (List V) → ℕ → ℕ → Option V
-told_at all t i = option_and_then (λ xs. slice_get xs i) (slice_get all t)
+abbrev pub value_in : {V : Type 0} → List (List V) → ℕ → ℕ → Option V
+value_in all t i = option_and_then (λ xs. slice_get xs i) (slice_get all t)
 
 abbrev pub name : ℕ → ℕ → OpId
 name t i = record { thread = t; index = i }
@@ -75,7 +75,7 @@ module _ {V : Type 0} where
       ∙ value_named t (i + 1) k j xs (omega arith)
 
   value_all : (t u s i : ℕ) (all : List (List V)) → s ≡ t + u
-      → value_at (all_named t all) (name s i) ≡ told_at all u i
+      → value_at (all_named t all) (name s i) ≡ value_in all u i
   value_all t u s i [] is = refl
   value_all t zero s i (xs ∷ all) is =
       let same : t ≡ s = omega arith in
@@ -90,24 +90,24 @@ module _ {V : Type 0} where
       (named_apart t 0 xs s i (λ (e : s ≡ t). omega arith))
       ∙ value_all (t + 1) u s i all (omega arith)
 
-  pub value_from_start : (u i : ℕ) (all : List (List V)) → value_at (all_named 0 all) (name u i) ≡ told_at all u i
+  pub value_from_start : (u i : ℕ) (all : List (List V)) → value_at (all_named 0 all) (name u i) ≡ value_in all u i
   value_from_start u i all = value_all 0 u u i all (omega arith)
 
   -- what has a value still has it once one thread's list is longer
-  grown_told : (all : List (List V)) (u i j : ℕ) (xs more : List V) (v : V) → slice_get all u ≡ Some xs
-      → told_at all i j ≡ Some v → told_at (slice_set all u (xs ++ more)) i j ≡ Some v
-  grown_told [] u i j xs more v at h = absurd (let q : None ≡ Some xs = at in cc)
-  grown_told (ys ∷ all) zero zero j xs more v at h =
+  grown_stated : (all : List (List V)) (u i j : ℕ) (xs more : List V) (v : V) → slice_get all u ≡ Some xs
+      → value_in all i j ≡ Some v → value_in (slice_set all u (xs ++ more)) i j ≡ Some v
+  grown_stated [] u i j xs more v at h = absurd (let q : None ≡ Some xs = at in cc)
+  grown_stated (ys ∷ all) zero zero j xs more v at h =
       let same : ys ≡ xs = cc in get-append_left xs more j v (subst (λ zs. slice_get zs j ≡ Some v) same h)
-  grown_told (ys ∷ all) zero (suc i) j xs more v at h = h
-  grown_told (ys ∷ all) (suc u) zero j xs more v at h = h
-  grown_told (ys ∷ all) (suc u) (suc i) j xs more v at h = grown_told all u i j xs more v at h
+  grown_stated (ys ∷ all) zero (suc i) j xs more v at h = h
+  grown_stated (ys ∷ all) (suc u) zero j xs more v at h = h
+  grown_stated (ys ∷ all) (suc u) (suc i) j xs more v at h = grown_stated all u i j xs more v at h
 
   pub grown_value : (all : List (List V)) (u : ℕ) (xs more : List V) (a : OpId) (v : V) → slice_get all u ≡ Some xs
       → value_at (all_named 0 all) a ≡ Some v → value_at (all_named 0 (slice_set all u (xs ++ more))) a ≡ Some v
   grown_value all u xs more a v at h =
       value_from_start a.thread a.index (slice_set all u (xs ++ more))
-      ∙ grown_told all u a.thread a.index xs more v at (sym (value_from_start a.thread a.index all) ∙ h)
+      ∙ grown_stated all u a.thread a.index xs more v at (sym (value_from_start a.thread a.index all) ∙ h)
 
 pub map-set : {X Y : Type 0} (f : X → Y) (xs : List X) (i : ℕ) (x : X)
     → map f (slice_set xs i x) ≡ slice_set (map f xs) i (f x)

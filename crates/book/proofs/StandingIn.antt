@@ -153,7 +153,7 @@ source_of front_code behind_code rules whole_code form_code form_of taken offset
     record {
       read = read.read;
       fits = stands.fits;
-      room = omega (arith, fewer, few);
+      steps_fit = omega (arith, fewer, few);
       sound = one_found (rules key.machine) key.program (form_of key.machine) lawful forms key.merge of.state c of.fits
           stands.fits stands.counts (found.Sound order)
           (subst (IsFindingOf (rules key.machine) key.program of.state) sound of.finding);

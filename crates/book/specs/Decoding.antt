@@ -41,7 +41,7 @@ pub record IsSource {Machine Memory Place Form : Type 0} (front_code : Front →
     (order : List OpId) (twin : State Machine Memory Place Form) : Type 0 where
   pub read : AreOffsetsOf front_code behind_code key.label offsets twin
   pub fits : Fits (rules key.machine) key.program twin
-  pub room : twin.steps + 1 < 2 ^ 64
+  pub steps_fit : twin.steps + 1 < 2 ^ 64
   pub sound : IsFindingOf (rules key.machine) key.program twin (Sound order)
   pub counts : HoldsOfKey rules whole_code form_code form_of key
       (λ state. CountsAsOne (rules key.machine) key.merge state twin)

@@ -65,7 +65,7 @@ fn put_step<M: Encode>(
     steps: &mut Vec<Successor<State<M>>>,
 ) -> Result<(), OutOfMemory>
     requires fits { Fits (M.rules machine) program.now source.now }
-    requires room { source.now.steps + 1 < 2 ^ 64 }
+    requires steps_fit { source.now.steps + 1 < 2 ^ 64 }
     requires place { vec_len steps.old < vec_capacity steps.old }
     ensures put { OnOk result (PutsStep (machine_of (M.rules machine) program.now)
         (IsFindingOf (M.rules machine) program.now) (λ s. s) source.now thread steps.old.items steps.new.items) }
@@ -96,7 +96,7 @@ impl<'a, M: Encode> Expansion<'a, M> {
         state: &'a State<M>,
     ) -> Result<Expansion<'a, M>, OutOfMemory>
         requires fits { Fits (M.rules machine) program.now state.now }
-        requires room { state.now.steps + 1 < 2 ^ 64 }
+        requires steps_fit { state.now.steps + 1 < 2 ^ 64 }
         ensures machine { IfOk result (λ x. x.machine ≡ machine) }
         ensures program { IfOk result (λ x. x.program ≡ program.now) }
         ensures source { IfOk result (λ x. x.source ≡ state.now) }

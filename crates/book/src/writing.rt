@@ -1,6 +1,6 @@
 //! The text of a table's entries.
 ghost use Rattle.std.specs.Prelude.{◌≡◌, ◌≤◌, [], ◌∷◌, ◌++◌, length, IfOk, OnOk};
-ghost use Rattle.replay.specs.declared.file.line.Line.{Line};
+ghost use Rattle.replay.specs.declared.file.line.BookLine.{BookLine};
 ghost use Rattle.replay.specs.Text.Files.{ended};
 ghost use Rattle.replay.specs.Text.Written.{line_text, IsProper};
 ghost use Rattle.book.specs.BookFile.Writing.{IsLineOf};
@@ -14,8 +14,8 @@ use std::alloc::Global;
 
 /// Adds the line of an entry after the first, by its row.
 fn push_row<S>(text: &mut Vec<u8>, row: &Row<S>) -> Result<(), OutOfMemory>
-    requires { (line : Line) × IsLineOf row.now.origin row.now.finding line × IsProper line }
-    ensures { OnOk result ((line : Line) × IsLineOf row.now.origin row.now.finding line × IsProper line
+    requires { (line : BookLine) × IsLineOf row.now.origin row.now.finding line × IsProper line }
+    ensures { OnOk result ((line : BookLine) × IsLineOf row.now.origin row.now.finding line × IsProper line
         × (text.new.items ≡ text.old.items ++ ended (line_text line.parent line.thread line.order ∷ []))) }
 {
     let Some(origin) = row.origin() else {

@@ -24,7 +24,7 @@ fn refuses(
     fault: Broken,
 ) -> Result<bool, Broken>
     requires fits { Fits atomic_rules book.old.program state.now }
-    requires room { state.now.steps + 1 < 2 ^ 64 }
+    requires steps_fit { state.now.steps + 1 < 2 ^ 64 }
 {
     let before = Picture::of(alloc, book)?;
     let answer = enter_under(alloc, book, id, state);
@@ -39,7 +39,7 @@ fn enters_once(
     state: &State<Atomic>,
 ) -> Result<bool, Broken>
     requires fits { Fits atomic_rules book.old.program state.now }
-    requires room { state.now.steps + 1 < 2 ^ 64 }
+    requires steps_fit { state.now.steps + 1 < 2 ^ 64 }
 {
     let first = enter_under(alloc, book, id, state)?;
     let is_again = refuses(alloc, book, id, state, Broken::NotTaken)?;
@@ -72,7 +72,7 @@ fn refuses_under_the_second(
     stranger: &State<Atomic>,
 ) -> Result<bool, Broken>
     requires fits { Fits atomic_rules book.old.program stranger.now }
-    requires room { stranger.now.steps + 1 < 2 ^ 64 }
+    requires steps_fit { stranger.now.steps + 1 < 2 ^ 64 }
 {
     let two = take_number(book)?;
     Ok(two == 2 && refuses(alloc, book, two, stranger, Broken::Stranger)?)

@@ -179,7 +179,7 @@ fn enter_of<M: Encode>(
     state: &State<M>,
 ) -> Result<Entered, Broken>
     requires fits { Fits (M.rules book.old.machine) program.now state.now }
-    requires room { state.now.steps + 1 < 2 ^ 64 }
+    requires steps_fit { state.now.steps + 1 < 2 ^ 64 }
     ensures machine { book.new.machine ≡ book.old.machine }
     ensures program { book.new.program ≡ book.old.program }
 {
@@ -195,7 +195,7 @@ pub fn enter_under<M: Encode>(
     state: &State<M>,
 ) -> Result<Entered, Broken>
     requires fits { Fits (M.rules book.old.machine) book.old.program state.now }
-    requires room { state.now.steps + 1 < 2 ^ 64 }
+    requires steps_fit { state.now.steps + 1 < 2 ^ 64 }
     ensures machine { book.new.machine ≡ book.old.machine }
     ensures program { book.new.program ≡ book.old.program }
 {

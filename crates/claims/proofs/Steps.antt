@@ -78,7 +78,7 @@ spent_at_most size (u ∷ us) h =
       arith,
       sum_by-cons (λ (v : Draws). v.spent) u us,
       sum_by-cons (λ (v : Draws). v.seats) u us,
-      here.told,
+      here.stated,
       spent_at_most size us (All-tail (FitsCounter size) u us h),
     )
 
@@ -90,7 +90,7 @@ spent_fewer size views id v h at less =
     let s = total_set (λ (u : Draws). u.spent) views id v w at in
     let p = total_set (λ (u : Draws). u.seats) views id v w at in
     let none_told : FitsCounter size w =
-    record { told = omega arith; idle = λ _. refl; knows = λ some_part. absurd (omega arith) } in
+    record { stated = omega arith; idle = λ _. refl; knows = λ some_part. absurd (omega arith) } in
     omega (arith, s, p, spent_at_most size (set views id w) (All-set (FitsCounter size) views id w none_told h))
 
 drawn_length : (size : Size) (word : ℕ) (views : List Draws) → ClaimsHold size word views
@@ -150,7 +150,7 @@ place_drawn size n views id v h at less lt =
       counted = omega (arith, s, l, length-append (places_of views) (n ∷ []), h.counted);
       seats = omega (arith, p, h.seats);
       fits = All-set (FitsCounter size) views id w
-          (record { told = mine.told; idle = λ e. absurd (omega arith); knows = mine.knows }) h.fits;
+          (record { stated = mine.stated; idle = λ e. absurd (omega arith); knows = mine.knows }) h.fits;
     }
 
 -- the rule after a draw that finds none
@@ -175,7 +175,7 @@ none_drawn size n views id v h at less le =
       counted = omega (arith, s, l, ap length (append-nil (places_of views)), h.counted);
       seats = omega (arith, p, h.seats);
       fits = All-set (FitsCounter size) views id w
-          (record { told = omega arith; idle = λ e. absurd (omega arith); knows = mine.knows }) h.fits;
+          (record { stated = omega arith; idle = λ e. absurd (omega arith); knows = mine.knows }) h.fits;
     }
 
 -- the word that is found, and one more, which does not wrap
@@ -275,8 +275,8 @@ cut_kept size id v two none_told knows s kept at =
         seats = omega (arith, h.seats, seats, seats');
         fits = All-push (FitsCounter size) views' r
             (All-set (FitsCounter size) views id l
-            (record { told = omega arith; idle = λ e. absurd (omega arith); knows = λ _. knows }) h.fits)
-            (record { told = omega arith; idle = λ _. refl; knows = λ _. knows });
+            (record { stated = omega arith; idle = λ e. absurd (omega arith); knows = λ _. knows }) h.fits)
+            (record { stated = omega arith; idle = λ _. refl; knows = λ _. knows });
       },
     )
 
@@ -316,10 +316,10 @@ join_kept size id v other w knows s kept at apart at' =
         counted = omega (arith, h.counted, s1, s2, length_permutation (places_of views) (places_of end) moved);
         seats = omega (arith, h.seats, p1, p2);
         fits = All-set (FitsCounter size) (set views id both) other spent
-            (record { told = omega arith; idle = λ _. refl; knows = λ some_part. absurd (omega arith) })
+            (record { stated = omega arith; idle = λ _. refl; knows = λ some_part. absurd (omega arith) })
             (All-set (FitsCounter size) views id both
             (record {
-              told = omega (arith, fv.told, fw.told);
+              stated = omega (arith, fv.stated, fw.stated);
               idle = λ e. ap (λ (l : List ℕ). l ++ w.places) (fv.idle (omega arith)) ∙ fw.idle (omega arith);
               knows = λ _. knows;
             }) h.fits);
@@ -334,7 +334,7 @@ nothing size (u ∷ us) h zero_seats =
     let p = sum_by-cons (λ (x : Draws). x.seats) u us in
     let rest = nothing size us (All-tail (FitsCounter size) u us h) (omega arith) in (
       ap (λ (l : List ℕ). l ++ places_of us) (here.idle (omega arith)) ∙ rest.0,
-      omega (arith, sum_by-cons (λ (x : Draws). x.spent) u us, rest.1, here.told),
+      omega (arith, sum_by-cons (λ (x : Draws). x.spent) u us, rest.1, here.stated),
     )
 
 -- a seat that is every seat drew every place
@@ -356,13 +356,13 @@ alone size (u ∷ us) (suc id) v h at all =
     let is : (get_or us id v).seats ≡ v.seats = ap (λ (x : Draws). x.seats) (at_is us id v at) in
     let rest = alone size us id v (All-tail (FitsCounter size) u us h) at (omega arith) in (
       ap (λ (l : List ℕ). l ++ places_of us) (here.idle (omega arith)) ∙ rest.0,
-      omega (arith, sum_by-cons (λ (x : Draws). x.spent) u us, rest.1, here.told),
+      omega (arith, sum_by-cons (λ (x : Draws). x.spent) u us, rest.1, here.stated),
     )
 
 -- what the last state says of the seat that is every seat
 pub record Ended (size : Size) (word : ℕ) (v : Draws) : Type 0 where
   pub drawn : IsPermutation (below (min word size.len)) v.places
-  pub told : word ≡ min word size.len + v.spent
+  pub stated : word ≡ min word size.len + v.spent
 
 pub ends : (size : Size) (id : ℕ) (v : Draws) (s : State (Unit {0}) Draws) → Seen (TableHolds size) id v s
     → v.seats ≡ size.seats → Ended size (get_or s.words 0 0) v
@@ -372,7 +372,7 @@ ends size id v s seen all =
     let whole = alone size s.views id v h.fits seen.1 (h.seats ∙ sym all) in
     record {
       drawn = subst (λ (xs : List ℕ). IsPermutation (below (min n size.len)) xs) whole.0 h.drawn;
-      told = omega (arith, h.counted, drawn_length size n s.views h, whole.1);
+      stated = omega (arith, h.counted, drawn_length size n s.views h, whole.1);
     }
 
 -- what the last state says of that seat, for a counter of an equal size whose word was read

@@ -24,7 +24,7 @@ below n = range_with_len 0 n
 -- a seat that is several in one finds none left at most once for each, a seat that is none drew nothing, and a seat
 -- knows the counter's size
 pub record FitsCounter (size : Size) (seat : Draws) : Type 0 where
-  pub told : seat.spent ≤ seat.seats
+  pub stated : seat.spent ≤ seat.seats
   pub idle : seat.seats ≡ 0 → seat.places ≡ []
   pub knows : 0 < seat.seats → seat.size ≡ size
 

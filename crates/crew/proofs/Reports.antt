@@ -57,19 +57,19 @@ module _ {X Memory Place Form : Type 0} (rules : X → Rules Memory Place) (mach
         (length book.entries) count answer other (by_test (length book.entries) answer due) (by_test count other also)
 
   -- what was read off the book that was asked for makes a report
-  pub reported : (book read : Contents X (State X Memory Place Form)) (answer : Answer) (told : Totals) (each : List Share)
+  pub reported : (book read : Contents X (State X Memory Place Form)) (answer : Answer) (counts : Totals) (each : List Share)
       → IsBookOf machine program settings book
       → IsMachine (machine_in rules book)
       → IsDecided (machine_in rules book) (CountsAsOne (rules book.machine) book.merge)
       → IsReadOff rules book settings.steps answer
-      → read ≡ book → told ≡ totals_of read → length each ≡ settings.workers → IsLedgerOf book (ledger each)
-      → IsReport rules machine program settings answer told each read
-  reported book read answer told each asked keeps test off same totals workers sums =
+      → read ≡ book → counts ≡ totals_of read → length each ≡ settings.workers → IsLedgerOf book (ledger each)
+      → IsReport rules machine program settings answer counts each read
+  reported book read answer counts each asked keeps test off same totals workers sums =
       let m = machine_of {Machine = X} {Form = Form} (rules machine) program in
       let right = IsFindingOf {Machine = X} {Form = Form} (rules machine) program in
       let alike = CountsAsOne {Machine = X} {Form = Form} (rules machine) settings.merge in
-      let all : told ≡ totals_of book = totals ∙ ap totals_of same in
-      let entries : told.entries ≡ length book.entries = ap (λ (t : Totals). t.entries) all in
+      let all : counts ≡ totals_of book = totals ∙ ap totals_of same in
+      let entries : counts.entries ≡ length book.entries = ap (λ (t : Totals). t.entries) all in
       let due_of_book : IsDue m alike right settings.merge settings.steps book.limit (length book.entries) answer =
       given_merge
       (λ x p k. IsDue (machine_of {Machine = X} {Form = Form} (rules x) p)

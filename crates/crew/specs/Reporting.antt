@@ -26,20 +26,20 @@ pub record IsBookOf {X S : Type 0} (asked : X) (text : Program) (settings : Sett
 -- The answer is the due one and true of all schedules, and no other verdict is due; a reported fault is the first of
 -- the book; the book is the one that is asked for, its totals are reported, and the workers' shares sum to them.
 pub record IsReport {X Memory Place Form : Type 0} (rules : X → Rules Memory Place) (machine : X) (program : Program)
-    (settings : Settings) (answer : Answer) (told : Totals) (each : List Share)
+    (settings : Settings) (answer : Answer) (counts : Totals) (each : List Share)
     (book : Contents X (State X Memory Place Form)) : Type 0 where
   pub due : IsDue (machine_of {Machine = X} {Form = Form} (rules machine) program)
       (CountsAsOne (rules machine) settings.merge) (IsFindingOf (rules machine) program)
-      settings.merge settings.steps settings.limit told.entries answer
+      settings.merge settings.steps settings.limit counts.entries answer
   pub only : (count : ℕ) (other : Answer)
       → IsDue (machine_of {Machine = X} {Form = Form} (rules machine) program)
       (CountsAsOne (rules machine) settings.merge) (IsFindingOf (rules machine) program)
       settings.merge settings.steps settings.limit count other
-      → IsSameVerdict told.entries answer count other
+      → IsSameVerdict counts.entries answer count other
   pub headline : IsTrueOf X Form (rules machine) program answer
   pub first : TellsFirst (machine_of {Machine = X} {Form = Form} (rules machine) program) book.entries answer
   pub closed : TellsClosed book answer
   pub asked : IsBookOf machine program settings book
-  pub totals : told ≡ totals_of book
+  pub totals : counts ≡ totals_of book
   pub shares : length each ≡ settings.workers
-  pub sums : ledger each ≡ record { expanded = told.expanded; entered = told.entered; met = told.met }
+  pub sums : ledger each ≡ record { expanded = counts.expanded; entered = counts.entered; met = counts.met }

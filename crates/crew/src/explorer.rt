@@ -15,7 +15,7 @@ use crate::answer::{Answer, Report, Share};
 use crate::driving::drive;
 use crate::gate::Gate;
 use crate::layer_run::Exploration;
-use crate::reporting::{let_go, report_of, told_of};
+use crate::reporting::{answer_with_totals, let_go, report_of};
 use crate::worker::{cut_of, shares_of, workers_of};
 use book::{Book, Totals};
 use options::Options;
@@ -100,7 +100,7 @@ fn shares_alone(alloc: Global, share: Share, workers: u8) -> Result<Vec<Share>, 
 
 /// What one thread reports on a book with the start alone, with all the work in the first worker's
 /// share.
-fn told_alone<M: Encode>(
+fn answer_alone<M: Encode>(
     alloc: Global,
     machine: M,
     program: &Program,
@@ -115,7 +115,7 @@ fn told_alone<M: Encode>(
     let mut share = Share::none();
     let cut = drive(alloc, program, book, options.steps(), &mut share)?;
     let shares = shares_alone(alloc, share, options.workers())?;
-    match told_of(
+    match answer_with_totals(
         alloc,
         machine,
         program,
@@ -139,7 +139,7 @@ fn explore_alone<M: Encode>(
     ensures { IfOk result (λ r. IsReport M.rules machine program.now options r.answer r.totals r.shares.items r.book) }
 {
     let mut book = opened(alloc, machine, program, options)?;
-    match told_alone(alloc, machine, program, options, &mut book) {
+    match answer_alone(alloc, machine, program, options, &mut book) {
         Ok((answer, totals, shares)) => Ok(Report {
             answer,
             totals,

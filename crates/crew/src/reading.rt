@@ -73,14 +73,14 @@ fn is_sound_to<M: Encode>(alloc: Global, book: &Book<M>, steps: usize) -> Result
 
 /// The answer where the layers below that of a fault are expanded: its schedule. None where they
 /// are not, or where the fault lies beyond the steps that are asked for.
-fn tell_fault<M: Encode>(
+fn read_fault<M: Encode>(
     alloc: Global,
     book: &Book<M>,
     steps: u16,
     id: usize,
 ) -> Result<Option<Answer>, OutOfMemory>
     requires { first_fault book.now.entries ≡ Some id }
-    ensures told { IfOk result (λ o. IfSome o (IsReadOff M.rules book.now steps)) }
+    ensures read_off { IfOk result (λ o. IfSome o (IsReadOff M.rules book.now steps)) }
     ensures some { IsWorkedOff (machine_in M.rules book.now).steps book.now.entries steps
         → IfOk result (λ o. IsSome o) }
 {
@@ -101,12 +101,12 @@ fn read_finished<M: Encode>(
     book: &Book<M>,
     steps: u16,
 ) -> Result<Option<Answer>, OutOfMemory>
-    ensures told { IfOk result (λ o. IfSome o (IsReadOff M.rules book.now steps)) }
+    ensures read_off { IfOk result (λ o. IfSome o (IsReadOff M.rules book.now steps)) }
     ensures some { IsWorkedOff (machine_in M.rules book.now).steps book.now.entries steps
         → IfOk result (λ o. IsSome o) }
 {
     match book.first_fault() {
-        Some(id) => tell_fault(alloc, book, steps, id),
+        Some(id) => read_fault(alloc, book, steps, id),
         None => {
             book.law();
             let last = u64::from(steps);
@@ -187,7 +187,7 @@ fn read_stopped<M: Encode>(
 ) -> Result<Option<Answer>, OutOfMemory>
     requires program { program.now ≡ book.old.program }
     requires limit { book.old.limit ≡ options.limit }
-    ensures told { IfOk result (λ o. IfSome o (IsReadOff M.rules book.old options.steps)) }
+    ensures read_off { IfOk result (λ o. IfSome o (IsReadOff M.rules book.old options.steps)) }
     ensures same { IfOk result (λ o. IfSome o (λ _. book.new ≡ book.old)) }
     ensures some { (d : ℕ) → d < options.steps → IsCutIn M.rules book.old d id → IfOk result (λ o. IsSome o) }
 {
@@ -220,7 +220,7 @@ pub(crate) fn read_answer<M: Encode>(
 ) -> Result<Option<Answer>, OutOfMemory>
     requires program { program.now ≡ book.old.program }
     requires limit { book.old.limit ≡ options.limit }
-    ensures told { IfOk result (λ o. IfSome o (IsReadOff M.rules book.old options.steps)) }
+    ensures read_off { IfOk result (λ o. IfSome o (IsReadOff M.rules book.old options.steps)) }
     ensures same { IfOk result (λ o. IfSome o (λ _. book.new ≡ book.old)) }
     ensures finished { cut ≡ None → IsWorkedOff (machine_in M.rules book.old).steps book.old.entries options.steps
         → IfOk result (λ o. IsSome o) }

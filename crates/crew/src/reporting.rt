@@ -26,7 +26,7 @@ fn is_asked<M: Encode>(book: &Book<M>, machine: M, program: &Program, options: O
 /// The answer and the totals of a book, where the answer can be read off it. None where it can't,
 /// or where the book is not the one that was asked for. If `cut` names an entry, the answer is that
 /// the book has no room for its steps.
-pub fn told_of<M: Encode>(
+pub fn answer_with_totals<M: Encode>(
     alloc: Global,
     machine: M,
     program: &Program,
@@ -108,7 +108,7 @@ pub fn report_of<M: Encode>(
         let_go(book);
         return Ok(None);
     }
-    match told_of(
+    match answer_with_totals(
         alloc,
         machine,
         program,

@@ -2,7 +2,7 @@
 use crate::faulty::Faulty;
 use crate::gates::{Both, Slow};
 use crate::rows::{DELETES, FINDS, INSERTS};
-use crate::told::{Bounds, Line, Told, told_of};
+use crate::summary::{Bounds, Line, Summary, summary_of};
 use book::Merge;
 use crew::Share;
 use sched_program::OutOfMemory;
@@ -29,13 +29,13 @@ fn meet_in_a_layer<R: Abort + Threads + Wait + Sync>(
         merge: Merge::Exact,
         workers,
     };
-    let told = told_of(rt, alloc, Atomic, INSERTS, bounds, &gate)?;
+    let summary = summary_of(rt, alloc, Atomic, INSERTS, bounds, &gate)?;
     gate.compare(rt);
-    gate.arrivals.compare(rt, &*told);
-    assert_eq!(rt; told.line, Line::Holds(2));
-    assert_eq!(rt; told.totals.entries, 5);
-    assert_eq!(rt; told.totals.expanded, 3);
-    assert_eq!(rt; told.shares.len(), usize::from(workers));
+    gate.arrivals.compare(rt, &*summary);
+    assert_eq!(rt; summary.line, Line::Holds(2));
+    assert_eq!(rt; summary.totals.entries, 5);
+    assert_eq!(rt; summary.totals.expanded, 3);
+    assert_eq!(rt; summary.shares.len(), usize::from(workers));
     Ok(())
 }
 
@@ -75,17 +75,17 @@ fn is_alone(shares: &[Share]) -> bool {
 impl Row {
     /// Compares the answer and the number of states. If the exploration was not stopped, either each worker arrived as
     /// often as its share says, or one thread explored again, which it does where labels can't be decoded.
-    fn compare(&self, rt: &impl Abort, workers: u8, gate: &Slow, told: &Told) {
-        assert_eq!(rt; told.line, self.line);
-        assert_eq!(rt; told.shares.len(), usize::from(workers));
+    fn compare(&self, rt: &impl Abort, workers: u8, gate: &Slow, summary: &Summary) {
+        assert_eq!(rt; summary.line, self.line);
+        assert_eq!(rt; summary.shares.len(), usize::from(workers));
         if matches!(self.line, Line::Stopped(_, _)) {
             return;
         }
-        assert_eq!(rt; told.totals.entries, self.entries);
+        assert_eq!(rt; summary.totals.entries, self.entries);
         if self.is_decoded {
-            gate.arrivals.compare(rt, told);
+            gate.arrivals.compare(rt, summary);
         } else {
-            assert!(rt; is_alone(told.shares.as_slice()));
+            assert!(rt; is_alone(summary.shares.as_slice()));
         }
     }
 }
@@ -104,8 +104,8 @@ fn try_row<M: Encode, R: Abort + Threads + Wait + Sync>(
         merge: row.merge,
         workers,
     };
-    let told = told_of(rt, alloc, machine, row.text, bounds, &gate)?;
-    row.compare(rt, workers, &gate, &*told);
+    let summary = summary_of(rt, alloc, machine, row.text, bounds, &gate)?;
+    row.compare(rt, workers, &gate, &*summary);
     Ok(())
 }
 
@@ -205,10 +205,10 @@ fn step_once<R: Abort + Threads + Wait + Sync>(rt: &R, alloc: Global) -> Result<
         merge: Merge::Exact,
         workers: 2,
     };
-    let told = told_of(rt, alloc, Atomic, INSERTS, bounds, &gate)?;
-    assert_eq!(rt; told.line, Line::Holds(1));
-    assert_eq!(rt; told.totals.entries, 3);
-    gate.arrivals.compare(rt, &*told);
+    let summary = summary_of(rt, alloc, Atomic, INSERTS, bounds, &gate)?;
+    assert_eq!(rt; summary.line, Line::Holds(1));
+    assert_eq!(rt; summary.totals.entries, 3);
+    gate.arrivals.compare(rt, &*summary);
     let none = Share {
         expanded: 0,
         entered: 0,
@@ -219,7 +219,7 @@ fn step_once<R: Abort + Threads + Wait + Sync>(rt: &R, alloc: Global) -> Result<
         entered: 2,
         met: 0,
     };
-    let shares = told.shares.as_slice();
+    let shares = summary.shares.as_slice();
     assert!(rt; shares == [all, none].as_slice() || shares == [none, all].as_slice());
     Ok(())
 }

@@ -2,7 +2,7 @@
 //! the states.
 ghost use Rattle.std.specs.Prelude.{◌<◌};
 
-use crate::told::{Bounds, Line, explored, program_of};
+use crate::summary::{Bounds, Line, explored, program_of};
 use book::{Merge, ReplayFault, replay};
 use crew::Open;
 use sched_program::{OutOfMemory, Program};
@@ -185,12 +185,12 @@ fn compare<R: Abort + Threads + Wait + Sync>(
     program: &Program,
     bounds: Bounds,
 ) -> Result<(), OutOfMemory> {
-    let told = explored(rt, alloc, Atomic, program, bounds, &Open)?;
+    let summary = explored(rt, alloc, Atomic, program, bounds, &Open)?;
     let mut reached = Box::new(alloc, Reached::new(alloc))?;
     let (line, count) = enumerate(rt, alloc, program, bounds, &mut *reached)?;
-    assert_eq!(rt; told.line, line);
+    assert_eq!(rt; summary.line, line);
     if let Line::Holds(_) = line {
-        assert_eq!(rt; told.totals.entries, count);
+        assert_eq!(rt; summary.totals.entries, count);
     }
     Ok(())
 }

@@ -1,5 +1,5 @@
 //! Gates that count the workers' arrivals, and hold some of them.
-use crate::told::Told;
+use crate::summary::Summary;
 use crew::{Gate, Share};
 use std::process::Abort;
 use std::sync::atomic::{AtomicU64, Ordering};
@@ -51,14 +51,14 @@ impl Arrivals {
     }
 
     /// Each worker arrived as often as it expanded an entry, and the shares sum to the totals.
-    pub fn compare(&self, rt: &impl Abort, told: &Told) {
-        for (index, share) in told.shares.iter().enumerate() {
+    pub fn compare(&self, rt: &impl Abort, summary: &Summary) {
+        for (index, share) in summary.shares.iter().enumerate() {
             assert_eq!(rt; share.expanded as u64, times(self.counts.as_slice(), index));
         }
-        let all = sum_of(told.shares.as_slice());
-        assert_eq!(rt; all.expanded, told.totals.expanded);
-        assert_eq!(rt; all.entered, told.totals.entered);
-        assert_eq!(rt; all.met, told.totals.met);
+        let all = sum_of(summary.shares.as_slice());
+        assert_eq!(rt; all.expanded, summary.totals.expanded);
+        assert_eq!(rt; all.entered, summary.totals.entered);
+        assert_eq!(rt; all.met, summary.totals.met);
     }
 }
 

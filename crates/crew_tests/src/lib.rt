@@ -28,4 +28,4 @@ mod options;
 #[cfg(test)]
 mod rows;
 #[cfg(test)]
-mod told;
+mod summary;

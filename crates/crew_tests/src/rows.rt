@@ -1,6 +1,6 @@
 //! Explorations of small programs by one worker, with the answers worked out by hand.
 use crate::faulty::Faulty;
-use crate::told::{Bounds, Line, Told, told_of};
+use crate::summary::{Bounds, Line, Summary, summary_of};
 use book::Merge;
 use crew::{Open, Share};
 use sched_program::OutOfMemory;
@@ -35,11 +35,11 @@ struct Row {
 }
 
 impl Row {
-    fn compare(&self, rt: &impl Abort, told: &Told) {
-        assert_eq!(rt; told.line, self.line);
-        assert_eq!(rt; told.schedule.as_slice(), self.schedule);
+    fn compare(&self, rt: &impl Abort, summary: &Summary) {
+        assert_eq!(rt; summary.line, self.line);
+        assert_eq!(rt; summary.schedule.as_slice(), self.schedule);
         if let Some(entries) = self.entries {
-            assert_eq!(rt; told.totals.entries, entries);
+            assert_eq!(rt; summary.totals.entries, entries);
         }
         if let Some((expanded, entered, met)) = self.share {
             let share = Share {
@@ -47,7 +47,7 @@ impl Row {
                 entered,
                 met,
             };
-            assert_eq!(rt; told.shares.as_slice(), [share].as_slice());
+            assert_eq!(rt; summary.shares.as_slice(), [share].as_slice());
         }
     }
 }
@@ -64,8 +64,8 @@ fn try_row<M: Encode, R: Abort + Threads + Wait + Sync>(
         merge: Merge::Exact,
         workers: 1,
     };
-    let told = told_of(rt, alloc, machine, row.text, bounds, &Open)?;
-    row.compare(rt, &*told);
+    let summary = summary_of(rt, alloc, machine, row.text, bounds, &Open)?;
+    row.compare(rt, &*summary);
     Ok(())
 }
 

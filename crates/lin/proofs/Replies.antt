@@ -92,7 +92,7 @@ module _ (program : Program) (old new : History) (a : OpId) (r : Bool) (is : Has
   other_gives keys o b apart given = subst (λ v. IfSome v (λ s. s ≡ reply_on o keys)) (sym (is.others b apart)) given
 
   own_gives : (keys : Keys) (o : Op) → r ≡ reply_on o keys → IfSome (reply new a) (λ s. s ≡ reply_on o keys)
-  own_gives keys o told = subst (λ v. IfSome v (λ s. s ≡ reply_on o keys)) (sym is.replied) told
+  own_gives keys o stated = subst (λ v. IfSome v (λ s. s ≡ reply_on o keys)) (sym is.replied) stated
 
   rest_gives : (keys : Keys) (rest : List OpId) → ((b : OpId) → Contains rest b → a ≢ b)
       → GivesReplies program old keys rest → GivesReplies program new keys rest
@@ -108,8 +108,8 @@ module _ (program : Program) (old new : History) (a : OpId) (r : Bool) (is : Has
   gives_within : (keys : Keys) (order : List OpId) → AllPairs (λ x y. x ≢ y) order → listed_in order a ≡ true
       → GivesReplies program old keys order
       → reply_in program keys order a ≡ Some r → GivesReplies program new keys order
-  gives_within keys [] distinct listed given told = tt
-  gives_within keys (b ∷ rest) distinct listed given told =
+  gives_within keys [] distinct listed given stated = tt
+  gives_within keys (b ∷ rest) distinct listed given stated =
       by (same_name b a) refl (λ next. gives_within next rest (AllPairs-tail (λ x y. x ≢ y) b rest distinct))
     where
       op : (o : Op) × (op_at program b.thread b.index ≡ Some o) × Given old keys b rest o
@@ -121,7 +121,7 @@ module _ (program : Program) (old new : History) (a : OpId) (r : Bool) (is : Has
           → GivesReplies program new keys (b ∷ rest)
       by true same again =
           let e : b ≡ a = same_name-is b a same in
-          let own = told_by (op_at program a.thread a.index) keys r (sym (at_head program a keys b rest same) ∙ told) in
+          let own = told_by (op_at program a.thread a.index) keys r (sym (at_head program a keys b rest same) ∙ stated) in
           let at : op_at program b.thread b.index ≡ Some own.0 =
           subst (λ c. op_at program c.thread c.index ≡ Some own.0) (sym e) own.1 in
           let one : op.0 ≡ own.0 = (let q : Some op.0 ≡ Some own.0 = sym op.1 ∙ at in cc) in
@@ -137,23 +137,23 @@ module _ (program : Program) (old new : History) (a : OpId) (r : Bool) (is : Has
           IsSomeAnd-of (op_at program b.thread b.index) (Given new keys b rest) op.0 op.1 (
             other_gives keys op.0 b (differ a b other) op.2.0,
             again (keys_after op.0 keys) elsewhere op.2.1
-                (sym (past_head program a keys b rest op.0 other op.1) ∙ told),
+                (sym (past_head program a keys b rest op.0 other op.1) ∙ stated),
           )
 
   -- where it does not
   gives_after : (keys : Keys) (order : List OpId) → listed_in order a ≡ false → GivesReplies program old keys order
       → reply_in program keys order a ≡ Some r
       → GivesReplies program new keys (order ++ a ∷ [])
-  gives_after keys [] none given told =
-      let own = told_by (op_at program a.thread a.index) keys r told in
+  gives_after keys [] none given stated =
+      let own = told_by (op_at program a.thread a.index) keys r stated in
       IsSomeAnd-of (op_at program a.thread a.index) (Given new keys a []) own.0 own.1 (own_gives keys own.0 own.2, tt)
-  gives_after keys (b ∷ rest) none given told =
+  gives_after keys (b ∷ rest) none given stated =
       let op = IsSomeAnd-value (op_at program b.thread b.index) (Given old keys b rest) given in
       let pieces = or_parts (same_name b a) (listed_in rest a) none in
       IsSomeAnd-of (op_at program b.thread b.index) (Given new keys b (rest ++ a ∷ [])) op.0 op.1 (
         other_gives keys op.0 b (differ a b pieces.0) op.2.0,
         gives_after (keys_after op.0 keys) rest pieces.1 op.2.1
-            (sym (past_head program a keys b rest op.0 pieces.0 op.1) ∙ told),
+            (sym (past_head program a keys b rest op.0 pieces.0 op.1) ∙ stated),
       )
 
   -- an order that gives all replies gives this one
@@ -175,8 +175,8 @@ module _ (program : Program) (old new : History) (a : OpId) (r : Bool) (is : Has
           subst (λ c. op_at program c.thread c.index ≡ Some op.0) e op.1 in
           let own : IfSome (reply new a) (λ s. s ≡ reply_on op.0 keys) =
           subst (λ c. IfSome (reply new c) (λ s. s ≡ reply_on op.0 keys)) e op.2.0 in
-          let told : r ≡ reply_on op.0 keys = subst (λ v. IfSome v (λ s. s ≡ reply_on op.0 keys)) is.replied own in
-          at_head program a keys b rest same ∙ telling (op_at program a.thread a.index) op.0 keys r at told
+          let stated : r ≡ reply_on op.0 keys = subst (λ v. IfSome v (λ s. s ≡ reply_on op.0 keys)) is.replied own in
+          at_head program a keys b rest same ∙ telling (op_at program a.thread a.index) op.0 keys r at stated
       by false other again =
           let elsewhere : listed_in rest a ≡ true = ap (λ s. s || listed_in rest a) (sym other) ∙ listed in
           past_head program a keys b rest op.0 other op.1 ∙ again (keys_after op.0 keys) elsewhere op.2.1
@@ -222,7 +222,7 @@ module _ (program : Program) (old new : History) (a : OpId) (r : Bool) (is : Has
 
     linear_within : listed_in order a ≡ true → reply_in program (keys_of program.initial) order a ≡ Some r
         → IsLinearization program new order
-    linear_within listed told = record {
+    linear_within listed stated = record {
       begun = λ k d less. begun_still (get_or order k d) (was.begun k d less);
       distinct = was.distinct;
       complete =
@@ -232,12 +232,12 @@ module _ (program : Program) (old new : History) (a : OpId) (r : Bool) (is : Has
                 ↦ subst (Contains order) same (listed_here order a listed)
           ];
       in_time = λ i j x b at_i at_j ended. was.in_time i j x b at_i at_j (ended_back x b (begun_at j b at_j) ended);
-      replies = gives_within (keys_of program.initial) order was.distinct listed was.replies told;
+      replies = gives_within (keys_of program.initial) order was.distinct listed was.replies stated;
     }
 
     linear_after : listed_in order a ≡ false → reply_in program (keys_of program.initial) order a ≡ Some r
         → IsLinearization program new (order ++ a ∷ [])
-    linear_after none told = record {
+    linear_after none stated = record {
       begun = All-push (IsBegun new) order a (λ k d less. begun_still (get_or order k d) (was.begun k d less)) is.began;
       distinct =
           all_pairs_push (λ x y. x ≢ y) order a was.distinct
@@ -249,7 +249,7 @@ module _ (program : Program) (old new : History) (a : OpId) (r : Bool) (is : Has
                 ↦ subst (Contains (order ++ a ∷ [])) same (Contains-push order a)
           ];
       in_time = places;
-      replies = gives_after (keys_of program.initial) order none was.replies told;
+      replies = gives_after (keys_of program.initial) order none was.replies stated;
     }
       where
         places : (i j : ℕ) (x b : OpId) → slice_get (order ++ a ∷ []) i ≡ Some x
@@ -265,11 +265,11 @@ module _ (program : Program) (old new : History) (a : OpId) (r : Bool) (is : Has
 
   pub reply_keeps : (order : List OpId) → IsLinearization program old order
       → reply_in program (keys_of program.initial) order a ≡ Some r → IsLinearization program new (ending_with order a)
-  reply_keeps order was told = by (listed_in order a) refl
+  reply_keeps order was stated = by (listed_in order a) refl
     where
       by : (s : Bool) → listed_in order a ≡ s → IsLinearization program new (cond s order (order ++ a ∷ []))
-      by true listed = linear_within order was listed told
-      by false none = linear_after order was none told
+      by true listed = linear_within order was listed stated
+      by false none = linear_after order was none stated
 
   pub kept_reply : (order : List OpId) → IsLinearization program new (ending_with order a)
       → reply_in program (keys_of program.initial) order a ≡ Some r
@@ -291,22 +291,22 @@ module _ (program : Program) (limits : IsWithinLimits program) (order : List OpI
       (λ longer. (longer ≡ ending_with order a)
       × ((old new : History) → HasReplied old new a r → IsLinearization program old order
       → IsLinearization program new longer))
-  answer_told None long told =
+  answer_told None long stated =
       λ old new is was now. let few : length (ending_with order a) ≤ 12 =
       at_most_twelve program limits new (ending_with order a) now in omega arith
-  answer_told (Some longer) same told = (
+  answer_told (Some longer) same stated = (
     same,
     λ old new is was. subst (IsLinearization program new) (sym same)
-        (reply_keeps program old new a r is order was told),
+        (reply_keeps program old new a r is order was stated),
   )
 
-pub same_answer : (told r : Bool) → beq told r ≡ true → told ≡ r
+pub same_answer : (stated r : Bool) → beq stated r ≡ true → stated ≡ r
 same_answer true true h = refl
 same_answer true false h = sym h
 same_answer false true h = h
 same_answer false false h = refl
 
-pub not_same : (told r : Bool) → beq told r ≡ false → told ≡ r → ⊥
+pub not_same : (stated r : Bool) → beq stated r ≡ false → stated ≡ r → ⊥
 not_same true true h e = true≢false h
 not_same true false h e = true≢false e
 not_same false true h e = true≢false (sym e)

@@ -107,11 +107,11 @@ every_listed history finished listed are =
 
 -- an operation that is new, in time, and replies as it did or is pending, may come next
 pub stands : (program : Program) (history : History) (listed : Listed) (keys next : Keys) (name : OpId) (o : Op)
-    (given : Option Bool) (told : Bool) → IsBegun history name
+    (given : Option Bool) (stated : Bool) → IsBegun history name
     → (listed name ≡ false) × ((b : OpId) → with_name listed name b ≡ true → EndedBefore history name b → ⊥)
-    → Some o ≡ op_at program name.thread name.index → given ≡ reply history name → told ≡ reply_on o keys
-    → IfSome given (λ r. r ≡ told) → next ≡ keys_after o keys → StandsNext program history listed keys name next
-stands program history listed keys next name o given told begun due is given_is told_is replies after = record {
+    → Some o ≡ op_at program name.thread name.index → given ≡ reply history name → stated ≡ reply_on o keys
+    → IfSome given (λ r. r ≡ stated) → next ≡ keys_after o keys → StandsNext program history listed keys name next
+stands program history listed keys next name o given stated begun due is given_is told_is replies after = record {
   begun = begun;
   new = due.0;
   in_time = due.1;

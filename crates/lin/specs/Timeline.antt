@@ -34,8 +34,8 @@ abbrev pub finished_in : List (OpId × Bool) → Listed
 finished_in finished = λ a. is_some (value_at finished a)
 
 -- the three pieces of the table of a history
-pub record IsTable (history : History) (sets : List OpSet) (told : List (Option Bool)) (ended : OpSet) : Type 0 where
+pub record IsTable (history : History) (sets : List OpSet) (stated : List (Option Bool)) (ended : OpSet) : Type 0 where
   pub events : IsHistory history
   pub before : AreSetsBefore history.begun sets
-  pub replies : AreReplies history.finished told
+  pub replies : AreReplies history.finished stated
   pub finished : operations_in ended ≡ finished_in history.finished

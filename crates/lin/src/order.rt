@@ -46,9 +46,9 @@ fn keys_after_next(
         return None;
     }
     let operation = program.op(name)?;
-    let told = keys.reply_to(operation);
+    let stated = keys.reply_to(operation);
     match reply_of(history, name) {
-        Some(reply) if reply != told => None,
+        Some(reply) if reply != stated => None,
         _ => Some(keys.after(operation)),
     }
 }

@@ -74,9 +74,9 @@ pub fn step(program: &Program, timeline: &Timeline, from: Progress, name: OpId) 
         return None;
     }
     let operation = program.op(name)?;
-    let told = from.at.keys.reply_to(operation);
+    let stated = from.at.keys.reply_to(operation);
     match timeline.reply(name) {
-        Some(reply) if reply != told => None,
+        Some(reply) if reply != stated => None,
         _ => Some(Progress {
             at: Configuration {
                 listed: from.at.listed.with(name),

@@ -31,7 +31,7 @@ pub fn order_with_reply(program: &Program, order: &Order, name: OpId, reply: boo
     // Whoever reads a program knows that it meets the limits.
     let _ = program.initial();
     match reply_in(program, order.as_slice(), name) {
-        Some(told) if told == reply => ending_with(order, name),
+        Some(stated) if stated == reply => ending_with(order, name),
         _ => None,
     }
 }
@@ -45,15 +45,15 @@ fn reply_in(program: &Program, order: &[ShortName], name: OpId) -> Option<bool>
     for other in order {
         let other = other.name();
         if other == name {
-            return told(program, keys, name);
+            return stated(program, keys, name);
         }
         keys = keys.after(program.op(other)?);
     }
-    told(program, keys, name)
+    stated(program, keys, name)
 }
 
 /// What the operation replies on these keys.
-fn told(program: &Program, keys: KeySet, name: OpId) -> Option<bool>
+fn stated(program: &Program, keys: KeySet, name: OpId) -> Option<bool>
     requires { IsWithinLimits program.now }
     ensures { result ≡ option_map (λ o. reply_on o (keys_in keys)) (op_at program.now name.thread name.index) }
 {

@@ -175,15 +175,15 @@ fn gives_reply(
     reply: bool,
 ) -> Result<(), Broken> {
     let longer = names_of(&with_name(order, name));
-    let told = order_with_reply(program, order, name, reply);
+    let stated = order_with_reply(program, order, name, reply);
     if check_order(program, after, longer.as_slice()) {
         ensure(
-            is_order(&told, Some(longer.as_slice())),
+            is_order(&stated, Some(longer.as_slice())),
             Broken::Wrong(Case::ReplyThatTheOrderGives),
         )
     } else {
         ensure(
-            told.is_none(),
+            stated.is_none(),
             Broken::Wrong(Case::ReplyThatTheOrderDoesNotGive),
         )
     }

@@ -10,9 +10,9 @@ use Rattle.sched_program.specs.declared.fault.ProgramFault.TheVariants as fault
 use Rattle.sched_program.specs.declared.loading.LoadFault.TheVariants as load
 
 -- a fault of the bytes that were read to the end
-pub told : (old new : Option (List ℕ)) (text : List ℕ) (f : ProgramFault) → Consumes old new text → IsAtEnd new
+pub stated : (old new : Option (List ℕ)) (text : List ℕ) (f : ProgramFault) → Consumes old new text → IsAtEnd new
     → IsFirstFaultOf text f
     → (f ≢ fault.OutOfMemory → (program : Program) → ¬ IsJsonTextOf text program)
     → AnswersAllRead old new (Err (load.Program f))
-told old new text fault.OutOfMemory all end first none = inl refl
-told old new text f all end first none = inr (text, all, end, (first, none (λ e. cc)))
+stated old new text fault.OutOfMemory all end first none = inl refl
+stated old new text f all end first none = inr (text, all, end, (first, none (λ e. cc)))

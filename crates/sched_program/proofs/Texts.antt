@@ -161,14 +161,14 @@ passes_all value program is fault.After =
 passes_all value program is fault.OutOfMemory = tt
 
 -- what passes a test has not its fault
-not_both : (value : Data) (told : ProgramFault) → Passes value told → Stands value told → told ≡ fault.OutOfMemory
+not_both : (value : Data) (stated : ProgramFault) → Passes value stated → Stands value stated → stated ≡ fault.OutOfMemory
 not_both value fault.OutOfMemory passes stands = refl
-not_both value told passes stands = absurd (stands passes)
+not_both value stated passes stands = absurd (stands passes)
 
 -- a text has no first fault but a refusal of memory
-pub no_fault : (value : Data) (program : Program) (told : ProgramFault) → IsTextOf value program
-    → IsFirstFault value told → told ≡ fault.OutOfMemory
-no_fault value program told is first = not_both value told (passes_all value program is told) first.stands
+pub no_fault : (value : Data) (program : Program) (stated : ProgramFault) → IsTextOf value program
+    → IsFirstFault value stated → stated ≡ fault.OutOfMemory
+no_fault value program stated is first = not_both value stated (passes_all value program is stated) first.stands
 
 -- the bytes have one value
 pub same_value : (bytes : List ℕ) (value other : Data) → read bytes ≡ Some value → IsJsonOf bytes other → other ≡ value
@@ -182,10 +182,10 @@ module _ (bytes : List ℕ) (value : Data) (is : read bytes ≡ Some value) wher
   pub only_program : (answer : Result Program ProgramFault) → IfOk answer (IsTextOf value)
       → IfOk answer (λ program. (other : Program) → IsJsonTextOf bytes other → other ≡ program)
   only_program (Ok program) has = λ other text. same_program value other program (of_value other text) has
-  only_program (Err told) has = tt
+  only_program (Err stated) has = tt
 
   -- bytes whose value has a fault are the text of no program
   pub no_program : (answer : Result Program ProgramFault) → IfErr answer (IsFirstFault value)
-      → IfErr answer (λ told. told ≢ fault.OutOfMemory → (program : Program) → ¬ IsJsonTextOf bytes program)
+      → IfErr answer (λ stated. stated ≢ fault.OutOfMemory → (program : Program) → ¬ IsJsonTextOf bytes program)
   no_program (Ok program) first = tt
-  no_program (Err told) first = λ other program text. other (no_fault value program told (of_value program text) first)
+  no_program (Err stated) first = λ other program text. other (no_fault value program stated (of_value program text) first)

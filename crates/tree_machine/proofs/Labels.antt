@@ -40,7 +40,7 @@ read_from rules naming whole_code form_code form_of cut state source memory rang
     let steps =
     number_split source.steps (code_by naming state.steps 0) (content_code (λ l. l) here) (content_code (λ l. l) there)
     (e ∙ sym (label_is naming whole_code form_code form_of state)) in
-    let told = content_readable (λ l. l) (λ a b h. h) here there steps.1 in
+    let stated = content_readable (λ l. l) (λ a b h. h) here there steps.1 in
     record {
       other = state.memory;
       held = places_of state.threads;
@@ -49,11 +49,11 @@ read_from rules naming whole_code form_code form_of cut state source memory rang
       places_in_range = range.places;
       many = length-map state.threads (λ thread. thread.place)
           ∙ sym (length-map state.threads (λ thread. thread.replies))
-          ∙ sym (ap length (ap (λ (c : FormContent (List ℕ)). c.replies) told))
+          ∙ sym (ap length (ap (λ (c : FormContent (List ℕ)). c.replies) stated))
           ∙ length-map source.threads (λ thread. thread.replies)
           ∙ sym (length-map source.threads (λ thread. thread.place));
       same = ap (λ m. cut m (places_of source.threads)) same
-          ∙ ap (λ (c : FormContent (List ℕ)). c.form) told;
+          ∙ ap (λ (c : FormContent (List ℕ)). c.form) stated;
     }
 
 -- all of a memory's code, where nothing of it was copied

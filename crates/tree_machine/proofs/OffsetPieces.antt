@@ -150,14 +150,14 @@ module _ {Memory Place : Type 0} (front_code : Front → Memory → List ℕ)
           length-append (front_code front state.memory) (behind_code front state.memory (places_of threads)),
         )
 
-  module _ {Machine Form : Type 0} (told : List ℕ) (offsets : CodeOffsets) (source : State Machine Memory Place Form)
-      (are : AreOffsetsOf front_code behind_code told offsets source) where
-    told_parts : told ≡ number_code source.steps ++ (deeds_of source
+  module _ {Machine Form : Type 0} (stated : List ℕ) (offsets : CodeOffsets) (source : State Machine Memory Place Form)
+      (are : AreOffsetsOf front_code behind_code stated offsets source) where
+    told_parts : stated ≡ number_code source.steps ++ (deeds_of source
         ++ (front_code offsets.front source.memory ++ behind_code offsets.front source.memory (places_of source.threads)))
     told_parts = are.written
 
     -- the cuts are in order, within the bytes
-    cuts_within : offsets.held ≤ length told
+    cuts_within : offsets.held ≤ length stated
     cuts_within =
         let steps = number_code source.steps in
         let deeds = deeds_of source in
@@ -175,13 +175,13 @@ module _ {Memory Place : Type 0} (front_code : Front → Memory → List ℕ)
         )
 
     pub cuts_in_order : (same : Bool) (to : ℕ) → to ≡ (if same then offsets.held else offsets.memory)
-        → (offsets.op_log ≤ to) × (offsets.memory ≤ to) × (to ≤ length told)
+        → (offsets.op_log ≤ to) × (offsets.memory ≤ to) × (to ≤ length stated)
     cuts_in_order true to e =
         (omega (arith, e, are.memory, are.held), omega (arith, e, are.held), omega (arith, e, cuts_within))
     cuts_in_order false to e =
         (omega (arith, e, are.memory), omega (arith, e), omega (arith, e, are.held, cuts_within))
 
-    behind_deeds : told ≡ (number_code source.steps ++ deeds_of source)
+    behind_deeds : stated ≡ (number_code source.steps ++ deeds_of source)
         ++ (front_code offsets.front source.memory ++ behind_code offsets.front source.memory (places_of source.threads))
     behind_deeds = told_parts ∙ sym (append_assoc (number_code source.steps) (deeds_of source)
         (front_code offsets.front source.memory ++ behind_code offsets.front source.memory (places_of source.threads)))
@@ -193,24 +193,24 @@ module _ {Memory Place : Type 0} (front_code : Front → Memory → List ℕ)
     -- the bytes of the memory, if they are asked for
     pub memory_told : (mem : Memory) (same : Bool) (to : ℕ) → (IsTrue same → mem ≡ source.memory)
         → to ≡ (if same then offsets.held else offsets.memory)
-        → take (to - offsets.memory) (drop offsets.memory told) ≡ (if same then front_code offsets.front mem else [])
+        → take (to - offsets.memory) (drop offsets.memory stated) ≡ (if same then front_code offsets.front mem else [])
     memory_told mem true to k e =
         piece_between (number_code source.steps ++ deeds_of source) (front_code offsets.front source.memory)
-        (behind_code offsets.front source.memory (places_of source.threads)) told offsets.memory to behind_deeds memory_begins (e ∙ are.held)
+        (behind_code offsets.front source.memory (places_of source.threads)) stated offsets.memory to behind_deeds memory_begins (e ∙ are.held)
         ∙ ap (front_code offsets.front) (sym (k refl))
     memory_told mem false to k e =
         piece_between (number_code source.steps ++ deeds_of source) []
-        (front_code offsets.front source.memory ++ behind_code offsets.front source.memory (places_of source.threads)) told offsets.memory to behind_deeds
+        (front_code offsets.front source.memory ++ behind_code offsets.front source.memory (places_of source.threads)) stated offsets.memory to behind_deeds
         memory_begins (omega (arith, e))
 
     -- the bytes of what the threads did, with those of the memory, if they are asked for
     pub deeds_told : (mem : Memory) (same : Bool) (to : ℕ) → (IsTrue same → mem ≡ source.memory)
         → to ≡ (if same then offsets.held else offsets.memory)
-        → take (to - offsets.op_log) (drop offsets.op_log told)
+        → take (to - offsets.op_log) (drop offsets.op_log stated)
         ≡ deeds_of source ++ (if same then front_code offsets.front mem else [])
     deeds_told mem true to k e =
         piece_between (number_code source.steps) (deeds_of source ++ front_code offsets.front source.memory)
-        (behind_code offsets.front source.memory (places_of source.threads)) told offsets.op_log to
+        (behind_code offsets.front source.memory (places_of source.threads)) stated offsets.op_log to
         (told_parts ∙ ap (λ l. number_code source.steps ++ l)
         (sym (append_assoc (deeds_of source) (front_code offsets.front source.memory)
         (behind_code offsets.front source.memory (places_of source.threads))))) are.op_log
@@ -218,7 +218,7 @@ module _ {Memory Place : Type 0} (front_code : Front → Memory → List ℕ)
         ∙ ap (λ m. deeds_of source ++ front_code offsets.front m) (sym (k refl))
     deeds_told mem false to k e =
         piece_between (number_code source.steps) (deeds_of source ++ [])
-        (front_code offsets.front source.memory ++ behind_code offsets.front source.memory (places_of source.threads)) told offsets.op_log to
+        (front_code offsets.front source.memory ++ behind_code offsets.front source.memory (places_of source.threads)) stated offsets.op_log to
         (told_parts ∙ ap (λ l. number_code source.steps ++ (l
         ++ (front_code offsets.front source.memory ++ behind_code offsets.front source.memory (places_of source.threads))))
         (sym (append-nil (deeds_of source)))) are.op_log

@@ -73,7 +73,7 @@ module _ {Machine Memory Place Form : Type 0} (state : State Machine Memory Plac
       (noted ∙ ap (λ ts. notes_at_step thread.place thread.notes (finished_counts ts)) counted) in
       let ts = set ∙ (λ i. slice_set (copied i) (from i) after) in
       let at : Place → Thread Place = λ p. record { replies = thread.replies; place = Some p; notes = notes } in
-      let told : ◌≡◌ {A = State Machine Memory Place Form}
+      let stated : ◌≡◌ {A = State Machine Memory Place Form}
       (record { memory = memory; threads = threads; steps = state.steps + 1; astray = astray })
       (record {
         memory = memory;
@@ -87,7 +87,7 @@ module _ {Machine Memory Place Form : Type 0} (state : State Machine Memory Plac
         steps = state.steps + 1;
         astray = s i;
       } in
-      told
+      stated
       ∙ (accessed (at place) memory outcome (λ o. sym (ap (λ x. x.0) acted) ∙ unchanged (ap (λ x. x.1) acted ∙ o))
       ∙ (ap (after_access state t (at place)) (sym acted)
       ∙ ap (λ p. after_access state t (at p) (rules.act op p state.memory)) is))

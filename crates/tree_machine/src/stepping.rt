@@ -85,7 +85,7 @@ impl<M: Machine> State<M> {
     ) -> Result<(), OutOfMemory>
         requires ready { (program : Program) × (IsWithinLimits program × (Fits (M.rules machine) program self.old
             × (ready program self.old t ≡ Some (thread.now, op)))) }
-        requires room { self.old.steps + 1 < 2 ^ 64 }
+        requires steps_fit { self.old.steps + 1 < 2 ^ 64 }
         ensures { OnOk result (self.new ≡ stepped (M.rules machine) self.old t op thread.now) }
     {
         let first = machine.begin(op);
@@ -110,7 +110,7 @@ impl<M: Machine> State<M> {
         t: u8,
     ) -> Result<State<M>, StepFault>
         requires fits { Fits (M.rules machine) program.now self.now }
-        requires room { self.now.steps + 1 < 2 ^ 64 }
+        requires steps_fit { self.now.steps + 1 < 2 ^ 64 }
         ensures step { IfOk result (λ next. step (M.rules machine) program.now self.now t ≡ Some next) }
         ensures fits { IfOk result (Fits (M.rules machine) program.now) }
         ensures not_enabled { IsErrOf result StepFault.NotEnabled ↔ ¬ IsEnabled program.now self.now t }

@@ -137,7 +137,7 @@ impl<M: Encode> State<M> {
         undo: &mut Undo<M>,
     ) -> Result<(), StepFault>
         requires fits { Fits (M.rules machine) program.now self.old }
-        requires room { self.old.steps + 1 < 2 ^ 64 }
+        requires steps_fit { self.old.steps + 1 < 2 ^ 64 }
         ensures step { OnOk result (step (M.rules machine) program.now self.old t ≡ Some self.new) }
         ensures fits { OnOk result (Fits (M.rules machine) program.now self.new) }
         ensures no_step { IsErrOf result StepFault.NotEnabled ↔ (step (M.rules machine) program.now self.old t ≡ None) }

@@ -19,11 +19,11 @@ use Rattle.treesched_lib.specs.Serving.{IsChecked}
 use Rattle.treesched_lib.specs.declared.serving.Output.{Output}
 
 -- the book of an answer for every schedule is closed, and all its entries are sound
-pub closed : {X S : Type 0} (m : StepMachine S) (book : Contents X S) (told : Answer) → TellsFirst m book.entries told
-    → TellsClosed book told
-    → told ≡ answer.Every → IsClosed book × AreSound book.entries
+pub closed : {X S : Type 0} (m : StepMachine S) (book : Contents X S) (printed : Answer) → TellsFirst m book.entries printed
+    → TellsClosed book printed
+    → printed ≡ answer.Every → IsClosed book × AreSound book.entries
 closed m book answer.Every first is e = (is, all_sound book.entries None (sym first) refl)
-closed m book told first is e = absurd (cc)
+closed m book printed first is e = absurd (cc)
 
 module _ (Machine Form : Type 0) {Memory Place : Type 0} (rules : Rules Memory Place) (program : Program)
     (bytes : List ℕ) where
@@ -33,5 +33,5 @@ module _ (Machine Form : Type 0) {Memory Place : Type 0} (rules : Rules Memory P
       → IfOk r
       (λ output. (f ≢ check_fault.OutOfMemory) × IsRefusal 3 (codes "book refused: " ++ check_fault_text f) output)
       → IfOk r (IsChecked Machine Form rules program bytes)
-  refused f (inl e) r told = IfOk-weaker r _ _ (λ output h. absurd (h.0 e)) told
-  refused f (inr is) r told = IfOk-weaker r _ _ (λ output h. inr (f, is, h.0, h.1)) told
+  refused f (inl e) r printed = IfOk-weaker r _ _ (λ output h. absurd (h.0 e)) printed
+  refused f (inr is) r printed = IfOk-weaker r _ _ (λ output h. inr (f, is, h.0, h.1)) printed

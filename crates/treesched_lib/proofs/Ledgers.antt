@@ -36,14 +36,14 @@ one_more_worker page shares i s h =
     ∙ sym (ap (λ l. page ++ l) more)
 
 -- a report is the answer, and then the ledger where it is asked for
-pub with_ledger : (old told new : List ℕ) (answer : Answer) (totals : Totals) (given shares : List Share)
-    (asked : Bool) → asked ≡ true → given ≡ shares → told ≡ old ++ answer_text totals.entries answer
-    → new ≡ told ++ ledger_text given totals → new ≡ old ++ report_text asked answer totals shares
-with_ledger old told new answer totals given shares true is same answered more =
-    more ∙ ap (λ (l : List Share). told ++ ledger_text l totals) same
+pub with_ledger : (old printed new : List ℕ) (answer : Answer) (totals : Totals) (given shares : List Share)
+    (asked : Bool) → asked ≡ true → given ≡ shares → printed ≡ old ++ answer_text totals.entries answer
+    → new ≡ printed ++ ledger_text given totals → new ≡ old ++ report_text asked answer totals shares
+with_ledger old printed new answer totals given shares true is same answered more =
+    more ∙ ap (λ (l : List Share). printed ++ ledger_text l totals) same
     ∙ ap (λ (l : List ℕ). l ++ ledger_text shares totals) answered
     ∙ append_assoc old (answer_text totals.entries answer) (ledger_text shares totals)
-with_ledger old told new answer totals given shares false is same answered more = absurd (cc)
+with_ledger old printed new answer totals given shares false is same answered more = absurd (cc)
 
 pub without_ledger : (old new : List ℕ) (answer : Answer) (totals : Totals) (shares : List Share) (asked : Bool)
     → asked ≡ false → new ≡ old ++ answer_text totals.entries answer
@@ -62,6 +62,6 @@ both_on_empty empty middle page first shown second none put same more =
     more ∙ ap (λ (l : List ℕ). l ++ second) (on_empty middle empty first put none ∙ same)
 
 -- a page with another name for its status and for its text
-pub as_page : (status told : ℕ) (text lines : List ℕ) (output : Output) → IsPage status text output → status ≡ told
-    → text ≡ lines → IsPage told lines output
-as_page status told text lines output page same alike = (page.0 ∙ same, page.1 ∙ alike, page.2, page.3)
+pub as_page : (status printed : ℕ) (text lines : List ℕ) (output : Output) → IsPage status text output → status ≡ printed
+    → text ≡ lines → IsPage printed lines output
+as_page status printed text lines output page same alike = (page.0 ∙ same, page.1 ∙ alike, page.2, page.3)

@@ -31,25 +31,25 @@ module _ {F E : Type 0} (remaining : F → Option (List ℕ)) (before after : Co
       → IsAsked asked book
       → IfOk r (IsAnsweredBy program.tree program book asked) → IfOk r (IsServedFrom remaining before after Came asked)
   loaded program (inl e) count book came due answered = absurd (cc)
-  loaded program (inr (text, read, end, told)) count book came due answered =
+  loaded program (inr (text, read, end, printed)) count book came due answered =
       let same : after.failures ≡ before.failures = omega arith in
       IfOk-weaker r _ _ (λ output h. (
         Some text,
         book,
         (same, all_read (remaining before.reader) (remaining after.reader) text read end),
         came,
-        inl (program, told.0, due, h),
+        inl (program, printed.0, due, h),
       )) answered
 
   -- no program was read, and no book file is then
   pub unloaded : (f : LoadFault) → AnswersAllRead (remaining before.reader) (remaining after.reader) (Err f)
       → after.failures ≡ before.failures + failed_loads (Err f) → Came book_read.NotAsked
       → IfOk r (TellsUnloaded asked f) → IfOk r (IsServedFrom remaining before after Came asked)
-  unloaded load.Device read count came told =
-      IfOk-weaker r _ _ (λ output h. (None, book_read.NotAsked, count, came, (refl, h))) told
-  unloaded (load.Program f) (inl e) count came told =
-      IfOk-weaker r _ _ (λ output h. let q : f ≡ fault.OutOfMemory = cc in absurd (h.0 q)) told
-  unloaded (load.Program f) (inr (text, read, end, answer)) count came told =
+  unloaded load.Device read count came printed =
+      IfOk-weaker r _ _ (λ output h. (None, book_read.NotAsked, count, came, (refl, h))) printed
+  unloaded (load.Program f) (inl e) count came printed =
+      IfOk-weaker r _ _ (λ output h. let q : f ≡ fault.OutOfMemory = cc in absurd (h.0 q)) printed
+  unloaded (load.Program f) (inr (text, read, end, answer)) count came printed =
       let same : after.failures ≡ before.failures = omega arith in
       IfOk-weaker r _ _ (λ output h. (
         Some text,
@@ -57,4 +57,4 @@ module _ {F E : Type 0} (remaining : F → Option (List ℕ)) (before after : Co
         (same, all_read (remaining before.reader) (remaining after.reader) text read end),
         came,
         inr (f, answer.0, h.0, refl, h.1),
-      )) told
+      )) printed

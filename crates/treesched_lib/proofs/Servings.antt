@@ -45,7 +45,7 @@ module _ (Machine Form : Type 0) {Memory Place : Type 0} (rules : Rules Memory P
       → IfOk r
       (λ output. IsReplayed Machine Form rules program schedule output
       ⊎ IsStuck Machine Form rules program schedule output)
-  stuck f n is stops r told =
+  stuck f n is stops r printed =
       let here : StopsAt (machine_of {Machine = Machine} {Form = Form} rules program) schedule (NotEnabled n) =
       subst (StopsAt (machine_of {Machine = Machine} {Form = Form} rules program) schedule) is stops in
       let (i, (e, within)) =
@@ -58,9 +58,9 @@ module _ (Machine Form : Type 0) {Memory Place : Type 0} (rules : Rules Memory P
             (λ (k : ℕ). StopsAt (machine_of {Machine = Machine} {Form = Form} rules program) schedule (NotEnabled k)) e
             here;
         is_next = slice_get-get_or schedule i 0 within;
-        told = subst (λ (k : ℕ). IsRefusal 4 (no_step_text k (get_or schedule i 0)) output) e
+        printed = subst (λ (k : ℕ). IsRefusal 4 (no_step_text k (get_or schedule i 0)) output) e
             (subst (λ (k : ℕ). IsRefusal 4 (no_step_text n (get_or schedule k 0)) output) place h);
-      })) told
+      })) printed
 
 -- what is kept of an output that is served for the request of the words answers them
 pub answers : (words : List Text) (asked : Request) → AskFor words asked → {E : Type 0} (served : Output)

@@ -98,7 +98,7 @@ module _ (Machine Form : Type 0) {Memory Place : Type 0} (rules : Rules Memory P
     pub finding : Finding
     pub leads : after (machine_of rules program) schedule ≡ Some state
     pub found : IsFindingOf rules program state finding
-    pub told : IsPage (if is_sound finding then 0 else 1)
+    pub printed : IsPage (if is_sound finding then 0 else 1)
         (operations_text program (history_of state) ++ verdict_text finding) output
 
   -- the output names the first step of the schedule whose thread is not enabled, counted from 1
@@ -108,7 +108,7 @@ module _ (Machine Form : Type 0) {Memory Place : Type 0} (rules : Rules Memory P
     pub stops : StopsAt (machine_of {Machine = Machine} {Form = Form} rules program) schedule
         (replay_fault.NotEnabled (before + 1))
     pub is_next : slice_get schedule before ≡ Some thread
-    pub told : IsRefusal 4 (no_step_text (before + 1) thread) output
+    pub printed : IsRefusal 4 (no_step_text (before + 1) thread) output
 
   -- the output says that the bytes pass as a book file, and then every schedule holds; or it names the first cause for
   -- which they are refused

@@ -45,8 +45,8 @@ static CHECK_FAULTS: [Case<'static>; 7] = [
 /// Whether the text of a book file's fault is what `Display` shows of it.
 pub fn is_shown_with_its_line(alloc: Global, fault: CheckFault) -> Result<bool, OutOfMemory> {
     let text = format!(in alloc; "{fault}")?;
-    let told = check_fault_text(alloc, fault)?;
-    Ok(text.as_str() == told.as_str())
+    let printed = check_fault_text(alloc, fault)?;
+    Ok(text.as_str() == printed.as_str())
 }
 
 #[test]

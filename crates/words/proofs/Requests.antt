@@ -62,10 +62,10 @@ module _ (words : List Text) (error : Error) (choices : Choices) (merges : AreMe
   told_of (inr among) fault.OutOfMemory tells memory = tt
   told_of (inr among) e tells memory = absurd tells
 
-pub told : (words : List Text) (error : Error) (app : App) → IsCommandLine app
+pub stated : (words : List Text) (error : Error) (app : App) → IsCommandLine app
     → (is_simple_and_free app ≡ true → HasKind (fault_of app words) error)
     → (e : WordsFault) → Tells (kind_of error) e → (kind_of error ≡ kind.OutOfMemory → e ≡ fault.OutOfMemory)
     → AreRefused words e
-told words error app line kinds =
+stated words error app line kinds =
     told_of words error line.0 line.1
     (subst (λ a. is_simple_and_free a ≡ true → HasKind (fault_of a words) error) line.2 kinds refl)

@@ -19,7 +19,7 @@ use Rattle.tree_machine.specs.declared.state.State.{State}
 use Rattle.lin.specs.Keys.{Keys, reply_on, keys_after}
 use Rattle.lin.specs.Linearization.{GivesReplies}
 use Rattle.lin.proofs.Lists.{IsSomeAnd-value}
-use Rattle.replay.specs.declared.file.line.Line.{Line}
+use Rattle.replay.specs.declared.file.line.BookLine.{BookLine}
 use Rattle.replay.specs.Text.Files.{ended, start_text, IsName, IsBookText}
 use Rattle.replay.specs.Text.Written.{head_text, IsProper}
 use Rattle.replay.proofs.Text.Printing.{text_of, book_text, is_written, written_push, written_start}
@@ -78,7 +78,7 @@ module _ {Machine Memory Place Form : Type 0} (rules : Rules Memory Place) (prog
       )
 
 -- one more line
-pub lines_push : {S : Type 0} (es : List (Entry S)) (lines : List Line) (e : Entry S) (line : Line) → 1 ≤ length es
+pub lines_push : {S : Type 0} (es : List (Entry S)) (lines : List BookLine) (e : Entry S) (line : BookLine) → 1 ≤ length es
     → AreLinesOf es lines → IsLineOf e.origin e.finding line
     → AreLinesOf (es ++ e ∷ []) (lines ++ line ∷ [])
 lines_push [] lines e line some are is = absurd (omega arith)
@@ -86,7 +86,7 @@ lines_push {S} (start ∷ es) lines e line some are is =
     AllZip-push (λ (entry : Entry S) line. IsLineOf entry.origin entry.finding line) es lines e line are is
 
 -- there is one line less than entries
-pub lines_count : {S : Type 0} (es : List (Entry S)) (lines : List Line) → 1 ≤ length es → AreLinesOf es lines
+pub lines_count : {S : Type 0} (es : List (Entry S)) (lines : List BookLine) → 1 ≤ length es → AreLinesOf es lines
     → length es ≡ length lines + 1
 lines_count [] lines some are = absurd (omega arith)
 lines_count {S} (start ∷ es) lines some are =
@@ -94,13 +94,13 @@ lines_count {S} (start ∷ es) lines some are =
 
 -- the text is that of a head with this number of entries, and of the lines of the entries
 pub record HasWritten {S : Type 0} (count : ℕ) (es : List (Entry S)) (text : List ℕ) : Type 0 where
-  pub lines : List Line
+  pub lines : List BookLine
   pub of_entries : AreLinesOf es lines
   pub proper : All IsProper lines
   pub whole : text ≡ book_text count lines
 
 -- the line of the next entry is added
-pub written_next : {S : Type 0} (count : ℕ) (es : List (Entry S)) (i : ℕ) (e : Entry S) (line : Line)
+pub written_next : {S : Type 0} (count : ℕ) (es : List (Entry S)) (i : ℕ) (e : Entry S) (line : BookLine)
     (text more : List ℕ) → At es i e → 0 < i → IsLineOf e.origin e.finding line → IsProper line
     → more ≡ text ++ ended (text_of line ∷ []) → HasWritten count (take i es) text
     → HasWritten count (take (i + 1) es) more

@@ -30,7 +30,7 @@ use Rattle.book.specs.Books.{CountsAsOne, machine_in, right_in, IsLawfulIn}
 use Rattle.options.specs.declared.options.Merge.{Merge}
 use Rattle.book.proofs.Agreeing.{Agree, book_back}
 use Rattle.book.proofs.Unknown.{states-at}
-use Rattle.replay.specs.declared.file.line.Line.{Line}
+use Rattle.replay.specs.declared.file.line.BookLine.{BookLine}
 use Rattle.replay.specs.BookFile.Replays.{IsWell, IsShown, Tells, Continues}
 use Rattle.replay.specs.BookFile.Checks.{Pass}
 use Rattle.book.specs.BookFile.Writing.{FindsOrder, IsLineOf, AreLinesOf}
@@ -97,7 +97,7 @@ module _ {Machine Memory Place Form : Type 0} (rules : Rules Memory Place) (prog
       (law : IsLawful (machine_of rules program) (AreOneBy same) (IsFindingOf rules program) es) where
     -- the line of the entry after some describes its state
     line_tells : (front rest : List (Entry (State Machine Memory Place Form)))
-        (e : Entry (State Machine Memory Place Form)) (line : Line) → es ≡ front ++ e ∷ rest → 1 ≤ length front
+        (e : Entry (State Machine Memory Place Form)) (line : BookLine) → es ≡ front ++ e ∷ rest → 1 ≤ length front
         → IsLineOf e.origin e.finding line
         → Tells rules program (states front) line e.state
     line_tells front rest e line whole some of_e =
@@ -124,7 +124,7 @@ module _ {Machine Memory Place Form : Type 0} (rules : Rules Memory Place) (prog
           found_shown e.state e.finding line.order (law.findings (length front) e at) of_e.order,
         )
 
-    written_continues : (front rest : List (Entry (State Machine Memory Place Form))) (lines : List Line)
+    written_continues : (front rest : List (Entry (State Machine Memory Place Form))) (lines : List BookLine)
         → es ≡ front ++ rest → 1 ≤ length front
         → AllZip (λ entry line. IsLineOf entry.origin entry.finding line) rest lines
         → Continues rules program (states front) lines (states es)
@@ -164,7 +164,7 @@ module _ {Machine Memory Place Form : Type 0} (rules : Rules Memory Place) (prog
         }
 
     -- the lines of a closed and sound book pass
-    lines_pass : (lines : List Line) → AreLinesOf es lines → IsWorkedOut es → AreSound es
+    lines_pass : (lines : List BookLine) → AreLinesOf es lines → IsWorkedOut es → AreSound es
         → Pass Machine Form rules program lines
     lines_pass lines of_book out sound = go es refl of_book
       where
@@ -200,7 +200,7 @@ pub written_pass : {Machine Memory Place Form : Type 0}
     → ((r s : State Machine Memory Place Form) → Fits (rules book.machine) book.program r
     → Fits (rules book.machine) book.program s → same r s ≡ true
     → IsSound (right_in rules book) r → IsSound (right_in rules book) s)
-    → IsClosed book → AreSound book.entries → (lines : List Line) → AreLinesOf book.entries lines
+    → IsClosed book → AreSound book.entries → (lines : List BookLine) → AreLinesOf book.entries lines
     → Pass Machine Form (rules book.machine) book.program lines
 written_pass {Machine} {Memory} {Place} {Form} {same} rules book law machine merges counts sound_alike closed sound
     lines of_book =

@@ -6,7 +6,7 @@ use Rattle.book.specs.declared.entry.Origin.{Origin}
 use Rattle.replay.specs.declared.finding.Finding.{Finding}
 use Rattle.replay.specs.declared.finding.Finding.TheVariants as found
 use Rattle.book.specs.Entries.{Entry}
-use Rattle.replay.specs.declared.file.line.Line.{Line}
+use Rattle.replay.specs.declared.file.line.BookLine.{BookLine}
 
 -- the finding is sound, with this linearization
 abbrev pub FindsOrder : Finding → List OpId → Type 0
@@ -15,11 +15,11 @@ FindsOrder _ order = ⊥
 
 -- the line of an entry with this origin and this finding: it has the parent, the thread and the linearization that was
 -- found
-pub record IsLineOf (origin : Option Origin) (finding : Finding) (line : Line) : Type 0 where
+pub record IsLineOf (origin : Option Origin) (finding : Finding) (line : BookLine) : Type 0 where
   pub step : origin ≡ Some (record { parent = line.parent; thread = line.thread })
   pub order : FindsOrder finding line.order
 
 -- the lines of the entries after the first
-abbrev pub AreLinesOf : {S : Type 0} → List (Entry S) → List Line → Type 0
+abbrev pub AreLinesOf : {S : Type 0} → List (Entry S) → List BookLine → Type 0
 AreLinesOf [] lines = lines ≡ []
 AreLinesOf (start ∷ entries) lines = AllZip (λ entry line. IsLineOf entry.origin entry.finding line) entries lines

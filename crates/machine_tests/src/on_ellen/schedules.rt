@@ -46,7 +46,7 @@ fn follows(rt: &impl Abort, alloc: Global, machine: Ellen, program: &str, lines:
     }
     match answer {
         Ok(None) => {}
-        Ok(Some(told)) => assert!(rt; false, "{told}"),
+        Ok(Some(stated)) => assert!(rt; false, "{stated}"),
         Err(fault) => assert!(rt; false, "{fault:?}"),
     }
 }

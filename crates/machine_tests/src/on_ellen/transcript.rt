@@ -288,11 +288,11 @@ fn other_line(
     new: &State<Ellen>,
     line: &str,
 ) -> Result<Option<String>, OutOfMemory> {
-    let told = line_of(alloc, t, old, new)?;
-    if told.as_str() == line {
+    let stated = line_of(alloc, t, old, new)?;
+    if stated.as_str() == line {
         Ok(None)
     } else {
-        Ok(Some(told))
+        Ok(Some(stated))
     }
 }
 

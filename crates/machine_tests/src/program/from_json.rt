@@ -110,7 +110,7 @@ pub fn expect_fault_of_each(
 pub fn expect_program(rt: &(impl AllocGlobal + Abort), case: &str, text: &str) -> Program {
     match answer(rt.alloc(), text.as_bytes()) {
         Ok(program) => program,
-        Err(told) => panic!(rt; "{case}: {told}"),
+        Err(stated) => panic!(rt; "{case}: {stated}"),
     }
 }
 

@@ -20,17 +20,17 @@ fn load_once(alloc: Global, text: &str, fails_at: usize) -> (Option<LoadFault>, 
 
 /// Calls `load_once`, and once more where a growth was refused.
 fn load(alloc: Global, text: &str, fails_at: usize) -> (Option<LoadFault>, u64) {
-    let told = load_once(alloc, text, fails_at);
-    if told.0 == Some(LoadFault::Program(ProgramFault::OutOfMemory)) {
+    let stated = load_once(alloc, text, fails_at);
+    if stated.0 == Some(LoadFault::Program(ProgramFault::OutOfMemory)) {
         return load_once(alloc, text, fails_at);
     }
-    told
+    stated
 }
 
 /// Expects that the failed read is the only fault, and is counted once.
 fn expect_device(rt: &(impl AllocGlobal + Abort), text: &str, fails_at: usize) {
-    let told = load(rt.alloc(), text, fails_at);
-    assert_eq!(rt; told, (Some(LoadFault::Device), 1), "read {fails_at}");
+    let stated = load(rt.alloc(), text, fails_at);
+    assert_eq!(rt; stated, (Some(LoadFault::Device), 1), "read {fails_at}");
 }
 
 /// Texts that are read to their ends all have this fault, each with what it shows.
@@ -40,8 +40,8 @@ fn expect_fault_of_each(
     fault: ProgramFault,
 ) {
     for (case, text) in texts {
-        let told = load(rt.alloc(), text, NEVER);
-        assert_eq!(rt; told, (Some(LoadFault::Program(fault)), 0), "{case}");
+        let stated = load(rt.alloc(), text, NEVER);
+        assert_eq!(rt; stated, (Some(LoadFault::Program(fault)), 0), "{case}");
     }
 }
 

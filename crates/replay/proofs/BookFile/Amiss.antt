@@ -8,7 +8,7 @@ use Rattle.tree_machine.specs.declared.state.State.{State}
 use Rattle.replay.specs.Labels.{named_by}
 use Rattle.replay.specs.declared.file.fault.CheckFault.{CheckFault}
 use Rattle.replay.specs.declared.file.fault.CheckFault.TheVariants.{Parent, Step}
-use Rattle.replay.specs.declared.file.line.Line.{Line}
+use Rattle.replay.specs.declared.file.line.BookLine.{BookLine}
 use Rattle.replay.specs.BookFile.Kept.{AreLabelsOf, StandsForEntry}
 use Rattle.replay.specs.BookFile.Replays.{AreReplayed, IsAmiss, IsShown, IsUnshown, Reaches, Tells}
 use Rattle.replay.proofs.BookFile.Replayed.{count_labels, count_states, each_fits}
@@ -17,9 +17,9 @@ use Rattle.replay.proofs.BookFile.Twins.{one_label, shown_there, step_there, stu
 module _ {Machine Memory Place Form : Type 0} (rules : Rules Memory Place) (program : Program)
     (lawful : AreLawful rules) (limits : IsWithinLimits program)
     (form_of : Memory → List (Option Place) → Form) (forms : AreFormsExact rules form_of) (code : Form → List ℕ)
-    (lines : List Line) (labels : List (List ℕ))
+    (lines : List BookLine) (labels : List (List ℕ))
     (kept : AreLabelsOf {Machine = Machine} rules program (named_by code form_of) lines labels)
-    (count : ℕ) (is : count ≡ length labels) (line : Line)
+    (count : ℕ) (is : count ≡ length labels) (line : BookLine)
     (states : List (State Machine Memory Place Form)) (so : AreReplayed rules program lines states) where
   counted : count ≡ length states
   counted =

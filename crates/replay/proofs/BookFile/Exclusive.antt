@@ -11,7 +11,7 @@ use Rattle.tree_machine.specs.Step.{start, step}
 use Rattle.tree_machine.specs.declared.state.State.{State}
 use Rattle.replay.specs.Closed.{AreClosed}
 use Rattle.replay.specs.Findings.{machine_of}
-use Rattle.replay.specs.declared.file.line.Line.{Line}
+use Rattle.replay.specs.declared.file.line.BookLine.{BookLine}
 use Rattle.replay.specs.declared.file.fault.CheckFault.{CheckFault}
 use Rattle.replay.specs.declared.file.fault.CheckFault.TheVariants.{Open}
 use Rattle.replay.specs.BookFile.Replays.{IsShown, IsUnshown, Reaches, IsStuck, Tells, IsAmiss, Continues, FirstAmiss}
@@ -33,7 +33,7 @@ module _ {Machine Memory Place Form : Type 0} (rules : Rules Memory Place) (prog
   one_unshown s order n f g (inr a) (inl b) = absurd (b.1 a.1)
   one_unshown s order n f g (inr a) (inr b) = a.0 ∙ sym b.0
 
-  module _ (before : List (State Machine Memory Place Form)) (line : Line) where
+  module _ (before : List (State Machine Memory Place Form)) (line : BookLine) where
     one_parent : (r s : State Machine Memory Place Form) → slice_get before line.parent ≡ Some r
         → slice_get before line.parent ≡ Some s → r ≡ s
     one_parent r s a b = same_Some r s (sym a ∙ b)
@@ -66,13 +66,13 @@ module _ {Machine Memory Place Form : Type 0} (rules : Rules Memory Place) (prog
 
     told_not_amiss : (s : State Machine Memory Place Form) (f : CheckFault) → Tells rules program before line s
         → IsAmiss rules program before line f → ⊥
-    told_not_amiss s f told (inl a) = (let reached : Reaches rules program before line s = told.0 in
+    told_not_amiss s f stated (inl a) = (let reached : Reaches rules program before line s = stated.0 in
         there_not_missing reached.parent reached.at a.1)
-    told_not_amiss s f told (inr (inl a)) = reached_not_stuck s told.0 a.1
-    told_not_amiss s f told (inr (inr a)) =
-        shown_not_unshown s line.order (length before + 2) f told.1
+    told_not_amiss s f stated (inr (inl a)) = reached_not_stuck s stated.0 a.1
+    told_not_amiss s f stated (inr (inr a)) =
+        shown_not_unshown s line.order (length before + 2) f stated.1
         (subst (λ (v : State Machine Memory Place Form). IsUnshown rules program v line.order (length before + 2) f)
-        (one_reached a.0 s a.1 told.0) a.2)
+        (one_reached a.0 s a.1 stated.0) a.2)
 
     one_amiss : (f g : CheckFault) → IsAmiss rules program before line f → IsAmiss rules program before line g → f ≡ g
     one_amiss f g (inl a) (inl b) = a.0 ∙ sym b.0
@@ -93,7 +93,7 @@ module _ {Machine Memory Place Form : Type 0} (rules : Rules Memory Place) (prog
         (one_reached b.0 a.0 b.1 a.1) b.2)
 
   -- lines describe one list of states, and nothing is amiss with them then
-  pub one_continued : (before : List (State Machine Memory Place Form)) (lines : List Line)
+  pub one_continued : (before : List (State Machine Memory Place Form)) (lines : List BookLine)
       (states others : List (State Machine Memory Place Form))
       → Continues rules program before lines states → Continues rules program before lines others → states ≡ others
   one_continued before [] states others a b = a ∙ sym b
@@ -103,7 +103,7 @@ module _ {Machine Memory Place Form : Type 0} (rules : Rules Memory Place) (prog
       (subst (λ (v : State Machine Memory Place Form). Continues rules program (before ++ v ∷ []) lines others)
       (sym same) b.2)
 
-  continued_not_amiss : (before : List (State Machine Memory Place Form)) (lines : List Line)
+  continued_not_amiss : (before : List (State Machine Memory Place Form)) (lines : List BookLine)
       (states : List (State Machine Memory Place Form)) (f : CheckFault)
       → Continues rules program before lines states → FirstAmiss rules program before lines f → ⊥
   continued_not_amiss before [] states f so amiss = amiss
@@ -114,7 +114,7 @@ module _ {Machine Memory Place Form : Type 0} (rules : Rules Memory Place) (prog
       (subst (λ (v : State Machine Memory Place Form). FirstAmiss rules program (before ++ v ∷ []) lines f) same
       h.2)
 
-  one_first : (before : List (State Machine Memory Place Form)) (lines : List Line) (f g : CheckFault)
+  one_first : (before : List (State Machine Memory Place Form)) (lines : List BookLine) (f g : CheckFault)
       → FirstAmiss rules program before lines f → FirstAmiss rules program before lines g → f ≡ g
   one_first before [] f g a b = absurd a
   one_first before (line ∷ lines) f g (inl a) (inl b) = one_amiss before line f g a b
@@ -133,7 +133,7 @@ module _ {Machine Memory Place Form : Type 0} (rules : Rules Memory Place) (prog
         | inl l ↦ absurd (b.first a.index a.state l a.at a.leads_out)
         | inr ge ↦ (elim (cases_lt b.index a.index) [
           | inl l ↦ absurd (a.first b.index b.state l b.at b.leads_out)
-          | inr le ↦ (let same : a.index ≡ b.index = omega arith in a.told ∙ ap (λ n. Open (n + 2)) same ∙ sym b.told)
+          | inr le ↦ (let same : a.index ≡ b.index = omega arith in a.stated ∙ ap (λ n. Open (n + 2)) same ∙ sym b.stated)
         ])
       ]
 
@@ -145,7 +145,7 @@ module _ {Machine Memory Place Form : Type 0} (rules : Rules Memory Place) (prog
       out.3 (closed.steps a.index out.0 a.state out.1 a.at out.2)
 
 module _ (Machine Form : Type 0) {Memory Place : Type 0} (rules : Rules Memory Place) (program : Program)
-    (lines : List Line) where
+    (lines : List BookLine) where
   abbrev first : State Machine Memory Place Form
   first = start rules program
 

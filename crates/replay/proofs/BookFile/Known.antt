@@ -23,7 +23,7 @@ use Rattle.replay.specs.BookFile.Checks.{AreRefused, Pass}
 use Rattle.replay.specs.BookFile.Kept.{AreLabelsOf, AreStepsKnown, IsStepUnknown, StandsFor, StandsForEntry}
 use Rattle.replay.specs.BookFile.Replays.{AreReplayed}
 use Rattle.replay.specs.declared.file.fault.CheckFault.TheVariants.{Open}
-use Rattle.replay.specs.declared.file.line.Line.{Line}
+use Rattle.replay.specs.declared.file.line.BookLine.{BookLine}
 use Rattle.replay.proofs.BookFile.Recalled.{IsStepBy, line_of}
 use Rattle.replay.proofs.BookFile.Replayed.{begins, count_labels, count_states, each_fits}
 use Rattle.replay.proofs.BookFile.Twins.{one_label, step_there}
@@ -31,7 +31,7 @@ use Rattle.replay.specs.Laws.Machines.{is_machine}
 
 -- the steps of the first entries' states have labels that are known
 abbrev pub AreKnownBelow : {Machine Memory Place Form : Type 0} (rules : Rules Memory Place) (program : Program)
-    (label_of : State Machine Memory Place Form → List ℕ) (lines : List Line) (labels : List (List ℕ)) → ℕ → Type 0
+    (label_of : State Machine Memory Place Form → List ℕ) (lines : List BookLine) (labels : List (List ℕ)) → ℕ → Type 0
 AreKnownBelow {Machine} {Memory} {Place} {Form} rules program label_of lines labels n =
     (states : List (State Machine Memory Place Form)) → AreReplayed rules program lines states → (i : ℕ)
     (s : State Machine Memory Place Form) → i < n → slice_get states i ≡ Some s
@@ -40,7 +40,7 @@ AreKnownBelow {Machine} {Memory} {Place} {Form} rules program label_of lines lab
 module _ {Machine Memory Place Form : Type 0} (rules : Rules Memory Place) (program : Program)
     (lawful : AreLawful rules) (limits : IsWithinLimits program)
     (form_of : Memory → List (Option Place) → Form) (forms : AreFormsExact rules form_of)
-    (code : Form → List ℕ) (lines : List Line) (labels : List (List ℕ)) where
+    (code : Form → List ℕ) (lines : List BookLine) (labels : List (List ℕ)) where
   abbrev label : State Machine Memory Place Form → List ℕ
   label = named_by code form_of
 
@@ -108,7 +108,7 @@ module _ {Machine Memory Place Form : Type 0} (rules : Rules Memory Place) (prog
         (ap (λ ls. slice_get ls among.0) kept.labelled ∙ map-get label states among.0 among.1 among.2 ∙ ap Some same)
 
     -- a step that a line has leads to the state of the line's own entry, whose label is known
-    pub line_known : (k : ℕ) (line : Line) → slice_get lines k ≡ Some line
+    pub line_known : (k : ℕ) (line : BookLine) → slice_get lines k ≡ Some line
         → (c : State Machine Memory Place Form) → StandsForEntry rules program lines line.parent c
         → (n : State Machine Memory Place Form) → step rules program c line.thread ≡ Some n
         → Contains labels (label n)
@@ -120,7 +120,7 @@ module _ {Machine Memory Place Form : Type 0} (rules : Rules Memory Place) (prog
         let v = line_of rules program lines states kept.replayed k (omega arith) own.0 own.1 in
         let own_line : v.0 ≡ line = same_Some v.0 line (sym v.1 ∙ at) in
         let by : IsStepBy rules program states (suc k) line own.0 =
-        subst (λ (l : Line). IsStepBy rules program states (suc k) l own.0) own_line v.2 in
+        subst (λ (l : BookLine). IsStepBy rules program states (suc k) l own.0) own_line v.2 in
         let parent : w.0 ≡ by.parent = same_Some w.0 by.parent (sym w.1 ∙ by.at) in
         let u = step_there rules program lawful limits form_of forms w.0 c (fit line.parent w.0 w.1) w.2.fits w.2.alike
         line.thread n leads in
@@ -147,7 +147,7 @@ module _ {Machine Memory Place Form : Type 0} (rules : Rules Memory Place) (prog
             index = i;
             state = w.0;
             at = w.1;
-            told = refl;
+            stated = refl;
             leads_out = (
               out.0,
               u.0,

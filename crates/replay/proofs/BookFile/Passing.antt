@@ -14,7 +14,7 @@ use Rattle.replay.specs.Closed.{AreClosed}
 use Rattle.replay.specs.Correct.{IsCorrect, HoldsAlways}
 use Rattle.replay.specs.Laws.Schedules.{covered}
 use Rattle.replay.specs.Laws.Machines.{is_machine}
-use Rattle.replay.specs.declared.file.line.Line.{Line}
+use Rattle.replay.specs.declared.file.line.BookLine.{BookLine}
 use Rattle.replay.specs.BookFile.Replays.{IsShown, AreReplayed}
 use Rattle.replay.specs.BookFile.Checks.{Pass}
 use Rattle.replay.proofs.BookFile.Replayed.{along, only_start}
@@ -25,7 +25,7 @@ module _ {Machine Memory Place Form : Type 0} (rules : Rules Memory Place) (prog
       → IsCorrect rules program s
   shown_correct s order shown = (shown.0.0, shown.0.1, (order, shown.1))
 
-  replayed_correct : (lines : List Line) (states : List (State Machine Memory Place Form))
+  replayed_correct : (lines : List BookLine) (states : List (State Machine Memory Place Form))
       → AreReplayed rules program lines states → (i : ℕ) (s : State Machine Memory Place Form)
       → slice_get states i ≡ Some s → IsCorrect rules program s
   replayed_correct lines states so =
@@ -78,7 +78,7 @@ module _ {Machine Memory Place Form : Type 0} (rules : Rules Memory Place) (prog
           (w.0, w.1, w.2, (closed.fit w.0 w.1 w.2, machine.step_fits s r t (closed.fit i s at) leads, w.3)));
     }
 
-    pub passing_holds : (lines : List Line) → Pass Machine Form rules program lines
+    pub passing_holds : (lines : List BookLine) → Pass Machine Form rules program lines
         → HoldsAlways Machine Form rules program
     passing_holds lines pass schedule state leads =
         let m : StepMachine (State Machine Memory Place Form) = machine_of rules program in

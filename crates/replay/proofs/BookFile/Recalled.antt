@@ -11,13 +11,13 @@ use Rattle.tree_machine.specs.declared.state.State.{State}
 use Rattle.tree_machine.proofs.Lists.{get_at, get-append_left, get-append_right}
 use Rattle.replay.specs.Findings.{machine_of}
 use Rattle.replay.specs.Schedule.{run, after}
-use Rattle.replay.specs.declared.file.line.Line.{Line}
+use Rattle.replay.specs.declared.file.line.BookLine.{BookLine}
 use Rattle.replay.specs.BookFile.Replays.{Reaches, Continues, AreReplayed}
 use Rattle.replay.proofs.BookFile.Replayed.{front}
 
 module _ {Machine Memory Place Form : Type 0} (rules : Rules Memory Place) (program : Program) where
   -- the state is the step, by this line, of one that stands before it
-  pub record IsStepBy (states : List (State Machine Memory Place Form)) (index : ℕ) (line : Line)
+  pub record IsStepBy (states : List (State Machine Memory Place Form)) (index : ℕ) (line : BookLine)
       (state : State Machine Memory Place Form) : Type 0 where
     pub parent : State Machine Memory Place Form
     pub at : slice_get states line.parent ≡ Some parent
@@ -25,10 +25,10 @@ module _ {Machine Memory Place Form : Type 0} (rules : Rules Memory Place) (prog
     pub step : step rules program parent line.thread ≡ Some state
 
   -- a state behind the first ones is the step that its line tells
-  step_behind : (before : List (State Machine Memory Place Form)) (lines : List Line)
+  step_behind : (before : List (State Machine Memory Place Form)) (lines : List BookLine)
       (states : List (State Machine Memory Place Form)) → Continues rules program before lines states
       → (k : ℕ) (s : State Machine Memory Place Form) → slice_get states (length before + k) ≡ Some s
-      → (line : Line) × (slice_get lines k ≡ Some line) × IsStepBy states (length before + k) line s
+      → (line : BookLine) × (slice_get lines k ≡ Some line) × IsStepBy states (length before + k) line s
   step_behind before [] states so k s at =
       absurd (let same : states ≡ before = so in
       let l : length before + k < length before =
@@ -76,12 +76,12 @@ module _ {Machine Memory Place Form : Type 0} (rules : Rules Memory Place) (prog
       let w = get_at states index within in
       record { here = w.0; there = w.0; is_here = w.1; is_there = w.1; leads = refl }
 
-  module _ (lines : List Line) (states : List (State Machine Memory Place Form))
+  module _ (lines : List BookLine) (states : List (State Machine Memory Place Form))
       (so : AreReplayed rules program lines states) where
     -- the line of a state behind the start
     pub line_of : (k : ℕ) → suc k < length states → (s : State Machine Memory Place Form)
         → slice_get states (suc k) ≡ Some s
-        → (line : Line) × (slice_get lines k ≡ Some line) × IsStepBy states (suc k) line s
+        → (line : BookLine) × (slice_get lines k ≡ Some line) × IsStepBy states (suc k) line s
     line_of k within s at =
         let place : 1 + k ≡ suc k = omega arith in
         let w = step_behind (start rules program ∷ []) lines states so.1 k s
@@ -99,7 +99,7 @@ module _ {Machine Memory Place Form : Type 0} (rules : Rules Memory Place) (prog
 
     -- one step back along the way
     pub one_back : (at : ℕ) → 0 < at → (noted : List ℕ) (index : ℕ) → LeadsTo states at (reverse noted) index
-        → (line : Line) → slice_get lines (at - 1) ≡ Some line
+        → (line : BookLine) → slice_get lines (at - 1) ≡ Some line
         → (line.parent < at) × LeadsTo states line.parent (reverse (noted ++ line.thread ∷ [])) index
     one_back zero later noted index so_far line is = absurd (omega arith)
     one_back (suc k) later noted index so_far line is =
@@ -109,7 +109,7 @@ module _ {Machine Memory Place Form : Type 0} (rules : Rules Memory Place) (prog
         let there : slice_get lines k ≡ Some line = ap (λ n. slice_get lines n) e ∙ is in
         let same : w.0 ≡ line = same_Some w.0 line (sym w.1 ∙ there) in
         let by : IsStepBy states (suc k) line so_far.here =
-        subst (λ (l : Line). IsStepBy states (suc k) l so_far.here) same w.2 in
+        subst (λ (l : BookLine). IsStepBy states (suc k) l so_far.here) same w.2 in
         let m = machine_of {Machine = Machine} {Form = Form} rules program in (
           by.earlier,
           record {

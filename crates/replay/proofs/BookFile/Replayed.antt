@@ -15,7 +15,7 @@ use Rattle.replay.specs.Closed.{IsAlikeToOneOf}
 use Rattle.replay.specs.Schedule.{IsMachine}
 use Rattle.replay.specs.Findings.{machine_of}
 use Rattle.replay.specs.Laws.Machines.{is_machine, step_counts}
-use Rattle.replay.specs.declared.file.line.Line.{Line}
+use Rattle.replay.specs.declared.file.line.BookLine.{BookLine}
 use Rattle.replay.specs.declared.file.fault.CheckFault.{CheckFault}
 use Rattle.replay.specs.declared.file.fault.CheckFault.TheVariants.{OutOfMemory}
 use Rattle.replay.specs.BookFile.Replays.{IsShown, IsUnshown, Reaches, Tells, IsAmiss, Continues, FirstAmiss}
@@ -46,7 +46,7 @@ split_at xs i x less is =
 
 module _ {Machine Memory Place Form : Type 0} (rules : Rules Memory Place) (program : Program) where
   -- one more line
-  continues_push : (before : List (State Machine Memory Place Form)) (lines : List Line) (line : Line)
+  continues_push : (before : List (State Machine Memory Place Form)) (lines : List BookLine) (line : BookLine)
       (states : List (State Machine Memory Place Form)) (state : State Machine Memory Place Form)
       → Continues rules program before lines states → Tells rules program states line state
       → Continues rules program before (lines ++ line ∷ []) (states ++ state ∷ [])
@@ -59,7 +59,7 @@ module _ {Machine Memory Place Form : Type 0} (rules : Rules Memory Place) (prog
       (so.0, so.1, continues_push (before ++ so.0 ∷ []) lines line states state so.2 tells)
 
   -- what is amiss with the next line is the first that is
-  amiss_next : (before : List (State Machine Memory Place Form)) (lines : List Line) (line : Line) (rest : List Line)
+  amiss_next : (before : List (State Machine Memory Place Form)) (lines : List BookLine) (line : BookLine) (rest : List BookLine)
       (states : List (State Machine Memory Place Form)) (fault : CheckFault)
       → Continues rules program before lines states → IsAmiss rules program states line fault
       → FirstAmiss rules program before (lines ++ line ∷ rest) fault
@@ -70,10 +70,10 @@ module _ {Machine Memory Place Form : Type 0} (rules : Rules Memory Place) (prog
 
   -- what holds of the first states, and of each that a line describes, holds of all
   pub along : (P : ℕ → State Machine Memory Place Form → Type 0)
-      → ((before : List (State Machine Memory Place Form)) (line : Line) (state : State Machine Memory Place Form)
+      → ((before : List (State Machine Memory Place Form)) (line : BookLine) (state : State Machine Memory Place Form)
       → ((i : ℕ) (s : State Machine Memory Place Form) → slice_get before i ≡ Some s → P i s)
       → Tells rules program before line state → P (length before) state)
-      → (before : List (State Machine Memory Place Form)) (lines : List Line)
+      → (before : List (State Machine Memory Place Form)) (lines : List BookLine)
       (states : List (State Machine Memory Place Form)) → Continues rules program before lines states
       → ((i : ℕ) (s : State Machine Memory Place Form) → slice_get before i ≡ Some s → P i s)
       → (i : ℕ) (s : State Machine Memory Place Form) → slice_get states i ≡ Some s → P i s
@@ -90,7 +90,7 @@ module _ {Machine Memory Place Form : Type 0} (rules : Rules Memory Place) (prog
   only_start P first h (suc i) s at = absurd (let q : None ≡ Some s = at in cc)
 
   -- the first states stay where they are
-  pub front : (before : List (State Machine Memory Place Form)) (lines : List Line)
+  pub front : (before : List (State Machine Memory Place Form)) (lines : List BookLine)
       (states : List (State Machine Memory Place Form)) → Continues rules program before lines states
       → (i : ℕ) (s : State Machine Memory Place Form) → slice_get before i ≡ Some s → slice_get states i ≡ Some s
   front before [] states so i s at = let e : states ≡ before = so in
@@ -98,7 +98,7 @@ module _ {Machine Memory Place Form : Type 0} (rules : Rules Memory Place) (prog
   front before (line ∷ lines) states so i s at =
       front (before ++ so.0 ∷ []) lines states so.2 i s (get-append_left before (so.0 ∷ []) i s at)
 
-  count_from : (before : List (State Machine Memory Place Form)) (lines : List Line)
+  count_from : (before : List (State Machine Memory Place Form)) (lines : List BookLine)
       (states : List (State Machine Memory Place Form)) → Continues rules program before lines states
       → length states ≡ length before + length lines
   count_from before [] states so = let e : length states ≡ length before = ap length so in omega arith
@@ -107,12 +107,12 @@ module _ {Machine Memory Place Form : Type 0} (rules : Rules Memory Place) (prog
       let one : length (before ++ so.0 ∷ []) ≡ length before + 1 = length_push before so.0 in omega arith
 
   -- each line describes one state, and the start is before them
-  pub count_states : (lines : List Line) (states : List (State Machine Memory Place Form))
+  pub count_states : (lines : List BookLine) (states : List (State Machine Memory Place Form))
       → AreReplayed rules program lines states → length states ≡ length lines + 1
   count_states lines states so =
       let all = count_from (start rules program ∷ []) lines states so.1 in omega arith
 
-  pub count_labels : (label_of : State Machine Memory Place Form → List ℕ) (lines : List Line)
+  pub count_labels : (label_of : State Machine Memory Place Form → List ℕ) (lines : List BookLine)
       (labels : List (List ℕ)) → AreLabelsOf rules program label_of lines labels → length labels ≡ length lines + 1
   count_labels label_of lines labels so =
       ap length so.labelled ∙ length-map so.states label_of ∙ count_states lines so.states so.replayed
@@ -121,7 +121,7 @@ module _ {Machine Memory Place Form : Type 0} (rules : Rules Memory Place) (prog
     machine : IsMachine (machine_of {Machine = Machine} {Form = Form} rules program)
     machine = is_machine rules program lawful limits
 
-    module _ (lines : List Line) (states : List (State Machine Memory Place Form))
+    module _ (lines : List BookLine) (states : List (State Machine Memory Place Form))
         (so : AreReplayed rules program lines states) where
       -- each state fits, and has no more steps than its index
       pub each_fits : (i : ℕ) (s : State Machine Memory Place Form) → slice_get states i ≡ Some s → Fits rules program s
@@ -146,7 +146,7 @@ module _ {Machine Memory Place Form : Type 0} (rules : Rules Memory Place) (prog
 
     -- the start is one of the states that lines describe
     pub begins : (form_of : Memory → List (Option Place) → Form) → AreFormsExact rules form_of
-        → (lines : List Line) (states : List (State Machine Memory Place Form))
+        → (lines : List BookLine) (states : List (State Machine Memory Place Form))
         → AreReplayed rules program lines states → IsAlikeToOneOf (AreStatesAlike rules) states (start rules program)
     begins form_of forms lines states so = (
       0,
@@ -170,7 +170,7 @@ module _ {Machine Memory Place Form : Type 0} (rules : Rules Memory Place) (prog
     labelled = made ∙ ap (λ l. l ∷ []) same;
   }
 
-  module _ (lines : List Line) (labels : List (List ℕ)) (i : ℕ) (line : Line) (less : i < length lines)
+  module _ (lines : List BookLine) (labels : List (List ℕ)) (i : ℕ) (line : BookLine) (less : i < length lines)
       (is : line ≡ get_or lines i line) (so : AreLabelsOf rules program label_of (take i lines) labels) where
     -- one more line
     pub labels_next : (label : List ℕ) (longer : List (List ℕ))
@@ -202,7 +202,7 @@ module _ {Machine Memory Place Form : Type 0} (rules : Rules Memory Place) (prog
           | inl l ↦ inl l
           | inr r ↦ inr (inr (
             so.replayed.0,
-            subst (λ (ls : List Line). FirstAmiss {Machine = Machine} {Form = Form} rules program
+            subst (λ (ls : List BookLine). FirstAmiss {Machine = Machine} {Form = Form} rules program
                 (start rules program ∷ []) ls fault) (sym (split_at lines i line less is))
                 (amiss_next rules program (start rules program ∷ []) (take i lines) line (drop (i + 1) lines) so.states
                 fault so.replayed.1 (r so.states so.replayed)),
@@ -211,7 +211,7 @@ module _ {Machine Memory Place Form : Type 0} (rules : Rules Memory Place) (prog
 
 -- the labels of the first lines are fewer than a file may have
 pub labels_few : {Machine Memory Place Form : Type 0} (rules : Rules Memory Place) (program : Program)
-    (label_of : State Machine Memory Place Form → List ℕ) (lines : List Line) (labels : List (List ℕ)) (i : ℕ)
+    (label_of : State Machine Memory Place Form → List ℕ) (lines : List BookLine) (labels : List (List ℕ)) (i : ℕ)
     → AreLabelsOf rules program label_of (take i lines) labels → i < length lines → length lines < 2000000
     → length labels < 2000000
 labels_few rules program label_of lines labels i so less most =
@@ -222,7 +222,7 @@ labels_few rules program label_of lines labels i so less most =
 
 -- what is amiss with the start
 pub amiss_at_start : {Machine Memory Place Form : Type 0} (rules : Rules Memory Place) (program : Program)
-    (lines : List Line) (first : State Machine Memory Place Form) (fault : CheckFault)
+    (lines : List BookLine) (first : State Machine Memory Place Form) (fault : CheckFault)
     → first ≡ start rules program → (fault ≡ OutOfMemory) ⊎ IsUnshown rules program first [] 2 fault
     → (fault ≡ OutOfMemory) ⊎ IsFirstAmiss Machine Form rules program lines fault
 amiss_at_start {Machine} {Memory} {Place} {Form} rules program lines first fault is h =

@@ -17,7 +17,7 @@ use Rattle.tree_machine.proofs.Forms.{forms_alike, alike_itself, alike_turned, n
 use Rattle.tree_machine.proofs.Lists.{get-map}
 use Rattle.tree_machine.proofs.States.{step_fits}
 use Rattle.replay.specs.declared.file.fault.CheckFault.{CheckFault}
-use Rattle.replay.specs.declared.file.line.Line.{Line}
+use Rattle.replay.specs.declared.file.line.BookLine.{BookLine}
 use Rattle.replay.specs.BookFile.Kept.{AreLabelsOf, StandsForEntry}
 use Rattle.replay.specs.BookFile.Replays.{AreReplayed, IsShown, IsUnshown, IsWell}
 use Rattle.replay.specs.Findings.{machine_of}
@@ -80,7 +80,7 @@ module _ {Machine Memory Place Form : Type 0} (rules : Rules Memory Place) (prog
         λ explains. h.2 (subst (λ k. IsLinearization program k order) (sym (alike_history rules s c alike)) explains),
       )
 
-  module _ (lines : List Line) (index : ℕ) where
+  module _ (lines : List BookLine) (index : ℕ) where
     -- what is read from the label of an entry stands in for its state
     pub read_stands_for : (code : Form → List ℕ) (labels : List (List ℕ))
         → AreLabelsOf {Machine = Machine} rules program (named_by code form_of) lines labels

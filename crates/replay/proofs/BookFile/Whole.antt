@@ -2,7 +2,7 @@
 use Rattle.std.proofs.Common.{◌≡◌, ◌≢◌, ◌⊎◌, inl, inr, ℕ, ◌∙◌, sym, ap, subst, List}
 use Rattle.sched_program.specs.Program.{Program}
 use Rattle.tree_machine.specs.Rules.{Rules}
-use Rattle.replay.specs.declared.file.line.Line.{Line}
+use Rattle.replay.specs.declared.file.line.BookLine.{BookLine}
 use Rattle.replay.specs.Text.Files.{IsBookText, IsFormFault}
 use Rattle.replay.proofs.Text.OneReading.{same_book, not_both, same_misformed}
 use Rattle.replay.specs.declared.file.fault.CheckFault.{CheckFault}
@@ -21,7 +21,7 @@ module _ (Machine MachineForm : Type 0) {Memory Place : Type 0} (rules : Rules M
   one_refusal_of_bytes f g (inr a) (inr b) =
       let same : b.0 ≡ a.0 = same_book bytes b.0 a.0 b.1 a.1 in
       one_refusal Machine MachineForm rules program a.0 f g a.2
-      (subst (λ (lines : List Line). AreRefused Machine MachineForm rules program lines g) same b.2)
+      (subst (λ (lines : List BookLine). AreRefused Machine MachineForm rules program lines g) same b.2)
 
   pub passing_bytes : (entries : ℕ) (f : CheckFault) → PassAs Machine MachineForm rules program bytes entries
       → IsRefusedFor Machine MachineForm rules program bytes f → ⊥
@@ -29,7 +29,7 @@ module _ (Machine MachineForm : Type 0) {Memory Place : Type 0} (rules : Rules M
   passing_bytes entries f pass (inr a) =
       let same : pass.0 ≡ a.0 = same_book bytes pass.0 a.0 pass.1 a.1 in
       pass_not_refused Machine MachineForm rules program a.0 f
-      (subst (λ (lines : List Line). Pass Machine MachineForm rules program lines) same pass.2) a.2
+      (subst (λ (lines : List BookLine). Pass Machine MachineForm rules program lines) same pass.2) a.2
 
   -- the bytes are not in the form
   pub form_refused : (f : CheckFault) → (f ≡ OutOfMemory) ⊎ IsFormFault bytes f
@@ -37,7 +37,7 @@ module _ (Machine MachineForm : Type 0) {Memory Place : Type 0} (rules : Rules M
   form_refused f (inl h) = inl h
   form_refused f (inr h) = inr (inl h)
 
-  module _ (lines : List Line) (is : IsBookText bytes lines) (f : CheckFault) where
+  module _ (lines : List BookLine) (is : IsBookText bytes lines) (f : CheckFault) where
     -- something is amiss with an entry of their lines
     pub amiss_refused : (f ≡ OutOfMemory) ⊎ IsFirstAmiss Machine MachineForm rules program lines f
         → (f ≡ OutOfMemory) ⊎ IsRefusedFor Machine MachineForm rules program bytes f

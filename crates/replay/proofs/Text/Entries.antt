@@ -5,7 +5,7 @@ use Rattle.std.proofs.lemmas.Slice.Zip.{AllZip-long}
 use Rattle.std.specs.List.{AllByRecursion, AllZip}
 use Rattle.indexmap.proofs.SetLemmas.{AllZip-push}
 use Rattle.replay.specs.declared.file.fault.CheckFault.TheVariants.{Form}
-use Rattle.replay.specs.declared.file.line.Line.{Line}
+use Rattle.replay.specs.declared.file.line.BookLine.{BookLine}
 use Rattle.replay.specs.Text.Files.{AreLines, IsNumber, IsOrder, IsEntryLine, IsEntryText, IsEntriesFault}
 use Rattle.replay.proofs.Text.Cuts.{same_cut, no_cut, next_line, no_line}
 use Rattle.replay.proofs.Text.OneReading.{digits_bare, space_fails, entries_formed}
@@ -17,7 +17,7 @@ no_pieces text none (line, is) =
 
 -- what comes before the first space of an entry's line is the parent's number, and what follows are the thread and the
 -- order
-entry_pieces : (text parent rest : List ℕ) (line : Line) → text ≡ parent ++ 32 ∷ rest
+entry_pieces : (text parent rest : List ℕ) (line : BookLine) → text ≡ parent ++ 32 ∷ rest
     → AllByRecursion (λ b. b ≢ 32) parent → (is : IsEntryLine text line)
     → (is.parent ≡ parent) × (rest ≡ (48 + line.thread) ∷ 32 ∷ is.order)
 entry_pieces text parent rest line e none is =
@@ -49,7 +49,7 @@ no_order text parent rest thread order e none split not (line, is) =
     not line.order (subst (λ (o : List ℕ). IsOrder o line.order) same is.is_order)
 
 -- the bytes are lines: first those of these entries, and then the rest
-pub record HasReadLines (bytes : List ℕ) (lines : List Line) (rest : List ℕ) : Type 0 where
+pub record HasReadLines (bytes : List ℕ) (lines : List BookLine) (rest : List ℕ) : Type 0 where
   pub done : List (List ℕ)
   pub ahead : List (List ℕ)
   pub whole : AreLines bytes (done ++ ahead)
@@ -61,7 +61,7 @@ pub lines_none : (bytes : List ℕ) (texts : List (List ℕ)) → AreLines bytes
     → HasReadLines bytes [] bytes
 lines_none bytes texts are few = record { done = []; ahead = texts; whole = are; left = are; each = tt; few = few }
 
-pub lines_push : (bytes : List ℕ) (lines : List Line) (rest text tail : List ℕ) (line : Line)
+pub lines_push : (bytes : List ℕ) (lines : List BookLine) (rest text tail : List ℕ) (line : BookLine)
     → HasReadLines bytes lines rest → rest ≡ text ++ 10 ∷ tail
     → AllByRecursion (λ b. b ≢ 10) text → IsEntryLine text line → HasReadLines bytes (lines ++ line ∷ []) tail
 lines_push bytes lines rest text tail line has e bare is =
@@ -77,7 +77,7 @@ lines_push bytes lines rest text tail line has e bare is =
       few = subst (λ (ts : List (List ℕ)). length ts < 2000000) same has.few;
     }
 
-pub lines_all : (bytes : List ℕ) (lines : List Line) (rest : List ℕ) → HasReadLines bytes lines rest
+pub lines_all : (bytes : List ℕ) (lines : List BookLine) (rest : List ℕ) → HasReadLines bytes lines rest
     → AllByRecursion (λ b. b ≢ 10) rest
     → (texts : List (List ℕ)) × AreLines bytes texts × AllZip IsEntryLine texts lines
 lines_all bytes lines rest has bare =
@@ -86,7 +86,7 @@ lines_all bytes lines rest has bare =
     ap (λ (ts : List (List ℕ)). has.done ++ ts) none ∙ append-nil has.done in
     (has.done, subst (AreLines bytes) same has.whole, has.each)
 
-pub lines_fault : (bytes : List ℕ) (lines : List Line) (rest text tail : List ℕ) → HasReadLines bytes lines rest
+pub lines_fault : (bytes : List ℕ) (lines : List BookLine) (rest text tail : List ℕ) → HasReadLines bytes lines rest
     → rest ≡ text ++ 10 ∷ tail
     → AllByRecursion (λ b. b ≢ 10) text → ¬ IsEntryText text → IsEntriesFault bytes (Form (length lines + 3))
 lines_fault bytes lines rest text tail has e bare not =

@@ -5,7 +5,7 @@ use Rattle.std.proofs.lemmas.List.{append_cancel_left}
 use Rattle.std.specs.List.{AllByRecursion, AllZip}
 use Rattle.replay.specs.declared.file.fault.CheckFault.{CheckFault}
 use Rattle.replay.specs.declared.file.fault.CheckFault.TheVariants.{OutOfMemory}
-use Rattle.replay.specs.declared.file.line.Line.{Line}
+use Rattle.replay.specs.declared.file.line.BookLine.{BookLine}
 use Rattle.replay.specs.Text.Files.{ended, AreLines, IsNumber, IsEntryLine, IsHead, start_text, HasHead, IsBookText}
 use Rattle.replay.specs.Text.Files.{IsEntryMisformed, IsFirstMisformed, IsEntriesFault, IsFormFault}
 use Rattle.replay.proofs.Text.Cuts.{next_line, no_line, same_lines}
@@ -62,7 +62,7 @@ after_start bytes rest tail texts has are e =
     (later, split, left, omega (arith, has.is_head.few, ap length split))
 
 -- bytes with a head, the start's line and the lines of entries are a book's text
-pub is_book : (bytes rest tail : List ℕ) (texts : List (List ℕ)) (lines : List Line) → HasHead bytes texts
+pub is_book : (bytes rest tail : List ℕ) (texts : List (List ℕ)) (lines : List BookLine) → HasHead bytes texts
     → AreLines rest texts → rest ≡ start_text ++ 10 ∷ tail
     → (others : List (List ℕ)) × AreLines tail others × AllZip IsEntryLine others lines → IsBookText bytes lines
 is_book bytes rest tail texts lines has are e (others, lie, each) =
@@ -72,11 +72,11 @@ is_book bytes rest tail texts lines has are e (others, lie, each) =
     record { texts = others; has_head = subst (HasHead bytes) same has; each = each }
 
 -- a fault of the lines after the start's is a fault of the bytes
-pub entries_fault : (bytes rest tail : List ℕ) (texts : List (List ℕ)) (told : CheckFault) → HasHead bytes texts
+pub entries_fault : (bytes rest tail : List ℕ) (texts : List (List ℕ)) (stated : CheckFault) → HasHead bytes texts
     → AreLines rest texts → rest ≡ start_text ++ 10 ∷ tail
-    → (told ≡ OutOfMemory) ⊎ IsEntriesFault tail told → (told ≡ OutOfMemory) ⊎ IsFormFault bytes told
-entries_fault bytes rest tail texts told has are e (inl memory) = inl memory
-entries_fault bytes rest tail texts told has are e (inr is) =
+    → (stated ≡ OutOfMemory) ⊎ IsEntriesFault tail stated → (stated ≡ OutOfMemory) ⊎ IsFormFault bytes stated
+entries_fault bytes rest tail texts stated has are e (inl memory) = inl memory
+entries_fault bytes rest tail texts stated has are e (inr is) =
     let (earlier, text, later, lie, formed, not, place) = is in
     let (others, split, left, few) = after_start bytes rest tail texts has are e in
     let same : texts ≡ start_text ∷ earlier ++ text ∷ later =

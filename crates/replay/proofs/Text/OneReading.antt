@@ -6,7 +6,7 @@ use Rattle.std.proofs.lemmas.Str.Parse.{digit_from_value}
 use Rattle.std.specs.List.{AllByRecursion, AllZip}
 use Rattle.std.specs.Str.Parse.{AllDigits}
 use Rattle.sched_program.specs.declared.operation.OpId.{OpId}
-use Rattle.replay.specs.declared.file.line.Line.{Line}
+use Rattle.replay.specs.declared.file.line.BookLine.{BookLine}
 use Rattle.replay.specs.Text.Files.{IsNumber, commaed, order_text, IsEntryLine, start_text, IsBookText, HasHead}
 use Rattle.replay.specs.Text.Files.{IsEntryText, IsStartMisformed, IsEntryMisformed, IsFirstMisformed}
 use Rattle.replay.proofs.Text.Cuts.{same_cut, same_lines}
@@ -56,12 +56,12 @@ same_order (id ∷ ids) (other ∷ others) e =
     cc
 
 same_line : (p q t u : ℕ) (ids others : List OpId) → p ≡ q → t ≡ u → ids ≡ others
-    → (let line : Line = record { parent = p; thread = t; order = ids } in line)
+    → (let line : BookLine = record { parent = p; thread = t; order = ids } in line)
     ≡ record { parent = q; thread = u; order = others }
 same_line p q t u ids others e f g = rw (e, f, g)
 
 -- a text is that of one entry's line
-pub same_entry_line : (text : List ℕ) (line other : Line) → IsEntryLine text line → IsEntryLine text other
+pub same_entry_line : (text : List ℕ) (line other : BookLine) → IsEntryLine text line → IsEntryLine text other
     → line ≡ other
 same_entry_line text line other is also =
     let cut =
@@ -81,7 +81,7 @@ same_entry_line text line other is also =
     (is.counted ∙ ap (λ n. min n 2000000) numbers ∙ sym also.counted) (omega arith)
     (same_order line.order other.order orders)
 
-pub same_entries : (texts : List (List ℕ)) (lines others : List Line) → AllZip IsEntryLine texts lines
+pub same_entries : (texts : List (List ℕ)) (lines others : List BookLine) → AllZip IsEntryLine texts lines
     → AllZip IsEntryLine texts others → lines ≡ others
 same_entries [] [] [] are also = refl
 same_entries [] [] (other ∷ others) are also = absurd also
@@ -101,7 +101,7 @@ same_texts bytes texts others has also =
     cc
 
 -- bytes are the text of the lines of one book at most
-pub same_book : (bytes : List ℕ) (lines others : List Line)
+pub same_book : (bytes : List ℕ) (lines others : List BookLine)
     → IsBookText bytes lines → IsBookText bytes others
     → lines ≡ others
 same_book bytes lines others is also =
@@ -111,10 +111,10 @@ same_book bytes lines others is also =
     also.each
 
 -- a book has fewer lines after the start's than it may have entries
-pub few_lines : (bytes : List ℕ) (lines : List Line) → IsBookText bytes lines → length lines < 2000000
+pub few_lines : (bytes : List ℕ) (lines : List BookLine) → IsBookText bytes lines → length lines < 2000000
 few_lines bytes lines is = omega (arith, is.has_head.is_head.few, AllZip-long IsEntryLine is.texts lines is.each)
 
-pub entries_formed : (texts : List (List ℕ)) (lines : List Line) → AllZip IsEntryLine texts lines
+pub entries_formed : (texts : List (List ℕ)) (lines : List BookLine) → AllZip IsEntryLine texts lines
     → AllByRecursion IsEntryText texts
 entries_formed [] lines are = tt
 entries_formed (text ∷ texts) [] are = absurd are
@@ -126,7 +126,7 @@ misformed_among [] text later formed = formed.0
 misformed_among (first ∷ earlier) text later formed = misformed_among earlier text later formed.1
 
 -- the text of a book has no line that is not in the form
-pub not_both : (bytes : List ℕ) (lines : List Line) (number : ℕ) → IsBookText bytes lines
+pub not_both : (bytes : List ℕ) (lines : List BookLine) (number : ℕ) → IsBookText bytes lines
     → ¬ IsFirstMisformed bytes number
 not_both bytes lines number is (inl head) = head.misformed (start_text ∷ is.texts) is.has_head
 not_both bytes lines number is (inr (inl start)) =

@@ -7,7 +7,7 @@ use Rattle.std.proofs.lemmas.List.Elements.{recursion_from_All, All-head, All-ta
 use Rattle.std.specs.Fmt.{decimal}
 use Rattle.std.specs.List.{All, AllByRecursion, AllZip}
 use Rattle.sched_program.specs.declared.operation.OpId.{OpId}
-use Rattle.replay.specs.declared.file.line.Line.{Line}
+use Rattle.replay.specs.declared.file.line.BookLine.{BookLine}
 use Rattle.replay.specs.Text.Files.{ended, IsNumber, IsName, name_text, commaed, order_text, IsEntryLine, IsHead}
 use Rattle.replay.specs.Text.Files.{start_text, IsBookText}
 use Rattle.replay.specs.Text.Written.{head_text, line_text, IsProper}
@@ -15,11 +15,11 @@ use Rattle.replay.proofs.Text.Cuts.{all_append, ended_append}
 use Rattle.replay.proofs.Text.Heads.{start_bare}
 use Rattle.replay.proofs.Text.OneReading.{digits_bare}
 
-abbrev pub text_of : Line → List ℕ
+abbrev pub text_of : BookLine → List ℕ
 text_of line = line_text line.parent line.thread line.order
 
 -- the head of a file with this number of entries, the line of the first, and these lines of entries after it
-unfoldable pub book_text : ℕ → List Line → List ℕ
+unfoldable pub book_text : ℕ → List BookLine → List ℕ
 book_text entries lines = ended (head_text entries ∷ start_text ∷ map text_of lines)
 
 -- four pieces, written one by one
@@ -60,7 +60,7 @@ is_head entries some few =
       whole = refl;
     }
 
-is_entry_line : (line : Line) → IsProper line → IsEntryLine (text_of line) line
+is_entry_line : (line : BookLine) → IsProper line → IsEntryLine (text_of line) line
 unfolding line_text
 is_entry_line line is = record {
   parent = decimal line.parent;
@@ -85,7 +85,7 @@ order_bare : (order : List OpId) → AllByRecursion (λ b. b ≢ 10) (order_text
 order_bare [] = (omega arith, tt)
 order_bare (id ∷ ids) = (omega arith, (omega arith, (omega arith, commaed_bare ids)))
 
-entry_bare : (text : List ℕ) (line : Line) → IsEntryLine text line → AllByRecursion (λ b. b ≢ 10) text
+entry_bare : (text : List ℕ) (line : BookLine) → IsEntryLine text line → AllByRecursion (λ b. b ≢ 10) text
 entry_bare text line is =
     let order : AllByRecursion (λ b. b ≢ 10) is.order =
     subst (AllByRecursion (λ b. b ≢ 10)) (sym is.is_order.whole) (order_bare line.order) in
@@ -103,21 +103,21 @@ head_bare entries small =
     all_append (λ b. b ≢ 10) (codes "treesched book 1 entries ") (decimal entries) words_bare
     (number_bare (decimal entries) entries (is_number entries small))
 
-entries_each : (lines : List Line) → All IsProper lines → AllZip IsEntryLine (map text_of lines) lines
+entries_each : (lines : List BookLine) → All IsProper lines → AllZip IsEntryLine (map text_of lines) lines
 entries_each [] all = tt
 entries_each (line ∷ lines) all = (
   is_entry_line line (All-head IsProper line lines all),
   entries_each lines (All-tail IsProper line lines all),
 )
 
-entries_bare : (texts : List (List ℕ)) (lines : List Line) → AllZip IsEntryLine texts lines
+entries_bare : (texts : List (List ℕ)) (lines : List BookLine) → AllZip IsEntryLine texts lines
     → AllByRecursion (AllByRecursion (λ b. b ≢ 10)) texts
 entries_bare [] lines are = tt
 entries_bare (text ∷ texts) [] are = absurd are
 entries_bare (text ∷ texts) (line ∷ lines) are = (entry_bare text line are.0, entries_bare texts lines are.1)
 
 -- the text of a book's lines is what is written of them
-pub is_written : (lines : List Line) → All IsProper lines → length lines < 2000000
+pub is_written : (lines : List BookLine) → All IsProper lines → length lines < 2000000
     → IsBookText (book_text (length lines + 1) lines) lines
 unfolding book_text
 is_written lines proper few =
@@ -142,7 +142,7 @@ is_written lines proper few =
     }
 
 -- one more line
-pub written_push : (entries : ℕ) (lines : List Line) (line : Line)
+pub written_push : (entries : ℕ) (lines : List BookLine) (line : BookLine)
     → book_text entries (lines ++ line ∷ []) ≡ book_text entries lines ++ ended (text_of line ∷ [])
 unfolding book_text
 written_push entries lines line =

@@ -20,7 +20,7 @@ module _ {Machine Memory Place Form : Type 0} (rules : Rules Memory Place) (prog
     pub index : ℕ
     pub state : State Machine Memory Place Form
     pub at : slice_get states index ≡ Some state
-    pub told : fault ≡ Open (index + 2)
+    pub stated : fault ≡ Open (index + 2)
     pub leads_out : IsOpenAt states state
     pub first : (i : ℕ) (earlier : State Machine Memory Place Form) → i < index → slice_get states i ≡ Some earlier
         → IsOpenAt states earlier → ⊥

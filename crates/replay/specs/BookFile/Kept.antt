@@ -5,12 +5,12 @@ use Rattle.tree_machine.specs.Rules.{Rules}
 use Rattle.tree_machine.specs.Alike.{AreStatesAlike}
 use Rattle.tree_machine.specs.Step.{step, Fits}
 use Rattle.tree_machine.specs.declared.state.State.{State}
-use Rattle.replay.specs.declared.file.line.Line.{Line}
+use Rattle.replay.specs.declared.file.line.BookLine.{BookLine}
 use Rattle.replay.specs.BookFile.Replays.{AreReplayed}
 
 module _ {Machine Memory Place Form : Type 0} (rules : Rules Memory Place) (program : Program) where
   -- the lines describe states, and these are their labels
-  pub record AreLabelsOf (label_of : State Machine Memory Place Form → List ℕ) (lines : List Line)
+  pub record AreLabelsOf (label_of : State Machine Memory Place Form → List ℕ) (lines : List BookLine)
       (labels : List (List ℕ)) : Type 0 where
     pub states : List (State Machine Memory Place Form)
     pub replayed : AreReplayed rules program lines states
@@ -23,7 +23,7 @@ module _ {Machine Memory Place Form : Type 0} (rules : Rules Memory Place) (prog
     pub steps : twin.steps ≤ most
 
   -- `twin` stands for the state at this index of those that the lines describe
-  abbrev pub StandsForEntry : List Line → ℕ → State Machine Memory Place Form → Type 0
+  abbrev pub StandsForEntry : List BookLine → ℕ → State Machine Memory Place Form → Type 0
   StandsForEntry lines index twin = (states : List (State Machine Memory Place Form))
       → AreReplayed rules program lines states
       → (state : State Machine Memory Place Form) × (slice_get states index ≡ Some state) × StandsFor index state twin

@@ -5,7 +5,7 @@ use Rattle.std.specs.Str.Parse.{IsNumeral, digits_value}
 use Rattle.sched_program.specs.declared.operation.OpId.{OpId}
 use Rattle.replay.specs.declared.file.fault.CheckFault.{CheckFault}
 use Rattle.replay.specs.declared.file.fault.CheckFault.TheVariants.{Form}
-use Rattle.replay.specs.declared.file.line.Line.{Line}
+use Rattle.replay.specs.declared.file.line.BookLine.{BookLine}
 
 abbrev pub line_feed : ℕ
 line_feed = 10
@@ -63,7 +63,7 @@ pub record IsOrder (text : List ℕ) (order : List OpId) : Type 0 where
 
 -- the text of the line of an entry after the first. A parent's number from 2,000,000 on counts as that, since no entry
 -- has it
-pub record IsEntryLine (text : List ℕ) (line : Line) : Type 0 where
+pub record IsEntryLine (text : List ℕ) (line : BookLine) : Type 0 where
   pub parent : List ℕ
   pub number : ℕ
   pub is_number : IsNumber parent number
@@ -93,14 +93,14 @@ pub record HasHead (bytes : List ℕ) (texts : List (List ℕ)) : Type 0 where
   pub is_head : IsHead head (length texts)
 
 -- the bytes are the text of these lines of the entries after the first
-pub record IsBookText (bytes : List ℕ) (lines : List Line) : Type 0 where
+pub record IsBookText (bytes : List ℕ) (lines : List BookLine) : Type 0 where
   pub texts : List (List ℕ)
   pub has_head : HasHead bytes (start_text ∷ texts)
   pub each : AllZip IsEntryLine texts lines
 
 -- the text is an entry's line
 abbrev pub IsEntryText : List ℕ → Type 0
-IsEntryText text = (line : Line) × IsEntryLine text line
+IsEntryText text = (line : BookLine) × IsEntryLine text line
 
 -- the first line is not in the form
 pub record IsHeadMisformed (bytes : List ℕ) (number : ℕ) : Type 0 where

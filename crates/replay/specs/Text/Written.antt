@@ -2,7 +2,7 @@
 use Rattle.std.specs.Prelude.{ℕ, ◌<◌, ◌≤◌, List, ◌∷◌, ◌++◌, codes, All}
 use Rattle.std.specs.Fmt.{decimal}
 use Rattle.sched_program.specs.declared.operation.OpId.{OpId}
-use Rattle.replay.specs.declared.file.line.Line.{Line}
+use Rattle.replay.specs.declared.file.line.BookLine.{BookLine}
 use Rattle.replay.specs.Text.Files.{space, digit, order_text, IsName}
 
 -- the first line of a file with this number of entries
@@ -15,7 +15,7 @@ line_text parent thread order = decimal parent ++ space ∷ digit thread ∷ spa
 
 -- a line that a file can have, as it is counted: no parent is greater than the most entries, and each thread and index
 -- is one digit
-pub record IsProper (line : Line) : Type 0 where
+pub record IsProper (line : BookLine) : Type 0 where
   pub parent : line.parent ≤ 2000000
   pub thread : line.thread < 10
   pub names : All IsName line.order

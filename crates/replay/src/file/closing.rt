@@ -6,11 +6,11 @@ ghost use Rattle.tree_machine.specs.declared.state.State.{State};
 ghost use Rattle.replay.specs.BookFile.Checks.{AreRefused, Pass};
 ghost use Rattle.replay.specs.BookFile.Kept.{AreLabelsOf, AreStepsKnown, IsStepUnknown, StandsForEntry};
 ghost use Rattle.replay.specs.Labels.{named_by};
-ghost use Rattle.replay.specs.declared.file.line.Line.{Line};
+ghost use Rattle.replay.specs.declared.file.line.BookLine.{BookLine};
 
 use crate::file::fault::CheckFault;
 use crate::file::labels::Labels;
-use crate::file::line::Line;
+use crate::file::line::BookLine;
 use crate::file::recalling::{Input, recall};
 use crate::file::replayer::Replayer;
 use sched_program::OutOfMemory;
@@ -29,7 +29,7 @@ fn knows_step<M: Encode>(
     replayer: &mut Replayer<M>,
 ) -> Result<bool, OutOfMemory>
     requires fits { Fits (M.rules input.now.machine) input.now.program.now replayer.old.state }
-    requires room { replayer.old.state.steps + 1 < 2 ^ 64 }
+    requires steps_fit { replayer.old.state.steps + 1 < 2 ^ 64 }
     ensures known { IfOk result (λ yes. yes ≡ true → (next : State M M.Mem M.Loc M.Form)
         → step (M.rules input.now.machine) input.now.program.now replayer.old.state thread ≡ Some next
         → Contains labels.now (named_by M.form_code (M.form_of input.now.machine) next)) }
@@ -63,8 +63,8 @@ fn knows_step<M: Encode>(
 }
 
 /// Whether the next line has the step of a thread from an entry.
-fn has_step(lines: &[Line], next: usize, parent: usize, thread: u8) -> bool
-    ensures { IsTrue result → (line : Line) × (slice_get lines.now next ≡ Some line) × (line.parent ≡ parent)
+fn has_step(lines: &[BookLine], next: usize, parent: usize, thread: u8) -> bool
+    ensures { IsTrue result → (line : BookLine) × (slice_get lines.now next ≡ Some line) × (line.parent ≡ parent)
         × (line.thread ≡ thread) }
 {
     match lines.get(next) {

@@ -10,7 +10,7 @@ pub const MOST_ENTRIES: usize = 2_000_000;
 
 /// What a book file says of an entry after the first: the step that reaches it, and an order of its operations.
 #[derive(Drop)]
-pub struct Line {
+pub struct BookLine {
     /// The number of the entry that the step is taken from. A number from `MOST_ENTRIES` on counts as that.
     pub parent: u32,
     /// The thread that takes the step.

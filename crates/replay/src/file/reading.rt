@@ -8,7 +8,7 @@ ghost use Rattle.replay.specs.Text.Files.{IsEntryLine, IsEntryText, IsHead, HasH
 ghost use Rattle.replay.specs.Text.Files.{IsEntriesFault, IsFormFault};
 
 use crate::file::fault::CheckFault;
-use crate::file::line::{Line, MOST_ENTRIES, Names};
+use crate::file::line::{BookLine, MOST_ENTRIES, Names};
 use sched_program::{OpId, OutOfMemory, Sequence};
 use std::alloc::Global;
 
@@ -115,7 +115,7 @@ fn order_of(alloc: Global, text: &[u8]) -> Result<Option<Sequence<OpId>>, OutOfM
 }
 
 /// The line that a text is, of an entry after the first.
-fn line_of(alloc: Global, text: &[u8]) -> Result<Option<Line>, OutOfMemory>
+fn line_of(alloc: Global, text: &[u8]) -> Result<Option<BookLine>, OutOfMemory>
     ensures found { IfOk result (λ found. IfSome found (IsEntryLine text.now)) }
     ensures none { IfOk result (λ found. IfNone found (¬ IsEntryText text.now)) }
 {
@@ -129,7 +129,7 @@ fn line_of(alloc: Global, text: &[u8]) -> Result<Option<Line>, OutOfMemory>
         return Ok(None);
     };
     match order_of(alloc, order)? {
-        Some(order) => Ok(Some(Line {
+        Some(order) => Ok(Some(BookLine {
             parent: parent as u32,
             thread,
             order: Names::of(alloc, order)?,
@@ -185,7 +185,7 @@ fn after_head(bytes: &[u8]) -> Option<&[u8]>
 }
 
 /// The lines of the entries after the first, which begin at the third line of a file.
-fn entry_lines(alloc: Global, bytes: &[u8]) -> Result<Vec<Line>, CheckFault>
+fn entry_lines(alloc: Global, bytes: &[u8]) -> Result<Vec<BookLine>, CheckFault>
     requires { (texts : List (List ℕ)) × AreLines bytes.now texts × (length texts < 2000000) }
     ensures ok { IfOk result (λ lines. (texts : List (List ℕ)) × AreLines bytes.now texts
         × AllZip IsEntryLine texts lines.items) }
@@ -208,7 +208,7 @@ fn entry_lines(alloc: Global, bytes: &[u8]) -> Result<Vec<Line>, CheckFault>
 /// # Errors
 ///
 /// The first line that is not in the form, or `OutOfMemory` where a growth was refused.
-pub fn read_lines(alloc: Global, bytes: &[u8]) -> Result<Vec<Line>, CheckFault>
+pub fn read_lines(alloc: Global, bytes: &[u8]) -> Result<Vec<BookLine>, CheckFault>
     ensures book { IfOk result (λ lines. IsBookText bytes.now lines.items) }
     ensures few { IfOk result (λ lines. length lines.items < 2000000) }
     ensures refused { IfErr result (λ fault. (fault ≡ CheckFault.OutOfMemory) ⊎ IsFormFault bytes.now fault) }

@@ -8,7 +8,7 @@ ghost use Rattle.replay.specs.Labels.{named_by};
 ghost use Rattle.replay.specs.Schedule.{after};
 
 use crate::file::labels::Labels;
-use crate::file::line::Line;
+use crate::file::line::BookLine;
 use crate::replaying::state_after;
 use sched_program::{OutOfMemory, Program};
 use std::alloc::Global;
@@ -19,7 +19,7 @@ use tree_machine::{Encode, State};
 pub struct Input<'a, M: Encode> {
     pub machine: M,
     pub program: &'a Program,
-    pub lines: &'a [Line],
+    pub lines: &'a [BookLine],
 }
 
 /// The threads on the way from the start to an entry, as its line and those of its ancestors have it.

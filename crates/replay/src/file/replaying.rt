@@ -8,7 +8,7 @@ ghost use Rattle.replay.specs.Labels.{named_by};
 
 use crate::file::fault::CheckFault;
 use crate::file::labels::Labels;
-use crate::file::line::Line;
+use crate::file::line::BookLine;
 use crate::file::recalling::{Input, recall};
 use crate::file::replayer::Replayer;
 use lin::check_order;
@@ -49,7 +49,7 @@ fn label_of_line<M: Encode>(
     alloc: Global,
     input: &Input<'_, M>,
     before: &Labels,
-    line: &Line,
+    line: &BookLine,
     replayer: &mut Replayer<M>,
 ) -> Result<Bytes, CheckFault>
     requires kept { AreLabelsOf {Machine = M} (M.rules input.now.machine) input.now.program.now

@@ -290,11 +290,11 @@ pub own_completes : (front : Front) (s other : Parts) (twins : List Part) → le
     → front_code front s ++ part_codes s.held ≡ parts_code (all_front s) s
 own_completes front s other twins many e =
     let c : Parts = record { nodes = s.nodes; records = s.records; held = twins } in
-    let told = parts_code_tells front (all_front other) c other (sym many) e in
+    let stated = parts_code_tells front (all_front other) c other (sym many) e in
     let nodes : take front.nodes s.nodes ≡ s.nodes =
-    told.1 ∙ take-length other.nodes ∙ sym (ap (λ (p : Parts). p.nodes) told.0) in
+    stated.1 ∙ take-length other.nodes ∙ sym (ap (λ (p : Parts). p.nodes) stated.0) in
     let records : take front.records s.records ≡ s.records =
-    told.2 ∙ take-length other.records ∙ sym (ap (λ (p : Parts). p.records) told.0) in
+    stated.2 ∙ take-length other.records ∙ sym (ap (λ (p : Parts). p.records) stated.0) in
     (λ i. graph_code (nodes i) (records i) ++ part_codes s.held) ∙ sym (own_parts_code s)
 
 -- canonical parts that were read are met in the order of their numbers
@@ -306,18 +306,18 @@ read_in_order fixed front s other twins range many e =
     let c : Parts = record { nodes = s.nodes; records = s.records; held = twins } in
     let canonical = canonical_parts fixed other in
     let cf = canonical_front fixed other in
-    let told =
+    let stated =
     parts_code_tells front cf c canonical
     (sym many ∙ sym (length-map other.held (renamed_part (met_nodes fixed other) (met_records fixed other)))) e in
     let met = canonical_in_order fixed other range in
     let in_range = canonical_in_range fixed other range in
     let nodes : length (take front.nodes s.nodes) ≡ cf.nodes =
-    ap length told.1 ∙ length-take-le cf.nodes canonical.nodes (nodes_within fixed cf canonical in_range met) in
+    ap length stated.1 ∙ length-take-le cf.nodes canonical.nodes (nodes_within fixed cf canonical in_range met) in
     let records : length (take front.records s.records) ≡ cf.records =
-    ap length told.2 ∙ length-take-le cf.records canonical.records (records_within fixed cf canonical in_range met) in
+    ap length stated.2 ∙ length-take-le cf.records canonical.records (records_within fixed cf canonical in_range met) in
     record {
-      nodes = (λ i. front_nodes fixed (told.0 i)) ∙ met.nodes ∙ ap (numbers_from 0) (sym nodes);
-      records = (λ i. front_records fixed (told.0 i)) ∙ met.records ∙ ap (numbers_from 0) (sym records);
+      nodes = (λ i. front_nodes fixed (stated.0 i)) ∙ met.nodes ∙ ap (numbers_from 0) (sym nodes);
+      records = (λ i. front_records fixed (stated.0 i)) ∙ met.records ∙ ap (numbers_from 0) (sym records);
     }
 
 pub canonical_completes : (fixed : ℕ) (front : Front) (s : Parts) → ArePartsInRange fixed s

@@ -3,15 +3,15 @@ use Rattle.std.proofs.lemmas.Bool.{true≢false}
 use Rattle.crew.proofs.ReadOff.{closed_rests, every_read_off, holds_read_off}
 use Rattle.crew.proofs.reading.read_finished.Goals as goal
 
-pub returns-then-is_at_rest-clause-told : goal.returns-then-is_at_rest-clause-told
-returns-then-is_at_rest-clause-told g c =
+pub returns-then-is_at_rest-clause-read_off : goal.returns-then-is_at_rest-clause-read_off
+returns-then-is_at_rest-clause-read_off g c =
     let law = c.law.ensures in
     every_read_off g.M.Machine.rules c.args.book.now law.machine law.test law.findings law.law c.args.steps
     c.from-last.result c.from-last.ensures (sym c.first_fault.ensures ∙ c.in-None.is)
     (c.is_last_layer.ensures.0 c.if-not-is_last_layer.false) (c.is_at_rest.ensures.0 c.if-is_at_rest.true)
 
-pub returns-else-closed-clause-told : goal.returns-else-closed-clause-told
-returns-else-closed-clause-told g c =
+pub returns-else-closed-clause-read_off : goal.returns-else-closed-clause-read_off
+returns-else-closed-clause-read_off g c =
     let law = c.law.ensures in
     holds_read_off g.M.Machine.rules c.args.book.now law.machine law.test law.findings law.law c.args.steps
     c.from-last.result c.from-last.ensures (sym c.first_fault.ensures ∙ c.in-None.is)

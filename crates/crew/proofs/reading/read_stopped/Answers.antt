@@ -9,8 +9,8 @@ is_full_at-requires-clause-way g c κs within =
     let s = c.in_ok-schedule.ensures.leads in
     (s.0, s.1, ap (after (machine_in g.M.Machine.rules c.args.book.now)) c.as_slice.ensures.value ∙ s.2)
 
-pub returns-clause-told : goal.returns-clause-told
-returns-clause-told g c =
+pub returns-clause-read_off : goal.returns-clause-read_off
+returns-clause-read_off g c =
     let law = c.law.ensures in
     let s = c.in_ok-schedule.ensures.leads in
     let less : c.len-holds_to.result < c.args.options.steps =

@@ -23,7 +23,7 @@ returns c =
     let history = c.args.history.now in
     let order = c.args.order.now in
     let ends = Completes-end program history order c.loop-i.i c.loop-i-test.false _ _ c.loop-i.invariant in
-    let told = c.lists_every_finished.ensures in (
-      λ yes. Completes-linearization program history order (ends.1 (told.0 yes)),
-      λ linearization. told.1 (ends.0 (IsLinearization-completes program history order linearization)),
+    let stated = c.lists_every_finished.ensures in (
+      λ yes. Completes-linearization program history order (ends.1 (stated.0 yes)),
+      λ linearization. stated.1 (ends.0 (IsLinearization-completes program history order linearization)),
     )

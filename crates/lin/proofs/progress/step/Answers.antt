@@ -23,10 +23,10 @@ returns-in_default-clause-stands c =
     let name = c.args.name in
     let due : (listed name ≡ false)
     × ((b : OpId) → with_name listed name b ≡ true → EndedBefore history name b → ⊥) = search rules in
-    let replies : IfSome c.reply.result (λ r. r ≡ c.reply_to-told.result) = search rules in
+    let replies : IfSome c.reply.result (λ r. r ≡ c.reply_to-stated.result) = search rules in
     stands c.args.program.now history listed (keys_in c.args.from.at.keys) (keys_in c.after.result) name
-    c.in_ok-operation.operation c.reply.result c.reply_to-told.result c.requires.begun due c.in_ok-operation.ensures
-    c.reply.ensures c.reply_to-told.ensures replies c.after.ensures
+    c.in_ok-operation.operation c.reply.result c.reply_to-stated.result c.requires.begun due c.in_ok-operation.ensures
+    c.reply.ensures c.reply_to-stated.ensures replies c.after.ensures
 
 pub returns-then-not-is_due-clause-stands : goal.returns-then-not-is_due-clause-stands
 returns-then-not-is_due-clause-stands c =

@@ -16,5 +16,5 @@ returns-then-eq c =
     let at : drop i c.args.order.now ≡ other ∷ drop (suc i) c.args.order.now =
     drop-cons c.args.order.now i other c.loop-other-test.true
     ∙ ap (λ x. x ∷ drop (suc i) c.args.order.now) (search rules) in
-    c.told.ensures ∙ sym (at_head program c.args.name keys other (drop (suc i) c.args.order.now) same)
+    c.stated.ensures ∙ sym (at_head program c.args.name keys other (drop (suc i) c.args.order.now) same)
     ∙ ap (λ l. reply_in program keys l c.args.name) (sym at) ∙ sym c.loop-other.invariant

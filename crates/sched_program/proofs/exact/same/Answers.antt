@@ -4,6 +4,6 @@ use Rattle.sched_program.proofs.exact.same.Goals as goal
 
 pub returns : goal.returns
 returns g c = (
-  (λ told. g.met.T.Exact.exact c.args.a.now c.args.b.now (sym c.eq.ensures ∙ told)),
+  (λ stated. g.met.T.Exact.exact c.args.a.now c.args.b.now (sym c.eq.ensures ∙ stated)),
   (λ is. c.eq.ensures ∙ (ap (g.T.PartialEq.eq c.args.a.now) (sym is) ∙ g.met.T.Eq.laws.refl c.args.a.now)),
 )

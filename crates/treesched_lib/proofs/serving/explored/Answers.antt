@@ -24,7 +24,7 @@ returns g c =
     report.book.machine c.args.machine report.book.program program report.book.merge asked.merge kept.machine
     kept.program kept.merge c.law.ensures.law in
     IfOk-weaker c.report_output-output.result _ _
-    (λ output told. record {
+    (λ output printed. record {
       book = report.book;
       law = law;
       asked = record { machine = refl; program = kept.program; limit = kept.limit; merge = kept.merge };
@@ -41,11 +41,11 @@ returns g c =
       workers = kept.shares;
       sums = kept.ledger
           ∙ ap (λ (t : Totals). record { expanded = t.expanded; entered = t.entered; met = t.met }) kept.totals;
-      status = told.0;
-      out = told.1
+      status = printed.0;
+      out = printed.1
           ∙ ap (λ (t : Totals). report_text c.args.ledger report.answer t report.shares.items) kept.totals;
-      err = told.2;
-      file = rw (sym kept.machine, sym kept.program) told.3;
+      err = printed.2;
+      file = rw (sym kept.machine, sym kept.program) printed.3;
     })
     c.report_output-output.ensures
 

@@ -13,11 +13,11 @@ returns-in-Err-NotEnabled g c =
 pub returns-in-Ok : goal.returns-in-Ok
 returns-in-Ok g c =
     IfOk-weaker c.replay_output.result _ _
-    (λ output told. inl (record {
+    (λ output printed. inl (record {
       state = c.in-Ok.last.state;
       finding = c.in-Ok.last.finding;
       leads = c.in-Ok.ensures.state;
       found = c.in-Ok.ensures.finding;
-      told = told;
+      printed = printed;
     }))
     c.replay_output.ensures

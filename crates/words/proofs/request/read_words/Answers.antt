@@ -1,11 +1,11 @@
 use Rattle.std.proofs.Common.{map}
 use Rattle.clap.specs.Words.{app_of, found_of, rows_of}
-use Rattle.words.proofs.Requests.{read, told}
+use Rattle.words.proofs.Requests.{read, stated}
 use Rattle.words.proofs.request.read_words.Goals as goal
 
 pub returns-in-Err : goal.returns-in-Err
 returns-in-Err c =
-    told (map (λ s. s.now) c.args.words.now) c.in-Err.error (app_of c.in_ok-command.command) c.in_ok-command.ensures
+    stated (map (λ s. s.now) c.args.words.now) c.in-Err.error (app_of c.in_ok-command.command) c.in_ok-command.ensures
     c.in-Err.ensures.kinds
     c.fault_of.result c.fault_of.ensures.tells c.fault_of.ensures.memory
 

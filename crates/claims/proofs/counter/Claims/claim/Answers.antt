@@ -14,7 +14,7 @@ fetch_add-place-requires c = (
 
 pub returns-then-seat-clause-none_left : goal.returns-then-seat-clause-none_left
 returns-then-seat-clause-none_left c =
-    let told : c.args.seat.now.drew.spent ≡ 1 =
+    let stated : c.args.seat.now.drew.spent ≡ 1 =
     ap (λ (s : Seated). s.drew.spent) (sym c.seat.view_is) ∙ c.seat.invariant.0
     ∙ ap (λ b. if b then 1 else 0) c.if-seat.true in
-    told_seat c.args.seat.now.drew c.args.self.now.size c.requires.own.single told c.requires.own.size
+    told_seat c.args.seat.now.drew c.args.self.now.size c.requires.own.single stated c.requires.own.size

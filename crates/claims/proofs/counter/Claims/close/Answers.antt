@@ -35,4 +35,4 @@ returns-clause-spent c =
     let end =
     ends_at _ _ _ _ last.0 _ last.1 c.self.invariant.0 all
     (first_word last.0.words _ c.word-word.result last.2 c.word-word.ensures) in
-    omega (arith, end.told, c.gather-whole.ensures.spent, c.min-drawn.ensures)
+    omega (arith, end.stated, c.gather-whole.ensures.spent, c.min-drawn.ensures)

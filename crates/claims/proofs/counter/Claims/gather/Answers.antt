@@ -21,7 +21,7 @@ loop-seat-preserved c =
     let spent = ap (λ (m : Knows). m.0.spent) me in
     let drew : c.in-Some-pop.seat.drew ≡ c.seat.inside.token.me.0 = ap (λ (h : Seated). h.drew) (sym c.seat.view_is) in
     let had = ap (λ (v : Draws). v.seats) drew in
-    let told = ap (λ (v : Draws). v.spent) drew in
+    let stated = ap (λ (v : Draws). v.spent) drew in
     record {
       own = search rules;
       bare = ap (λ (m : Knows). m.1) me ∙ i.bare;
@@ -38,7 +38,7 @@ loop-seat-preserved c =
       spent = omega (
         arith,
         spent,
-        told,
+        stated,
         i.spent,
         fewer_spent c.loop-seat.seats.items c.pop-in-loop-seat.new.self.items c.in-Some-pop.seat p,
       );

@@ -1,7 +1,7 @@
 use Rattle.std.proofs.Common.{◌≡◌, ◌+◌, ◌⊎◌, ◌∙◌, List, ap, subst}
 use Rattle.std.proofs.lemmas.Result.{err_from_is_err_and}
 use Rattle.replay.specs.declared.file.fault.CheckFault.TheVariants.{OutOfMemory}
-use Rattle.replay.specs.declared.file.line.Line.{Line}
+use Rattle.replay.specs.declared.file.line.BookLine.{BookLine}
 use Rattle.replay.specs.BookFile.Checks.{Pass, AreRefused}
 use Rattle.replay.specs.BookFile.Replays.{IsFirstAmiss}
 use Rattle.replay.proofs.BookFile.Whole.{form_refused, amiss_refused, lines_refused}
@@ -17,7 +17,7 @@ pub returns-in_err-labels-clause-refused : goal.returns-in_err-labels-clause-ref
 returns-in_err-labels-clause-refused g c =
     let rules = g.M.Machine.rules c.args.machine in
     let fault = c.in_err-labels.field-0.0 in
-    let amiss = subst (λ (lines : List Line). (fault ≡ OutOfMemory)
+    let amiss = subst (λ (lines : List BookLine). (fault ≡ OutOfMemory)
     ⊎ IsFirstAmiss g.row.M.Denot g.row.M-Form.Denot rules c.args.program.now lines fault)
     c.as_slice.ensures.value c.in_err-labels.ensures.amiss in
     let p = err_from_is_err_and c.from_residual-in_err-labels.result c.from_residual-in_err-labels.ensures.1 in
@@ -29,7 +29,7 @@ pub returns-in_err-test_closed-clause-refused : goal.returns-in_err-test_closed-
 returns-in_err-test_closed-clause-refused g c =
     let rules = g.M.Machine.rules c.args.machine in
     let fault = c.in_err-test_closed.field-0.0 in
-    let refused = subst (λ (lines : List Line). (fault ≡ OutOfMemory)
+    let refused = subst (λ (lines : List BookLine). (fault ≡ OutOfMemory)
     ⊎ AreRefused g.row.M.Denot g.row.M-Form.Denot rules c.args.program.now lines fault)
     c.as_slice.ensures.value c.in_err-test_closed.ensures.refused in
     let p = err_from_is_err_and c.from_residual-in_err-test_closed.result c.from_residual-in_err-test_closed.ensures.1 in
@@ -40,6 +40,6 @@ returns-in_err-test_closed-clause-refused g c =
 pub returns-clause-pass : goal.returns-clause-pass
 returns-clause-pass g c =
     let pass =
-    subst (λ (lines : List Line). Pass g.row.M.Denot g.row.M-Form.Denot (g.M.Machine.rules c.args.machine)
+    subst (λ (lines : List BookLine). Pass g.row.M.Denot g.row.M-Form.Denot (g.M.Machine.rules c.args.machine)
     c.args.program.now lines) c.as_slice.ensures.value c.in_ok-test_closed.ensures.pass in
     (c.in_ok-lines.lines.items, c.in_ok-lines.ensures.book, pass, ap (λ n. n + 1) (c.len.ensures ∙ c.in_ok-lines.lines.ok.0))

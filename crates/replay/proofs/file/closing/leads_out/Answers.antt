@@ -31,16 +31,16 @@ loop-thread-preserved-then-has_step g c =
     let input = c.args.input.now in
     let rules = g.M.Machine.rules input.machine in
     let state = c.args.replayer.now.state in
-    let told = c.has_step.ensures c.if-has_step.true in (
+    let stated = c.has_step.ensures c.if-has_step.true in (
       c.loop-thread.invariant.0,
       one_more_thread rules input.program.now
           (named_by g.M.Encode.form_code (g.M.Machine.form_of input.machine)) c.args.labels.now state
           c.loop-thread.thread
           (λ next leads. line_known rules input.program.now (bound.lawful input.machine) c.threads.ensures.limits
           (g.M.Machine.form_of input.machine) (bound.forms input.machine) g.M.Encode.form_code input.lines.now
-          c.args.labels.now coding.form_tells c.requires.kept c.loop-thread.next told.0 told.1 state
-          (subst (λ i. StandsForEntry rules input.program.now input.lines.now i state) (sym told.2) c.requires.stands)
-          next (ap (step rules input.program.now state) told.3 ∙ leads))
+          c.args.labels.now coding.form_tells c.requires.kept c.loop-thread.next stated.0 stated.1 state
+          (subst (λ i. StandsForEntry rules input.program.now input.lines.now i state) (sym stated.2) c.requires.stands)
+          next (ap (step rules input.program.now state) stated.3 ∙ leads))
           c.loop-thread.invariant.1,
     )
 

@@ -1,11 +1,11 @@
 use Rattle.std.proofs.Common.{List, inr, subst, sym}
-use Rattle.replay.specs.declared.file.line.Line.{Line}
+use Rattle.replay.specs.declared.file.line.BookLine.{BookLine}
 use Rattle.replay.proofs.Text.Entries.{HasReadLines, lines_none, lines_push, lines_all, lines_fault}
 use Rattle.replay.proofs.file.reading.entry_lines.Goals as goal
 
 pub loop-text-init : goal.loop-text-init
 loop-text-init c =
-    subst (λ (lines : List Line). HasReadLines c.args.bytes.now lines c.args.bytes.now) (sym c.new-lines.ensures)
+    subst (λ (lines : List BookLine). HasReadLines c.args.bytes.now lines c.args.bytes.now) (sym c.new-lines.ensures)
     (lines_none c.args.bytes.now c.requires.0 c.requires.1 c.requires.2)
 
 pub returns-in-None-clause-err : goal.returns-in-None-clause-err
@@ -19,7 +19,7 @@ returns-in-None-clause-err c =
 pub loop-text-preserved : goal.loop-text-preserved
 loop-text-preserved c =
     let cut = c.in-Some.ensures.found in
-    subst (λ (lines : List Line). HasReadLines c.args.bytes.now lines c.in-Some.tail.now)
+    subst (λ (lines : List BookLine). HasReadLines c.args.bytes.now lines c.in-Some.tail.now)
     (sym c.in_ok-push-in-Some-2.ensures.ok)
     (lines_push c.args.bytes.now c.loop-text.lines c.loop-text.rest.now c.in-Some.text.now c.in-Some.tail.now
     c.in-Some-2.line c.loop-text.invariant cut.0 cut.1

@@ -8,7 +8,7 @@ loop-reference-preserved c =
     let seen = c.deref-reference-items.ensures.value ∙ ap (λ v. v.refs) c.cell.view_is in
     let within : c.loop-reference.reference-index < length c.args.cell.now.refs =
     omega (arith, ap length seen, c.loop-reference-test.true) in
-    let told = c.loop-reference-test.true in
+    let stated = c.loop-reference-test.true in
     c.in_ok-push.ensures.items
     ∙ elim c.match-reference.branch [
       | in-Some w ↦ rename_some c.args.self.now.order.items c.args.self.now.numbers.items c.args.cell.now.refs

@@ -27,21 +27,21 @@ returns-then-did_no_more g c =
     let origin = c.args.origin.now in
     let mem = c.args.self.now.memory in
     let front = if origin.undo.now.reads then g.M.Encode.front_code origin.offsets.front mem else [] in
-    let told =
+    let stated =
     deeds_told _ _ _ _ _ c.requires.offsets mem origin.undo.now.reads c.end-end.result c.requires.back.same
     (c.end-end.ensures ∙ ap (λ b. if b then origin.offsets.held else origin.offsets.memory) c.reads.ensures) in
     on_ok_weaker c.put_piece.result
     (λ put. put ∙ ap (λ l. c.args.buffer.now ++ l)
-    (told ∙ ap (λ l. l ++ front) (sym (c.did_no_more.ensures c.if-did_no_more.true)))) c.put_piece.ensures
+    (stated ∙ ap (λ l. l ++ front) (sym (c.did_no_more.ensures c.if-did_no_more.true)))) c.put_piece.ensures
 
 pub returns : goal.returns
 returns g c =
     let origin = c.args.origin.now in
     let mem = c.args.self.now.memory in
     let threads = c.as_slice.ensures in
-    let told =
+    let stated =
     memory_told _ _ _ _ _ c.requires.offsets mem origin.undo.now.reads c.end-end.result c.requires.back.same
     (c.end-end.ensures ∙ ap (λ b. if b then origin.offsets.held else origin.offsets.memory) c.reads.ensures) in
     on_ok_weaker c.put_piece-2.result
     (λ put. front_put _ _ _ _ _ _ _ c.in_ok-put_deeds.ensures put
-    (λ i. deeds_code (replies_of (threads i)) (notes_of (threads i)) c.args.self.now.astray) told) c.put_piece-2.ensures
+    (λ i. deeds_code (replies_of (threads i)) (notes_of (threads i)) c.args.self.now.astray) stated) c.put_piece-2.ensures

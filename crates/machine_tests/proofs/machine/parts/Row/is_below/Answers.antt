@@ -6,10 +6,10 @@ use Rattle.tree_machine.specs.Parts.{IsPartBelow}
 use Rattle.machine_tests.proofs.machine.parts.Row.is_below.Goals as goal
 
 pub returns : goal.returns
-returns c told =
+returns c stated =
     let row = c.self.inside in
     let stack =
-    All-map (λ r. IfSome r (λ x. x < c.args.records)) Some row.stack.now (c.are_all_below.ensures told) in
+    All-map (λ r. IfSome r (λ x. x < c.args.records)) Some row.stack.now (c.are_all_below.ensures stated) in
     subst (IsPartBelow c.args.nodes c.args.records) c.self.view_is
     (record {
       nodes = c.if-not-are_named_below.ensures refl;

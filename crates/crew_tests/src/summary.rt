@@ -32,7 +32,7 @@ pub struct Bounds {
 
 /// What the tests compare of a report.
 #[derive(Drop)]
-pub struct Told {
+pub struct Summary {
     pub line: Line,
     /// The schedule of a fault; empty for another answer.
     pub schedule: Vec<u8>,
@@ -82,7 +82,7 @@ pub fn explored<M: Encode, G: Gate, R: Abort + Threads + Wait + Sync>(
     program: &Program,
     bounds: Bounds,
     gate: &G,
-) -> Result<Box<Told>, OutOfMemory> {
+) -> Result<Box<Summary>, OutOfMemory> {
     let options = Options::new(bounds.steps, bounds.limit, bounds.merge, bounds.workers);
     let options = options.expect(rt, "bounds in range");
     let Report {
@@ -92,24 +92,24 @@ pub fn explored<M: Encode, G: Gate, R: Abort + Threads + Wait + Sync>(
         book: _,
     } = explore(rt, alloc, machine, program, options, gate)?;
     let (line, schedule) = line_of(alloc, answer);
-    let told = Told {
+    let summary = Summary {
         line,
         schedule,
         totals,
         shares,
     };
-    Ok(Box::new(alloc, told)?)
+    Ok(Box::new(alloc, summary)?)
 }
 
 /// What an exploration of the program of a text reports.
-pub fn told_of<M: Encode, G: Gate, R: Abort + Threads + Wait + Sync>(
+pub fn summary_of<M: Encode, G: Gate, R: Abort + Threads + Wait + Sync>(
     rt: &R,
     alloc: Global,
     machine: M,
     text: &[u8],
     bounds: Bounds,
     gate: &G,
-) -> Result<Box<Told>, OutOfMemory> {
+) -> Result<Box<Summary>, OutOfMemory> {
     let program = program_of(rt, alloc, text)?;
     explored(rt, alloc, machine, &*program, bounds, gate)
 }

@@ -3,9 +3,9 @@ use Rattle.std.proofs.lemmas.Bool.{true≢false}
 use Rattle.book.specs.Books.{machine_in}
 use Rattle.crew.specs.Reading.{IsLastLayer}
 use Rattle.crew.proofs.ReadOff.{fault_is_last, fault_read_off}
-use Rattle.crew.proofs.reading.tell_fault.Goals.{then-length-from-via-then-length-from}
-use Rattle.crew.proofs.reading.tell_fault.Goals.{then-length-from-via-else-length-from+then-not-is_last_layer}
-use Rattle.crew.proofs.reading.tell_fault.Goals as goal
+use Rattle.crew.proofs.reading.read_fault.Goals.{then-length-from-via-then-length-from}
+use Rattle.crew.proofs.reading.read_fault.Goals.{then-length-from-via-else-length-from+then-not-is_last_layer}
+use Rattle.crew.proofs.reading.read_fault.Goals as goal
 
 pub returns-then-length-from-clause-some : goal.returns-then-length-from-clause-some
 returns-then-length-from-clause-some g c =
@@ -30,8 +30,8 @@ returns-then-length-from-clause-some g c =
           ∙ w.if-not-is_last_layer.true))
     ]
 
-pub returns-clause-told : goal.returns-clause-told
-returns-clause-told g c =
+pub returns-clause-read_off : goal.returns-clause-read_off
+returns-clause-read_off g c =
     let law = c.law.ensures in
     let v = c.in_ok-schedule.schedule in
     let le : c.len-length.result ≤ c.args.steps =

@@ -1,5 +1,5 @@
 use Rattle.crew.proofs.Reports.{reported}
-use Rattle.crew.proofs.reporting.told_of.Goals as goal
+use Rattle.crew.proofs.reporting.answer_with_totals.Goals as goal
 
 pub returns-in-Some-clause-report : goal.returns-in-Some-clause-report
 returns-in-Some-clause-report g c =
@@ -7,7 +7,7 @@ returns-in-Some-clause-report g c =
     reported g.M.Machine.rules c.args.machine c.args.program.now c.args.options c.args.book.now
     c.read_answer.new.book c.in-Some.answer c.totals.result c.args.shares.now
     (c.is_asked.ensures.0 c.if-not-is_asked.false) law.machine law.test
-    (rw c.in-Some.is at c.in_ok-answer.ensures.told) (rw c.in-Some.is at c.in_ok-answer.ensures.same)
+    (rw c.in-Some.is at c.in_ok-answer.ensures.read_off) (rw c.in-Some.is at c.in_ok-answer.ensures.same)
     c.totals.ensures.totals c.requires.shares c.requires.ledger
 
 pub returns-in-None-clause-stopped : goal.returns-in-None-clause-stopped

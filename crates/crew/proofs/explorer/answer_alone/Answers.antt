@@ -4,7 +4,7 @@ use Rattle.book.specs.Books.{machine_in}
 use Rattle.crew.specs.Reading.{IsCutIn, IsWorkedOff}
 use Rattle.crew.specs.Reporting.{IsBookOf}
 use Rattle.crew.proofs.Ends.{is_answered}
-use Rattle.crew.proofs.explorer.told_alone.Goals as goal
+use Rattle.crew.proofs.explorer.answer_alone.Goals as goal
 
 -- what was driven is read
 pub unreachable-requires : goal.unreachable-requires
