@@ -4,17 +4,6 @@ ghost use Rattle.tree_machine.specs.Flat.{number_code};
 
 use sched_program::OutOfMemory;
 
-/// A number in four bytes. It takes no memory: a number that does not fit is refused as memory is.
-pub fn number_of(x: usize) -> Result<u32, OutOfMemory>
-    ensures number { IfOk result (λ number. number ≡ x) }
-    ensures refused { IfErr result (λ _. 2 ^ 32 ≤ x) }
-{
-    match u32::try_from(x) {
-        Ok(number) => Ok(number),
-        Err(_) => Err(OutOfMemory),
-    }
-}
-
 /// A number in two bytes. It takes no memory: a number that does not fit is refused as memory is.
 pub fn short_number_of(x: usize) -> Result<u16, OutOfMemory>
     ensures number { IfOk result (λ number. number ≡ x) }

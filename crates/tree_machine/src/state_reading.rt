@@ -68,35 +68,6 @@ fn read_head(bytes: &[u8]) -> Option<(u64, u8, &[u8])>
     }
 }
 
-/// Reads a memory, and the place that each thread holds, as `Encode::read_whole` does. `known` is what comes in front
-/// in the code of `memory` as it is, with the front. If the bytes begin with it, it is not decoded again.
-#[inline(always)]
-fn read_parts<M: Encode>(
-    alloc: Global,
-    machine: M,
-    bytes: &[u8],
-    known: Option<(&[u8], Front)>,
-    memory: &mut M::Mem,
-    threads: &mut [Thread<M::Loc>],
-) -> Result<Option<(usize, Front)>, OutOfMemory>
-    requires { IfSome known (λ known. known.0.now ≡ M.front_code known.1 memory.old) }
-    ensures read { IfOk result (λ read. IfSome read (λ (end, front).
-        bytes.now ≡ cut_code M.front_code M.behind_code front memory.new (places_of threads.new))) }
-    ensures within { IfOk result (λ read. IfSome read (λ (end, front). end ≤ length bytes.now)) }
-    ensures front { IfOk result (λ read. IfSome read (λ (end, front).
-        take end bytes.now ≡ M.front_code front memory.new)) }
-    ensures replies { replies_of threads.new ≡ replies_of threads.old }
-    ensures notes { notes_of threads.new ≡ notes_of threads.old }
-{
-    if let Some((known, front)) = known
-        && let Some(rest) = bytes.strip_prefix(known)
-        && machine.read_behind(alloc, rest, front, memory, threads)?
-    {
-        return Ok(Some((known.len(), front)));
-    }
-    machine.read_whole(alloc, bytes, memory, threads)
-}
-
 /// What `read_body` found: how many bytes come behind what the threads did, how many of these come in front of what the
 /// threads hold, and the front.
 #[derive(Clone, Copy)]
@@ -107,7 +78,7 @@ struct BodyRead {
 }
 
 /// Reads all that comes behind the number of threads. `known` is what comes in front in the code of the memory as it
-/// is, with the front, if that is known.
+/// is, with the front, if that is known. If the bytes have it there, it is not decoded again.
 #[inline(always)]
 fn read_body<M: Encode>(
     alloc: Global,
@@ -134,11 +105,16 @@ fn read_body<M: Encode>(
         return Ok(None);
     };
     *astray = thread;
-    match read_parts(alloc, machine, rest, known, memory, threads)? {
-        Some((end, front)) => {
-            let behind = rest.len();
-            Ok(Some(BodyRead { behind, end, front }))
-        }
+    let behind = rest.len();
+    if let Some((known, front)) = known
+        && let Some(rest) = rest.strip_prefix(known)
+        && machine.read_behind(alloc, rest, front, memory, threads)?
+    {
+        let end = known.len();
+        return Ok(Some(BodyRead { behind, end, front }));
+    }
+    match machine.read_whole(alloc, rest, memory, threads)? {
+        Some((end, front)) => Ok(Some(BodyRead { behind, end, front })),
         None => Ok(None),
     }
 }
