@@ -30,10 +30,8 @@ fn walk_all<P: Parts>(
     ensures records { IfOk result (λ named. named.1.records.order.items
         ≡ records_met (length (P.parts parts.now).nodes) (length (P.parts parts.now).records)
         (order_of (parts_graph (P.parts parts.now) ++ parts_held (P.parts parts.now)) walk.order)) }
-    ensures all_nodes { IfOk result (λ named.
-        length named.1.nodes.numbers.items ≡ length (P.parts parts.now).nodes) }
-    ensures all_records { IfOk result (λ named.
-        length named.1.records.numbers.items ≡ length (P.parts parts.now).records) }
+    ensures all_nodes { IfOk result (λ n. length n.1.nodes.numbers.items ≡ length (P.parts parts.now).nodes) }
+    ensures all_records { IfOk result (λ n. length n.1.records.numbers.items ≡ length (P.parts parts.now).records) }
 {
     for visits in start..walk.cells() {
         match walk.cell_at(visits) {
@@ -54,10 +52,8 @@ pub(crate) fn front_names<P: Parts>(
     requires { ArePartsInRange fixed (P.parts parts.now) }
     ensures nodes { IfOk result (λ named. named.1.nodes.order.items ≡ front_nodes fixed (P.parts parts.now)) }
     ensures records { IfOk result (λ named. named.1.records.order.items ≡ front_records fixed (P.parts parts.now)) }
-    ensures all_nodes { IfOk result (λ named.
-        length named.1.nodes.numbers.items ≡ length (P.parts parts.now).nodes) }
-    ensures all_records { IfOk result (λ named.
-        length named.1.records.numbers.items ≡ length (P.parts parts.now).records) }
+    ensures all_nodes { IfOk result (λ n. length n.1.nodes.numbers.items ≡ length (P.parts parts.now).nodes) }
+    ensures all_records { IfOk result (λ n. length n.1.records.numbers.items ≡ length (P.parts parts.now).records) }
 {
     let names = names.first(fixed, 0, parts.node_count(), parts.record_count())?;
     let walk = Walk::of(parts, queue, names)?;
@@ -79,10 +75,8 @@ pub(crate) fn names_behind<P: Parts>(
     requires all_records { length names.records.numbers.items ≡ length (P.parts parts.now).records }
     ensures nodes { IfOk result (λ named. named.1.nodes.order.items ≡ met_nodes fixed (P.parts parts.now)) }
     ensures records { IfOk result (λ named. named.1.records.order.items ≡ met_records fixed (P.parts parts.now)) }
-    ensures all_nodes { IfOk result (λ named.
-        length named.1.nodes.numbers.items ≡ length (P.parts parts.now).nodes) }
-    ensures all_records { IfOk result (λ named.
-        length named.1.records.numbers.items ≡ length (P.parts parts.now).records) }
+    ensures all_nodes { IfOk result (λ n. length n.1.nodes.numbers.items ≡ length (P.parts parts.now).nodes) }
+    ensures all_records { IfOk result (λ n. length n.1.records.numbers.items ≡ length (P.parts parts.now).records) }
 {
     let _ = fixed;
     if names.nodes.len() == parts.node_count() && names.records.len() == parts.record_count() {

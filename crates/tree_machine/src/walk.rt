@@ -54,6 +54,17 @@ fn put_raised(queue: &mut Vec<u8>, first: usize, numbers: &[u8]) -> Result<(), O
     Ok(())
 }
 
+/// Appends `count` numbers, from `first` on.
+fn put_from(queue: &mut Vec<u8>, first: usize, count: usize) -> Result<(), OutOfMemory>
+    requires { first + count < CELLS_BELOW }
+    ensures { OnOk result (queue.new.items ≡ queue.old.items ++ numbers_from first count) }
+{
+    for more in 0..count {
+        queue.push((first + more) as u8)?;
+    }
+    Ok(())
+}
+
 impl Walk {
     /// Begins a walk that met the nodes and the records that have names. It reuses the buffer of the queue. More cells
     /// than bytes can name are refused with `OutOfMemory`.
@@ -90,28 +101,14 @@ impl Walk {
     }
 
     /// The walk that met, behind these, what each thread holds, which was not met before.
-    pub(crate) fn with_held(self) -> Result<Walk, OutOfMemory>
+    pub(crate) fn with_held(mut self) -> Result<Walk, OutOfMemory>
         ensures { IfOk result (λ walk. walk ≡ record self {
           order = self.order ++ numbers_from (self.nodes + self.records) self.held;
         }) }
     {
-        let Walk {
-            mut queue,
-            names,
-            nodes,
-            records,
-            held,
-        } = self;
-        for thread in 0..held {
-            queue.push((nodes + records + thread) as u8)?;
-        }
-        Ok(Walk {
-            queue,
-            names,
-            nodes,
-            records,
-            held,
-        })
+        let (first, held) = (self.nodes + self.records, self.held);
+        put_from(&mut self.queue, first, held)?;
+        Ok(self)
     }
 
     /// Meets a node.
