@@ -7,8 +7,8 @@ use Rattle.crew.proofs.reading.is_full_for.Given.{Over}
 use Rattle.crew.proofs.reading.is_full_for.Goals.{After-enter}
 use Rattle.crew.proofs.reading.is_full_for.Goals as goal
 
-pub of-requires-clause-room : goal.of-requires-clause-room
-of-requires-clause-room g c κs within =
+pub of-requires-clause-steps_fit : goal.of-requires-clause-steps_fit
+of-requires-clause-steps_fit g c κs within =
     let b = c.args.book.now in
     let law = c.law.ensures in
     let own = c.requires.own in

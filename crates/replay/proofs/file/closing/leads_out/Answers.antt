@@ -11,8 +11,8 @@ knows_step-requires-clause-fits g c κs within =
     let w = c.requires.stands c.requires.kept.states c.requires.kept.replayed in
     rw c.loop-thread.invariant.0 w.2.fits
 
-pub knows_step-requires-clause-room : goal.knows_step-requires-clause-room
-knows_step-requires-clause-room g c κs within =
+pub knows_step-requires-clause-steps_fit : goal.knows_step-requires-clause-steps_fit
+knows_step-requires-clause-steps_fit g c κs within =
     let input = c.args.input.now in
     let w = c.requires.stands c.requires.kept.states c.requires.kept.replayed in
     let few : c.args.replayer.now.state.steps ≤ c.args.index = w.2.steps in

@@ -10,8 +10,8 @@ pub step_here-requires-clause-fits : goal.step_here-requires-clause-fits
 step_here-requires-clause-fits g c κs within =
     let w = c.in_ok-recall.ensures c.requires.kept.states c.requires.kept.replayed in w.2.fits
 
-pub step_here-requires-clause-room : goal.step_here-requires-clause-room
-step_here-requires-clause-room g c κs within =
+pub step_here-requires-clause-steps_fit : goal.step_here-requires-clause-steps_fit
+step_here-requires-clause-steps_fit g c κs within =
     let w = c.in_ok-recall.ensures c.requires.kept.states c.requires.kept.replayed in
     let few : c.recall.new.state.steps ≤ c.args.line.now.parent = w.2.steps in
     let less : c.args.line.now.parent < c.len.result = c.if-parent-len.false in
