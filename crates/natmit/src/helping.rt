@@ -6,7 +6,7 @@ ghost use Rattle.natmit.specs.Table.{act, other_side, tagging, clean_read, swung
 use crate::machine::NatMit;
 use crate::memory::{NatMitMem, Word, is_plain, untagged, word_on};
 use crate::place::{Mode, NatMitLoc, Path};
-use crate::searching::side_at;
+use crate::searching::{Next, side_at};
 use sched_program::Op;
 use tree_machine::{Outcome, Side};
 
@@ -32,18 +32,12 @@ fn tagging(machine: NatMit, path: Path, side: Side, mode: Mode) -> NatMitLoc
             mode,
         }
     } else {
-        NatMitLoc::Sibling {
-            ancestor: path.ancestor,
-            successor: path.successor,
-            parent: path.parent,
-            side,
-            mode,
-        }
+        path.sibling(side, mode)
     }
 }
 
 /// Where the cleanup goes from this word of the parent, on the side of the key.
-fn clean_read(machine: NatMit, path: Path, side: Side, mode: Mode, word: Word) -> Outcome<NatMitLoc>
+fn clean_read(machine: NatMit, path: Path, side: Side, mode: Mode, word: Word) -> Next
     ensures { result ≡ clean_read machine path.ancestor path.successor path.parent side mode word }
 {
     if word.flag {
@@ -54,7 +48,7 @@ fn clean_read(machine: NatMit, path: Path, side: Side, mode: Mode, word: Word) -
 }
 
 /// Where the cleanup goes once it has cut off the parent.
-fn swung(mode: Mode) -> Outcome<NatMitLoc>
+fn swung(mode: Mode) -> Next
     ensures { result ≡ swung mode }
 {
     match mode {
@@ -67,7 +61,7 @@ fn swung(mode: Mode) -> Outcome<NatMitLoc>
 
 impl NatMit {
     /// Of the two children of the parent the one that is not flagged stays.
-    fn clean_read_row(self, op: Op, mem: &NatMitMem, path: Path, mode: Mode) -> Outcome<NatMitLoc>
+    fn clean_read_row(self, op: Op, mem: &NatMitMem, path: Path, mode: Mode) -> Next
         ensures { act self op (place.CleanRead path.ancestor path.successor path.parent mode) mem.now
             ≡ (mem.now, result) }
     {
@@ -79,14 +73,7 @@ impl NatMit {
     }
 
     /// The word of the sibling is tagged, so that no exchange changes it from here on.
-    fn tag_row(
-        self,
-        op: Op,
-        mem: &mut NatMitMem,
-        path: Path,
-        side: Side,
-        mode: Mode,
-    ) -> Outcome<NatMitLoc>
+    fn tag_row(self, op: Op, mem: &mut NatMitMem, path: Path, side: Side, mode: Mode) -> Next
         ensures { act self op (place.Tag path.ancestor path.successor path.parent side mode) mem.old
             ≡ (mem.new, result) }
     {
@@ -95,24 +82,11 @@ impl NatMit {
         };
         let tagged = Word { tag: true, ..word };
         mem.set_word(path.parent, side, tagged);
-        Outcome::Goes(NatMitLoc::Sibling {
-            ancestor: path.ancestor,
-            successor: path.successor,
-            parent: path.parent,
-            side,
-            mode,
-        })
+        Outcome::Goes(path.sibling(side, mode))
     }
 
     /// The sibling may itself be flagged, and the flag goes up with it.
-    fn sibling_row(
-        self,
-        op: Op,
-        mem: &NatMitMem,
-        path: Path,
-        side: Side,
-        mode: Mode,
-    ) -> Outcome<NatMitLoc>
+    fn sibling_row(self, op: Op, mem: &NatMitMem, path: Path, side: Side, mode: Mode) -> Next
         ensures { act self op (place.Sibling path.ancestor path.successor path.parent side mode) mem.now
             ≡ (mem.now, result) }
     {
@@ -137,7 +111,7 @@ impl NatMit {
         successor: u16,
         sibling: Word,
         mode: Mode,
-    ) -> Outcome<NatMitLoc>
+    ) -> Next
         ensures { act self op (place.Swing ancestor successor sibling.flag sibling.node mode) mem.old
             ≡ (mem.new, result) }
     {
@@ -154,38 +128,38 @@ impl NatMit {
     }
 
     /// One access at a place at which a flagged leaf is cut off.
-    pub(crate) fn help_act(self, op: Op, loc: NatMitLoc, mem: &mut NatMitMem) -> Outcome<NatMitLoc>
+    pub(crate) fn help_act(self, op: Op, loc: NatMitLoc, mem: &mut NatMitMem) -> Next
         requires { IsHelping loc }
         ensures { act self op loc mem.old ≡ (mem.new, result) }
     {
         match loc {
             NatMitLoc::CleanRead {
-                ancestor: a,
-                successor: s,
-                parent: p,
+                ancestor,
+                successor,
+                parent,
                 mode,
-            } => self.clean_read_row(op, mem, Path::of(a, s, p), mode),
+            } => self.clean_read_row(op, mem, Path::of(ancestor, successor, parent), mode),
             NatMitLoc::Tag {
-                ancestor: a,
-                successor: s,
-                parent: p,
+                ancestor,
+                successor,
+                parent,
                 side,
                 mode,
-            } => self.tag_row(op, mem, Path::of(a, s, p), side, mode),
+            } => self.tag_row(op, mem, Path::of(ancestor, successor, parent), side, mode),
             NatMitLoc::Sibling {
-                ancestor: a,
-                successor: s,
-                parent: p,
+                ancestor,
+                successor,
+                parent,
                 side,
                 mode,
-            } => self.sibling_row(op, mem, Path::of(a, s, p), side, mode),
+            } => self.sibling_row(op, mem, Path::of(ancestor, successor, parent), side, mode),
             NatMitLoc::Swing {
-                ancestor: a,
-                successor: s,
+                ancestor,
+                successor,
                 flag,
                 node,
                 mode,
-            } => self.swing_row(op, mem, a, s, untagged(flag, node), mode),
+            } => self.swing_row(op, mem, ancestor, successor, untagged(flag, node), mode),
             _ => unreachable!(),
         }
     }

@@ -32,6 +32,31 @@ impl Path {
             parent,
         }
     }
+
+    /// The place at which the cleanup below this path begins.
+    pub(crate) fn clean_read(self, mode: Mode) -> NatMitLoc
+        ensures { result ≡ NatMitLoc.CleanRead self.ancestor self.successor self.parent mode }
+    {
+        NatMitLoc::CleanRead {
+            ancestor: self.ancestor,
+            successor: self.successor,
+            parent: self.parent,
+            mode,
+        }
+    }
+
+    /// The place that reads the word of the sibling on this side.
+    pub(crate) fn sibling(self, side: Side, mode: Mode) -> NatMitLoc
+        ensures { result ≡ NatMitLoc.Sibling self.ancestor self.successor self.parent side mode }
+    {
+        NatMitLoc::Sibling {
+            ancestor: self.ancestor,
+            successor: self.successor,
+            parent: self.parent,
+            side,
+            mode,
+        }
+    }
 }
 
 /// A place of the machine. The numbers are those of nodes: of a path, and of the parent's child, a leaf where the

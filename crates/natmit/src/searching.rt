@@ -12,6 +12,12 @@ use sched_program::{Op, OutOfMemory};
 use std::alloc::Global;
 use tree_machine::{Outcome, Side, side_of};
 
+/// What comes of an access.
+pub(crate) type Next = Outcome<NatMitLoc>;
+
+/// What comes of an access, unless memory is refused.
+pub(crate) type Access = Result<Next, OutOfMemory>;
+
 /// The side of a node on which the operation's key is looked for.
 pub(crate) fn side_at(op: Op, mem: &NatMitMem, x: u16) -> Side
     ensures { result ≡ side_at (key_of op) mem.now x }
@@ -20,7 +26,7 @@ pub(crate) fn side_at(op: Op, mem: &NatMitMem, x: u16) -> Side
 }
 
 /// What a delete does at the leaf, of this key, at which its search has ended.
-fn decide_delete(wanted: u8, path: Path, leaf: u16, mode: Mode, key: u8) -> Outcome<NatMitLoc>
+fn decide_delete(wanted: u8, path: Path, leaf: u16, mode: Mode, key: u8) -> Next
     ensures { (tag : Bool) → result
         ≡ arrived (Op.Delete wanted) path.ancestor path.successor path.parent leaf tag mode (Node.Leaf key) }
 {
@@ -40,40 +46,31 @@ fn decide_delete(wanted: u8, path: Path, leaf: u16, mode: Mode, key: u8) -> Outc
             if leaf != owned {
                 return Outcome::Replies(true);
             }
-            Outcome::Goes(NatMitLoc::CleanRead {
-                ancestor: path.ancestor,
-                successor: path.successor,
-                parent: path.parent,
-                mode,
-            })
+            Outcome::Goes(path.clean_read(mode))
         }
     }
 }
 
 /// What an operation does at the leaf, of this key, at which its search has ended, whatever tag led there.
-fn decide(op: Op, path: Path, leaf: u16, mode: Mode, key: u8) -> Outcome<NatMitLoc>
+fn decide(op: Op, path: Path, leaf: u16, mode: Mode, key: u8) -> Next
     ensures { (tag : Bool) → result
         ≡ arrived op path.ancestor path.successor path.parent leaf tag mode (Node.Leaf key) }
 {
     match op {
         Op::Find(wanted) => Outcome::Replies(key == wanted),
-        Op::Insert(wanted) => {
-            if key == wanted {
-                return Outcome::Replies(false);
-            }
-            Outcome::Goes(NatMitLoc::Put {
-                ancestor: path.ancestor,
-                successor: path.successor,
-                parent: path.parent,
-                leaf,
-            })
-        }
+        Op::Insert(wanted) if key == wanted => Outcome::Replies(false),
+        Op::Insert(_) => Outcome::Goes(NatMitLoc::Put {
+            ancestor: path.ancestor,
+            successor: path.successor,
+            parent: path.parent,
+            leaf,
+        }),
         Op::Delete(wanted) => decide_delete(wanted, path, leaf, mode, key),
     }
 }
 
 /// Where a search goes from the node `leaf`, which it has reached.
-fn arrived(op: Op, path: Path, leaf: u16, tag: bool, mode: Mode, node: Node) -> Outcome<NatMitLoc>
+fn arrived(op: Op, path: Path, leaf: u16, tag: bool, mode: Mode, node: Node) -> Next
     ensures { result ≡ arrived op path.ancestor path.successor path.parent leaf tag mode node }
 {
     match node {
@@ -98,7 +95,7 @@ fn went_down(
     mode: Mode,
     mem: &NatMitMem,
     word: Word,
-) -> Outcome<NatMitLoc>
+) -> Next
     ensures { result ≡ went_down op path.ancestor path.successor path.parent leaf tag mode mem.now word }
 {
     let next = mem.node(word.node);
@@ -112,29 +109,21 @@ fn went_down(
 }
 
 /// Where an insert or delete goes after a failed exchange, from the word that it found.
-fn looked(path: Path, leaf: u16, word: Word) -> Outcome<NatMitLoc>
+fn looked(path: Path, leaf: u16, word: Word) -> Next
     ensures { result ≡ looked path.ancestor path.successor path.parent leaf word }
 {
     if word.node == leaf && (word.flag || word.tag) {
-        Outcome::Goes(NatMitLoc::CleanRead {
-            ancestor: path.ancestor,
-            successor: path.successor,
-            parent: path.parent,
-            mode: Mode::Plain,
-        })
+        Outcome::Goes(path.clean_read(Mode::Plain))
     } else {
         Outcome::Goes(NatMitLoc::Begin { mode: Mode::Plain })
     }
 }
 
-/// What comes of an access, unless memory is refused.
-pub(crate) type Access = Result<Outcome<NatMitLoc>, OutOfMemory>;
-
 // ---- the rows of the table
 
 impl NatMit {
     /// A search begins at node 1: all user keys are below its left word.
-    fn begin_row(self, op: Op, mem: &NatMitMem, mode: Mode) -> Outcome<NatMitLoc>
+    fn begin_row(self, op: Op, mem: &NatMitMem, mode: Mode) -> Next
         ensures { act self op (place.Begin mode) mem.now ≡ (mem.now, result) }
     {
         match word_on(Side::Left, mem.node(1)) {
@@ -147,15 +136,7 @@ impl NatMit {
     }
 
     /// A search goes down by a word of the node that it has reached.
-    fn down_row(
-        self,
-        op: Op,
-        mem: &NatMitMem,
-        path: Path,
-        leaf: u16,
-        tag: bool,
-        mode: Mode,
-    ) -> Outcome<NatMitLoc>
+    fn down_row(self, op: Op, mem: &NatMitMem, path: Path, leaf: u16, tag: bool, mode: Mode) -> Next
         ensures { act self op (place.Down path.ancestor path.successor path.parent leaf tag mode) mem.now
             ≡ (mem.now, result) }
     {
@@ -189,7 +170,7 @@ impl NatMit {
     }
 
     /// A delete flags the word of its leaf: the key is gone once the leaf is cut off, by whichever operation.
-    fn flag_row(self, op: Op, mem: &mut NatMitMem, path: Path, leaf: u16) -> Outcome<NatMitLoc>
+    fn flag_row(self, op: Op, mem: &mut NatMitMem, path: Path, leaf: u16) -> Next
         ensures { act self op (place.Flag path.ancestor path.successor path.parent leaf) mem.old ≡ (mem.new, result) }
     {
         let side = side_at(op, mem, path.parent);
@@ -198,12 +179,7 @@ impl NatMit {
         };
         if is_plain(leaf, word) {
             mem.set_word(path.parent, side, untagged(true, leaf));
-            Outcome::Goes(NatMitLoc::CleanRead {
-                ancestor: path.ancestor,
-                successor: path.successor,
-                parent: path.parent,
-                mode: Mode::Owner(leaf),
-            })
+            Outcome::Goes(path.clean_read(Mode::Owner(leaf)))
         } else {
             Outcome::Goes(NatMitLoc::Look {
                 ancestor: path.ancestor,
@@ -215,7 +191,7 @@ impl NatMit {
     }
 
     /// After a failed exchange: a flagged or tagged word of the same leaf is that of another delete, which is helped.
-    fn look_row(self, op: Op, mem: &NatMitMem, path: Path, leaf: u16) -> Outcome<NatMitLoc>
+    fn look_row(self, op: Op, mem: &NatMitMem, path: Path, leaf: u16) -> Next
         ensures { act self op (place.Look path.ancestor path.successor path.parent leaf) mem.now ≡ (mem.now, result) }
     {
         match word_on(side_at(op, mem, path.parent), mem.node(path.parent)) {
@@ -232,31 +208,34 @@ impl NatMit {
         match loc {
             NatMitLoc::Begin { mode } => Ok(self.begin_row(op, mem, mode)),
             NatMitLoc::Down {
-                ancestor: a,
-                successor: s,
-                parent: p,
-                leaf: l,
+                ancestor,
+                successor,
+                parent,
+                leaf,
                 tag,
                 mode,
-            } => Ok(self.down_row(op, mem, Path::of(a, s, p), l, tag, mode)),
+            } => {
+                let path = Path::of(ancestor, successor, parent);
+                Ok(self.down_row(op, mem, path, leaf, tag, mode))
+            }
             NatMitLoc::Put {
-                ancestor: a,
-                successor: s,
-                parent: p,
-                leaf: l,
-            } => self.put_row(alloc, op, mem, Path::of(a, s, p), l),
+                ancestor,
+                successor,
+                parent,
+                leaf,
+            } => self.put_row(alloc, op, mem, Path::of(ancestor, successor, parent), leaf),
             NatMitLoc::Flag {
-                ancestor: a,
-                successor: s,
-                parent: p,
-                leaf: l,
-            } => Ok(self.flag_row(op, mem, Path::of(a, s, p), l)),
+                ancestor,
+                successor,
+                parent,
+                leaf,
+            } => Ok(self.flag_row(op, mem, Path::of(ancestor, successor, parent), leaf)),
             NatMitLoc::Look {
-                ancestor: a,
-                successor: s,
-                parent: p,
-                leaf: l,
-            } => Ok(self.look_row(op, mem, Path::of(a, s, p), l)),
+                ancestor,
+                successor,
+                parent,
+                leaf,
+            } => Ok(self.look_row(op, mem, Path::of(ancestor, successor, parent), leaf)),
             _ => Ok(self.help_act(op, loc, mem)),
         }
     }

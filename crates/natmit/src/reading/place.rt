@@ -178,21 +178,26 @@ fn read_told(bytes: &[u8]) -> Option<(NatMitLoc, &[u8])>
     ensures { IfSome result (λ (place, rest). 142 ∷ bytes.now
         ≡ cell_code (part_content (place_part place)) ++ rest.now) }
 {
-    let [kind, fact, ancestor, successor, node, last, rest @ ..] = bytes else {
+    let [
+        kind,
+        fact @ 0..=1,
+        ancestor,
+        successor,
+        node,
+        last,
+        rest @ ..,
+    ] = bytes
+    else {
         return None;
     };
     let kind = number_of(*kind)?;
-    let fact = number_of(*fact)?;
+    let fact = u64::from(*fact);
     let ancestor = name_of(*ancestor)?;
     let successor = name_of(*successor)?;
     let node = name_of(*node)?;
     let mode = mode_of(reference_of(*last)?);
-    if fact < 2 {
-        let place = place_of_told(kind, fact, ancestor, successor, node, mode)?;
-        Some((place, rest))
-    } else {
-        None
-    }
+    let place = place_of_told(kind, fact, ancestor, successor, node, mode)?;
+    Some((place, rest))
 }
 
 /// Reads a place, which has this first byte.

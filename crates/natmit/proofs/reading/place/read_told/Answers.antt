@@ -1,14 +1,19 @@
-use Rattle.std.proofs.Common.{◌∷◌, refl, ap, ◌∙◌, arith}
+use Rattle.std.proofs.Common.{◌≡◌, [], ◌∷◌, get_or, refl, ap, ◌∙◌, arith}
+use Rattle.tree_machine.specs.Flat.{number_code}
 use Rattle.tree_machine.specs.Laws.FirstBytes.{first_six}
+use Rattle.tree_machine.specs.Laws.SmallCodes.{small_code}
 use Rattle.natmit.proofs.reading.place.read_told.Goals as goal
 
-pub returns-in_ok-place : goal.returns-in_ok-place
-returns-in_ok-place c =
-    ap (λ l. 142 ∷ l) (first_six c.args.bytes.now (omega arith))
+pub returns : goal.returns
+returns c =
+    let bytes = c.args.bytes.now in
+    let fact : number_code c.from-fact.result ≡ get_or bytes 1 0 ∷ [] =
+    small_code c.from-fact.result (omega arith) ∙ ap (λ b. b ∷ []) (omega arith) in
+    ap (λ l. 142 ∷ l) (first_six bytes (omega arith))
     ∙ rw (
       c.in_ok-place.ensures,
       c.in_ok-kind.ensures,
-      c.in_ok-fact.ensures,
+      fact,
       c.in_ok-ancestor.ensures,
       c.in_ok-successor.ensures,
       c.in_ok-node.ensures,
