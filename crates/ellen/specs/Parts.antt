@@ -1,7 +1,7 @@
 -- Nodes, records and what the threads hold as parts: their facts, and the nodes and the records that they name.
-use Rattle.std.specs.Prelude.{ℕ, suc, List, [], ◌∷◌, map, Option, Some, None}
+use Rattle.std.specs.Prelude.{◌≡◌, ℕ, suc, List, [], ◌∷◌, ◌++◌, map, Option, Some, None}
 use Rattle.tree_machine.specs.Canonical.{canonical_code}
-use Rattle.tree_machine.specs.Flat.{all_front, behind_code, front_code, parts_code}
+use Rattle.tree_machine.specs.Flat.{all_front, behind_code, cell_code, front_code, part_content, parts_code}
 use Rattle.tree_machine.specs.Parts.{Part, Parts, no_part}
 use Rattle.tree_machine.specs.declared.front.Front.{Front}
 use Rattle.tree_machine.specs.declared.search_order.Side.{Side}
@@ -96,6 +96,10 @@ search_part (DFlag a p u l) =
       nodes = Some a.node ∷ Some p ∷ Some l ∷ [];
       records = word_record a.update ∷ word_record u ∷ [];
     }
+
+-- the bytes are the code of a place of a search, with these behind it
+abbrev pub IsSearchCode : List ℕ → SearchLoc → List ℕ → Type 0
+IsSearchCode bytes at rest = bytes ≡ cell_code (part_content (search_part at)) ++ rest
 
 -- the kind of a help place
 abbrev pub help_number : HelpLoc → ℕ

@@ -1,7 +1,7 @@
 //! The rows of the table at which an operation carries out what a record says.
 ghost use Rattle.std.specs.Prelude.{◌≡◌, IfOk, OnErr};
 ghost use Rattle.ellen.specs.declared.place.HelpLoc.TheVariants as place;
-ghost use Rattle.ellen.specs.Table.{help_act, returned, settled, marking, help, unflagged};
+ghost use Rattle.ellen.specs.Table.{help_act, returned, settled, marking, help, unflagged, exchange_update};
 ghost use Rattle.ellen.specs.Table.{help_first, first_place, awaiting, with_base};
 
 use crate::machine::Ellen;
@@ -10,6 +10,9 @@ use crate::place::{Base, EllenLoc, HelpLoc, Resume, SearchLoc};
 use sched_program::{OutOfMemory, Sequence};
 use std::alloc::Global;
 use tree_machine::{Outcome, Side, side_of};
+
+/// What comes of an access, unless memory is refused.
+pub(crate) type Access = Result<Outcome<EllenLoc>, OutOfMemory>;
 
 /// The first place of an operation, and that of one that begins again.
 pub fn first_place() -> EllenLoc
@@ -40,7 +43,7 @@ fn settled(done: bool, base: Base) -> Outcome<EllenLoc>
 
 /// Ends one helping: the last backtrack that is awaited, or what is done behind it.
 #[tactic(auto, using(crate::proofs::Stack::returned_is))]
-fn returned(alloc: Global, done: bool, resume: &Resume) -> Result<Outcome<EllenLoc>, OutOfMemory>
+fn returned(alloc: Global, done: bool, resume: &Resume) -> Access
     ensures { IfOk result (λ outcome. outcome ≡ returned done resume.now) }
 {
     let mut stack = resume.stack.copy(alloc)?.into_vec();
@@ -69,12 +72,7 @@ pub fn marking(machine: Ellen, number: u16) -> HelpLoc
 }
 
 /// Begins to help what an update word announces.
-fn help(
-    alloc: Global,
-    machine: Ellen,
-    word: UpdateWord,
-    resume: Resume,
-) -> Result<Outcome<EllenLoc>, OutOfMemory>
+fn help(alloc: Global, machine: Ellen, word: UpdateWord, resume: Resume) -> Access
     ensures { IfOk result (λ outcome. outcome ≡ help machine word resume) }
 {
     match word {
@@ -105,11 +103,7 @@ pub fn with_base(alloc: Global, base: Base) -> Resume
 }
 
 /// Helps what a word announces that a search found in its way. The search then begins again.
-pub fn help_first(
-    alloc: Global,
-    machine: Ellen,
-    word: UpdateWord,
-) -> Result<Outcome<EllenLoc>, OutOfMemory>
+pub fn help_first(alloc: Global, machine: Ellen, word: UpdateWord) -> Access
     ensures { IfOk result (λ outcome. outcome ≡ help_first machine word) }
 {
     help(alloc, machine, word, with_base(alloc, Base::Again))
@@ -127,189 +121,179 @@ fn awaiting(alloc: Global, number: u16, resume: &Resume) -> Result<Resume, OutOf
     })
 }
 
-fn insert_child_row(
+/// Takes back the flag of a record at a node, if it is still there, and ends the helping.
+fn take_flag_back(
     alloc: Global,
-    machine: Ellen,
     mem: &mut EllenMem,
+    node: u16,
+    flag: UpdateWord,
     number: u16,
+    done: bool,
     resume: &Resume,
-) -> Result<Outcome<EllenLoc>, OutOfMemory>
-    ensures ok { IfOk result (λ outcome. help_act machine (place.InsChild number) resume.now mem.old
-        ≡ (mem.new, outcome)) }
+) -> Access
+    ensures ok { IfOk result (λ outcome. exchange_update mem.old node flag (UpdateWord.Clean number) mem.old
+        (returned done resume.now) (λ _. returned done resume.now) ≡ (mem.new, outcome)) }
     ensures err { OnErr result (mem.new ≡ mem.old) }
 {
-    let Some(Record::Ins(info)) = mem.record(number) else {
+    let Some(found) = update_of(mem.node(node)) else {
         return Ok(Outcome::Astray);
     };
-    let node = mem.node(info.parent);
-    let side = side_of(key_in(mem.node(info.new)), key_in(node));
-    let Some(child) = child_on(side, node) else {
-        return Ok(Outcome::Astray);
-    };
-    let goal = EllenLoc::Help(HelpLoc::InsClean(number), resume.copy(alloc)?);
-    if child == info.leaf {
-        mem.set_child(info.parent, side, info.new);
-    }
-    Ok(Outcome::Goes(goal))
-}
-
-fn insert_clean_row(
-    alloc: Global,
-    machine: Ellen,
-    mem: &mut EllenMem,
-    number: u16,
-    resume: &Resume,
-) -> Result<Outcome<EllenLoc>, OutOfMemory>
-    ensures ok { IfOk result (λ outcome. help_act machine (place.InsClean number) resume.now mem.old
-        ≡ (mem.new, outcome)) }
-    ensures err { OnErr result (mem.new ≡ mem.old) }
-{
-    let Some(Record::Ins(info)) = mem.record(number) else {
-        return Ok(Outcome::Astray);
-    };
-    let Some(found) = update_of(mem.node(info.parent)) else {
-        return Ok(Outcome::Astray);
-    };
-    let outcome = returned(alloc, true, resume)?;
-    if is_word(found, UpdateWord::InsertFlag(number)) {
-        mem.set_update(info.parent, UpdateWord::Clean(number));
+    let outcome = returned(alloc, done, resume)?;
+    if is_word(found, flag) {
+        mem.set_update(node, UpdateWord::Clean(number));
     }
     Ok(outcome)
 }
 
-fn mark_row(
-    alloc: Global,
-    machine: Ellen,
-    mem: &mut EllenMem,
-    number: u16,
-    resume: &Resume,
-) -> Result<Outcome<EllenLoc>, OutOfMemory>
-    ensures ok { IfOk result (λ outcome. help_act machine (place.Mark number) resume.now mem.old ≡ (mem.new, outcome)) }
-    ensures err { OnErr result (mem.new ≡ mem.old) }
-{
-    let Some(Record::Del(info)) = mem.record(number) else {
-        return Ok(Outcome::Astray);
-    };
-    let Some(found) = update_of(mem.node(info.parent)) else {
-        return Ok(Outcome::Astray);
-    };
-    let mark = UpdateWord::Mark(number);
-    if is_word(found, info.parent_update) {
-        let goal = EllenLoc::Help(HelpLoc::Right(number), resume.copy(alloc)?);
-        mem.set_update(info.parent, mark);
-        return Ok(Outcome::Goes(goal));
-    }
-    if is_word(found, mark) {
-        let goal = EllenLoc::Help(HelpLoc::Right(number), resume.copy(alloc)?);
-        return Ok(Outcome::Goes(goal));
-    }
-    help(alloc, machine, found, awaiting(alloc, number, resume)?)
-}
-
-fn right_row(
-    alloc: Global,
-    machine: Ellen,
-    mem: &EllenMem,
-    number: u16,
-    resume: &Resume,
-) -> Result<Outcome<EllenLoc>, OutOfMemory>
-    ensures { IfOk result (λ outcome. help_act machine (place.Right number) resume.now mem.now ≡ (mem.now, outcome)) }
-{
-    let Some(Record::Del(info)) = mem.record(number) else {
-        return Ok(Outcome::Astray);
-    };
-    let Some(child) = child_on(Side::Right, mem.node(info.parent)) else {
-        return Ok(Outcome::Astray);
-    };
-    let resume = resume.copy(alloc)?;
-    if child == info.leaf {
-        let at = HelpLoc::Other {
-            record: number,
-            side: Side::Left,
-        };
-        Ok(Outcome::Goes(EllenLoc::Help(at, resume)))
-    } else {
-        let at = HelpLoc::Other {
-            record: number,
-            side: Side::Right,
-        };
-        Ok(Outcome::Goes(EllenLoc::Help(at, resume)))
-    }
-}
-
-fn other_row(
-    alloc: Global,
-    machine: Ellen,
-    mem: &EllenMem,
-    number: u16,
-    side: Side,
-    resume: &Resume,
-) -> Result<Outcome<EllenLoc>, OutOfMemory>
-    ensures { IfOk result (λ outcome. help_act machine (place.Other number side) resume.now mem.now
-        ≡ (mem.now, outcome)) }
-{
-    let Some(Record::Del(info)) = mem.record(number) else {
-        return Ok(Outcome::Astray);
-    };
-    let Some(other) = child_on(side, mem.node(info.parent)) else {
-        return Ok(Outcome::Astray);
-    };
-    let at = HelpLoc::Splice {
-        record: number,
-        other,
-    };
-    Ok(Outcome::Goes(EllenLoc::Help(at, resume.copy(alloc)?)))
-}
-
-fn splice_row(
-    alloc: Global,
-    machine: Ellen,
-    mem: &mut EllenMem,
-    number: u16,
-    other: u16,
-    resume: &Resume,
-) -> Result<Outcome<EllenLoc>, OutOfMemory>
-    ensures ok { IfOk result (λ outcome. help_act machine (place.Splice number other) resume.now mem.old
-        ≡ (mem.new, outcome)) }
-    ensures err { OnErr result (mem.new ≡ mem.old) }
-{
-    let Some(Record::Del(info)) = mem.record(number) else {
-        return Ok(Outcome::Astray);
-    };
-    let node = mem.node(info.grandparent);
-    let side = side_of(key_in(mem.node(other)), key_in(node));
-    let Some(child) = child_on(side, node) else {
-        return Ok(Outcome::Astray);
-    };
-    let goal = EllenLoc::Help(HelpLoc::DelClean(number), resume.copy(alloc)?);
-    if child == info.parent {
-        mem.set_child(info.grandparent, side, other);
-    }
-    Ok(Outcome::Goes(goal))
-}
-
 /// Takes back the flag of a delete, whether it is done or not.
-fn unflag_row(
-    alloc: Global,
-    mem: &mut EllenMem,
-    number: u16,
-    done: bool,
-    resume: &Resume,
-) -> Result<Outcome<EllenLoc>, OutOfMemory>
+fn unflag_row(alloc: Global, mem: &mut EllenMem, number: u16, done: bool, resume: &Resume) -> Access
     ensures ok { IfOk result (λ outcome. unflagged done number resume.now mem.old ≡ (mem.new, outcome)) }
     ensures err { OnErr result (mem.new ≡ mem.old) }
 {
     let Some(Record::Del(info)) = mem.record(number) else {
         return Ok(Outcome::Astray);
     };
-    let Some(found) = update_of(mem.node(info.grandparent)) else {
-        return Ok(Outcome::Astray);
-    };
-    let outcome = returned(alloc, done, resume)?;
-    if is_word(found, UpdateWord::DeleteFlag(number)) {
-        mem.set_update(info.grandparent, UpdateWord::Clean(number));
+    let flag = UpdateWord::DeleteFlag(number);
+    take_flag_back(alloc, mem, info.grandparent, flag, number, done, resume)
+}
+
+// ---- the rows of the table
+
+impl Ellen {
+    /// Writes the new node of an insert as a child of its parent.
+    fn insert_row(self, alloc: Global, mem: &mut EllenMem, number: u16, resume: &Resume) -> Access
+        ensures ok { IfOk result (λ next. help_act self (place.InsChild number) resume.now mem.old ≡ (mem.new, next)) }
+        ensures err { OnErr result (mem.new ≡ mem.old) }
+    {
+        let Some(Record::Ins(info)) = mem.record(number) else {
+            return Ok(Outcome::Astray);
+        };
+        let node = mem.node(info.parent);
+        let side = side_of(key_in(mem.node(info.new)), key_in(node));
+        let Some(child) = child_on(side, node) else {
+            return Ok(Outcome::Astray);
+        };
+        let goal = EllenLoc::Help(HelpLoc::InsClean(number), resume.copy(alloc)?);
+        if child == info.leaf {
+            mem.set_child(info.parent, side, info.new);
+        }
+        Ok(Outcome::Goes(goal))
     }
-    Ok(outcome)
+
+    /// Takes the flag of an insert back.
+    fn clean_row(self, alloc: Global, mem: &mut EllenMem, number: u16, resume: &Resume) -> Access
+        ensures ok { IfOk result (λ next. help_act self (place.InsClean number) resume.now mem.old ≡ (mem.new, next)) }
+        ensures err { OnErr result (mem.new ≡ mem.old) }
+    {
+        let Some(Record::Ins(info)) = mem.record(number) else {
+            return Ok(Outcome::Astray);
+        };
+        let flag = UpdateWord::InsertFlag(number);
+        take_flag_back(alloc, mem, info.parent, flag, number, true, resume)
+    }
+
+    /// Marks the parent of a delete.
+    fn mark_row(self, alloc: Global, mem: &mut EllenMem, number: u16, resume: &Resume) -> Access
+        ensures ok { IfOk result (λ outcome. help_act self (place.Mark number) resume.now mem.old ≡ (mem.new, outcome)) }
+        ensures err { OnErr result (mem.new ≡ mem.old) }
+    {
+        let Some(Record::Del(info)) = mem.record(number) else {
+            return Ok(Outcome::Astray);
+        };
+        let Some(found) = update_of(mem.node(info.parent)) else {
+            return Ok(Outcome::Astray);
+        };
+        let mark = UpdateWord::Mark(number);
+        if is_word(found, info.parent_update) {
+            let goal = EllenLoc::Help(HelpLoc::Right(number), resume.copy(alloc)?);
+            mem.set_update(info.parent, mark);
+            return Ok(Outcome::Goes(goal));
+        }
+        if is_word(found, mark) {
+            let goal = EllenLoc::Help(HelpLoc::Right(number), resume.copy(alloc)?);
+            return Ok(Outcome::Goes(goal));
+        }
+        help(alloc, self, found, awaiting(alloc, number, resume)?)
+    }
+
+    /// Reads the right child of the parent of a delete.
+    fn right_row(self, alloc: Global, mem: &EllenMem, number: u16, resume: &Resume) -> Access
+        ensures { IfOk result (λ outcome. help_act self (place.Right number) resume.now mem.now ≡ (mem.now, outcome)) }
+    {
+        let Some(Record::Del(info)) = mem.record(number) else {
+            return Ok(Outcome::Astray);
+        };
+        let Some(child) = child_on(Side::Right, mem.node(info.parent)) else {
+            return Ok(Outcome::Astray);
+        };
+        let resume = resume.copy(alloc)?;
+        if child == info.leaf {
+            let at = HelpLoc::Other {
+                record: number,
+                side: Side::Left,
+            };
+            Ok(Outcome::Goes(EllenLoc::Help(at, resume)))
+        } else {
+            let at = HelpLoc::Other {
+                record: number,
+                side: Side::Right,
+            };
+            Ok(Outcome::Goes(EllenLoc::Help(at, resume)))
+        }
+    }
+
+    /// Reads the child of that parent on the side where the leaf is not.
+    fn other_row(
+        self,
+        alloc: Global,
+        mem: &EllenMem,
+        number: u16,
+        side: Side,
+        resume: &Resume,
+    ) -> Access
+        ensures { IfOk result (λ outcome. help_act self (place.Other number side) resume.now mem.now
+            ≡ (mem.now, outcome)) }
+    {
+        let Some(Record::Del(info)) = mem.record(number) else {
+            return Ok(Outcome::Astray);
+        };
+        let Some(other) = child_on(side, mem.node(info.parent)) else {
+            return Ok(Outcome::Astray);
+        };
+        let at = HelpLoc::Splice {
+            record: number,
+            other,
+        };
+        Ok(Outcome::Goes(EllenLoc::Help(at, resume.copy(alloc)?)))
+    }
+
+    /// Replaces the parent by that other child.
+    fn splice_row(
+        self,
+        alloc: Global,
+        mem: &mut EllenMem,
+        number: u16,
+        other: u16,
+        resume: &Resume,
+    ) -> Access
+        ensures ok { IfOk result (λ outcome. help_act self (place.Splice number other) resume.now mem.old
+            ≡ (mem.new, outcome)) }
+        ensures err { OnErr result (mem.new ≡ mem.old) }
+    {
+        let Some(Record::Del(info)) = mem.record(number) else {
+            return Ok(Outcome::Astray);
+        };
+        let node = mem.node(info.grandparent);
+        let side = side_of(key_in(mem.node(other)), key_in(node));
+        let Some(child) = child_on(side, node) else {
+            return Ok(Outcome::Astray);
+        };
+        let goal = EllenLoc::Help(HelpLoc::DelClean(number), resume.copy(alloc)?);
+        if child == info.parent {
+            mem.set_child(info.grandparent, side, other);
+        }
+        Ok(Outcome::Goes(goal))
+    }
 }
 
 /// One access at a place that carries out what a record says.
@@ -319,23 +303,23 @@ pub fn help_act(
     at: HelpLoc,
     resume: &Resume,
     mem: &mut EllenMem,
-) -> Result<Outcome<EllenLoc>, OutOfMemory>
+) -> Access
     ensures ok { IfOk result (λ outcome. help_act machine at resume.now mem.old ≡ (mem.new, outcome)) }
     ensures err { OnErr result (mem.new ≡ mem.old) }
 {
     match at {
-        HelpLoc::InsChild(number) => insert_child_row(alloc, machine, mem, number, resume),
-        HelpLoc::InsClean(number) => insert_clean_row(alloc, machine, mem, number, resume),
-        HelpLoc::Mark(number) => mark_row(alloc, machine, mem, number, resume),
-        HelpLoc::Right(number) => right_row(alloc, machine, mem, number, resume),
+        HelpLoc::InsChild(number) => machine.insert_row(alloc, mem, number, resume),
+        HelpLoc::InsClean(number) => machine.clean_row(alloc, mem, number, resume),
+        HelpLoc::Mark(number) => machine.mark_row(alloc, mem, number, resume),
+        HelpLoc::Right(number) => machine.right_row(alloc, mem, number, resume),
         HelpLoc::Other {
             record: number,
             side,
-        } => other_row(alloc, machine, mem, number, side, resume),
+        } => machine.other_row(alloc, mem, number, side, resume),
         HelpLoc::Splice {
             record: number,
             other,
-        } => splice_row(alloc, machine, mem, number, other, resume),
+        } => machine.splice_row(alloc, mem, number, other, resume),
         HelpLoc::DelClean(number) => unflag_row(alloc, mem, number, true, resume),
         HelpLoc::Back(number) => unflag_row(alloc, mem, number, false, resume),
     }

@@ -4,9 +4,9 @@ ghost use Rattle.sched_program.specs.Program.{key_of};
 ghost use Rattle.sched_program.specs.declared.operation.Op.TheVariants as op_of;
 ghost use Rattle.ellen.specs.declared.place.SearchLoc.TheVariants as place;
 ghost use Rattle.ellen.specs.Memory.{is_clean};
-ghost use Rattle.ellen.specs.Table.{search_act, flagging, decide, arrived};
+ghost use Rattle.ellen.specs.Table.{search_act, flagging, decide};
 
-use crate::helping::{first_place, help_first, marking, with_base};
+use crate::helping::{Access, first_place, help_first, marking, with_base};
 use crate::machine::Ellen;
 use crate::memory::{
     DeleteRecord, EllenMem, Node, Record, UpdateWord, child_on, is_word, key_in, update_of,
@@ -51,7 +51,7 @@ fn decide_delete(
     parent: Above,
     leaf: u16,
     key: u8,
-) -> Result<Outcome<EllenLoc>, OutOfMemory>
+) -> Access
     ensures { IfOk result (λ outcome. outcome ≡ decide machine (op_of.Delete key) (Some above) parent leaf key) }
 {
     if !is_clean(above.update) {
@@ -77,7 +77,7 @@ fn decide(
     parent: Above,
     leaf: u16,
     key: u8,
-) -> Result<Outcome<EllenLoc>, OutOfMemory>
+) -> Access
     ensures { IfOk result (λ outcome. outcome ≡ decide machine op above parent leaf key) }
 {
     match op {
@@ -101,27 +101,6 @@ fn decide(
                 None => Ok(Outcome::Astray),
             }
         }
-    }
-}
-
-/// Where an operation goes from the child that it read: on down, or to what it does at a leaf.
-fn arrived(
-    alloc: Global,
-    machine: Ellen,
-    op: Op,
-    above: Option<Above>,
-    parent: Above,
-    child: u16,
-    node: Node,
-) -> Result<Outcome<EllenLoc>, OutOfMemory>
-    ensures { IfOk result (λ outcome. outcome ≡ arrived machine op above parent child node) }
-{
-    match node {
-        Node::Internal { .. } => Ok(Outcome::Goes(EllenLoc::Search(SearchLoc::Update {
-            above: Some(parent),
-            parent: child,
-        }))),
-        Node::Leaf { key } => decide(alloc, machine, op, above, parent, child, key),
     }
 }
 
@@ -151,17 +130,20 @@ fn child_row(
     mem: &EllenMem,
     above: Option<Above>,
     parent: Above,
-) -> Result<Outcome<EllenLoc>, OutOfMemory>
+) -> Access
     ensures { IfOk result (λ outcome. search_act machine op (place.Child above parent.node parent.update) mem.now
         ≡ (mem.now, outcome)) }
 {
     let node = mem.node(parent.node);
-    match child_on(side_of(op.key(), key_in(node)), node) {
-        Some(child) => {
-            let next = mem.node(child);
-            arrived(alloc, machine, op, above, parent, child, next)
-        }
-        None => Ok(Outcome::Astray),
+    let Some(child) = child_on(side_of(op.key(), key_in(node)), node) else {
+        return Ok(Outcome::Astray);
+    };
+    match mem.node(child) {
+        Node::Internal { .. } => Ok(Outcome::Goes(EllenLoc::Search(SearchLoc::Update {
+            above: Some(parent),
+            parent: child,
+        }))),
+        Node::Leaf { key } => decide(alloc, machine, op, above, parent, child, key),
     }
 }
 
@@ -173,7 +155,7 @@ fn insert_flag_row(
     parent: u16,
     update: UpdateWord,
     leaf: u16,
-) -> Result<Outcome<EllenLoc>, OutOfMemory>
+) -> Access
     ensures ok { IfOk result (λ outcome. search_act machine op (place.IFlag parent update leaf) mem.old
         ≡ (mem.new, outcome)) }
     ensures err { OnErr result (mem.new ≡ mem.old) }
@@ -198,7 +180,7 @@ fn insert_only_row(
     mem: &mut EllenMem,
     parent: u16,
     leaf: u16,
-) -> Result<Outcome<EllenLoc>, OutOfMemory>
+) -> Access
     ensures ok { IfOk result (λ outcome. search_act machine op (place.InsOnly parent leaf) mem.old
         ≡ (mem.new, outcome)) }
     ensures err { OnErr result (mem.new ≡ mem.old) }
@@ -224,7 +206,7 @@ fn delete_flag_row(
     above: Above,
     parent: Above,
     leaf: u16,
-) -> Result<Outcome<EllenLoc>, OutOfMemory>
+) -> Access
     ensures ok { IfOk result (λ outcome.
         search_act machine op (place.DFlag above parent.node parent.update leaf) mem.old ≡ (mem.new, outcome)) }
     ensures err { OnErr result (mem.new ≡ mem.old) }
@@ -254,7 +236,7 @@ pub fn search_act(
     op: Op,
     at: SearchLoc,
     mem: &mut EllenMem,
-) -> Result<Outcome<EllenLoc>, OutOfMemory>
+) -> Access
     ensures ok { IfOk result (λ outcome. search_act machine op at mem.old ≡ (mem.new, outcome)) }
     ensures err { OnErr result (mem.new ≡ mem.old) }
 {

@@ -17,6 +17,7 @@ impl CodedPart for Node {
     #[inline(always)]
     fn read(bytes: &[u8]) -> Option<(Node, &[u8])> {
         match bytes {
+            [1, key @ 0..=254, rest @ ..] => Some((Node::Leaf { key: *key }, rest)),
             [
                 102,
                 key @ 0..=254,
@@ -34,7 +35,6 @@ impl CodedPart for Node {
                 };
                 Some((node, rest))
             }
-            [1, key @ 0..=254, rest @ ..] => Some((Node::Leaf { key: *key }, rest)),
             _ => None,
         }
     }
@@ -71,10 +71,10 @@ impl CodedPart for Record {
                 rest @ ..,
             ] => {
                 let delete = DeleteRecord {
+                    parent_update: word_of(*kind, *named)?,
                     grandparent: u16::from(*grandparent) - 1,
                     parent: u16::from(*parent) - 1,
                     leaf: u16::from(*leaf) - 1,
-                    parent_update: word_of(*kind, *named)?,
                 };
                 Some((Record::Del(delete), rest))
             }

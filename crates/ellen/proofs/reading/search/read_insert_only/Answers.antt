@@ -7,6 +7,6 @@ use Rattle.ellen.proofs.reading.search.read_insert_only.Goals as goal
 pub returns : goal.returns
 returns c =
     let bytes = c.args.bytes.now in
-    let parent = name_is (c.from-parent.result - 1) (get_or bytes 0 0) (omega arith) (omega arith) in
-    let leaf = name_is (c.from-leaf.result - 1) (get_or bytes 1 0) (omega arith) (omega arith) in
+    let parent = name_is (c.from.result - 1) (get_or bytes 0 0) (omega arith) (omega arith) in
+    let leaf = name_is (c.from-2.result - 1) (get_or bytes 1 0) (omega arith) (omega arith) in
     ap (λ l. 71 ∷ 3 ∷ l) (first_two bytes (omega arith)) ∙ rw (parent, leaf) refl
