@@ -1,0 +1,35 @@
+-- As many nodes and records are appended as were counted.
+use Rattle.std.proofs.Common.{◌≡◌, ℕ, ◌<◌, List, ◌∷◌, ◌++◌, length, map, sym, ap, ◌∙◌, append_assoc, arith}
+use Rattle.std.proofs.lemmas.Grind.{flat_map-append}
+use Rattle.std.proofs.lemmas.List.{length-map, map-append}
+use Rattle.tree_machine.specs.Flat.{cell_code, flat, graph_code, number_code, part_codes, part_content}
+use Rattle.tree_machine.specs.Laws.FirstBytes.{first_two}
+use Rattle.tree_machine.specs.Laws.SmallCodes.{small_code}
+use Rattle.tree_machine.specs.Parts.{Part}
+use Rattle.ellen.specs.Parts.{node_part, record_part}
+use Rattle.ellen.proofs.reading.graph.read_graph.Goals as goal
+
+graph_read : (nodes records : List Part) (bytes behind rest : List ℕ) (count many : ℕ) → count < 255 → many < 255
+    → length nodes ≡ count → length records ≡ many → bytes ≡ part_codes nodes ++ behind
+    → behind ≡ part_codes records ++ rest → count ∷ many ∷ bytes ≡ graph_code nodes records ++ rest
+graph_read nodes records bytes behind rest count many few less n m b r =
+    let one = ap number_code n ∙ small_code count few in
+    let two = ap number_code m ∙ small_code many less in
+    let both =
+    ap flat (map-append part_content nodes records)
+    ∙ flat_map-append cell_code (map part_content nodes) (map part_content records) in
+    let all : bytes ≡ part_codes (nodes ++ records) ++ rest =
+    b ∙ (ap (λ l. part_codes nodes ++ l) r
+    ∙ (sym (append_assoc (part_codes nodes) (part_codes records) rest) ∙ ap (λ l. l ++ rest) (sym both))) in
+    ap (λ l. count ∷ many ∷ l) all ∙ sym (λ i. (one i ++ (two i ++ part_codes (nodes ++ records))) ++ rest)
+
+pub returns-in-Some-2 : goal.returns-in-Some-2
+returns-in-Some-2 c =
+    let bytes = c.args.bytes.now in
+    let nodes = rw c.in-Some.is at c.in_ok-behind.ensures in
+    let records = rw c.in-Some-2.is at c.in_ok-rest.ensures in
+    let read =
+    graph_read (map node_part nodes.0) (map record_part records.0) _ c.in-Some.behind.now c.in-Some-2.rest.now _ _
+    (omega arith) (omega arith) (length-map nodes.0 node_part ∙ nodes.2) (length-map records.0 record_part ∙ records.2)
+    nodes.3 records.3 in
+    (nodes.0, records.0, nodes.1, nodes.2, records.1, records.2, first_two bytes (omega arith) ∙ read)
