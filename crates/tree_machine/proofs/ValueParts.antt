@@ -52,9 +52,9 @@ parts_paired a b e = subst (ArePartsPaired Same Same a) e
 
 module _ {A : Type 0} (part : A → Part) where
   -- values are equal where equality pairs their parts; so equal parts are of equal values
-  pub values_told : ((a b : A) → ArePartsPaired Same Same (part a) (part b) → a ≡ b) → (xs ys : List A)
+  pub values_equal : ((a b : A) → ArePartsPaired Same Same (part a) (part b) → a ≡ b) → (xs ys : List A)
       → map part xs ≡ map part ys → xs ≡ ys
-  values_told equal = map_tells part (λ a b e. equal a b (parts_paired (part a) (part b) e))
+  values_equal equal = map_tells part (λ a b e. equal a b (parts_paired (part a) (part b) e))
 
   module _ (T : A → Type 0) (n m i j : ℕ) (e : i ≡ n) (d : j ≡ m) where
     -- each part has its numbers below these

@@ -7,7 +7,7 @@ use Rattle.tree_machine.specs.FormCode.{TellsWholly, cut_code}
 use Rattle.tree_machine.specs.Flat.{all_front}
 use Rattle.tree_machine.specs.Pairing.{AreHeldPaired}
 use Rattle.tree_machine.specs.Laws.PartForms.{parts_tell_wholly}
-use Rattle.tree_machine.proofs.ValueParts.{Same, values_told}
+use Rattle.tree_machine.proofs.ValueParts.{Same, values_equal}
 use Rattle.tree_machine.specs.declared.front.Front.{Front}
 use Rattle.ellen.specs.declared.memory.UpdateWord.{UpdateWord}
 use Rattle.ellen.specs.declared.memory.UpdateWord.TheVariants as word
@@ -112,13 +112,13 @@ parts_tell : (memory other : EllenMem) (held others : List (Option EllenLoc))
     → ellen_parts memory held ≡ ellen_parts other others → (memory ≡ other) × (held ≡ others)
 parts_tell memory other held others e =
     let nodes : memory.nodes ≡ other.nodes =
-    values_told node_part (λ a b h. nodes_equal a b (node_from Same Same a b h)) memory.nodes other.nodes
+    values_equal node_part (λ a b h. nodes_equal a b (node_from Same Same a b h)) memory.nodes other.nodes
     (λ i. (e i).nodes) in
     let records : memory.records ≡ other.records =
-    values_told record_part (λ a b h. records_equal a b (record_from Same Same a b h)) memory.records other.records
+    values_equal record_part (λ a b h. records_equal a b (record_from Same Same a b h)) memory.records other.records
     (λ i. (e i).records) in (
       (λ i. record { nodes = nodes i; records = records i }),
-      values_told held_part (λ a b h. held_equal a b (held_from Same Same a b h)) held others (λ i. (e i).held),
+      values_equal held_part (λ a b h. held_equal a b (held_from Same Same a b h)) held others (λ i. (e i).held),
     )
 
 -- equal bytes are of equal memories and places

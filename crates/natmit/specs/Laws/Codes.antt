@@ -6,7 +6,7 @@ use Rattle.tree_machine.specs.Pairing.{AreHeldPaired}
 use Rattle.tree_machine.specs.FormCode.{TellsWholly, cut_code}
 use Rattle.tree_machine.specs.Flat.{all_front}
 use Rattle.tree_machine.specs.Laws.PartForms.{parts_tell_wholly}
-use Rattle.tree_machine.proofs.ValueParts.{Same, values_told}
+use Rattle.tree_machine.proofs.ValueParts.{Same, values_equal}
 use Rattle.tree_machine.specs.declared.front.Front.{Front}
 use Rattle.natmit.specs.declared.memory.Word.{Word}
 use Rattle.natmit.specs.declared.memory.Node.{Node}
@@ -67,10 +67,10 @@ parts_tell : (memory other : NatMitMem) (held others : List (Option NatMitLoc))
     → natmit_parts memory held ≡ natmit_parts other others → (memory ≡ other) × (held ≡ others)
 parts_tell memory other held others e =
     let nodes : memory.nodes ≡ other.nodes =
-    values_told node_part (λ a b h. nodes_equal a b (nodes_of_parts Same Same a b h)) memory.nodes other.nodes
+    values_equal node_part (λ a b h. nodes_equal a b (nodes_of_parts Same Same a b h)) memory.nodes other.nodes
     (λ i. (e i).nodes) in (
       (λ i. record { nodes = nodes i }),
-      values_told held_part (λ a b h. held_equal a b (held_of_parts Same Same a b h)) held others (λ i. (e i).held),
+      values_equal held_part (λ a b h. held_equal a b (held_of_parts Same Same a b h)) held others (λ i. (e i).held),
     )
 
 -- and so do their bytes

@@ -50,7 +50,7 @@ fn read_down(bytes: &[u8]) -> Option<(NatMitLoc, &[u8])>
     ensures { IfSome result (λ (place, rest). 177 ∷ bytes.now
         ≡ cell_code (part_content (place_part place)) ++ rest.now) }
 {
-    let [2, told, ancestor, successor, parent, leaf, last, rest @ ..] = bytes else {
+    let [2, tag, ancestor, successor, parent, leaf, last, rest @ ..] = bytes else {
         return None;
     };
     let ancestor = name_of(*ancestor)?;
@@ -58,13 +58,13 @@ fn read_down(bytes: &[u8]) -> Option<(NatMitLoc, &[u8])>
     let parent = name_of(*parent)?;
     let leaf = name_of(*leaf)?;
     let mode = mode_of(reference_of(*last)?);
-    if *told < 2 {
+    if *tag < 2 {
         let place = NatMitLoc::Down {
             ancestor,
             successor,
             parent,
             leaf,
-            tag: *told == 1,
+            tag: *tag == 1,
             mode,
         };
         Some((place, rest))
@@ -134,7 +134,7 @@ fn read_four(bytes: &[u8]) -> Option<(NatMitLoc, &[u8])>
 
 /// The place of this kind that holds one fact, three nodes and a mode, if there is one.
 #[inline(always)]
-fn place_of_told(
+fn place_with_fact(
     kind: u64,
     fact: u64,
     ancestor: u16,
@@ -174,7 +174,7 @@ fn place_of_told(
 
 /// Reads a place that holds one fact, three nodes and a mode, behind its first byte.
 #[inline(always)]
-fn read_told(bytes: &[u8]) -> Option<(NatMitLoc, &[u8])>
+fn read_with_fact(bytes: &[u8]) -> Option<(NatMitLoc, &[u8])>
     ensures { IfSome result (λ (place, rest). 142 ∷ bytes.now
         ≡ cell_code (part_content (place_part place)) ++ rest.now) }
 {
@@ -196,7 +196,7 @@ fn read_told(bytes: &[u8]) -> Option<(NatMitLoc, &[u8])>
     let successor = name_of(*successor)?;
     let node = name_of(*node)?;
     let mode = mode_of(reference_of(*last)?);
-    let place = place_of_told(kind, fact, ancestor, successor, node, mode)?;
+    let place = place_with_fact(kind, fact, ancestor, successor, node, mode)?;
     Some((place, rest))
 }
 
@@ -209,7 +209,7 @@ fn read_place(head: u8, bytes: &[u8]) -> Option<(NatMitLoc, &[u8])>
     match head {
         36 => read_begin(bytes),
         141 => read_four(bytes),
-        142 => read_told(bytes),
+        142 => read_with_fact(bytes),
         177 => read_down(bytes),
         _ => None,
     }

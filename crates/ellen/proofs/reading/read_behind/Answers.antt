@@ -22,7 +22,7 @@ returns c =
     let record_list = c.from_vec-2.result in
     record {
       read = IfOk-weaker c.read_left-read.result _ _
-          (λ told read is.
+          (λ stated read is.
           let left = read is in
           behind_read held_part front (map node_part node_list) (map record_part record_list) (map node_part left.0)
           (map record_part left.1) c.read_each.new.threads c.args.bytes.now c.in-Some.rest.now
@@ -32,7 +32,7 @@ returns c =
           (c.from_vec-2.ensures ∙ left.3 ∙ ap (λ l. l ++ left.1) short)) places left.4)
           c.read_left-read.ensures;
       front = IfOk-weaker c.read_left-read.result _ _
-          (λ told read is.
+          (λ stated read is.
           let left = read is in
           front_kept front (map node_part node_list) (map record_part record_list) (map node_part old.items)
           (map record_part kept.items) []

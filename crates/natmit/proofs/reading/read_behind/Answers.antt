@@ -15,7 +15,7 @@ returns c =
     let cut = c.truncate.ensures.items ∙ ap (λ n. take n old.items) c.from-2.ensures in
     record {
       read = IfOk-weaker c.read_left-read.result _ _
-          (λ told read is.
+          (λ stated read is.
           let left = read is in
           let now = c.from_vec.ensures ∙ left.1 ∙ ap (λ l. l ++ left.0) cut in
           behind_read held_part front (map node_part nodes) [] (map node_part left.0) [] c.read_places.new.threads
@@ -23,7 +23,7 @@ returns c =
           (drop_none front.records) c.in-Some.ensures.read left.2)
           c.read_left-read.ensures;
       front = IfOk-weaker c.read_left-read.result _ _
-          (λ told read is.
+          (λ stated read is.
           let left = read is in
           let now = c.from_vec.ensures ∙ left.1 ∙ ap (λ l. l ++ left.0) cut in
           front_kept front (map node_part nodes) [] (map node_part old.items) [] []

@@ -14,9 +14,9 @@ returns c =
     let is = c.in_ok-above.ensures in
     let word = c.in_ok-update.ensures in
     let kind = above_is above (get_or bytes 0 0) is.kind in
-    let told = word_is update (get_or bytes 1 0) word.kind in
+    let stated = word_is update (get_or bytes 1 0) word.kind in
     let node = byte_is (reference_number (above_node above)) (get_or bytes 2 0) is.node is.small_node in
     let name = name_is (c.from-parent.result - 1) (get_or bytes 3 0) (omega arith) (omega arith) in
     let named = byte_is (reference_number (above_record above)) (get_or bytes 4 0) is.named is.small_named in
     let last = byte_is (reference_number (word_record update)) (get_or bytes 5 0) word.named word.small in
-    ap (λ l. 133 ∷ 1 ∷ l) (first_six bytes (omega arith)) ∙ rw (kind, told, node, name, named, last) refl
+    ap (λ l. 133 ∷ 1 ∷ l) (first_six bytes (omega arith)) ∙ rw (kind, stated, node, name, named, last) refl

@@ -14,10 +14,10 @@ returns c =
     let first = c.in_ok-word_of.ensures in
     let word = c.in_ok-word_of-2.ensures in
     let kind = word_is above (get_or bytes 0 0) first.kind in
-    let told = word_is update (get_or bytes 1 0) word.kind in
+    let stated = word_is update (get_or bytes 1 0) word.kind in
     let node = name_is (c.from.result - 1) (get_or bytes 2 0) (omega arith) (omega arith) in
     let parent = name_is (c.from-2.result - 1) (get_or bytes 3 0) (omega arith) (omega arith) in
     let leaf = name_is (c.from-3.result - 1) (get_or bytes 4 0) (omega arith) (omega arith) in
     let named = byte_is (reference_number (word_record above)) (get_or bytes 5 0) first.named first.small in
     let last = byte_is (reference_number (word_record update)) (get_or bytes 6 0) word.named word.small in
-    ap (λ l. 168 ∷ 4 ∷ l) (first_seven bytes (omega arith)) ∙ rw (kind, told, node, parent, leaf, named, last) refl
+    ap (λ l. 168 ∷ 4 ∷ l) (first_seven bytes (omega arith)) ∙ rw (kind, stated, node, parent, leaf, named, last) refl

@@ -6,19 +6,19 @@ use Rattle.natmit.specs.Parts.{bit}
 use Rattle.natmit.proofs.reading.place.read_down.Goals as goal
 
 -- a number below two is a truth as a number
-bit_coded : (told : ℕ) → told < 2 → number_code (bit (nat_eq told 1)) ≡ told ∷ []
+bit_coded : (tag : ℕ) → tag < 2 → number_code (bit (nat_eq tag 1)) ≡ tag ∷ []
 bit_coded zero h = refl
 bit_coded (suc zero) h = refl
-bit_coded (suc (suc told)) h = absurd (omega arith)
+bit_coded (suc (suc tag)) h = absurd (omega arith)
 
-pub returns-then-told-lt2 : goal.returns-then-told-lt2
-returns-then-told-lt2 c =
+pub returns-then-tag-lt2 : goal.returns-then-tag-lt2
+returns-then-tag-lt2 c =
     let bytes = c.args.bytes.now in
     let kind : get_or bytes 0 0 ≡ 2 = omega arith in
     ap (λ l. 177 ∷ l) (first_seven bytes (omega arith))
     ∙ rw (
       kind,
-      bit_coded (get_or bytes 1 0) c.if-told-lt2.true,
+      bit_coded (get_or bytes 1 0) c.if-tag-lt2.true,
       c.in_ok-ancestor.ensures,
       c.in_ok-successor.ensures,
       c.in_ok-parent.ensures,

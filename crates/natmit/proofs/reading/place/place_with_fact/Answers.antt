@@ -1,6 +1,6 @@
 -- What it returns follows by the library's rules alone.
 use Rattle.std.proofs.Common.{rules}
-use Rattle.natmit.proofs.reading.place.place_of_told.Goals as goal
+use Rattle.natmit.proofs.reading.place.place_with_fact.Goals as goal
 
 pub returns-in-7 : goal.returns-in-7
 returns-in-7 c = search rules

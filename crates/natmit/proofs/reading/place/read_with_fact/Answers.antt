@@ -2,7 +2,7 @@ use Rattle.std.proofs.Common.{◌≡◌, [], ◌∷◌, get_or, refl, ap, ◌∙
 use Rattle.tree_machine.specs.Flat.{number_code}
 use Rattle.tree_machine.specs.Laws.FirstBytes.{first_six}
 use Rattle.tree_machine.specs.Laws.SmallCodes.{small_code}
-use Rattle.natmit.proofs.reading.place.read_told.Goals as goal
+use Rattle.natmit.proofs.reading.place.read_with_fact.Goals as goal
 
 pub returns : goal.returns
 returns c =
