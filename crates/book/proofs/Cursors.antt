@@ -1,7 +1,7 @@
 -- The places among the entries that are looked for again and again.
 use Rattle.std.proofs.Common.{◌≡◌, ℕ, zero, suc, ◌+◌, ◌<◌, ◌≤◌, inl, inr, Bool, true, false, not, cond, Option}
 use Rattle.std.proofs.Common.{Some, None, List, [], ◌∷◌, ◌++◌, length, map, refl, sym, ap, ◌∙◌, arith, slice_get}
-use Rattle.std.proofs.Common.{position, length-append, subst}
+use Rattle.std.proofs.Common.{IfNone, IfSome, position, length-append, subst}
 use Rattle.std.proofs.lemmas.Bool.{true≢false, cases_lt, not-false}
 use Rattle.std.proofs.lemmas.Option.{slice_get_within}
 use Rattle.tree_machine.proofs.Lists.{get-append_cases, get-append_left, get_at}
@@ -109,7 +109,13 @@ module _ {S : Type 0} (es : List (Entry S)) where
     pub open_none : length es ≤ next_open → position (λ (e : Entry S). is_open e.mark) es ≡ None
     open_none le =
         none_is (λ (e : Entry S). is_open e.mark) es (λ k y there.
-        open_fails y.mark (cursors.below k y there (let w : k < length es = slice_get_within es k y there in omega arith)))
+        open_fails y.mark
+        (cursors.below k y there (let w : k < length es = slice_get_within es k y there in omega arith)))
+
+    pub open_within : (r : Option ℕ) → IfSome r (λ i. (i ≡ next_open) × (next_open < length es))
+        → IfNone r (length es ≤ next_open) → r ≡ position (λ (e : Entry S). is_open e.mark) es
+    open_within (Some i) some none = ap Some some.0 ∙ sym (open_at some.1)
+    open_within None some none = sym (open_none none)
 
     pub left_at : first_left < length es → position (λ (e : Entry S). not (is_expanded e.mark)) es ≡ Some first_left
     left_at less =
@@ -123,6 +129,11 @@ module _ {S : Type 0} (es : List (Entry S)) where
         none_is (λ (e : Entry S). not (is_expanded e.mark)) es (λ k y there.
         expanded_fails y.mark
         (cursors.left.expanded k y there (let w : k < length es = slice_get_within es k y there in omega arith)))
+
+    pub left_within : (r : Option ℕ) → IfSome r (λ i. (i ≡ first_left) × (first_left < length es))
+        → IfNone r (length es ≤ first_left) → r ≡ position (λ (e : Entry S). not (is_expanded e.mark)) es
+    left_within (Some i) some none = ap Some some.0 ∙ sym (left_at some.1)
+    left_within None some none = sym (left_none none)
 
     -- where some entry is open, the cursor is at the first
     pub cursor_is : (i : ℕ) → position (λ (e : Entry S). is_open e.mark) es ≡ Some i → i ≡ next_open

@@ -65,8 +65,10 @@ module _ {S : Type 0} (m : StepMachine S) (same : S → S → Bool) (right : S �
       → IsWay es at (reverse noted) id
       → (o.parent < length es) × IsWay es o.parent (reverse (noted ++ o.thread ∷ [])) id
   way_back at id noted e o there origin way =
-      let made = step_of at e o there origin in
-      (slice_get_within es o.parent made.0 made.1, rw (reverse-append noted (o.thread ∷ [])) (at, e, there, origin, way))
+      let made = step_of at e o there origin in (
+        slice_get_within es o.parent made.0 made.1,
+        rw (reverse-append noted (o.thread ∷ [])) (at, e, there, origin, way),
+      )
 
   -- an entry that has none is the start
   no_origin : (k : ℕ) (e : Entry S) → At es k e → e.origin ≡ None → k ≡ 0

@@ -15,6 +15,7 @@ use Rattle.book.specs.declared.book.EnterFault.{EnterFault}
 use Rattle.book.specs.declared.book.EnterFault.TheVariants.{NotTaken, Stranger, Full, OutOfMemory}
 use Rattle.options.specs.declared.options.Merge.{Merge}
 use Rattle.replay.specs.declared.finding.Finding.{Finding}
+use Rattle.book.specs.declared.expanding.EntryKey.{EntryKey}
 use Rattle.book.specs.declared.successor.Successor.{Successor}
 
 -- labelled steps are all enabled steps of a state, each with a right finding and by its label
@@ -30,6 +31,16 @@ pub record Key (X : Type 0) : Type 0 where
   pub program : Program
   pub merge : Merge
   pub label : List ℕ
+
+abbrev pub key_of : {X : Type 0} → EntryKey X → Key X
+key_of key =
+    record {
+      id = key.id;
+      machine = key.machine;
+      program = key.program.now;
+      merge = key.merge;
+      label = key.label;
+    }
 
 -- an entry of a book of this machine and program
 abbrev pub IsOf : {X : Type 0} → X → Program → Key X → Type 0

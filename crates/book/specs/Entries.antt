@@ -101,6 +101,17 @@ pub record Contents (X S : Type 0) : Type 0 where
   pub entries : List (Entry S)
   pub met : ℕ
 
+abbrev pub contents_of : {X S : Type 0} → X → Program → Merge → ℕ → List (Entry S) → ℕ → Contents X S
+contents_of machine program merge limit entries met =
+    record {
+      machine = machine;
+      program = program;
+      merge = merge;
+      limit = limit;
+      entries = entries;
+      met = met;
+    }
+
 -- entry i, which was next, is taken; its state is s
 pub record Takes {S : Type 0} (steps : S → ℕ) (old new : List (Entry S)) (i : ℕ) (s : S) : Type 0 where
   pub entry : Entry S

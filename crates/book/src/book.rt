@@ -81,31 +81,17 @@ pub struct Book<M: Encode> {
 
 impl<M: Encode> Model for Book<M> {
     ghost use Rattle.tree_machine.specs.declared.state.State.{State};
-    ghost use Rattle.book.specs.Entries.{Contents};
+    ghost use Rattle.book.specs.Entries.{Contents, contents_of};
     ghost use Rattle.std.specs.Prelude.{◌≡◌};
     ghost use Rattle.book.specs.Books.{IsBook};
     ghost use Rattle.book.specs.Labels.{AreKnownBy, label_by};
 
     ghost Value = { Contents M (State M M.Mem M.Loc M.Form) };
 
-    ghost view = { λ b. record {
-      machine = b.machine;
-      program = b.program;
-      merge = b.merge;
-      limit = b.limit;
-      entries = b.table.entries;
-      met = b.met;
-    } };
+    ghost view = { λ b. contents_of b.machine b.program b.merge b.limit b.table.entries b.met };
 
     ghost invariant = { λ b. IsBook M.rules (label_by M.whole_code M.form_code (M.form_of b.machine) b.merge)
-        (record {
-          machine = b.machine;
-          program = b.program;
-          merge = b.merge;
-          limit = b.limit;
-          entries = b.table.entries;
-          met = b.met;
-        })
+        (contents_of b.machine b.program b.merge b.limit b.table.entries b.met)
         × AreKnownBy (label_by M.whole_code M.form_code (M.form_of b.machine) b.merge) b.table };
 }
 

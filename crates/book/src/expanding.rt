@@ -13,83 +13,51 @@ use std::alloc::Global;
 use std::marker::Model;
 use tree_machine::{Bytes, Encode};
 
-/// A taken entry of a book, by its label, with what was found of its state.
+/// An entry by its number and its label, with the machine, the program and the merge of its book.
 #[derive(Drop)]
-pub struct TakenEntry<'a, M: Encode> {
+pub(crate) struct EntryKey<'a, M> {
     pub(crate) id: usize,
     pub(crate) machine: M,
     pub(crate) program: &'a Program,
     pub(crate) merge: Merge,
     pub(crate) label: Bytes,
+}
+
+/// A taken entry of a book, by its label, with what was found of its state.
+#[derive(Drop)]
+pub struct TakenEntry<'a, M: Encode> {
+    pub(crate) key: EntryKey<'a, M>,
     pub(crate) finding: Finding,
 }
 
 impl<'a, M: Encode> Model for TakenEntry<'a, M> {
-    ghost use Rattle.book.specs.ByLabel.{IsTakenOf, TakenView};
+    ghost use Rattle.book.specs.ByLabel.{IsTakenOf, TakenView, key_of};
 
     ghost Value = { TakenView M };
 
-    ghost view = { λ t. record {
-      key = record {
-        id = t.id;
-        machine = t.machine;
-        program = t.program.now;
-        merge = t.merge;
-        label = t.label;
-      };
-      finding = t.finding;
-    } };
+    ghost view = { λ t. record { key = key_of t.key; finding = t.finding } };
 
-    ghost invariant = { λ t. IsTakenOf M.rules M.whole_code M.form_code M.form_of (record {
-      key = record {
-        id = t.id;
-        machine = t.machine;
-        program = t.program.now;
-        merge = t.merge;
-        label = t.label;
-      };
-      finding = t.finding;
-    }) };
+    ghost invariant = { λ t. IsTakenOf M.rules M.whole_code M.form_code M.form_of
+        (record { key = key_of t.key; finding = t.finding }) };
 }
 
 /// An entry with all enabled steps of its state, in the order of the threads. Each has the label
 /// and the finding of the state that it reaches.
 #[derive(Drop)]
 pub struct ExpandedEntry<'a, M: Encode> {
-    pub(crate) id: usize,
-    pub(crate) machine: M,
-    pub(crate) program: &'a Program,
-    pub(crate) merge: Merge,
-    pub(crate) label: Bytes,
+    pub(crate) key: EntryKey<'a, M>,
     pub(crate) steps: Vec<Successor<Label>>,
 }
 
 impl<'a, M: Encode> Model for ExpandedEntry<'a, M> {
-    ghost use Rattle.book.specs.ByLabel.{ExpandedView, IsExpandedOf};
+    ghost use Rattle.book.specs.ByLabel.{ExpandedView, IsExpandedOf, key_of};
 
     ghost Value = { ExpandedView M };
 
-    ghost view = { λ x. record {
-      key = record {
-        id = x.id;
-        machine = x.machine;
-        program = x.program.now;
-        merge = x.merge;
-        label = x.label;
-      };
-      steps = x.steps.items;
-    } };
+    ghost view = { λ x. record { key = key_of x.key; steps = x.steps.items } };
 
-    ghost invariant = { λ x. IsExpandedOf M.rules M.whole_code M.form_code M.form_of (record {
-      key = record {
-        id = x.id;
-        machine = x.machine;
-        program = x.program.now;
-        merge = x.merge;
-        label = x.label;
-      };
-      steps = x.steps.items;
-    }) };
+    ghost invariant = { λ x. IsExpandedOf M.rules M.whole_code M.form_code M.form_of
+        (record { key = key_of x.key; steps = x.steps.items }) };
 }
 
 impl<'a, M: Encode> TakenEntry<'a, M> {
@@ -104,33 +72,20 @@ impl<'a, M: Encode> TakenEntry<'a, M> {
         ensures { IfOk result (λ o. IfSome o (λ x. x.key ≡ self.entry.key)) }
     {
         // Whoever reads a program knows that it meets the limits.
-        let _ = self.program.initial();
+        let _ = self.key.program.initial();
         let Finding::Sound(order) = &self.finding else {
             return Ok(None);
         };
-        let label = self.label.as_slice();
-        let Some(mut decoded) = scratch.decode(alloc, self.machine, self.program, label)? else {
+        let label = self.key.label.as_slice();
+        let Some(mut decoded) = scratch.decode(alloc, self.key.machine, self.key.program, label)?
+        else {
             return Ok(None);
         };
         let offsets = decoded.offsets;
         let steps = steps_here(alloc, &self, offsets, order, &mut *decoded.state, scratch)?;
         scratch.last = Some(decoded);
-        let TakenEntry {
-            id,
-            machine,
-            program,
-            merge,
-            label,
-            ..
-        } = self;
-        Ok(Some(ExpandedEntry {
-            id,
-            machine,
-            program,
-            merge,
-            label,
-            steps,
-        }))
+        let TakenEntry { key, .. } = self;
+        Ok(Some(ExpandedEntry { key, steps }))
     }
 }
 
@@ -139,7 +94,7 @@ impl<'a, M: Encode> ExpandedEntry<'a, M> {
     pub fn id(&self) -> usize
         ensures { result ≡ self.now.key.id }
     {
-        self.id
+        self.key.id
     }
 
     /// How many steps it has.

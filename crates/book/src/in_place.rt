@@ -39,25 +39,38 @@ fn put_step_here<M: Encode>(
 {
     let alloc = *steps.allocator();
     // Whoever reads a program knows that it meets the limits.
-    let _ = from.program.initial();
+    let _ = from.key.program.initial();
     let source = Snapshot::of(&*state);
-    match state.step_here(alloc, from.machine, from.program, thread, &mut scratch.undo) {
+    match state.step_here(
+        alloc,
+        from.key.machine,
+        from.key.program,
+        thread,
+        &mut scratch.undo,
+    ) {
         Ok(()) => {}
         Err(StepFault::NotEnabled) => return Ok(()),
         Err(StepFault::OutOfMemory) => return Err(OutOfMemory),
     }
     let spare = scratch.spare.label(alloc);
     let origin = StepOrigin {
-        label: from.label.as_slice(),
+        label: from.key.label.as_slice(),
         offsets,
         state: &source,
         thread,
         undo: &scratch.undo,
     };
-    let found = find_here(alloc, from.machine, from.program, &origin, &*state, order)?;
-    let naming = naming(from.merge);
+    let found = find_here(
+        alloc,
+        from.key.machine,
+        from.key.program,
+        &origin,
+        &*state,
+        order,
+    )?;
+    let naming = naming(from.key.merge);
     let buffer = &mut scratch.buffer;
-    let label = state.label_after(alloc, from.machine, naming, &origin, buffer, spare)?;
+    let label = state.label_after(alloc, from.key.machine, naming, &origin, buffer, spare)?;
     state.take_back(alloc, &source, thread, &mut scratch.undo);
     steps.push_reserved(Successor {
         thread,
@@ -84,7 +97,7 @@ pub(crate) fn steps_here<M: Encode>(
     ensures steps { IfOk result (λ steps. IsExpandedOf M.rules M.whole_code M.form_code M.form_of
         (record { key = from.now.key; steps = steps.items })) }
 {
-    let threads = from.program.threads().len();
+    let threads = from.key.program.threads().len();
     let mut steps = scratch.spare.list(alloc, threads)?;
     for thread in 0..threads as u8 {
         put_step_here(from, offsets, order, state, thread, scratch, &mut steps)?;

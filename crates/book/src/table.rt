@@ -1,6 +1,6 @@
 //! The entries by number and by label, and cursors to those that are looked for again and again.
 ghost use Rattle.std.specs.Prelude.{◌≡◌, ℕ, ◌+◌, ◌-◌, ◌^◌, ◌<◌, ◌≤◌, ◌++◌, ◌∷◌, ◌⊎◌, [], count_by, length, map, not};
-ghost use Rattle.std.specs.Prelude.{position, true, OnOk, OnErr, IfOk, IfErr, IfSome, Some, None, IsSome};
+ghost use Rattle.std.specs.Prelude.{position, true, OnOk, OnErr, IfOk, IfErr, IfSome, IfNone, Some, None, IsSome};
 ghost use Rattle.std.specs.Prelude.{List, slice_get};
 ghost use Rattle.std.specs.List.{All, range_with_len};
 ghost use Rattle.std.specs.Option.{option_copied};
@@ -83,6 +83,19 @@ fn slot_at<S>(slots: &IndexMap<Label, Row<S>>, index: usize) -> (&Label, &Row<S>
     match slots.get_index(index) {
         Some(slot) => slot,
         None => unreachable!(),
+    }
+}
+
+/// An index, if there is a row at it.
+#[inline(always)]
+fn within<S>(slots: &IndexMap<Label, Row<S>>, index: usize) -> Option<usize>
+    ensures some { IfSome result (λ at. (at ≡ index) × (index < length (entries_of slots.now.entries))) }
+    ensures none { IfNone result (length (entries_of slots.now.entries) ≤ index) }
+{
+    if index < slots.len() {
+        Some(index)
+    } else {
+        None
     }
 }
 
@@ -171,22 +184,14 @@ impl<S> Table<S> {
         ensures first { result ≡ position (λ e. is_open e.mark) self.now.entries }
         ensures above { IfSome result (IsOpenFrom self.now.entries) }
     {
-        if self.next_open < self.slots.len() {
-            Some(self.next_open)
-        } else {
-            None
-        }
+        within(&self.slots, self.next_open)
     }
 
     /// The first entry that is not expanded.
     pub fn first_left(&self) -> Option<usize>
         ensures { result ≡ position (λ e. not (is_expanded e.mark)) self.now.entries }
     {
-        if self.first_left < self.slots.len() {
-            Some(self.first_left)
-        } else {
-            None
-        }
+        within(&self.slots, self.first_left)
     }
 
     /// The first entry that is not sound.

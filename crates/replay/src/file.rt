@@ -1,5 +1,5 @@
-//! Book files: whether lines, whoever wrote them, show that every schedule reaches a correct state; and the text of such
-//! lines.
+//! Book files: whether lines, whoever wrote them, show that every schedule reaches a correct state; and the text of
+//! such lines.
 
 mod check;
 mod closing;

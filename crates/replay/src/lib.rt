@@ -1,5 +1,5 @@
-//! What is found of a state, the replay of a schedule, and the check of a book file, which replays each line. Nothing of
-//! the explorer's book is here: who only believes `check_book` reads this crate alone.
+//! What is found of a state, the replay of a schedule, and the check of a book file, which replays each line. Nothing
+//! of the explorer's book is here: who only believes `check_book` reads this crate alone.
 #![tactic(auto)]
 
 mod file;

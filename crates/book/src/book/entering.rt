@@ -73,7 +73,8 @@ impl<M: Encode> Book<M> {
         ensures { IsTrue result ↔ IsEntryOf (label_by M.whole_code M.form_code (M.form_of self.now.machine)
             self.now.merge) self.now entry.now.key }
     {
-        self.merge == entry.merge && self.table.label(entry.id) == entry.label.as_slice()
+        self.merge == entry.key.merge
+            && self.table.label(entry.key.id) == entry.key.label.as_slice()
     }
 
     /// Whether labelled steps may be entered: their entry is taken, and they are that entry's.
@@ -84,7 +85,7 @@ impl<M: Encode> Book<M> {
             entry.now.key) }
         ensures refused { IfErr result (RefusesEntry M.rules M.whole_code M.form_code M.form_of self.now entry.now) }
     {
-        if !self.is_taken(entry.id) {
+        if !self.is_taken(entry.key.id) {
             return Err(EnterFault::NotTaken);
         }
         if self.is_entry_of(entry) {
@@ -179,13 +180,8 @@ impl<M: Encode> Book<M> {
             return Err(fault);
         }
         self.law();
-        let ExpandedEntry {
-            id,
-            label,
-            steps,
-            ..
-        } = entry;
-        recycled.keep_label(label.into_vec());
-        self.enter_steps(id, steps, recycled)
+        let ExpandedEntry { key, steps } = entry;
+        recycled.keep_label(key.label.into_vec());
+        self.enter_steps(key.id, steps, recycled)
     }
 }

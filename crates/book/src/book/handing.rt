@@ -7,7 +7,7 @@ ghost use Rattle.book.specs.Labels.{label_by};
 ghost use Rattle.book.specs.declared.entry.Mark.{Mark};
 
 use crate::book::Book;
-use crate::expanding::TakenEntry;
+use crate::expanding::{EntryKey, TakenEntry};
 use crate::scratch::Scratch;
 use sched_program::{OutOfMemory, Program};
 use tree_machine::{Bytes, Encode};
@@ -60,12 +60,15 @@ impl<M: Encode> Book<M> {
         }
         let alloc = self.table.allocator();
         let label = Bytes::copied_in(self.table.label(id), scratch.spare.label(alloc))?;
-        Ok(Some(TakenEntry {
+        let key = EntryKey {
             id,
             machine: self.machine,
             program,
             merge: self.merge,
             label,
+        };
+        Ok(Some(TakenEntry {
+            key,
             finding: *self.table.entry(id).finding(),
         }))
     }

@@ -92,12 +92,16 @@ module _ {Machine Memory Place Form : Type 0} (rules : Rules Memory Place) (prog
         let same : kept.states ≡ states =
         one_continued rules program (start rules program ∷ []) lines kept.states states kept.replayed.1 so.1 in
         let there : slice_get (map (named_by code form_of) states) index ≡ Some label =
-        ap (λ (xs : List (State Machine Memory Place Form)). slice_get (map (named_by code form_of) xs) index) (sym same)
+        ap (λ (xs : List (State Machine Memory Place Form)). slice_get (map (named_by code form_of) xs) index)
+        (sym same)
         ∙ ap (λ ls. slice_get ls index) (sym kept.labelled) ∙ at in
         let w = get-map (named_by code form_of) states index label there in
         let fits : Fits rules program w.0 = each_fits rules program lawful limits lines states so index w.0 w.1 in
-        let law = named w.0 (numbers_fit rules program w.0 fits) w.2 in
-        (w.0, w.1, record { alike = law.0; fits = law.1 program fits; steps = (let none = law.2 in omega (arith, none)) })
+        let law = named w.0 (numbers_fit rules program w.0 fits) w.2 in (
+          w.0,
+          w.1,
+          record { alike = law.0; fits = law.1 program fits; steps = (let none = law.2 in omega (arith, none)) },
+        )
 
     -- and so does what the way to the entry leads to
     pub run_stands_for : (way : List ℕ) (end : State Machine Memory Place Form)

@@ -1,11 +1,12 @@
 //! Whether the bytes of a book file pass.
-ghost use Rattle.std.specs.Prelude.{◌≡◌, ◌≢◌, ℕ, ◌⊎◌, IfOk, IfErr};
+ghost use Rattle.std.specs.Prelude.{◌≡◌, ◌≢◌, ℕ, ◌+◌, ◌⊎◌, IfOk, IfErr, length};
 ghost use Rattle.replay.specs.Correct.{HoldsAlways};
 ghost use Rattle.replay.specs.declared.file.fault.CheckFault.{CheckFault};
 ghost use Rattle.replay.specs.BookFile.Checks.{IsRefusedFor, PassAs};
 
 use crate::file::closing::test_closed;
 use crate::file::fault::CheckFault;
+use crate::file::line::BookLine;
 use crate::file::reading::read_lines;
 use crate::file::recalling::Input;
 use crate::file::replayer::Replayer;
@@ -14,16 +15,16 @@ use sched_program::Program;
 use std::alloc::Global;
 use tree_machine::Encode;
 
-/// The number of entries of a book file whose bytes pass: each line but the first two states the step of an earlier
-/// entry, and its order shows that the state reached is correct; and each step of an entry reaches a state that is
-/// alike to some entry's.
-fn entries_checked<M: Encode>(
+/// The lines after the second of a book file whose bytes pass: each states the step of an earlier entry, and its order
+/// shows that the state reached is correct; and each step of an entry reaches a state that is alike to some entry's.
+fn lines_checked<M: Encode>(
     alloc: Global,
     machine: M,
     program: &Program,
     bytes: &[u8],
-) -> Result<usize, CheckFault>
-    ensures pass { IfOk result (PassAs M M.Form (M.rules machine) program.now bytes.now) }
+) -> Result<Vec<BookLine>, CheckFault>
+    ensures pass { IfOk result (λ lines.
+        PassAs M M.Form (M.rules machine) program.now bytes.now (length lines.items + 1)) }
     ensures refused { IfErr result (λ fault. (fault ≡ CheckFault.OutOfMemory)
         ⊎ IsRefusedFor M M.Form (M.rules machine) program.now bytes.now fault) }
 {
@@ -36,7 +37,7 @@ fn entries_checked<M: Encode>(
     let mut replayer = Replayer::new(alloc, machine, program)?;
     let labels = replay_lines(alloc, &input, &mut replayer)?;
     test_closed(alloc, &input, &labels, &mut replayer)?;
-    Ok(lines.len() + 1)
+    Ok(lines)
 }
 
 /// Whether the bytes of a book file pass, and how many entries it has: they are in the form, and their lines pass. Then
@@ -64,5 +65,6 @@ pub fn check_book<M: Encode>(
 {
     // Whoever reads a program knows that it meets the limits.
     let _ = program.initial();
-    entries_checked(alloc, machine, program, bytes)
+    let lines = lines_checked(alloc, machine, program, bytes)?;
+    Ok(lines.len() + 1)
 }

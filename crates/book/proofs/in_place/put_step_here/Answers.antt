@@ -14,7 +14,7 @@ label_after-requires-clause-coded g c κs within =
     let some = c.from.invariant in
     rw c.naming-naming.ensures (
       some.state,
-      numbers_fit (g.M.Machine.rules from.machine) from.program.now some.state some.fits,
+      numbers_fit (g.M.Machine.rules from.key.machine) from.key.program.now some.state some.fits,
       c.as_slice.ensures ∙ sym some.label,
     )
 
@@ -22,13 +22,13 @@ pub returns-clause-put : goal.returns-clause-put
 returns-clause-put g c =
     let bound = g.met.M.Machine g.world.𝓛 g.world.𝓜 g.world.𝓡 ((λ s x. x), (λ x. x), (λ x. x), λ x. x) in
     let from = c.from.inside in
-    let rules = g.M.Machine.rules from.machine in
-    let form_of = g.M.Machine.form_of from.machine in
+    let rules = g.M.Machine.rules from.key.machine in
+    let form_of = g.M.Machine.form_of from.key.machine in
     let source = rw (← c.from.view_is) at c.requires.source in
     let next = c.step_here.new.self in
-    let right = IsFindingOf {Machine = g.row.M.Denot} {Form = g.row.M-Form.Denot} rules from.program.now in
-    rw (← c.from.view_is) (λ of fits is. puts_twin rules from.program.now form_of (bound.lawful from.machine)
-    (bound.forms from.machine) from.merge of c.args.state.now c.args.thread fits source.fits
+    let right = IsFindingOf {Machine = g.row.M.Denot} {Form = g.row.M-Form.Denot} rules from.key.program.now in
+    rw (← c.from.view_is) (λ of fits is. puts_twin rules from.key.program.now form_of (bound.lawful from.key.machine)
+    (bound.forms from.key.machine) from.key.merge of c.args.state.now c.args.thread fits source.fits
     (source.counts of fits is) next
     c.in-Ok.ensures.step g.M.Encode.whole_code g.M.Encode.form_code c.args.steps.now.items
     c.push_reserved.new.self.items
@@ -42,11 +42,11 @@ pub returns-in-Err-NotEnabled-clause-put : goal.returns-in-Err-NotEnabled-clause
 returns-in-Err-NotEnabled-clause-put g c =
     let bound = g.met.M.Machine g.world.𝓛 g.world.𝓜 g.world.𝓡 ((λ s x. x), (λ x. x), (λ x. x), λ x. x) in
     let from = c.from.inside in
-    let form_of = g.M.Machine.form_of from.machine in
+    let form_of = g.M.Machine.form_of from.key.machine in
     let source = rw (← c.from.view_is) at c.requires.source in
-    rw (← c.from.view_is) (λ of fits is. puts_none (g.M.Machine.rules from.machine) from.program.now form_of
-    (bound.lawful from.machine) (bound.forms from.machine) from.merge of c.args.state.now c.args.thread fits source.fits
+    rw (← c.from.view_is) (λ of fits is. puts_none (g.M.Machine.rules from.key.machine) from.key.program.now form_of
+    (bound.lawful from.key.machine) (bound.forms from.key.machine) from.key.merge of c.args.state.now c.args.thread fits source.fits
     (source.counts of fits is)
-    (label_by g.M.Encode.whole_code g.M.Encode.form_code form_of from.merge) c.args.steps.now.items
+    (label_by g.M.Encode.whole_code g.M.Encode.form_code form_of from.key.merge) c.args.steps.now.items
     c.args.steps.now.items
     (c.step_here.ensures.no_step.0 (c.in-Err-NotEnabled.is ∙ ap Err c.in-Err-NotEnabled.field-0-is)) refl)

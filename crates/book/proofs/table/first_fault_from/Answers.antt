@@ -22,12 +22,11 @@ loop-index-preserved g c =
 
 pub returns : goal.returns
 returns g c =
-    let l : length (entries_of c.args.slots.now.entries) ≡ length c.args.slots.now.entries =
-    length-entries c.args.slots.now.entries in
+    let es = entries_of c.args.slots.now.entries in
+    let l : length es ≡ length c.args.slots.now.entries = length-entries c.args.slots.now.entries in
     let n : c.len-index-end.result ≡ length c.args.slots.now.entries = c.len-index-end.ensures.len in
     let le : c.len-index-end.result ≤ c.loop-index.index = c.loop-index-test.false in
-    sym (none_is (λ (e : Entry g.row.S.Denot). not (is_sound e.finding)) (entries_of c.args.slots.now.entries)
+    sym (none_is (λ (e : Entry g.row.S.Denot). not (is_sound e.finding)) es
     (λ k y there. ap not
     (c.loop-index.invariant k y there
-    (let w : k < length (entries_of c.args.slots.now.entries) = slice_get_within (entries_of c.args.slots.now.entries) k y
-    there in omega arith))))
+    (let w : k < length es = slice_get_within es k y there in omega arith))))

@@ -7,14 +7,14 @@ enter_steps-requires-clause-taken g c = λ κs within. (rw (← c.entry.view_is)
 
 pub enter_steps-requires-clause-steps : goal.enter_steps-requires-clause-steps
 enter_steps-requires-clause-steps g c =
-    let id = c.entry.inside.id in
+    let id = c.entry.inside.key.id in
     let admitted = rw (← c.entry.view_is) at c.in_default.ensures.admitted in
     λ κs within e at. keyed_steps g.M.Machine.rules g.M.Encode.whole_code g.M.Encode.form_code g.M.Machine.form_of
     c.args.self.now id e at _ admitted.1 c.entry.invariant (c.law.ensures.law.law.fit id e at) refl
 
 pub returns-clause-entered : goal.returns-clause-entered
 returns-clause-entered g c =
-    let id = c.entry.inside.id in
+    let id = c.entry.inside.key.id in
     let admitted = rw (← c.entry.view_is) at c.in_default.ensures.admitted in
     let taken = admitted.0 in
     rw (← c.entry.view_is) (entered_keyed g.M.Machine.rules g.M.Encode.whole_code g.M.Encode.form_code
@@ -24,7 +24,7 @@ returns-clause-entered g c =
 
 pub returns-clause-refused : goal.returns-clause-refused
 returns-clause-refused g c =
-    let id = c.entry.inside.id in
+    let id = c.entry.inside.key.id in
     let admitted = rw (← c.entry.view_is) at c.in_default.ensures.admitted in
     let taken = admitted.0 in
     rw (← c.entry.view_is) (refused_keyed g.M.Machine.rules g.M.Encode.whole_code g.M.Encode.form_code

@@ -12,7 +12,7 @@ use Rattle.book.proofs.book.Book.is_entry_of.Goals as goal
 pub returns-then-eq : goal.returns-then-eq
 returns-then-eq g c =
     let s = c.self.inside in
-    let x = c.entry.inside in
+    let x = c.entry.inside.key in
     let label_of : State g.row.M.Denot g.row.M-Mem.Denot g.row.M-Loc.Denot g.row.M-Form.Denot → List ℕ =
     label_by g.M.Encode.whole_code g.M.Encode.form_code (g.M.Machine.form_of s.machine) s.merge in
     let own = rw (← c.self.view_is, ← c.entry.view_is) at c.requires.of in
@@ -40,7 +40,7 @@ returns-then-eq g c =
 pub returns-else-eq : goal.returns-else-eq
 returns-else-eq g c =
     let s = c.self.inside in
-    let x = c.entry.inside in
+    let x = c.entry.inside.key in
     let merges : IsTrue c.eq.result ↔ (s.merge ≡ x.merge) = search rules in
     rw (← c.self.view_is, ← c.entry.view_is) (
       (λ yes. absurd (true≢false (sym yes ∙ c.if-eq.false))),

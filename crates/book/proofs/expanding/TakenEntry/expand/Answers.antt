@@ -10,5 +10,5 @@ steps_here-requires-after_bounds g c κs within =
     rw (c.deref_mut.ensures.value, ← c.self.view_is)
     (source_of g.M.Encode.front_code g.M.Encode.behind_code g.M.Machine.rules g.M.Encode.whole_code
     g.M.Encode.form_code g.M.Machine.form_of _ c.in-Some.decoded.offsets
-    c.in-Sound.order c.in-Some.decoded.state.value (bound.lawful self.machine) (bound.forms self.machine)
+    c.in-Sound.order c.in-Some.decoded.state.value (bound.lawful self.key.machine) (bound.forms self.key.machine)
     c.initial.ensures.limits c.self.invariant c.in-Sound.is read)

@@ -1,11 +1,11 @@
-use Rattle.std.proofs.Common.{◌≡◌, ◌+◌, ◌⊎◌, ◌∙◌, List, ap, subst}
+use Rattle.std.proofs.Common.{◌≡◌, ◌⊎◌, List, refl, subst}
 use Rattle.std.proofs.lemmas.Result.{err_from_is_err_and}
 use Rattle.replay.specs.declared.file.fault.CheckFault.TheVariants.{OutOfMemory}
 use Rattle.replay.specs.declared.file.line.BookLine.{BookLine}
 use Rattle.replay.specs.BookFile.Checks.{Pass, AreRefused}
 use Rattle.replay.specs.BookFile.Replays.{IsFirstAmiss}
 use Rattle.replay.proofs.BookFile.Whole.{form_refused, amiss_refused, lines_refused}
-use Rattle.replay.proofs.file.check.entries_checked.Goals as goal
+use Rattle.replay.proofs.file.check.lines_checked.Goals as goal
 
 pub returns-in_err-lines-clause-refused : goal.returns-in_err-lines-clause-refused
 returns-in_err-lines-clause-refused g c =
@@ -42,4 +42,4 @@ returns-clause-pass g c =
     let pass =
     subst (λ (lines : List BookLine). Pass g.row.M.Denot g.row.M-Form.Denot (g.M.Machine.rules c.args.machine)
     c.args.program.now lines) c.as_slice.ensures.value c.in_ok-test_closed.ensures.pass in
-    (c.in_ok-lines.lines.items, c.in_ok-lines.ensures.book, pass, ap (λ n. n + 1) (c.len.ensures ∙ c.in_ok-lines.lines.ok.0))
+    (c.in_ok-lines.lines.items, c.in_ok-lines.ensures.book, pass, refl)
