@@ -27,7 +27,6 @@ module _ {S : Type 0} (m : StepMachine S) (same : S → S → Bool) (right : S �
   same_of_same : (a b c d : S) → b ≡ a → d ≡ c → same b d ≡ true → same a c ≡ true
   same_of_same a b c d p q h = cc
 
-  -- ---- one entry is taken
   module _ (es : List (Entry S)) (law : IsLawful m (AreOneBy same) right es) (i : ℕ) (e : Entry S)
       (next : IsNext m.steps es i e) where
     stands_taken : (s : S) → StandsFor m (AreOneBy same) es s → StandsFor m (AreOneBy same) (with_mark es i Taken) s

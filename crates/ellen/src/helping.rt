@@ -194,7 +194,7 @@ impl Ellen {
 
     /// Marks the parent of a delete.
     fn mark_row(self, alloc: Global, mem: &mut EllenMem, number: u16, resume: &Resume) -> Access
-        ensures ok { IfOk result (λ outcome. help_act self (place.Mark number) resume.now mem.old ≡ (mem.new, outcome)) }
+        ensures ok { IfOk result (λ next. help_act self (place.Mark number) resume.now mem.old ≡ (mem.new, next)) }
         ensures err { OnErr result (mem.new ≡ mem.old) }
     {
         let Some(Record::Del(info)) = mem.record(number) else {
