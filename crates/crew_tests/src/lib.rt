@@ -24,7 +24,7 @@ mod faulty;
 mod gates;
 pub mod held_byte;
 #[cfg(test)]
-mod options;
+mod ranges;
 #[cfg(test)]
 mod rows;
 #[cfg(test)]

@@ -1,11 +1,11 @@
 //! Cases, and tables of them.
 use crate::answers::{Wanted, answers, checks};
 use crate::books::closes;
+use crate::command_lines::{Asked, asks};
 use crate::devices::{Device, works};
 use crate::faults::{is_shown, is_shown_with_its_line};
 use crate::programs::nests;
 use crate::replaying::{replays, replays_zeros};
-use crate::words::{Asked, asks};
 use book::CheckFault;
 use sched_program::{OutOfMemory, ProgramFault};
 use std::sync::Wait;

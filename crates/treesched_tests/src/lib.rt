@@ -9,6 +9,8 @@ mod books;
 #[cfg(test)]
 mod cases;
 #[cfg(test)]
+mod command_lines;
+#[cfg(test)]
 mod devices;
 #[cfg(test)]
 mod explorations;
@@ -21,5 +23,3 @@ mod programs;
 #[cfg(test)]
 mod replaying;
 pub mod sources;
-#[cfg(test)]
-mod words;
