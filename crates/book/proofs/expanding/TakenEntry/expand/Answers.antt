@@ -12,3 +12,6 @@ steps_here-requires-after_bounds g c κs within =
     g.M.Encode.form_code g.M.Machine.form_of _ c.in-Some.decoded.offsets
     c.in-Sound.order c.in-Some.decoded.state.value (bound.lawful self.key.machine) (bound.forms self.key.machine)
     c.initial.ensures.limits c.self.invariant c.in-Sound.is read)
+
+pub invariant_of-result : goal.invariant_of-result
+invariant_of-result g c = rw (← c.self.view_is) at c.in_ok-steps.ensures.steps
