@@ -2,7 +2,7 @@
 use Rattle.std.proofs.Common.{◌≡◌, ◌∙◌, sym, rules}
 use Rattle.std.proofs.lemmas.Bool.{eqb-true, false≢true}
 use denote.Enum.Bare.{same_true}
-use Rattle.book.specs.contracts.book.Merge.{the_type}
+use Rattle.options.specs.contracts.options.Merge.{the_type}
 use Rattle.crew.proofs.reporting.is_asked.Goals.{then-is_of, else-is_of}
 use Rattle.crew.proofs.reporting.is_asked.Goals as goal
 
