@@ -38,17 +38,14 @@ look_at_checkout() {
 
 # Builds the program once more in a clone, and leaves what the kit said in $room/log.
 build_again() {
-    local clone=$room/clone/of/treesched jobs=()
-    [ -z "${RT_JOBS-}" ] || jobs=(--jobs "$RT_JOBS")
+    local clone=$room/clone/of/treesched path=$PATH
     git clone -q "$top" "$clone"
     if [ -n "$1" ]; then
         link_kit
-        PATH=$room/apart/kit/bin:$PATH "$clone/treesched" --build || fail "the second build failed"
-        cp "$clone/crates/treesched/out/build.log" "$room/log"
-    elif ! (cd "$clone/crates/treesched" && rt run "${jobs[@]}" -- --help </dev/null >"$room/log" 2>&1); then
-        tail -n 20 "$room/log" >&2
-        fail "the second build failed"
+        path=$room/apart/kit/bin:$PATH
     fi
+    PATH=$path "$clone/treesched" --build || fail "the second build failed"
+    mv "$clone/crates/treesched/out/build.log" "$room/log"
     mv "$clone/crates/treesched/out/treesched" "$room/second"
 }
 

@@ -1,9 +1,9 @@
 #!/usr/bin/env bash
 # Stands for the kit's command rt in tests: it proves nothing, and leaves the files that the kit would leave.
 #
-# It writes each call as a line `FOLDER WORD ..` to the file $STUB_CALLS. A check takes $STUB_SECONDS, and fails in the
-# crate $STUB_FAILS. The program that it makes answers with its words, and ends with the status $STUB_STATUS. With
-# $STUB_DIFFERS set, each build of the program differs.
+# It writes each call as a line `FOLDER WORD ..` to the file $STUB_CALLS. A proof takes $STUB_SECONDS, and fails in the
+# crate $STUB_FAILS. With $STUB_CHANGES set, a source changes meanwhile. The program that it makes answers with its
+# words, and ends with the status $STUB_STATUS. With $STUB_DIFFERS set, each build of the program differs.
 set -euo pipefail
 
 program() {
@@ -28,21 +28,25 @@ try() {
     [ "${STUB_FAILS-}" = try ] || echo "run=ended status=${STUB_STATUS:-0} runners=1 proved=no" >&2
 }
 
-[ "${1-}" = version ] || echo "$(basename "$PWD") $*" >>"$STUB_CALLS"
-case ${1-} in
-version) echo "stub kit" ;;
-check)
+# Proves the crate.
+prove() {
     mkdir -p out/incremental
     echo "so far: 2 of 4 functions"
     sleep "${STUB_SECONDS:-0}"
     [ "${STUB_FAILS-}" != "$(basename "$PWD")" ] || { echo "not proved"; exit 1; }
-    ;;
+    [ -z "${STUB_CHANGES-}" ] || date +%N >src/changed.rt
+}
+
+[ "${1-}" = version ] || echo "$(basename "$PWD") $*" >>"$STUB_CALLS"
+case ${1-} in
+version) echo "stub kit" ;;
 lib)
+    prove
     mkdir -p out/rlib
     date >out/rlib/stamp
     ;;
 run)
-    mkdir -p out
+    prove
     program >out/treesched
     chmod +x out/treesched
     echo "logic=proved cpu=stub sum=0"

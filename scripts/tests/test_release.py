@@ -57,7 +57,7 @@ class Releases(StubCheckout):
         self.release()
         self.assertEqual(self.taken_calls()[-1], "treesched run -- --help")
         self.release("--anew")
-        self.assertEqual(self.taken_calls(), ["low check", "low lib", "treesched check", "treesched run -- --help"])
+        self.assertEqual(self.taken_calls(), ["low lib", "treesched run -- --help"])
 
     def test_anew(self) -> None:
         self.commit()

@@ -9,8 +9,7 @@ import unittest
 from stub_checkout import StubCheckout
 
 EXPLORE = ("explore", "f.json", "--steps", "2")
-WHOLE_BUILD = ["low check", "low lib", "treesched check", "treesched run -- --help"]
-TOP_BUILD = WHOLE_BUILD[2:]
+BUILD = ["low lib", "treesched run -- --help"]
 OWN_FAILURE = 70
 
 
@@ -20,9 +19,9 @@ class Builds(StubCheckout):
     def test_first_run_builds_and_answers(self) -> None:
         ended = self.run_wrapper(*EXPLORE)
         self.assertEqual((ended.returncode, ended.stdout), (0, "answer explore f.json --steps 2\n"))
-        self.assertEqual(self.taken_calls(), WHOLE_BUILD)
-        for line in ("crate 1 of 2, low: proving", "crate 1 of 2, low: building", "crate 2 of 2, treesched: building"):
-            self.assertIn(f"treesched: {line}\n", ended.stderr)
+        self.assertEqual(self.taken_calls(), BUILD)
+        for line in ("crate 1 of 2, low", "crate 2 of 2, treesched"):
+            self.assertIn(f"treesched: {line}: proving and building\n", ended.stderr)
         self.assertIn("low: 2 of 4 functions checked", ended.stderr)
 
     def test_second_run_only_answers(self) -> None:
@@ -35,7 +34,7 @@ class Builds(StubCheckout):
     def test_build_alone_prints_no_answer(self) -> None:
         ended = self.run_wrapper("--build")
         self.assertEqual((ended.returncode, ended.stdout), (0, ""))
-        self.assertEqual(self.taken_calls(), WHOLE_BUILD)
+        self.assertEqual(self.taken_calls(), BUILD)
 
     def test_statuses_pass_through(self) -> None:
         self.run_wrapper("--build")
@@ -44,17 +43,23 @@ class Builds(StubCheckout):
 
     def test_jobs_are_handed_on(self) -> None:
         self.run_wrapper("--build", RT_JOBS="3")
-        self.assertEqual(self.taken_calls()[:2], ["low check --jobs 3", "low lib --jobs 3"])
+        self.assertEqual(self.taken_calls(), ["low lib --jobs 3", "treesched run --jobs 3 -- --help"])
 
-    def test_only_what_changed_is_proved(self) -> None:
+    def test_what_changed_is_seen(self) -> None:
         self.run_wrapper("--build")
         self.taken_calls()
-        self.put("crates/treesched/src/main.rt", "another main\n")
-        self.assertIn("1 of 2 crates", self.run_wrapper("--build").stderr)
-        self.assertEqual(self.taken_calls(), TOP_BUILD)
-        self.put("crates/low/src/lib.rt", "another low\n")
-        self.run_wrapper("--build")
-        self.assertEqual(self.taken_calls(), WHOLE_BUILD)
+        for name in ("crates/treesched/src/main.rt", "crates/low/src/lib.rt", "crates.txt"):
+            with (self.checkout / name).open("a", encoding="utf-8") as file:
+                file.write("# more\n")
+            self.run_wrapper("--build")
+            self.assertEqual(self.taken_calls(), BUILD)
+
+    def test_what_changed_meanwhile_is_seen(self) -> None:
+        self.run_wrapper("--build", STUB_CHANGES="1")
+        self.taken_calls()
+        for calls in (BUILD, []):
+            self.run_wrapper("--build")
+            self.assertEqual(self.taken_calls(), calls)
 
     def test_touched_files_are_not_proved_again(self) -> None:
         self.run_wrapper("--build")
@@ -71,40 +76,40 @@ class Builds(StubCheckout):
         file.write_text("another main\n", encoding="utf-8")
         os.utime(file, (1, 1))
         self.run_wrapper("--build")
-        self.assertEqual(self.taken_calls(), TOP_BUILD)
+        self.assertEqual(self.taken_calls(), BUILD)
 
     def test_removed_files_are_seen(self) -> None:
         self.run_wrapper("--build")
         self.taken_calls()
         (self.checkout / "crates/low/specs/Lib.antt").unlink()
         self.run_wrapper("--build")
-        self.assertEqual(self.taken_calls(), WHOLE_BUILD)
+        self.assertEqual(self.taken_calls(), BUILD)
 
     def test_another_program_in_its_place_is_seen(self) -> None:
         self.run_wrapper("--build")
         self.taken_calls()
         self.put("crates/treesched/out/treesched", "#!/bin/sh\necho other\n")
         self.assertEqual(self.run_wrapper(*EXPLORE).stdout, "answer explore f.json --steps 2\n")
-        self.assertEqual(self.taken_calls(), TOP_BUILD)
+        self.assertEqual(self.taken_calls(), BUILD)
 
     def test_what_the_kit_built_alone_counts_by_its_time(self) -> None:
         self.run_wrapper("--build")
         self.taken_calls()
-        for name in ("low/out/rlib/sources", "treesched/out/built"):
-            (self.checkout / "crates" / name).unlink()
+        (self.checkout / "crates/treesched/out/built").unlink()
         self.run_wrapper(*EXPLORE)
         self.assertEqual(self.taken_calls(), [])
         self.put("crates/treesched/src/main.rt", "another main\n")
         self.run_wrapper(*EXPLORE)
-        self.assertEqual(self.taken_calls(), TOP_BUILD)
+        self.assertEqual(self.taken_calls(), BUILD)
 
     def test_what_was_done_before_a_failure_is_kept(self) -> None:
         ended = self.run_wrapper(*EXPLORE, STUB_FAILS="treesched")
         self.assertEqual((ended.returncode, ended.stdout), (OWN_FAILURE, ""))
         self.assertIn("not proved", ended.stderr)
+        self.assertTrue((self.checkout / "crates/low/out/rlib/stamp").exists())
         self.taken_calls()
         self.run_wrapper(*EXPLORE)
-        self.assertEqual(self.taken_calls(), TOP_BUILD)
+        self.assertEqual(self.taken_calls(), BUILD)
 
     def test_second_run_at_once_waits(self) -> None:
         command = [str(self.checkout / "treesched"), *EXPLORE]
@@ -116,7 +121,7 @@ class Builds(StubCheckout):
         said = [it.communicate() for it in runs]
         self.assertEqual([out for out, _ in said], ["answer explore f.json --steps 2\n"] * 2)
         self.assertEqual(sorted(err.count("this one waits for it") for _, err in said), [0, 1])
-        self.assertEqual(self.taken_calls(), WHOLE_BUILD)
+        self.assertEqual(self.taken_calls(), BUILD)
 
 
 class Leftovers(StubCheckout):
@@ -201,7 +206,7 @@ class EarlyAnswers(StubCheckout):
 
     def test_words_at_their_limits_are_taken(self) -> None:
         self.run_wrapper("explore", "--steps=+0400", "--workers", "8", "--states", "2000000", "--", "f.json")
-        self.assertEqual(self.taken_calls(), WHOLE_BUILD)
+        self.assertEqual(self.taken_calls(), BUILD)
 
 
 class OwnFailures(StubCheckout):
@@ -225,7 +230,7 @@ class OwnFailures(StubCheckout):
 
     def test_a_failed_proof(self) -> None:
         self.assertEqual(self.run_wrapper(*EXPLORE, STUB_FAILS="low").returncode, OWN_FAILURE)
-        self.assertEqual(self.taken_calls(), ["low check"])
+        self.assertEqual(self.taken_calls(), ["low lib"])
 
     def test_a_run_with_nothing_proved_that_fails(self) -> None:
         self.assertEqual(self.run_wrapper("--unproved", *EXPLORE, STUB_FAILS="try").returncode, OWN_FAILURE)
