@@ -4,12 +4,11 @@ ghost use Rattle.std.specs.Prelude.{◌≡◌};
 ghost use Rattle.lin.specs.Timeline.{HasPlace};
 
 use sched_program::{Blank, OpId};
-use std::alloc::AllocError;
 use std::marker::Model;
 
 /// The name of an operation, of one of four threads with at most eight operations each, in one byte: an order is copied
 /// with each finding, and so takes a byte for each name that it has room for. Contracts see the name.
-#[derive(Copy)]
+#[derive(Clone, Copy)]
 pub struct ShortName {
     place: u8,
 }
@@ -23,18 +22,6 @@ impl Model for ShortName {
     ghost view = { λ n. record { thread = n.place / 8; index = n.place % 8 } };
 
     ghost inverse = { λ name. record { place = 8 * name.thread + name.index } };
-}
-
-impl Clone for ShortName {
-    ghost use Rattle.std.specs.Prelude.{◌≡◌, ⊤};
-
-    ghost is_clone = { λ x y. y ≡ x };
-
-    ghost is_infallible = { λ _. ⊤ };
-
-    fn clone(&self) -> Result<ShortName, AllocError> {
-        Ok(*self)
-    }
 }
 
 impl Blank for ShortName {

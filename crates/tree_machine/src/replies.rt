@@ -2,12 +2,11 @@
 ghost use Rattle.std.specs.Prelude.{◌≡◌, ◌≤◌, ◌<◌, ◌*◌, ◌^◌, ◌++◌, ◌∷◌, [], if◌then◌else◌, length, slice_get, IfSome};
 ghost use Rattle.std.specs.Cmp.Lexicographic.{pointwise, lists_equiv, lists_per};
 
-use std::alloc::AllocError;
 use std::marker::Model;
 
 /// The replies of a thread, in order, six at most: the binary digits of a byte below a leading one, the first reply
 /// lowest. A thread is copied with each of its steps, and each label holds its replies. Contracts see the list.
-#[derive(Copy)]
+#[derive(Clone, Copy)]
 pub struct Replies {
     number: u8,
 }
@@ -26,18 +25,6 @@ impl Model for Replies {
     ghost inverse = { λ replies. record { number = replies_number replies } };
 
     ghost inverse_ok = { λ a h i. record { number = replies_back a.number h.0 h.1 i } };
-}
-
-impl Clone for Replies {
-    ghost use Rattle.std.specs.Prelude.{◌≡◌, ⊤};
-
-    ghost is_clone = { λ x y. y ≡ x };
-
-    ghost is_infallible = { λ _. ⊤ };
-
-    fn clone(&self) -> Result<Replies, AllocError> {
-        Ok(*self)
-    }
 }
 
 /// What a reply adds to the number of the `count` replies before it: its digit, and the leading one moves up.

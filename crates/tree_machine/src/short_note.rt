@@ -2,13 +2,12 @@
 ghost use Rattle.std.specs.Prelude.{◌≡◌, ◌<◌, ◌++◌, ◌∷◌, [], length, slice_index, IfSome};
 
 use sched_program::{Blank, Note};
-use std::alloc::AllocError;
 use std::marker::Model;
 
 /// The note of an operation of a program: how many operations each thread had finished when it began. There are four
 /// threads at most, each with six operations at most. So three bits hold each count, and three more hold how many
 /// counts there are. Contracts see the list of the counts.
-#[derive(Copy)]
+#[derive(Clone, Copy)]
 pub struct ShortNote {
     number: u16,
 }
@@ -26,18 +25,6 @@ impl Model for ShortNote {
     ghost inverse = { λ counts. record { number = note_number counts } };
 
     ghost inverse_ok = { λ a h i. record { number = h.1 i } };
-}
-
-impl Clone for ShortNote {
-    ghost use Rattle.std.specs.Prelude.{◌≡◌, ⊤};
-
-    ghost is_clone = { λ x y. y ≡ x };
-
-    ghost is_infallible = { λ _. ⊤ };
-
-    fn clone(&self) -> Result<ShortNote, AllocError> {
-        Ok(*self)
-    }
 }
 
 impl Blank for ShortNote {
