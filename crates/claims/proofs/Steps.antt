@@ -89,9 +89,9 @@ spent_fewer size views id v h at less =
     let w : Draws = draws 0 [] 0 size in
     let s = total_set (λ (u : Draws). u.spent) views id v w at in
     let p = total_set (λ (u : Draws). u.seats) views id v w at in
-    let none_told : FitsCounter size w =
+    let none_fits : FitsCounter size w =
     record { stated = omega arith; idle = λ _. refl; knows = λ some_part. absurd (omega arith) } in
-    omega (arith, s, p, spent_at_most size (set views id w) (All-set (FitsCounter size) views id w none_told h))
+    omega (arith, s, p, spent_at_most size (set views id w) (All-set (FitsCounter size) views id w none_fits h))
 
 drawn_length : (size : Size) (word : ℕ) (views : List Draws) → ClaimsHold size word views
     → length (places_of views) ≡ min word size.len
@@ -249,7 +249,7 @@ fits_of size views id v h at =
 -- one seat is cut off a seat
 pub cut_kept : (size : Size) (id : ℕ) (v : Draws) → 1 < v.seats → v.spent ≡ 0 → v.size ≡ size
     → Splits (TableHolds size) id v (draws (v.seats - 1) v.places v.spent v.size) (fresh 1 v.size)
-cut_kept size id v two none_told knows s kept at =
+cut_kept size id v two none_fits knows s kept at =
     let views : List Draws = s.views in
     let h = kept.1 in
     let l : Draws = draws (v.seats - 1) v.places v.spent v.size in

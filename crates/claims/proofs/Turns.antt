@@ -87,7 +87,7 @@ one_each claims (seat ∷ seats) h =
     )
 
 -- a single seat that found none left, as its places and size give it
-pub told_seat : (seat : Draws) (size : Size) → seat.seats ≡ 1 → seat.spent ≡ 1 → seat.size ≡ size
+pub seat_of_size : (seat : Draws) (size : Size) → seat.seats ≡ 1 → seat.spent ≡ 1 → seat.size ≡ size
     → seat ≡ draws 1 seat.places 1 size
-told_seat seat size single stated knows =
+seat_of_size seat size single stated knows =
     let all : draws seat.seats seat.places seat.spent seat.size ≡ draws 1 seat.places 1 size = cc in all

@@ -191,7 +191,7 @@ const WRONG_REPLIES: [Row; 4] = [
 ];
 
 #[test]
-fn a_wrong_reply_is_told_after_its_layer(rt: HostRuntime) {
+fn a_wrong_reply_is_reported_after_its_layer(rt: HostRuntime) {
     compare_rows(&rt, rt.alloc(), Faulty, WRONG_REPLIES.as_slice());
 }
 
@@ -206,7 +206,7 @@ const GOING_ASTRAY: [Row; 1] = [Row {
 }];
 
 #[test]
-fn a_second_step_astray_is_told(rt: HostRuntime) {
+fn a_second_step_astray_is_reported(rt: HostRuntime) {
     compare_rows(&rt, rt.alloc(), Faulty, GOING_ASTRAY.as_slice());
 }
 
@@ -232,6 +232,6 @@ const LOST_ORDERS: [Row; 2] = [
 ];
 
 #[test]
-fn a_lost_order_is_told(rt: HostRuntime) {
+fn a_lost_order_is_reported(rt: HostRuntime) {
     compare_rows(&rt, rt.alloc(), Faulty, LOST_ORDERS.as_slice());
 }

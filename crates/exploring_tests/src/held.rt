@@ -91,11 +91,11 @@ fn tells<R: Runtime, M: Encode>(
     let mut out = String::new(rt.alloc());
     put_report(&mut out, true, report)?;
     let is_met = gate.agrees(report.shares.as_slice()) || exploration.is_stopped();
-    Ok(is_met && is_told(rt, exploration, workers, out.as_str())?)
+    Ok(is_met && is_reported(rt, exploration, workers, out.as_str())?)
 }
 
 /// Whether the lines of `workers` workers show what is known of the exploration. Prints them where they do not.
-fn is_told<R: Runtime>(
+fn is_reported<R: Runtime>(
     rt: &R,
     exploration: &Exploration,
     workers: u8,

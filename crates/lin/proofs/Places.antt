@@ -16,7 +16,7 @@ use Rattle.lin.specs.Linearization.{IsLinearization}
 use Rattle.lin.specs.Timeline.{HasPlace}
 use Rattle.lin.specs.Reply.{reply_in}
 use Rattle.lin.proofs.Bounds.{all_given}
-use Rattle.lin.proofs.Replies.{told_by}
+use Rattle.lin.proofs.Replies.{op_of_reply}
 
 module _ (program : Program) (limits : IsWithinLimits program) where
   pub named_placed : (a : OpId) (o : Op) → op_at program a.thread a.index ≡ Some o → HasPlace a
@@ -49,7 +49,7 @@ module _ (program : Program) (limits : IsWithinLimits program) where
       → cond is_here (option_map (λ o. reply_on o keys) (op_at program a.thread a.index))
       (option_and_then (λ o. reply_in program (keys_after o keys) rest a) next) ≡ Some r → HasPlace a
   replies_placed keys rest a r true next later is =
-      let op = told_by (op_at program a.thread a.index) keys r is in
+      let op = op_of_reply (op_at program a.thread a.index) keys r is in
       named_placed a op.0 op.1
   replies_placed keys rest a r false None later is = absurd (let none : None ≡ Some r = is in cc)
   replies_placed keys rest a r false (Some o) later is = later o is
@@ -57,7 +57,7 @@ module _ (program : Program) (limits : IsWithinLimits program) where
   pub reply_placed : (keys : Keys) (order : List OpId) (a : OpId) (r : Bool) → reply_in program keys order a ≡ Some r
       → HasPlace a
   reply_placed keys [] a r is =
-      let op = told_by (op_at program a.thread a.index) keys r is in
+      let op = op_of_reply (op_at program a.thread a.index) keys r is in
       named_placed a op.0 op.1
   reply_placed keys (b ∷ rest) a r is =
       replies_placed keys rest a r (same_name b a) (op_at program b.thread b.index)

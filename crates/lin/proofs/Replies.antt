@@ -52,10 +52,10 @@ push_cases (x ∷ order) a (suc i) b h =
     ]
 
 -- ---- what an operation replies
-pub told_by : (o : Option Op) (keys : Keys) (r : Bool) → option_map (λ op. reply_on op keys) o ≡ Some r
+pub op_of_reply : (o : Option Op) (keys : Keys) (r : Bool) → option_map (λ op. reply_on op keys) o ≡ Some r
     → (op : Op) × (o ≡ Some op) × (r ≡ reply_on op keys)
-told_by None keys r h = absurd (let q : None ≡ Some r = h in cc)
-told_by (Some op) keys r h = (op, refl, (let q : Some (reply_on op keys) ≡ Some r = h in cc))
+op_of_reply None keys r h = absurd (let q : None ≡ Some r = h in cc)
+op_of_reply (Some op) keys r h = (op, refl, (let q : Some (reply_on op keys) ≡ Some r = h in cc))
 
 telling : (o : Option Op) (op : Op) (keys : Keys) (r : Bool) → o ≡ Some op → r ≡ reply_on op keys
     → option_map (λ p. reply_on p keys) o ≡ Some r
@@ -121,7 +121,7 @@ module _ (program : Program) (old new : History) (a : OpId) (r : Bool) (is : Has
           → GivesReplies program new keys (b ∷ rest)
       by true same again =
           let e : b ≡ a = same_name-is b a same in
-          let own = told_by (op_at program a.thread a.index) keys r (sym (at_head program a keys b rest same) ∙ stated) in
+          let own = op_of_reply (op_at program a.thread a.index) keys r (sym (at_head program a keys b rest same) ∙ stated) in
           let at : op_at program b.thread b.index ≡ Some own.0 =
           subst (λ c. op_at program c.thread c.index ≡ Some own.0) (sym e) own.1 in
           let one : op.0 ≡ own.0 = (let q : Some op.0 ≡ Some own.0 = sym op.1 ∙ at in cc) in
@@ -145,7 +145,7 @@ module _ (program : Program) (old new : History) (a : OpId) (r : Bool) (is : Has
       → reply_in program keys order a ≡ Some r
       → GivesReplies program new keys (order ++ a ∷ [])
   gives_after keys [] none given stated =
-      let own = told_by (op_at program a.thread a.index) keys r stated in
+      let own = op_of_reply (op_at program a.thread a.index) keys r stated in
       IsSomeAnd-of (op_at program a.thread a.index) (Given new keys a []) own.0 own.1 (own_gives keys own.0 own.2, tt)
   gives_after keys (b ∷ rest) none given stated =
       let op = IsSomeAnd-value (op_at program b.thread b.index) (Given old keys b rest) given in
@@ -282,7 +282,7 @@ module _ (program : Program) (old new : History) (a : OpId) (r : Bool) (is : Has
 
 -- ---- what the search of a reply in an order answers
 module _ (program : Program) (limits : IsWithinLimits program) (order : List OpId) (a : OpId) (r : Bool) where
-  pub answer_told : (answer : Option (List OpId))
+  pub answer_means : (answer : Option (List OpId))
       → MatchOption answer (13 ≤ length (ending_with order a)) (λ longer. longer ≡ ending_with order a)
       → reply_in program (keys_of program.initial) order a ≡ Some r
       → MatchOption answer
@@ -291,10 +291,10 @@ module _ (program : Program) (limits : IsWithinLimits program) (order : List OpI
       (λ longer. (longer ≡ ending_with order a)
       × ((old new : History) → HasReplied old new a r → IsLinearization program old order
       → IsLinearization program new longer))
-  answer_told None long stated =
+  answer_means None long stated =
       λ old new is was now. let few : length (ending_with order a) ≤ 12 =
       at_most_twelve program limits new (ending_with order a) now in omega arith
-  answer_told (Some longer) same stated = (
+  answer_means (Some longer) same stated = (
     same,
     λ old new is was. subst (IsLinearization program new) (sym same)
         (reply_keeps program old new a r is order was stated),

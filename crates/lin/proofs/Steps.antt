@@ -111,14 +111,14 @@ pub stands : (program : Program) (history : History) (listed : Listed) (keys nex
     → (listed name ≡ false) × ((b : OpId) → with_name listed name b ≡ true → EndedBefore history name b → ⊥)
     → Some o ≡ op_at program name.thread name.index → given ≡ reply history name → stated ≡ reply_on o keys
     → IfSome given (λ r. r ≡ stated) → next ≡ keys_after o keys → StandsNext program history listed keys name next
-stands program history listed keys next name o given stated begun due is given_is told_is replies after = record {
+stands program history listed keys next name o given stated begun due is given_is reply_is replies after = record {
   begun = begun;
   new = due.0;
   in_time = due.1;
   gives = subst (λ found. IsSomeAnd found (λ p. IfSome (reply history name) (λ r. r ≡ reply_on p keys)
       × (next ≡ keys_after p keys))) is (
         subst (λ g. IfSome g (λ x. x ≡ reply_on o keys)) given_is
-            (subst (λ r. IfSome given (λ x. x ≡ r)) told_is replies),
+            (subst (λ r. IfSome given (λ x. x ≡ r)) reply_is replies),
         after,
       );
 }

@@ -212,9 +212,9 @@ module _ {Machine Memory Place Form : Type 0} (rules : Rules Memory Place) where
         let same = held_are_some _ (ready program state t) (ready program twin t) (ready_alike alike program t) in
         ((λ enabled. sym same ∙ enabled), (λ enabled. same ∙ enabled))
 
-    pub alike_told : AreStatesAlike rules state twin → (program : Program) (t : ℕ) (stated : Bool)
+    pub enabled_alike : AreStatesAlike rules state twin → (program : Program) (t : ℕ) (stated : Bool)
         → (IsTrue stated ↔ IsEnabled program state t) → IsTrue stated ↔ IsEnabled program twin t
-    alike_told alike program t stated is =
+    enabled_alike alike program t stated is =
         let same = alike_enabled alike program t in
         ((λ h. same.0 (is.0 h)), (λ enabled. is.1 (same.1 enabled)))
 

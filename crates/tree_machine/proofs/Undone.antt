@@ -10,7 +10,7 @@ use Rattle.tree_machine.specs.declared.machine.Outcome.{Outcome}
 use Rattle.tree_machine.specs.declared.machine.Outcome.TheVariants.{Goes, Replies, Astray}
 use Rattle.tree_machine.specs.declared.state.Thread.{Thread}
 use Rattle.tree_machine.specs.declared.state.State.{State}
-use Rattle.tree_machine.proofs.Deeds.{source_not_astray}
+use Rattle.tree_machine.proofs.OpLog.{source_not_astray}
 use Rattle.tree_machine.proofs.States.{step_parts}
 
 -- an element restored where another one had replaced it

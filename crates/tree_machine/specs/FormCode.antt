@@ -28,13 +28,13 @@ astray_code None = 0 ∷ []
 astray_code (Some t) = 1 ∷ t ∷ []
 
 -- what the threads did, and who went astray
-abbrev pub deeds_code : List (List Bool) → List (List (List ℕ)) → Option ℕ → List ℕ
-deeds_code replies notes astray =
+abbrev pub op_log_code : List (List Bool) → List (List (List ℕ)) → Option ℕ → List ℕ
+op_log_code replies notes astray =
     list_code replies_code replies ++ (list_code (list_code note_code) notes ++ astray_code astray)
 
 -- all of it: the machine's form comes last, since nothing shows where its bytes end
 abbrev pub content_code : {Form : Type 0} → (Form → List ℕ) → FormContent Form → List ℕ
-content_code code content = deeds_code content.replies content.notes content.astray ++ code content.form
+content_code code content = op_log_code content.replies content.notes content.astray ++ code content.form
 
 -- what counts as one by names, in bytes: no steps, as they play no part, and the form
 abbrev pub named_code : {Machine Memory Place Form : Type 0} → (Form → List ℕ) → (Memory → List (Option Place) → Form)
@@ -62,7 +62,7 @@ abbrev pub state_code : {Machine Memory Place Form : Type 0} → (Memory → Lis
     → State Machine Memory Place Form → List ℕ
 state_code code state =
     number_code state.steps
-    ++ (deeds_code (replies_of state.threads) (notes_of state.threads) state.astray
+    ++ (op_log_code (replies_of state.threads) (notes_of state.threads) state.astray
     ++ code state.memory (places_of state.threads))
 
 -- the label of a state, by which a book knows it

@@ -2,15 +2,15 @@
 use Rattle.std.specs.Prelude.{◌≡◌, ℕ, ◌+◌, List, length, Option}
 use Rattle.tree_machine.specs.Alike.{notes_of, replies_of}
 use Rattle.tree_machine.specs.Flat.{number_code}
-use Rattle.tree_machine.specs.FormCode.{cut_code, deeds_code, state_code}
+use Rattle.tree_machine.specs.FormCode.{cut_code, op_log_code, state_code}
 use Rattle.tree_machine.specs.Rules.{ArePlacesInRange, Rules}
 use Rattle.tree_machine.specs.declared.code_offsets.CodeOffsets.{CodeOffsets}
 use Rattle.tree_machine.specs.declared.front.Front.{Front}
 use Rattle.tree_machine.specs.declared.state.State.{State}
 
 -- what the threads did, and who went astray, in bytes
-abbrev pub deeds_of : {Machine Memory Place Form : Type 0} → State Machine Memory Place Form → List ℕ
-deeds_of state = deeds_code (replies_of state.threads) (notes_of state.threads) state.astray
+abbrev pub op_log_of : {Machine Memory Place Form : Type 0} → State Machine Memory Place Form → List ℕ
+op_log_of state = op_log_code (replies_of state.threads) (notes_of state.threads) state.astray
 
 -- The bytes are the code of the state, cut at the front. The offsets are where three parts of the code begin: what the
 -- threads did, behind the number of steps; the memory, behind that; and what the threads hold, behind what comes in
@@ -20,7 +20,7 @@ pub record AreOffsetsOf {Machine Memory Place Form : Type 0} (front_code : Front
     (state : State Machine Memory Place Form) : Type 0 where
   pub written : bytes ≡ state_code (cut_code front_code behind_code offsets.front) state
   pub op_log : offsets.op_log ≡ length (number_code state.steps)
-  pub memory : offsets.memory ≡ offsets.op_log + length (deeds_of state)
+  pub memory : offsets.memory ≡ offsets.op_log + length (op_log_of state)
   pub held : offsets.held ≡ offsets.memory + length (front_code offsets.front state.memory)
 
 -- a memory that was read from such a code of another one with the places that threads hold

@@ -1,7 +1,7 @@
 //! What threads did, in bytes, one value after the other.
 ghost use Rattle.std.specs.Prelude.{◌≡◌, ◌≤◌, ◌+◌, ◌++◌, OnOk, length, take};
 ghost use Rattle.tree_machine.specs.Alike.{notes_of, replies_of};
-ghost use Rattle.tree_machine.specs.FormCode.{astray_code, deeds_code, list_code, note_code, replies_code};
+ghost use Rattle.tree_machine.specs.FormCode.{astray_code, op_log_code, list_code, note_code, replies_code};
 
 use crate::fixed::put_byte;
 use crate::short_note::ShortNote;
@@ -90,14 +90,14 @@ fn put_astray(bytes: &mut [u8], start: usize, astray: Option<u8>) -> usize
 
 /// Appends what the threads did, and who went astray. The bytes are lengthened once, by the most that this can take,
 /// and then cut to what was written.
-pub(crate) fn put_deeds<L>(
+pub(crate) fn put_op_log<L>(
     bytes: &mut Vec<u8>,
     threads: &[Thread<L>],
     astray: Option<u8>,
 ) -> Result<(), OutOfMemory>
     requires { length threads.now ≤ 4 }
     ensures { OnOk result (bytes.new.items
-        ≡ bytes.old.items ++ deeds_code (replies_of threads.now) (notes_of threads.now) astray) }
+        ≡ bytes.old.items ++ op_log_code (replies_of threads.now) (notes_of threads.now) astray) }
 {
     let start = bytes.len();
     bytes.extend_from_slice(&ZEROS)?;

@@ -2,10 +2,10 @@
 ghost use Rattle.std.specs.Prelude.{◌≡◌, ◌≤◌, ◌++◌, [], length, OnOk, OnErr};
 ghost use Rattle.tree_machine.specs.Alike.{notes_of, replies_of};
 ghost use Rattle.tree_machine.specs.Flat.{number_code};
-ghost use Rattle.tree_machine.specs.FormCode.{deeds_code};
+ghost use Rattle.tree_machine.specs.FormCode.{op_log_code};
 
 use crate::bytes::Bytes;
-use crate::coded::put_deeds;
+use crate::coded::put_op_log;
 use crate::names::Names;
 use crate::number::put_number;
 use crate::numbering::Own;
@@ -84,15 +84,15 @@ impl EncodeBuffer {
     }
 
     /// Appends what the threads did, and who went astray.
-    pub(crate) fn put_deeds<L>(
+    pub(crate) fn put_op_log<L>(
         &mut self,
         threads: &[Thread<L>],
         astray: Option<u8>,
     ) -> Result<(), OutOfMemory>
         requires { length threads.now ≤ 4 }
         ensures { OnOk result (self.new
-            ≡ self.old ++ deeds_code (replies_of threads.now) (notes_of threads.now) astray) }
+            ≡ self.old ++ op_log_code (replies_of threads.now) (notes_of threads.now) astray) }
     {
-        put_deeds(&mut self.bytes, threads, astray)
+        put_op_log(&mut self.bytes, threads, astray)
     }
 }

@@ -84,7 +84,7 @@ impl<M: Encode> State<M> {
             ≡ buffer.old ++ content_code M.form_code (state_form (M.form_of machine) self.now)) }
     {
         let threads = self.threads.as_slice();
-        buffer.put_deeds(threads, self.astray)?;
+        buffer.put_op_log(threads, self.astray)?;
         machine.write_code(alloc, Naming::Canonical, &self.memory, threads, buffer)
     }
 

@@ -6,7 +6,7 @@ ghost use Rattle.tree_machine.specs.Alike.{places_of};
 ghost use Rattle.tree_machine.specs.FormCode.{label_code};
 ghost use Rattle.tree_machine.specs.InRange.{AreNumbersInRange};
 ghost use Rattle.tree_machine.specs.Naming.{code_by};
-ghost use Rattle.tree_machine.specs.Offsets.{AreOffsetsOf, deeds_of};
+ghost use Rattle.tree_machine.specs.Offsets.{AreOffsetsOf, op_log_of};
 ghost use Rattle.tree_machine.specs.Step.{Fits, step};
 ghost use Rattle.tree_machine.specs.Undoing.{TakesBack};
 ghost use Rattle.tree_machine.specs.declared.state.State.{State};
@@ -91,7 +91,7 @@ impl<M: Encode> State<M> {
         let threads = self.threads.as_slice();
         buffer.clear();
         buffer.put_number(self.label_steps(naming))?;
-        buffer.put_deeds(threads, self.astray)?;
+        buffer.put_op_log(threads, self.astray)?;
         machine.write_code(alloc, naming, &self.memory, threads, buffer)?;
         Ok(Bytes::copied_in(buffer.as_slice(), spare)?)
     }
@@ -102,7 +102,7 @@ impl<M: Encode> State<M> {
         requires step { (machine : M) × (program : Program)
             × (step (M.rules machine) program source.now.value thread ≡ Some self.now) }
         requires was { slice_get source.now.value.threads thread ≡ Some was.now }
-        ensures { IsTrue result → deeds_of self.now ≡ deeds_of source.now.value }
+        ensures { IsTrue result → op_log_of self.now ≡ op_log_of source.now.value }
     {
         // Proofs alone read what the state was.
         let _ = source;
@@ -127,7 +127,7 @@ impl<M: Encode> State<M> {
             origin.now.undo.now.reads origin.now.undo.now.memory self.now }
         requires offsets { AreOffsetsOf M.front_code M.behind_code origin.now.label.now origin.now.offsets
             origin.now.state.now.value }
-        ensures { OnOk result (buffer.new ≡ buffer.old ++ (deeds_of self.now
+        ensures { OnOk result (buffer.new ≡ buffer.old ++ (op_log_of self.now
             ++ (if origin.now.undo.now.reads then M.front_code origin.now.offsets.front self.now.memory else []))) }
     {
         let offsets = origin.offsets;
@@ -135,7 +135,7 @@ impl<M: Encode> State<M> {
         if self.did_no_more(origin.state, origin.undo.thread(), origin.thread) {
             return put_piece(origin.label, offsets.op_log, end, buffer);
         }
-        buffer.put_deeds(self.threads.as_slice(), self.astray)?;
+        buffer.put_op_log(self.threads.as_slice(), self.astray)?;
         put_piece(origin.label, offsets.memory, end, buffer)
     }
 

@@ -7,9 +7,9 @@ ghost use Rattle.tree_machine.specs.FormCode.{astray_code, cut_code, list_code, 
 ghost use Rattle.tree_machine.specs.Offsets.{AreOffsetsOf};
 
 use crate::code_offsets::CodeOffsets;
-use crate::deeds_reading::{read_all_notes, read_all_replies, read_astray};
 use crate::encode::Encode;
 use crate::front::Front;
+use crate::op_log_reading::{read_all_notes, read_all_replies, read_astray};
 use crate::reading::{read_any_number, read_byte};
 use crate::replies::Replies;
 use crate::state::{State, Thread};
@@ -37,7 +37,7 @@ fn make_count<L: Drop>(threads: &mut Vec<Thread<L>>, count: usize) -> Result<(),
 /// Reads what the threads did and who went astray, behind the byte with their number. It returns
 /// who went astray, and the bytes behind that.
 #[inline(always)]
-fn read_deeds<'a, L>(bytes: &'a [u8], threads: &mut [Thread<L>]) -> Option<(Option<u8>, &'a [u8])>
+fn read_op_log<'a, L>(bytes: &'a [u8], threads: &mut [Thread<L>]) -> Option<(Option<u8>, &'a [u8])>
     ensures read { IfSome result (λ (astray, rest). bytes.now
         ≡ flat_map replies_code (replies_of threads.new)
         ++ (list_code (list_code note_code) (notes_of threads.new) ++ (astray_code astray ++ rest.now))) }
@@ -101,7 +101,7 @@ fn read_body<M: Encode>(
         (λ read. read.end ≡ length (M.front_code read.front memory.new))) }
     ensures length { length threads.new ≡ length threads.old }
 {
-    let Some((thread, rest)) = read_deeds(bytes, threads) else {
+    let Some((thread, rest)) = read_op_log(bytes, threads) else {
         return Ok(None);
     };
     *astray = thread;

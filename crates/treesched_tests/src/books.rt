@@ -25,9 +25,9 @@ pub fn closes<R: Runtime>(
     states: &str,
 ) -> Result<bool, OutOfMemory> {
     let output = answer_to(rt, line, file)?;
-    let is_told = Wanted::Holds(states).is_met(rt, &output);
+    let holds = Wanted::Holds(states).is_met(rt, &output);
     match &output.book {
-        Some(book) if is_told => checks(rt, book.as_slice(), file, &Wanted::Passes(states)),
+        Some(book) if holds => checks(rt, book.as_slice(), file, &Wanted::Passes(states)),
         _ => Ok(false),
     }
 }

@@ -55,17 +55,17 @@ module _ (words : List Text) (name : Text) (rows : List Row) (are : AreRead word
       (rows, ((are.0, are.1, are.2, are.3 ∙ ap (λ (n : Text). Some (n, rows)) (sym named ∙ is.0)), is.1))
 
 module _ (words : List Text) (error : Error) (choices : Choices) (merges : AreMerges choices) where
-  told_of : HasKind (fault_of (command_line choices) words) error → (e : WordsFault) → Tells (kind_of error) e
+  is_refused : HasKind (fault_of (command_line choices) words) error → (e : WordsFault) → Tells (kind_of error) e
       → (kind_of error ≡ kind.OutOfMemory → e ≡ fault.OutOfMemory) → AreRefused words e
-  told_of (inl out) e tells memory = subst (AreRefused words) (sym (memory out)) tt
-  told_of (inr among) (fault.Usage help text) tells memory = (choices, merges, (kind_of error, among, tells))
-  told_of (inr among) fault.OutOfMemory tells memory = tt
-  told_of (inr among) e tells memory = absurd tells
+  is_refused (inl out) e tells memory = subst (AreRefused words) (sym (memory out)) tt
+  is_refused (inr among) (fault.Usage help text) tells memory = (choices, merges, (kind_of error, among, tells))
+  is_refused (inr among) fault.OutOfMemory tells memory = tt
+  is_refused (inr among) e tells memory = absurd tells
 
 pub stated : (words : List Text) (error : Error) (app : App) → IsCommandLine app
     → (is_simple_and_free app ≡ true → HasKind (fault_of app words) error)
     → (e : WordsFault) → Tells (kind_of error) e → (kind_of error ≡ kind.OutOfMemory → e ≡ fault.OutOfMemory)
     → AreRefused words e
 stated words error app line kinds =
-    told_of words error line.0 line.1
+    is_refused words error line.0 line.1
     (subst (λ a. is_simple_and_free a ≡ true → HasKind (fault_of a words) error) line.2 kinds refl)

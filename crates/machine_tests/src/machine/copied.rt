@@ -4,7 +4,7 @@ ghost use Rattle.tree_machine.specs.Atomic.{atomic_rules};
 ghost use Rattle.tree_machine.specs.Step.{Fits};
 
 use crate::machine::broken::{Broken, Case, ensure};
-use crate::machine::labels::{Desk, Labelling, NAMINGS, is_read_after, is_step_labelled};
+use crate::machine::labels::{Labelling, NAMINGS, Scratch, is_read_after, is_step_labelled};
 use crate::machine::states::{after, two_inserts};
 use sched_program::Program;
 use std::alloc::Global;
@@ -57,7 +57,7 @@ fn is_copied(
         return Err(Broken::NotEnabled);
     }
     let next = state.step(alloc, Atomic, program, thread)?;
-    let mut desk = Desk::with(alloc, State::start(alloc, Atomic, program)?);
+    let mut scratch = Scratch::with(alloc, State::start(alloc, Atomic, program)?);
     for naming in NAMINGS {
         let how = Labelling {
             machine: Atomic,
@@ -65,10 +65,13 @@ fn is_copied(
             naming,
         };
         ensure(
-            is_step_labelled(alloc, &how, state, thread, &mut desk)?,
+            is_step_labelled(alloc, &how, state, thread, &mut scratch)?,
             case,
         )?;
-        ensure(is_read_after(alloc, &how, state, &next, &mut desk)?, case)?;
+        ensure(
+            is_read_after(alloc, &how, state, &next, &mut scratch)?,
+            case,
+        )?;
     }
     Ok(())
 }

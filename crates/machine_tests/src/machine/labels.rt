@@ -66,17 +66,17 @@ impl StepKinds {
 /// What is reused from one state to the next: the state that is read, the buffer in which labels are written, what
 /// takes a step back, and the kinds of the steps that were made.
 #[derive(Drop)]
-pub struct Desk<M: Encode> {
+pub struct Scratch<M: Encode> {
     pub shell: State<M>,
     pub buffer: EncodeBuffer,
     pub undo: Undo<M>,
     pub kinds: StepKinds,
 }
 
-impl<M: Encode> Desk<M> {
-    /// A desk with this state to be read into.
-    pub fn with(alloc: Global, shell: State<M>) -> Desk<M> {
-        Desk {
+impl<M: Encode> Scratch<M> {
+    /// What is reused, with this state to be read into.
+    pub fn with(alloc: Global, shell: State<M>) -> Scratch<M> {
+        Scratch {
             shell,
             buffer: EncodeBuffer::new(alloc),
             undo: Undo::new(),
@@ -147,15 +147,15 @@ fn is_labelled<M: Encode>(
     how: &Labelling<'_, M>,
     state: &State<M>,
     label: &Bytes,
-    desk: &mut Desk<M>,
+    scratch: &mut Scratch<M>,
 ) -> Result<bool, OutOfMemory>
-    requires { Fits (M.rules how.now.machine) how.now.program.now desk.old.shell }
+    requires { Fits (M.rules how.now.machine) how.now.program.now scratch.old.shell }
 {
     let naming = how.naming;
-    let again = label_of(alloc, how, &desk.shell, &mut desk.buffer)?;
+    let again = label_of(alloc, how, &scratch.shell, &mut scratch.buffer)?;
     let is_read = match naming {
-        Naming::Own => desk.shell == *state,
-        Naming::Canonical => desk.shell.steps() == 0,
+        Naming::Own => scratch.shell == *state,
+        Naming::Canonical => scratch.shell.steps() == 0,
     };
     Ok(is_read && again == *label)
 }
@@ -165,13 +165,13 @@ pub fn is_read_back<M: Encode>(
     alloc: Global,
     how: &Labelling<'_, M>,
     state: &State<M>,
-    desk: &mut Desk<M>,
+    scratch: &mut Scratch<M>,
 ) -> Result<bool, OutOfMemory>
     requires { Fits (M.rules how.now.machine) how.now.program.now state.now }
 {
-    let label = label_of(alloc, how, state, &mut desk.buffer)?;
-    match read_label(alloc, how, label.as_slice(), None, &mut desk.shell)? {
-        Some(_) => is_labelled(alloc, how, state, &label, desk),
+    let label = label_of(alloc, how, state, &mut scratch.buffer)?;
+    match read_label(alloc, how, label.as_slice(), None, &mut scratch.shell)? {
+        Some(_) => is_labelled(alloc, how, state, &label, scratch),
         None => Ok(false),
     }
 }
@@ -183,20 +183,20 @@ pub fn is_read_after<M: Encode>(
     how: &Labelling<'_, M>,
     before: &State<M>,
     state: &State<M>,
-    desk: &mut Desk<M>,
+    scratch: &mut Scratch<M>,
 ) -> Result<bool, OutOfMemory>
     requires before { Fits (M.rules how.now.machine) how.now.program.now before.now }
     requires state { Fits (M.rules how.now.machine) how.now.program.now state.now }
 {
-    let last = label_of(alloc, how, before, &mut desk.buffer)?;
-    let label = label_of(alloc, how, state, &mut desk.buffer)?;
+    let last = label_of(alloc, how, before, &mut scratch.buffer)?;
+    let label = label_of(alloc, how, state, &mut scratch.buffer)?;
     let last = last.as_slice();
-    let Some(offsets) = read_label(alloc, how, last, None, &mut desk.shell)? else {
+    let Some(offsets) = read_label(alloc, how, last, None, &mut scratch.shell)? else {
         return Ok(false);
     };
     let known = Some((last, offsets));
-    match read_label(alloc, how, label.as_slice(), known, &mut desk.shell)? {
-        Some(_) => is_labelled(alloc, how, state, &label, desk),
+    match read_label(alloc, how, label.as_slice(), known, &mut scratch.shell)? {
+        Some(_) => is_labelled(alloc, how, state, &label, scratch),
         None => Ok(false),
     }
 }
@@ -247,40 +247,43 @@ fn label_of_step<M: Encode>(
     label: &[u8],
     offsets: CodeOffsets,
     thread: u8,
-    desk: &mut Desk<M>,
+    scratch: &mut Scratch<M>,
 ) -> Result<Bytes, StepFault>
     requires labelled { (state : State M M.Mem M.Loc M.Form) × Fits (M.rules how.now.machine) how.now.program.now state
         × (label.now ≡ label_code how.now.naming M.whole_code M.form_code (M.form_of how.now.machine) state) }
-    requires offsets { AreOffsetsOf M.front_code M.behind_code label.now offsets desk.old.shell }
-    requires fits { Fits (M.rules how.now.machine) how.now.program.now desk.old.shell }
-    ensures { OnOk result (desk.new.shell ≡ desk.old.shell) }
+    requires offsets { AreOffsetsOf M.front_code M.behind_code label.now offsets scratch.old.shell }
+    requires fits { Fits (M.rules how.now.machine) how.now.program.now scratch.old.shell }
+    ensures { OnOk result (scratch.new.shell ≡ scratch.old.shell) }
 {
-    if desk.shell.steps() >= 1000 {
+    if scratch.shell.steps() >= 1000 {
         return Err(StepFault::NotEnabled);
     }
     // Whoever reads a program knows that it meets the limits.
     let _ = how.program.initial();
-    let source = Snapshot::of(&desk.shell);
-    desk.shell
-        .step_here(alloc, how.machine, how.program, thread, &mut desk.undo)?;
-    add_kind(how.machine, &desk.undo, &mut desk.kinds);
+    let source = Snapshot::of(&scratch.shell);
+    scratch
+        .shell
+        .step_here(alloc, how.machine, how.program, thread, &mut scratch.undo)?;
+    add_kind(how.machine, &scratch.undo, &mut scratch.kinds);
     let origin = StepOrigin {
         label,
         offsets,
         state: &source,
         thread,
-        undo: &desk.undo,
+        undo: &scratch.undo,
     };
     let spare = Vec::new(alloc);
-    let next = desk.shell.label_after(
+    let next = scratch.shell.label_after(
         alloc,
         how.machine,
         how.naming,
         &origin,
-        &mut desk.buffer,
+        &mut scratch.buffer,
         spare,
     )?;
-    desk.shell.take_back(alloc, &source, thread, &mut desk.undo);
+    scratch
+        .shell
+        .take_back(alloc, &source, thread, &mut scratch.undo);
     Ok(next)
 }
 
@@ -291,7 +294,7 @@ pub fn is_step_labelled<M: Encode>(
     how: &Labelling<'_, M>,
     state: &State<M>,
     thread: u8,
-    desk: &mut Desk<M>,
+    scratch: &mut Scratch<M>,
 ) -> Result<bool, StepFault>
     requires { Fits (M.rules how.now.machine) how.now.program.now state.now }
 {
@@ -299,12 +302,12 @@ pub fn is_step_labelled<M: Encode>(
         return Err(StepFault::NotEnabled);
     }
     let next = state.step(alloc, how.machine, how.program, thread)?;
-    let anew = label_of(alloc, how, &next, &mut desk.buffer)?;
-    let label = label_of(alloc, how, state, &mut desk.buffer)?;
+    let anew = label_of(alloc, how, &next, &mut scratch.buffer)?;
+    let label = label_of(alloc, how, state, &mut scratch.buffer)?;
     let bytes = label.as_slice();
-    let Some(offsets) = read_label(alloc, how, bytes, None, &mut desk.shell)? else {
+    let Some(offsets) = read_label(alloc, how, bytes, None, &mut scratch.shell)? else {
         return Ok(false);
     };
-    let copied = label_of_step(alloc, how, bytes, offsets, thread, desk)?;
-    Ok(copied == anew && is_labelled(alloc, how, state, &label, desk)?)
+    let copied = label_of_step(alloc, how, bytes, offsets, thread, scratch)?;
+    Ok(copied == anew && is_labelled(alloc, how, state, &label, scratch)?)
 }

@@ -3,7 +3,7 @@ ghost use Rattle.tree_machine.specs.Atomic.{atomic_rules};
 ghost use Rattle.tree_machine.specs.Step.{Fits};
 
 use crate::machine::broken::{Broken, Case, ensure};
-use crate::machine::labels::{Desk, Labelling, is_read_back, label_of};
+use crate::machine::labels::{Labelling, Scratch, is_read_back, label_of};
 use crate::machine::states::{after, copy_of, form_of, has_form, two_inserts};
 use sched_program::{OpId, Program};
 use std::alloc::Global;
@@ -231,9 +231,9 @@ fn is_read(
     };
     for other in ROWS {
         let shell = after(alloc, program, other.schedule)?.copy(alloc, Atomic)?;
-        let mut desk = Desk::with(alloc, shell);
-        let is_read = is_read_back(alloc, &how, state, &mut desk)?;
-        let read = &desk.shell;
+        let mut scratch = Scratch::with(alloc, shell);
+        let is_read = is_read_back(alloc, &how, state, &mut scratch)?;
+        let read = &scratch.shell;
         let is_seen = read.memory().as_slice() == row.keys
             && are_threads(read.threads.as_slice(), &row.threads)
             && are_enabled(program, read, &row.enabled);

@@ -4,7 +4,7 @@ ghost use Rattle.tree_machine.specs.Step.{Fits};
 ghost use Rattle.ellen.specs.EllenRules.{ellen_rules};
 
 use crate::machine::labels::{
-    Desk, Labelling, StepKinds, beginnings_read, is_read_after, is_read_back, is_step_labelled,
+    Labelling, Scratch, StepKinds, beginnings_read, is_read_after, is_read_back, is_step_labelled,
     label_of, most_beginnings,
 };
 use crate::on_ellen::states::{next, program_of, start};
@@ -19,13 +19,13 @@ fn is_read_whole(
     alloc: Global,
     how: &Labelling<'_, Ellen>,
     state: &State<Ellen>,
-    desk: &mut Desk<Ellen>,
+    scratch: &mut Scratch<Ellen>,
 ) -> Result<bool, OutOfMemory>
     requires { Fits (ellen_rules how.now.machine) how.now.program.now state.now }
 {
-    let is_read = is_read_back(alloc, how, state, desk)?;
-    let label = label_of(alloc, how, state, &mut desk.buffer)?;
-    let beginnings = beginnings_read(alloc, how.machine, label.as_slice(), &mut desk.shell)?;
+    let is_read = is_read_back(alloc, how, state, scratch)?;
+    let label = label_of(alloc, how, state, &mut scratch.buffer)?;
+    let beginnings = beginnings_read(alloc, how.machine, label.as_slice(), &mut scratch.shell)?;
     Ok(is_read && beginnings <= most_beginnings(how.naming))
 }
 
@@ -46,13 +46,13 @@ fn are_steps_labelled(
     alloc: Global,
     how: &Labelling<'_, Ellen>,
     state: &State<Ellen>,
-    desk: &mut Desk<Ellen>,
+    scratch: &mut Scratch<Ellen>,
 ) -> Result<bool, StepFault>
     requires { Fits (ellen_rules how.now.machine) how.now.program.now state.now }
 {
     for thread in 0..4 {
         if state.enabled(how.program, thread) {
-            if !is_step_labelled(alloc, how, state, thread, desk)? {
+            if !is_step_labelled(alloc, how, state, thread, scratch)? {
                 return Ok(false);
             }
         }
@@ -67,15 +67,15 @@ fn is_right(
     look: Look,
     state: &State<Ellen>,
     next: &State<Ellen>,
-    desk: &mut Desk<Ellen>,
+    scratch: &mut Scratch<Ellen>,
 ) -> Result<bool, StepFault>
     requires state { Fits (ellen_rules how.now.machine) how.now.program.now state.now }
     requires next { Fits (ellen_rules how.now.machine) how.now.program.now next.now }
 {
     match look {
-        Look::Read => Ok(is_read_whole(alloc, how, next, desk)?),
-        Look::ReadAfter => Ok(is_read_after(alloc, how, state, next, desk)?),
-        Look::Steps => are_steps_labelled(alloc, how, state, desk),
+        Look::Read => Ok(is_read_whole(alloc, how, next, scratch)?),
+        Look::ReadAfter => Ok(is_read_after(alloc, how, state, next, scratch)?),
+        Look::Steps => are_steps_labelled(alloc, how, state, scratch),
     }
 }
 
@@ -95,16 +95,16 @@ fn look_along(
     look: Look,
     lines: &str,
 ) -> Result<Found, StepFault> {
-    let mut desk = Desk::with(alloc, State::start(alloc, how.machine, how.program)?);
+    let mut scratch = Scratch::with(alloc, State::start(alloc, how.machine, how.program)?);
     let mut state = start(alloc, how.machine, how.program)?;
     for line in lines.lines() {
         let after = next(alloc, how.machine, how.program, &state, thread_of(line)?)?;
-        if !is_right(alloc, how, look, &state, &after, &mut desk)? {
+        if !is_right(alloc, how, look, &state, &after, &mut scratch)? {
             return Ok(Found::Lost(after.steps()));
         }
         state = after;
     }
-    Ok(Found::Right(desk.kinds))
+    Ok(Found::Right(scratch.kinds))
 }
 
 /// Looks at each state along a schedule of the program of a text.

@@ -3,7 +3,7 @@ ghost use Rattle.tree_machine.specs.Step.{Fits};
 ghost use Rattle.natmit.specs.NatMitRules.{natmit_rules};
 
 use crate::machine::labels::{
-    Desk, Labelling, NAMINGS, StepKinds, beginnings_read, is_read_after, is_read_back,
+    Labelling, NAMINGS, Scratch, StepKinds, beginnings_read, is_read_after, is_read_back,
     is_step_labelled, label_of, most_beginnings,
 };
 use crate::on_natmit::follow::{Broken, WHOLE, advance, program_of};
@@ -73,17 +73,17 @@ fn kinds_in(state: &State<NatMit>) -> u32 {
     kinds
 }
 
-/// A desk with a state of another program, and the kinds of places met so far.
+/// What is reused, with a state of another program, and the kinds of places met so far.
 #[derive(Drop)]
 struct Kinds {
-    desk: Desk<NatMit>,
+    scratch: Scratch<NatMit>,
     kinds: u32,
 }
 
-/// A desk with a state of another program.
-fn desk_of(alloc: Global) -> Result<Desk<NatMit>, Broken> {
+/// What is reused, with a state of another program.
+fn scratch_of(alloc: Global) -> Result<Scratch<NatMit>, Broken> {
     let other = program_of(alloc, LONE_FIND)?;
-    Ok(Desk::with(alloc, State::start(alloc, WHOLE, &other)?))
+    Ok(Scratch::with(alloc, State::start(alloc, WHOLE, &other)?))
 }
 
 /// Reads each state along a schedule, until a thread has no step. Each bit of the schedule is a thread.
@@ -102,10 +102,10 @@ fn read_along(
     let mut state = State::start(alloc, machine, program)?;
     let mut left = schedule;
     for step in 0..STEPS {
-        if !is_read_back(alloc, &how, &state, &mut met.desk)? {
+        if !is_read_back(alloc, &how, &state, &mut met.scratch)? {
             return Err(Broken::Row(step));
         }
-        met.kinds |= kinds_in(&met.desk.shell);
+        met.kinds |= kinds_in(&met.scratch.shell);
         let thread = (left % 2) as u8;
         left /= 2;
         if !state.enabled(program, thread) {
@@ -120,7 +120,7 @@ fn read_along(
 fn read_all(alloc: Global, text: &str) -> Result<u32, Broken> {
     let program = program_of(alloc, text)?;
     let mut met = Kinds {
-        desk: desk_of(alloc)?,
+        scratch: scratch_of(alloc)?,
         kinds: 0,
     };
     for schedule in 0..SCHEDULES {
@@ -134,18 +134,22 @@ fn is_read_cut(
     alloc: Global,
     how: &Labelling<'_, NatMit>,
     state: &State<NatMit>,
-    desk: &mut Desk<NatMit>,
+    scratch: &mut Scratch<NatMit>,
 ) -> Result<bool, Broken>
     requires { Fits (natmit_rules how.now.machine) how.now.program.now state.now }
 {
-    let label = label_of(alloc, how, state, &mut desk.buffer)?;
+    let label = label_of(alloc, how, state, &mut scratch.buffer)?;
     let whole = label.as_slice();
-    if beginnings_read(alloc, how.machine, whole, &mut desk.shell)? > most_beginnings(how.naming) {
+    if beginnings_read(alloc, how.machine, whole, &mut scratch.shell)?
+        > most_beginnings(how.naming)
+    {
         return Ok(true);
     }
     let mut longer = Vec::from_slice(alloc, whole)?;
     longer.extend_from_slice(&[0])?;
-    let read = desk.shell.read_in(alloc, how.machine, longer.as_slice())?;
+    let read = scratch
+        .shell
+        .read_in(alloc, how.machine, longer.as_slice())?;
     Ok(read.is_some())
 }
 
@@ -167,13 +171,13 @@ fn are_steps_labelled(
     alloc: Global,
     how: &Labelling<'_, NatMit>,
     state: &State<NatMit>,
-    desk: &mut Desk<NatMit>,
+    scratch: &mut Scratch<NatMit>,
 ) -> Result<bool, Broken>
     requires { Fits (natmit_rules how.now.machine) how.now.program.now state.now }
 {
     for thread in 0..2 {
         if state.enabled(how.program, thread) {
-            if !is_step_labelled(alloc, how, state, thread, desk)? {
+            if !is_step_labelled(alloc, how, state, thread, scratch)? {
                 return Ok(false);
             }
         }
@@ -188,16 +192,16 @@ fn is_right(
     look: Look,
     state: &State<NatMit>,
     next: &State<NatMit>,
-    desk: &mut Desk<NatMit>,
+    scratch: &mut Scratch<NatMit>,
 ) -> Result<bool, Broken>
     requires state { Fits (natmit_rules how.now.machine) how.now.program.now state.now }
     requires next { Fits (natmit_rules how.now.machine) how.now.program.now next.now }
 {
     match look {
-        Look::Read => Ok(is_read_back(alloc, how, next, desk)?),
-        Look::ReadCut => Ok(!is_read_cut(alloc, how, next, desk)?),
-        Look::ReadAfter => Ok(is_read_after(alloc, how, state, next, desk)?),
-        Look::Steps => are_steps_labelled(alloc, how, state, desk),
+        Look::Read => Ok(is_read_back(alloc, how, next, scratch)?),
+        Look::ReadCut => Ok(!is_read_cut(alloc, how, next, scratch)?),
+        Look::ReadAfter => Ok(is_read_after(alloc, how, state, next, scratch)?),
+        Look::Steps => are_steps_labelled(alloc, how, state, scratch),
     }
 }
 
@@ -208,17 +212,17 @@ fn look_along(
     look: Look,
     schedule: &[u8],
 ) -> Result<StepKinds, Broken> {
-    let mut desk = desk_of(alloc)?;
+    let mut scratch = scratch_of(alloc)?;
     let mut state = State::start(alloc, how.machine, how.program)?;
     for (step, thread) in schedule.iter().enumerate() {
         let copy = state.copy(alloc, how.machine)?;
         let next = advance(alloc, how.machine, how.program, copy, *thread, 1)?;
-        if !is_right(alloc, how, look, &state, &next, &mut desk)? {
+        if !is_right(alloc, how, look, &state, &next, &mut scratch)? {
             return Err(Broken::Row(step));
         }
         state = next;
     }
-    Ok(desk.kinds)
+    Ok(scratch.kinds)
 }
 
 /// Looks at each state along a schedule of the program of a text. It tries again where memory was refused, which

@@ -69,7 +69,7 @@ fn expect_read(rt: &(impl AllocGlobal + Abort), text: &str, fails_at: usize) {
 }
 
 #[test]
-fn each_failed_read_is_told(rt: HostRuntime) {
+fn each_failed_read_is_reported(rt: HostRuntime) {
     for fails_at in 0..=TWO_INSERTS.len() {
         expect_device(&rt, TWO_INSERTS, fails_at);
     }
@@ -83,14 +83,14 @@ fn all_bytes_are_read(rt: HostRuntime) {
 }
 
 #[test]
-fn a_failed_read_is_told_before_a_fault_of_the_text(rt: HostRuntime) {
+fn a_failed_read_is_reported_before_a_fault_of_the_text(rt: HostRuntime) {
     for (_, text) in NOT_JSON {
         expect_device(&rt, text, text.len());
     }
 }
 
 #[test]
-fn the_fault_of_all_bytes_is_told(rt: HostRuntime) {
+fn the_fault_of_all_bytes_is_reported(rt: HostRuntime) {
     expect_fault_of_each(&rt, NOT_JSON, ProgramFault::NotJson);
     expect_fault_of_each(&rt, OF_VERSION, ProgramFault::Version);
     expect_fault_of_each(&rt, OF_TREE, ProgramFault::Tree);

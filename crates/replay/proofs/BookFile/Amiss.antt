@@ -64,10 +64,10 @@ module _ {Machine Memory Place Form : Type 0} (rules : Rules Memory Place) (prog
           )
 
       -- the order shows the state that the line reaches
-      pub step_told : (label : List ℕ) → label ≡ named_by code form_of n → IsShown rules program n line.order
+      pub step_passes : (label : List ℕ) → label ≡ named_by code form_of n → IsShown rules program n line.order
           → (u : State Machine Memory Place Form) × Tells rules program states line u
           × (label ≡ named_by code form_of u)
-      step_told label labelled shown =
+      step_passes label labelled shown =
           let u = there in (u.0, (u.1, u.2 line.order shown), labelled ∙ u.4)
 
       -- or does not

@@ -60,16 +60,16 @@ module _ {Machine Memory Place Form : Type 0} (rules : Rules Memory Place) (prog
         (one_parent stuck.0 a.parent stuck.1 a.at) ∙ a.step in cc)
 
     -- a line describes one state, and nothing is amiss with it then
-    one_told : (r s : State Machine Memory Place Form) → Tells rules program before line r
+    one_state : (r s : State Machine Memory Place Form) → Tells rules program before line r
         → Tells rules program before line s → r ≡ s
-    one_told r s a b = one_reached r s a.0 b.0
+    one_state r s a b = one_reached r s a.0 b.0
 
-    told_not_amiss : (s : State Machine Memory Place Form) (f : CheckFault) → Tells rules program before line s
+    passing_not_amiss : (s : State Machine Memory Place Form) (f : CheckFault) → Tells rules program before line s
         → IsAmiss rules program before line f → ⊥
-    told_not_amiss s f stated (inl a) = (let reached : Reaches rules program before line s = stated.0 in
+    passing_not_amiss s f stated (inl a) = (let reached : Reaches rules program before line s = stated.0 in
         there_not_missing reached.parent reached.at a.1)
-    told_not_amiss s f stated (inr (inl a)) = reached_not_stuck s stated.0 a.1
-    told_not_amiss s f stated (inr (inr a)) =
+    passing_not_amiss s f stated (inr (inl a)) = reached_not_stuck s stated.0 a.1
+    passing_not_amiss s f stated (inr (inr a)) =
         shown_not_unshown s line.order (length before + 2) f stated.1
         (subst (λ (v : State Machine Memory Place Form). IsUnshown rules program v line.order (length before + 2) f)
         (one_reached a.0 s a.1 stated.0) a.2)
@@ -98,7 +98,7 @@ module _ {Machine Memory Place Form : Type 0} (rules : Rules Memory Place) (prog
       → Continues rules program before lines states → Continues rules program before lines others → states ≡ others
   one_continued before [] states others a b = a ∙ sym b
   one_continued before (line ∷ lines) states others a b =
-      let same = one_told before line a.0 b.0 a.1 b.1 in
+      let same = one_state before line a.0 b.0 a.1 b.1 in
       one_continued (before ++ a.0 ∷ []) lines states others a.2
       (subst (λ (v : State Machine Memory Place Form). Continues rules program (before ++ v ∷ []) lines others)
       (sym same) b.2)
@@ -107,9 +107,9 @@ module _ {Machine Memory Place Form : Type 0} (rules : Rules Memory Place) (prog
       (states : List (State Machine Memory Place Form)) (f : CheckFault)
       → Continues rules program before lines states → FirstAmiss rules program before lines f → ⊥
   continued_not_amiss before [] states f so amiss = amiss
-  continued_not_amiss before (line ∷ lines) states f so (inl h) = told_not_amiss before line so.0 f so.1 h
+  continued_not_amiss before (line ∷ lines) states f so (inl h) = passing_not_amiss before line so.0 f so.1 h
   continued_not_amiss before (line ∷ lines) states f so (inr h) =
-      let same = one_told before line h.0 so.0 h.1 so.1 in
+      let same = one_state before line h.0 so.0 h.1 so.1 in
       continued_not_amiss (before ++ so.0 ∷ []) lines states f so.2
       (subst (λ (v : State Machine Memory Place Form). FirstAmiss rules program (before ++ v ∷ []) lines f) same
       h.2)
@@ -118,10 +118,10 @@ module _ {Machine Memory Place Form : Type 0} (rules : Rules Memory Place) (prog
       → FirstAmiss rules program before lines f → FirstAmiss rules program before lines g → f ≡ g
   one_first before [] f g a b = absurd a
   one_first before (line ∷ lines) f g (inl a) (inl b) = one_amiss before line f g a b
-  one_first before (line ∷ lines) f g (inl a) (inr b) = absurd (told_not_amiss before line b.0 f b.1 a)
-  one_first before (line ∷ lines) f g (inr a) (inl b) = absurd (told_not_amiss before line a.0 g a.1 b)
+  one_first before (line ∷ lines) f g (inl a) (inr b) = absurd (passing_not_amiss before line b.0 f b.1 a)
+  one_first before (line ∷ lines) f g (inr a) (inl b) = absurd (passing_not_amiss before line a.0 g a.1 b)
   one_first before (line ∷ lines) f g (inr a) (inr b) =
-      let same = one_told before line b.0 a.0 b.1 a.1 in
+      let same = one_state before line b.0 a.0 b.1 a.1 in
       one_first (before ++ a.0 ∷ []) lines f g a.2
       (subst (λ (v : State Machine Memory Place Form). FirstAmiss rules program (before ++ v ∷ []) lines g) same
       b.2)

@@ -28,8 +28,8 @@ map_tells f tells _ _ e = cc
 
 -- ---- parts
 
-part_told : (p q : Part) → part_content p ≡ part_content q → p ≡ q
-part_told p q e =
+same_part : (p q : Part) → part_content p ≡ part_content q → p ≡ q
+same_part p q e =
     let f = ap (λ (c : Content). c.facts) e in
     let r = ap (λ (c : Content). c.refs) e in
     let lengths : length p.nodes ≡ length q.nodes = cc in
@@ -43,7 +43,7 @@ parts_split : (ps qs : List Part) (xs ys : List ℕ) → length ps ≡ length qs
 parts_split ps qs xs ys l e =
     let long = length-map ps part_content ∙ (l ∙ sym (length-map qs part_content)) in
     let split = flat_split (map part_content ps) (map part_content qs) xs ys long e in
-    (map_tells part_content part_told ps qs split.0, split.1)
+    (map_tells part_content same_part ps qs split.0, split.1)
 
 -- nodes and records in front of other bytes
 graph_split : (ns rs ms ss : List Part) (xs ys : List ℕ) → graph_code ns rs ++ xs ≡ graph_code ms ss ++ ys
@@ -122,16 +122,16 @@ parts_code_tells f g s t l e =
 
 -- ---- states
 
-threads_told : {Place : Type 0} (a b : List (Thread Place)) → places_of a ≡ places_of b → replies_of a ≡ replies_of b
+same_threads : {Place : Type 0} (a b : List (Thread Place)) → places_of a ≡ places_of b → replies_of a ≡ replies_of b
     → notes_of a ≡ notes_of b → a ≡ b
-threads_told [] [] places replies notes = refl
-threads_told [] (u ∷ b) places replies notes = cc
-threads_told (t ∷ a) [] places replies notes = cc
-threads_told (t ∷ a) (u ∷ b) places replies notes =
+same_threads [] [] places replies notes = refl
+same_threads [] (u ∷ b) places replies notes = cc
+same_threads (t ∷ a) [] places replies notes = cc
+same_threads (t ∷ a) (u ∷ b) places replies notes =
     let place : t.place ≡ u.place = cc in
     let reply : t.replies ≡ u.replies = cc in
     let note : t.notes ≡ u.notes = cc in
-    let rest = threads_told a b (cc) (cc) (cc) in
+    let rest = same_threads a b (cc) (cc) (cc) in
     λ i. record { replies = reply i; place = place i; notes = note i } ∷ rest i
 
 -- equal bytes are of equal states, where those of memories and places held are of equal ones
@@ -162,7 +162,7 @@ state_codes_tell {Machine} {Memory} {Place} {Form} code twin_code tells s t e =
     tells s.memory t.memory (places_of s.threads) (places_of t.threads) many
     (ap (λ (c : FormContent (List ℕ)). c.form) same) in
     let threads =
-    threads_told s.threads t.threads form.1 replies (ap (λ (c : FormContent (List ℕ)). c.notes) same) in
+    same_threads s.threads t.threads form.1 replies (ap (λ (c : FormContent (List ℕ)). c.notes) same) in
     let astray = ap (λ (c : FormContent (List ℕ)). c.astray) same in
     λ i. record { memory = form.0 i; threads = threads i; steps = steps.0 i; astray = astray i }
 

@@ -58,20 +58,20 @@ each_readable {A} code readable (c ∷ cs) (d ∷ ds) xs ys l e =
 -- ---- facts
 
 -- facts whose code is a head of one byte and the other facts, or the long code of all
-Told : List ℕ → ℕ → Type 0
-Told facts refs =
+IsShortOrLong : List ℕ → ℕ → Type 0
+IsShortOrLong facts refs =
     ((first : ℕ) × (more : List ℕ) × (facts ≡ first ∷ more) × (first < 6) × (length more < 5) × (refs < 8)
     × (facts_code facts refs ≡ (length more + 5 * first + 30 * refs) ∷ flat_map number_code more))
     ⊎ (facts_code facts refs ≡ long_code facts refs)
 
-facts_told : (facts : List ℕ) (refs : ℕ) → Told facts refs
-unfolding Told
-facts_told [] refs = inr refl
-facts_told (first ∷ more) refs =
+short_or_long : (facts : List ℕ) (refs : ℕ) → IsShortOrLong facts refs
+unfolding IsShortOrLong
+short_or_long [] refs = inr refl
+short_or_long (first ∷ more) refs =
     go (nat_lt first 6) (nat_lt (length more) 5) (nat_lt refs 8) refl refl refl
   where
     go : (a b c : Bool) → nat_lt first 6 ≡ a → nat_lt (length more) 5 ≡ b → nat_lt refs 8 ≡ c
-        → Told (first ∷ more) refs
+        → IsShortOrLong (first ∷ more) refs
     go true true true e f g = inl (
       first,
       more,
@@ -120,10 +120,10 @@ short_split a b ms ns r s xs ys h1 h2 h3 h4 h5 h6 e =
 
 facts_split : (fs gs : List ℕ) (r s : ℕ) (xs ys : List ℕ) → facts_code fs r ++ xs ≡ facts_code gs s ++ ys
     → (fs ≡ gs) × (r ≡ s) × (xs ≡ ys)
-unfolding Told
-facts_split fs gs r s xs ys e = go (facts_told fs r) (facts_told gs s)
+unfolding IsShortOrLong
+facts_split fs gs r s xs ys e = go (short_or_long fs r) (short_or_long gs s)
   where
-    go : Told fs r → Told gs s → (fs ≡ gs) × (r ≡ s) × (xs ≡ ys)
+    go : IsShortOrLong fs r → IsShortOrLong gs s → (fs ≡ gs) × (r ≡ s) × (xs ≡ ys)
     go (inl p) (inl q) =
         let same =
         short_split p.0 q.0 p.1 q.1 r s xs ys p.3 p.4 p.5 q.3 q.4 q.5

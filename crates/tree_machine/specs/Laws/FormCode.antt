@@ -11,7 +11,7 @@ use Rattle.sched_program.specs.Laws.Exact.{nat_exact, list_exact}
 use Rattle.tree_machine.specs.Laws.CellOrder.{nat_equivalence}
 use Rattle.tree_machine.specs.Alike.{FormContent}
 use Rattle.tree_machine.specs.Laws.StateExact.{same_answer}
-use Rattle.tree_machine.specs.FormCode.{list_code, replies_code, note_code, astray_code, deeds_code, content_code}
+use Rattle.tree_machine.specs.FormCode.{list_code, replies_code, note_code, astray_code, op_log_code, content_code}
 use Rattle.tree_machine.specs.FormCode.{IsInjective}
 use Rattle.tree_machine.specs.Laws.Flat.{number_split, IsReadable, each_readable}
 use Rattle.tree_machine.specs.Laws.Packed.{replies_least}
@@ -106,7 +106,7 @@ codes_same {A} code readable E exact equivalence a b =
 
 module _ {Form : Type 0} (code : Form → List ℕ) (readable : IsInjective code) where
   in_row : (replies : List (List Bool)) (notes : List (List (List ℕ))) (astray : Option ℕ) (xs : List ℕ)
-      → deeds_code replies notes astray ++ xs ≡ list_code replies_code replies
+      → op_log_code replies notes astray ++ xs ≡ list_code replies_code replies
       ++ (list_code (list_code note_code) notes ++ (astray_code astray ++ xs))
   in_row replies notes astray xs =
       let first = list_code replies_code replies in

@@ -3,7 +3,7 @@ use Rattle.sched_program.specs.declared.operation.OpId.{OpId}
 use Rattle.lin.specs.Keys.{keys_of}
 use Rattle.lin.specs.Reply.{reply_in}
 use Rattle.lin.proofs.Places.{reply_placed}
-use Rattle.lin.proofs.Replies.{answer_told, kept_reply, not_same, same_answer}
+use Rattle.lin.proofs.Replies.{answer_means, kept_reply, not_same, same_answer}
 use Rattle.lin.proofs.reply.order_with_reply.Goals as goal
 use Rattle.lin.proofs.reply.order_with_reply.Goals.{in_default-via-in-Some+else-stated-reply, in_default-via-in_default}
 
@@ -23,7 +23,7 @@ returns-in-Some c =
     let is : reply_in program (keys_of program.initial) order c.args.name ≡ Some c.args.reply =
     ap (λ (o : List OpId). reply_in program (keys_of program.initial) o c.args.name) (sym c.as_slice.ensures)
     ∙ sym c.reply_in.ensures ∙ c.in-Some.is ∙ ap Some stated in
-    answer_told program c.initial.ensures.limits order c.args.name c.args.reply c.ending_with.result
+    answer_means program c.initial.ensures.limits order c.args.name c.args.reply c.ending_with.result
     c.ending_with.ensures is
 
 pub returns-in_default : goal.returns-in_default

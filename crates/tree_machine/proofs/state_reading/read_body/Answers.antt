@@ -15,12 +15,12 @@ behind_known front behind bytes known rest k same is read =
     sym (take-append-drop (length known) bytes)
     ∙ (λ i. (list_exact nat_exact (take (length known) bytes) known same ∙ k) i ++ (sym is ∙ read) i)
 
-with_deeds : (replies others : List (List Bool)) (notes twins : List (List (List ℕ))) (astray : Option ℕ)
+with_op_log : (replies others : List (List Bool)) (notes twins : List (List (List ℕ))) (astray : Option ℕ)
     (bytes rest whole : List ℕ)
     → bytes ≡ flat_map replies_code replies ++ (list_code (list_code note_code) notes ++ (astray_code astray ++ rest))
     → others ≡ replies → twins ≡ notes → rest ≡ whole
     → bytes ≡ flat_map replies_code others ++ (list_code (list_code note_code) twins ++ (astray_code astray ++ whole))
-with_deeds replies others notes twins astray bytes rest whole read same alike is =
+with_op_log replies others notes twins astray bytes rest whole read same alike is =
     read ∙ (λ i. flat_map replies_code (sym same i)
     ++ (list_code (list_code note_code) (sym alike i) ++ (astray_code astray ++ is i)))
 
@@ -28,7 +28,7 @@ pub returns-clause-read : goal.returns-clause-read
 returns-clause-read g c =
     let prefix = c.in-Some-strip_prefix.ensures.cases in
     let front = c.in-Some-known.front in
-    with_deeds _ _ _ _ c.in-Some.thread c.args.bytes.now c.in-Some.rest.now _ c.in-Some.ensures.read
+    with_op_log _ _ _ _ c.in-Some.thread c.args.bytes.now c.in-Some.rest.now _ c.in-Some.ensures.read
     c.in_ok-read_behind.ensures.replies c.in_ok-read_behind.ensures.notes
     (behind_known (g.M.Encode.front_code front c.read_behind.new.mem)
     (g.M.Encode.behind_code front c.read_behind.new.mem (places_of c.read_behind.new.threads))

@@ -2,7 +2,7 @@
 use Rattle.std.proofs.Common.{◌≡◌, ◌∙◌, if◌then◌else◌, ap, rules, sym}
 use Rattle.claims.specs.Values.{Seated}
 use Rattle.claims.proofs.Steps.{draws_kept}
-use Rattle.claims.proofs.Turns.{told_seat}
+use Rattle.claims.proofs.Turns.{seat_of_size}
 use Rattle.claims.proofs.counter.Claims.claim.Goals as goal
 
 pub fetch_add-place-requires : goal.fetch_add-place-requires
@@ -17,4 +17,4 @@ returns-then-seat-clause-none_left c =
     let stated : c.args.seat.now.drew.spent ≡ 1 =
     ap (λ (s : Seated). s.drew.spent) (sym c.seat.view_is) ∙ c.seat.invariant.0
     ∙ ap (λ b. if b then 1 else 0) c.if-seat.true in
-    told_seat c.args.seat.now.drew c.args.self.now.size c.requires.own.single stated c.requires.own.size
+    seat_of_size c.args.seat.now.drew c.args.self.now.size c.requires.own.single stated c.requires.own.size

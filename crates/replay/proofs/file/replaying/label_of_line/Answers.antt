@@ -3,7 +3,7 @@ use Rattle.std.proofs.lemmas.Result.{err_from_is_err_and}
 use Rattle.tree_machine.specs.Step.{step}
 use Rattle.replay.specs.declared.file.fault.CheckFault.TheVariants.{OutOfMemory}
 use Rattle.replay.specs.BookFile.Replays.{IsUnshown}
-use Rattle.replay.proofs.BookFile.Amiss.{no_parent, no_step, step_amiss, step_told}
+use Rattle.replay.proofs.BookFile.Amiss.{no_parent, no_step, step_amiss, step_passes}
 use Rattle.replay.proofs.file.replaying.label_of_line.Goals as goal
 
 pub step_here-requires-clause-fits : goal.step_here-requires-clause-fits
@@ -66,7 +66,7 @@ pub returns-clause-tells : goal.returns-clause-tells
 returns-clause-tells g c =
     let bound = g.met.M.Machine g.world.𝓛 g.world.𝓜 g.world.𝓡 ((λ s x. x), (λ x. x), (λ x. x), λ x. x) in
     let input = c.args.input.now in
-    λ states so. step_told (g.M.Machine.rules input.machine) input.program.now (bound.lawful input.machine)
+    λ states so. step_passes (g.M.Machine.rules input.machine) input.program.now (bound.lawful input.machine)
     c.initial.ensures.limits (g.M.Machine.form_of input.machine) (bound.forms input.machine) g.M.Encode.form_code
     input.lines.now c.args.before.now c.requires.kept c.len-number.result c.len-number.ensures c.args.line.now
     states so c.recall.new.state c.in_ok-recall.ensures c.step_here.new.self c.in-Ok.ensures.step

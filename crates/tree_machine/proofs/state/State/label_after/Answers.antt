@@ -2,7 +2,7 @@ use Rattle.std.proofs.Common.{◌≡◌, ◌++◌, [], if◌then◌else◌, appe
 use Rattle.tree_machine.specs.Alike.{places_of}
 use Rattle.tree_machine.specs.Flat.{number_code}
 use Rattle.tree_machine.specs.Naming.{code_by}
-use Rattle.tree_machine.specs.Offsets.{deeds_of}
+use Rattle.tree_machine.specs.Offsets.{op_log_of}
 use Rattle.tree_machine.proofs.OffsetPieces.{label_is}
 use Rattle.tree_machine.proofs.state.State.label_after.Goals as goal
 
@@ -11,13 +11,13 @@ returns g c =
     let origin = c.args.origin.now in
     let state = c.args.self.now in
     let steps = number_code c.label_steps.result in
-    let deeds = deeds_of state in
+    let op_log = op_log_of state in
     let front = if origin.undo.now.reads then g.M.Encode.front_code origin.offsets.front state.memory else [] in
     let code = code_by c.args.naming (g.M.Encode.whole_code state.memory (places_of state.threads))
     (g.M.Encode.form_code (g.M.Machine.form_of c.args.machine state.memory (places_of state.threads))) in
     let first : c.put_number.new.self ≡ steps = c.in_ok-put_number.ensures ∙ ap (λ l. l ++ steps) c.clear.ensures in
-    let put : c.put_front.new.buffer ≡ (steps ++ deeds) ++ front =
-    c.in_ok-put_front.ensures ∙ ap (λ l. l ++ (deeds ++ front)) first ∙ sym (append_assoc steps deeds front) in
-    c.in_ok-copied_in.ensures ∙ c.as_slice.ensures ∙ c.in_ok-put_rest.ensures (steps ++ deeds) put
-    ∙ append_assoc steps deeds code ∙ ap (λ n. number_code n ++ (deeds ++ code)) c.label_steps.ensures
+    let put : c.put_front.new.buffer ≡ (steps ++ op_log) ++ front =
+    c.in_ok-put_front.ensures ∙ ap (λ l. l ++ (op_log ++ front)) first ∙ sym (append_assoc steps op_log front) in
+    c.in_ok-copied_in.ensures ∙ c.as_slice.ensures ∙ c.in_ok-put_rest.ensures (steps ++ op_log) put
+    ∙ append_assoc steps op_log code ∙ ap (λ n. number_code n ++ (op_log ++ code)) c.label_steps.ensures
     ∙ label_is c.args.naming g.M.Encode.whole_code g.M.Encode.form_code (g.M.Machine.form_of c.args.machine) state

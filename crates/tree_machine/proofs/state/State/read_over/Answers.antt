@@ -1,13 +1,13 @@
 -- What was read shows where the parts begin.
 use Rattle.std.proofs.Common.{◌≤◌, ◌+◌, ◌-◌, length, ap, ◌∙◌, rules}
 use Rattle.tree_machine.proofs.Lists.{given_back}
-use Rattle.tree_machine.proofs.OffsetPieces.{cuts_read, cuts_fit}
+use Rattle.tree_machine.proofs.OffsetPieces.{offsets_read, offsets_fit}
 use Rattle.tree_machine.proofs.state.State.read_over.Goals as goal
 
 pub overflow_add-held : goal.overflow_add-held
 overflow_add-held g c =
     let fits : length c.args.bytes.now - c.in-Some-2.read.behind + c.in-Some-2.read.end ≤ length c.args.bytes.now =
-    cuts_fit g.M.Encode.front_code g.M.Encode.behind_code {Machine = g.row.M.Denot}
+    offsets_fit g.M.Encode.front_code g.M.Encode.behind_code {Machine = g.row.M.Denot}
     {Form = g.row.M-Form.Denot}
     (record {
       memory = c.read_body-read.new.memory;
@@ -27,7 +27,7 @@ overflow_add-held g c =
 
 pub returns-in-Some-2 : goal.returns-in-Some-2
 returns-in-Some-2 g c =
-    cuts_read g.M.Encode.front_code g.M.Encode.behind_code _ c.read_body-read.new.threads c.args.bytes.now
+    offsets_read g.M.Encode.front_code g.M.Encode.behind_code _ c.read_body-read.new.threads c.args.bytes.now
     c.in-Some.rest.now c.in-Some.count c.in-Some-2.read.behind c.in-Some-2.read.end c.in-Some-2.read.front
     (c.from_vec.ensures
     ∙ given_back _ c.make_count.new.threads.items c.make_count.new.threads.len

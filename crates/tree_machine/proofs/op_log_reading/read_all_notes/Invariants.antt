@@ -2,7 +2,7 @@ use Rattle.std.proofs.Common.{◌≡◌, ◌++◌, length, take}
 use Rattle.std.specs.List.{flat_map}
 use Rattle.tree_machine.specs.Alike.{notes_of, replies_of}
 use Rattle.tree_machine.specs.FormCode.{list_code, note_code}
-use Rattle.tree_machine.proofs.deeds_reading.read_all_notes.Given as goal
+use Rattle.tree_machine.proofs.op_log_reading.read_all_notes.Given as goal
 
 -- the notes of the threads so far are read
 abbrev pub invariant-loop-index : goal.invariant-loop-index

@@ -6,8 +6,8 @@ use Rattle.std.proofs.Math.Seq.{map-set_same}
 use Rattle.std.proofs.lemmas.Option.{get_or_from_slice_get, same_Some, slice_get_within}
 use Rattle.sched_program.specs.Program.{Program}
 use Rattle.tree_machine.specs.Alike.{replies_of, notes_of}
-use Rattle.tree_machine.specs.Offsets.{deeds_of}
-use Rattle.tree_machine.specs.FormCode.{deeds_code}
+use Rattle.tree_machine.specs.Offsets.{op_log_of}
+use Rattle.tree_machine.specs.FormCode.{op_log_code}
 use Rattle.tree_machine.specs.Rules.{Rules}
 use Rattle.tree_machine.specs.Step.{at_step, after_access, finished_counts, notes_at_step, ready, step, stepped}
 use Rattle.tree_machine.specs.declared.machine.Outcome.{Outcome}
@@ -90,9 +90,9 @@ module _ {Machine Memory Place Form : Type 0} (rules : Rules Memory Place) (prog
       (found : slice_get next.threads t ≡ Some here) (as_many : length here.replies ≡ length there.replies)
       (as_many_notes : length here.notes ≡ length there.notes) where
     -- what the threads did is as it was
-    pub deeds_stay : (replies_of next.threads ≡ replies_of state.threads)
+    pub op_log_stays : (replies_of next.threads ≡ replies_of state.threads)
         × (notes_of next.threads ≡ notes_of state.threads)
-    deeds_stay =
+    op_log_stays =
         step_parts rules program
         ((replies_of next.threads ≡ replies_of state.threads) × (notes_of next.threads ≡ notes_of state.threads))
         state next t made (λ thread is op at_op stepped_is.
@@ -110,10 +110,10 @@ module _ {Machine Memory Place Form : Type 0} (rules : Rules Memory Place) (prog
         ))
 
   -- the bytes of what the threads did are as they were
-  pub deeds_as_before : (there here : Thread Place) → slice_get state.threads t ≡ Some there
+  pub same_op_log : (there here : Thread Place) → slice_get state.threads t ≡ Some there
       → slice_get next.threads t ≡ Some here → next.astray ≡ None → length here.replies ≡ length there.replies
-      → length here.notes ≡ length there.notes → deeds_of next ≡ deeds_of state
-  deeds_as_before there here at_t found calm as_many as_many_notes =
-      let kept = deeds_stay there here at_t found as_many as_many_notes in
+      → length here.notes ≡ length there.notes → op_log_of next ≡ op_log_of state
+  same_op_log there here at_t found calm as_many as_many_notes =
+      let kept = op_log_stays there here at_t found as_many as_many_notes in
       let astray = calm ∙ sym source_not_astray in
-      λ i. deeds_code (kept.0 i) (kept.1 i) (astray i)
+      λ i. op_log_code (kept.0 i) (kept.1 i) (astray i)

@@ -2,7 +2,7 @@
 use Rattle.std.proofs.Common.{arith, rules, refl, ◌∙◌}
 use Rattle.std.proofs.Math.Seq.{map-set_same}
 use Rattle.std.proofs.lemmas.Grind.{common_steps}
-use Rattle.tree_machine.proofs.deeds_reading.read_all_notes.Goals as goal
+use Rattle.tree_machine.proofs.op_log_reading.read_all_notes.Goals as goal
 
 pub loop-index-preserved : goal.loop-index-preserved
 loop-index-preserved g c =
