@@ -1,4 +1,5 @@
--- A book may go to any thread and be shared by threads, and a scratch may go to any: each type that they are made of may.
+-- A book may go to any thread and be shared by threads, and a scratch may go to any: each type that they are made of
+-- may.
 -- A search through all of them at once would not come to its end.
 use denote.RattleType.{RattleType}
 use denote.Param.Send.{IsSend, IsSync, sendable, recorded_send, struct_send}

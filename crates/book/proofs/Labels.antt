@@ -152,7 +152,8 @@ module _ {S : Type 0} where
           (kept : IsGrown old new)
           (put : map keyed_of new
           ≡ map keyed_of old ++ map (opened i) (unknown same_label (states (map keyed_of old)) xs))
-          (rows : AreSteps step s old new) (known : labels_of old ≡ map (λ (e : Entry S). label_of e.state) (entries_of old))
+          (rows : AreSteps step s old new)
+          (known : labels_of old ≡ map (λ (e : Entry S). label_of e.state) (entries_of old))
           (are : xs ≡ map (labelled label_of) ys)
           (leads : (k : ℕ) (y : Successor S) → slice_get ys k ≡ Some y → step s y.thread ≡ Some y.state) where
         abbrev news : List (Successor S)

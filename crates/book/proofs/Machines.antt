@@ -29,7 +29,8 @@ use Rattle.book.proofs.Agreeing.{Agree}
 use Rattle.book.proofs.LawfulBooks.{opened_book}
 use Rattle.book.proofs.StandingIn.{found_alike}
 
-module _ {Machine Memory Place Form : Type 0} (rules : Rules Memory Place) (program : Program) (lawful : AreLawful rules)
+module _ {Machine Memory Place Form : Type 0} (rules : Rules Memory Place) (program : Program)
+    (lawful : AreLawful rules)
     (form_of : Memory → List (Option Place) → Form) (forms : AreFormsExact rules form_of)
     (whole_code : Memory → List (Option Place) → List ℕ) (form_code : Form → List ℕ)
     (wholly : IsInjective (state_code {Machine = Machine} {Form = Form} whole_code))

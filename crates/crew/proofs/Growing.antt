@@ -146,4 +146,5 @@ module _ {S : Type 0} (m : StepMachine S) (same : S → S → Bool) (right : S �
       → IsCount m (AreOneBy same) n (length es)
   count_all n done shallow =
       count_is m same right machine merges es law n (length es) done (omega arith)
-      (λ i e at _. shallow i e at) (λ i e at _. slice_get_within es i e at) (λ s c leads. steps_after m machine c s leads)
+      (λ i e at _. shallow i e at) (λ i e at _. slice_get_within es i e at)
+      (λ s c leads. steps_after m machine c s leads)

@@ -138,7 +138,8 @@ module _ {Machine Memory Place Form : Type 0} (rules : Machine → Rules Memory 
       (way : (e : Entry (State Machine Memory Place Form)) × At b.entries id e
       × (after (machine_in rules b) schedule.items ≡ Some e.state) × (length schedule.items ≡ e.state.steps)) where
     -- entries of fewer steps are sound, and of as many not all
-    pub sound_before : (n : ℕ) → n < length schedule.items → (i : ℕ) (e : Entry (State Machine Memory Place Form)) → At b.entries i e
+    pub sound_before : (n : ℕ) → n < length schedule.items → (i : ℕ) (e : Entry (State Machine Memory Place Form))
+        → At b.entries i e
         → e.state.steps ≤ n → is_sound e.finding ≡ true
     sound_before n less i e at few =
         let long : length schedule.items ≡ way.0.state.steps = way.3 in
@@ -209,7 +210,8 @@ module _ {Machine Memory Place Form : Type 0} (rules : Machine → Rules Memory 
           }
 
   -- the book has no room for an entry's steps, whoever made them
-  full_alike : (e : Entry (State Machine Memory Place Form)) (xs ys : List (Successor (State Machine Memory Place Form)))
+  full_alike : (e : Entry (State Machine Memory Place Form))
+      (xs ys : List (Successor (State Machine Memory Place Form)))
       → IsExpansion (machine_in rules b) (right_in rules b) e.state xs
       → IsExpansion (machine_in rules b) (right_in rules b) e.state ys
       → IsFullFor (CountsAsOne (rules b.machine) b.merge) b xs
@@ -223,7 +225,8 @@ module _ {Machine Memory Place Form : Type 0} (rules : Machine → Rules Memory 
       omega arith
 
   -- so it enters none of them
-  pub not_entered : (e : Entry (State Machine Memory Place Form)) (xs ys : List (Successor (State Machine Memory Place Form)))
+  pub not_entered : (e : Entry (State Machine Memory Place Form))
+      (xs ys : List (Successor (State Machine Memory Place Form)))
       → IsExpansion (machine_in rules b) (right_in rules b) e.state xs
       → IsExpansion (machine_in rules b) (right_in rules b) e.state ys
       → IsFullFor (CountsAsOne (rules b.machine) b.merge) b xs

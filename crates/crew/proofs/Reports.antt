@@ -57,7 +57,8 @@ module _ {X Memory Place Form : Type 0} (rules : X → Rules Memory Place) (mach
         (length book.entries) count answer other (by_test (length book.entries) answer due) (by_test count other also)
 
   -- what was read off the book that was asked for makes a report
-  pub reported : (book read : Contents X (State X Memory Place Form)) (answer : Answer) (counts : Totals) (each : List Share)
+  pub reported : (book read : Contents X (State X Memory Place Form)) (answer : Answer) (counts : Totals)
+      (each : List Share)
       → IsBookOf machine program settings book
       → IsMachine (machine_in rules book)
       → IsDecided (machine_in rules book) (CountsAsOne (rules book.machine) book.merge)

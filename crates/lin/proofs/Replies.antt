@@ -121,7 +121,8 @@ module _ (program : Program) (old new : History) (a : OpId) (r : Bool) (is : Has
           → GivesReplies program new keys (b ∷ rest)
       by true same again =
           let e : b ≡ a = same_name-is b a same in
-          let own = op_of_reply (op_at program a.thread a.index) keys r (sym (at_head program a keys b rest same) ∙ stated) in
+          let own = op_of_reply (op_at program a.thread a.index) keys r
+          (sym (at_head program a keys b rest same) ∙ stated) in
           let at : op_at program b.thread b.index ≡ Some own.0 =
           subst (λ c. op_at program c.thread c.index ≡ Some own.0) (sym e) own.1 in
           let one : op.0 ≡ own.0 = (let q : Some op.0 ≡ Some own.0 = sym op.1 ∙ at in cc) in

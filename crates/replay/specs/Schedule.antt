@@ -1,5 +1,6 @@
 -- A step machine as a whole: its schedules, and the states that they lead to.
-use Rattle.std.specs.Prelude.{◌↔◌, ◌≡◌, ℕ, ◌+◌, ◌<◌, ◌≤◌, Bool, true, Option, Some, is_some, List, [], ◌∷◌, length, filter}
+use Rattle.std.specs.Prelude.{◌↔◌, ◌≡◌, ℕ, ◌+◌, ◌<◌, ◌≤◌, Bool, true, Option, Some, is_some, List, [], ◌∷◌, length}
+use Rattle.std.specs.Prelude.{filter}
 use Rattle.std.specs.List.{range_with_len}
 use Rattle.std.specs.Option.{option_and_then}
 
@@ -52,7 +53,8 @@ pub record Merges {S : Type 0} (m : StepMachine S) (same : S → S → Bool) : T
   pub steps_alike : (r s u : S) (t : ℕ) → m.Fits r → m.Fits s → same r s ≡ true → m.step s t ≡ Some u
       → (v : S) × (m.step r t ≡ Some v) × (same v u ≡ true)
 
--- some test counts just those states of the machine as one that are the same, and states that it counts as one step alike
+-- some test counts just those states of the machine as one that are the same, and states that it counts as one step
+-- alike
 abbrev pub IsDecided : {S : Type 0} → StepMachine S → (S → S → Type 0) → Type 0
 IsDecided {S} m Same = (same : S → S → Bool) × Merges m same
     × ((r s : S) → m.Fits r → m.Fits s → (same r s ≡ true) ↔ Same r s)

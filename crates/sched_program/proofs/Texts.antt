@@ -161,7 +161,8 @@ passes_all value program is fault.After =
 passes_all value program is fault.OutOfMemory = tt
 
 -- what passes a test has not its fault
-not_both : (value : Data) (stated : ProgramFault) → Passes value stated → Stands value stated → stated ≡ fault.OutOfMemory
+not_both : (value : Data) (stated : ProgramFault) → Passes value stated → Stands value stated → stated
+    ≡ fault.OutOfMemory
 not_both value fault.OutOfMemory passes stands = refl
 not_both value stated passes stands = absurd (stands passes)
 
@@ -188,4 +189,5 @@ module _ (bytes : List ℕ) (value : Data) (is : read bytes ≡ Some value) wher
   pub no_program : (answer : Result Program ProgramFault) → IfErr answer (IsFirstFault value)
       → IfErr answer (λ stated. stated ≢ fault.OutOfMemory → (program : Program) → ¬ IsJsonTextOf bytes program)
   no_program (Ok program) first = tt
-  no_program (Err stated) first = λ other program text. other (no_fault value program stated (of_value program text) first)
+  no_program (Err stated) first = λ other program text. other
+      (no_fault value program stated (of_value program text) first)

@@ -13,7 +13,8 @@ module _ {Place : Type 0} (f : Option Place → Part) where
   held_part_at (t ∷ threads) (suc i) d l = held_part_at threads i d (omega arith)
 
   module _ (P : Part → Type 0) (threads : List (Thread Place)) (i : ℕ) (d : Thread Place)
-      (within : i < length (map f (places_of threads))) {place : Option Place} (is : (get_or threads i d).place ≡ place) where
+      (within : i < length (map f (places_of threads))) {place : Option Place}
+      (is : (get_or threads i d).place ≡ place) where
     pub from_held : P (part_at (map f (places_of threads)) i) → P (f place)
     from_held = subst P (held_part_at threads i d within ∙ ap f is)
 

@@ -152,12 +152,14 @@ module _ (n : Numbering) where
           (All-from_recursion (λ y. y < length n.numbers.items) (x ∷ []) (known, tt))))
 
       -- it gets a number
-      pub next_numbers : (place : ℕ) → place ≡ length n.order.items → HasNumbers after (set n.numbers.items x (place + 1))
+      pub next_numbers : (place : ℕ) → place ≡ length n.order.items
+          → HasNumbers after (set n.numbers.items x (place + 1))
       next_numbers place is_length =
           let next : suc (length n.order.items) ≡ place + 1 = omega (arith, is_length) in
           subst (λ o. HasNumbers o (set n.numbers.items x (place + 1))) (sym is)
           (subst (λ m. HasNumbers (n.order.items ++ x ∷ []) (set n.numbers.items x m)) next
-          (subst (HasPlaces (n.order.items ++ x ∷ [])) (sym (map-set referred_to n.numbers.items x (suc (length n.order.items))))
+          (subst (HasPlaces (n.order.items ++ x ∷ []))
+          (sym (map-set referred_to n.numbers.items x (suc (length n.order.items))))
           (places_push n.order.items (map referred_to n.numbers.items) x n.has_numbers
           (within n.numbers.items x known) unmet)))
 

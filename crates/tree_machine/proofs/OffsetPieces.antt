@@ -8,7 +8,8 @@ use Rattle.std.specs.List.{flat_map}
 use Rattle.tree_machine.specs.Alike.{notes_of, places_of, replies_of}
 use Rattle.tree_machine.specs.Offsets.{AreOffsetsOf, op_log_of}
 use Rattle.tree_machine.specs.Flat.{number_code}
-use Rattle.tree_machine.specs.FormCode.{astray_code, cut_code, op_log_code, label_code, list_code, note_code, replies_code, state_code}
+use Rattle.tree_machine.specs.FormCode.{astray_code, cut_code, op_log_code, label_code, list_code, note_code}
+use Rattle.tree_machine.specs.FormCode.{replies_code, state_code}
 use Rattle.tree_machine.specs.declared.state.Thread.{Thread}
 use Rattle.tree_machine.specs.declared.code_offsets.CodeOffsets.{CodeOffsets}
 use Rattle.tree_machine.specs.Naming.{code_by}
@@ -40,7 +41,8 @@ three_put a b c none first second third lent copy n f s t l p =
     p ∙ l ∙ t ∙ ap (λ x. x ++ c) (s ∙ ap (λ x. x ++ b) (f ∙ ap (λ x. x ++ a) n)) ∙ append_assoc a b c
 
 -- a label in its pieces
-pub label_is : {Machine Memory Place Form : Type 0} (naming : Naming) (whole_code : Memory → List (Option Place) → List ℕ)
+pub label_is : {Machine Memory Place Form : Type 0} (naming : Naming)
+    (whole_code : Memory → List (Option Place) → List ℕ)
     (form_code : Form → List ℕ) (form_of : Memory → List (Option Place) → Form)
     (state : State Machine Memory Place Form)
     → number_code (code_by naming state.steps 0) ++ (op_log_of state
@@ -50,7 +52,8 @@ pub label_is : {Machine Memory Place Form : Type 0} (naming : Naming) (whole_cod
 label_is Own whole_code form_code form_of state = refl
 label_is Canonical whole_code form_code form_of state = refl
 
-pub label_put : {Machine Memory Place Form : Type 0} (naming : Naming) (whole_code : Memory → List (Option Place) → List ℕ)
+pub label_put : {Machine Memory Place Form : Type 0} (naming : Naming)
+    (whole_code : Memory → List (Option Place) → List ℕ)
     (form_code : Form → List ℕ) (form_of : Memory → List (Option Place) → Form)
     (state : State Machine Memory Place Form) (threads : List (Thread Place)) (steps : ℕ)
     (none first second third lent copy : List ℕ) → threads ≡ state.threads → steps ≡ code_by naming state.steps 0
@@ -61,7 +64,8 @@ pub label_put : {Machine Memory Place Form : Type 0} (naming : Naming) (whole_co
     → lent ≡ third → copy ≡ lent → copy ≡ label_code naming whole_code form_code form_of state
 label_put naming whole_code form_code form_of state threads steps none first second third lent copy h k n f s t l p =
     three_put (number_code steps) (op_log_code (replies_of threads) (notes_of threads) state.astray)
-    (code_by naming (whole_code state.memory (places_of threads)) (form_code (form_of state.memory (places_of threads))))
+    (code_by naming (whole_code state.memory (places_of threads))
+    (form_code (form_of state.memory (places_of threads))))
     none first second third lent copy n f s t l p
     ∙ (λ i. number_code (k i) ++ (op_log_code (replies_of (h i)) (notes_of (h i)) state.astray
     ++ code_by naming (whole_code state.memory (places_of (h i))) (form_code (form_of state.memory (places_of (h i))))))
@@ -153,7 +157,8 @@ module _ {Memory Place : Type 0} (front_code : Front → Memory → List ℕ)
   module _ {Machine Form : Type 0} (stated : List ℕ) (offsets : CodeOffsets) (source : State Machine Memory Place Form)
       (are : AreOffsetsOf front_code behind_code stated offsets source) where
     parts_are : stated ≡ number_code source.steps ++ (op_log_of source
-        ++ (front_code offsets.front source.memory ++ behind_code offsets.front source.memory (places_of source.threads)))
+        ++ (front_code offsets.front source.memory
+        ++ behind_code offsets.front source.memory (places_of source.threads)))
     parts_are = are.written
 
     -- the cuts are in order, within the bytes
@@ -182,7 +187,8 @@ module _ {Memory Place : Type 0} (front_code : Front → Memory → List ℕ)
         (omega (arith, e, are.memory), omega (arith, e), omega (arith, e, are.held, held_within))
 
     behind_op_log : stated ≡ (number_code source.steps ++ op_log_of source)
-        ++ (front_code offsets.front source.memory ++ behind_code offsets.front source.memory (places_of source.threads))
+        ++ (front_code offsets.front source.memory
+        ++ behind_code offsets.front source.memory (places_of source.threads))
     behind_op_log = parts_are ∙ sym (append_assoc (number_code source.steps) (op_log_of source)
         (front_code offsets.front source.memory ++ behind_code offsets.front source.memory (places_of source.threads)))
 
@@ -196,11 +202,13 @@ module _ {Memory Place : Type 0} (front_code : Front → Memory → List ℕ)
         → take (to - offsets.memory) (drop offsets.memory stated) ≡ (if same then front_code offsets.front mem else [])
     memory_piece mem true to k e =
         piece_between (number_code source.steps ++ op_log_of source) (front_code offsets.front source.memory)
-        (behind_code offsets.front source.memory (places_of source.threads)) stated offsets.memory to behind_op_log memory_begins (e ∙ are.held)
+        (behind_code offsets.front source.memory (places_of source.threads)) stated offsets.memory to behind_op_log
+        memory_begins (e ∙ are.held)
         ∙ ap (front_code offsets.front) (sym (k refl))
     memory_piece mem false to k e =
         piece_between (number_code source.steps ++ op_log_of source) []
-        (front_code offsets.front source.memory ++ behind_code offsets.front source.memory (places_of source.threads)) stated offsets.memory to behind_op_log
+        (front_code offsets.front source.memory ++ behind_code offsets.front source.memory (places_of source.threads))
+        stated offsets.memory to behind_op_log
         memory_begins (omega (arith, e))
 
     -- the bytes of what the threads did, with those of the memory, if they are asked for
@@ -214,12 +222,20 @@ module _ {Memory Place : Type 0} (front_code : Front → Memory → List ℕ)
         (parts_are ∙ ap (λ l. number_code source.steps ++ l)
         (sym (append_assoc (op_log_of source) (front_code offsets.front source.memory)
         (behind_code offsets.front source.memory (places_of source.threads))))) are.op_log
-        (omega (arith, e, are.memory, are.held, length-append (op_log_of source) (front_code offsets.front source.memory)))
+        (omega (
+          arith,
+          e,
+          are.memory,
+          are.held,
+          length-append (op_log_of source) (front_code offsets.front source.memory),
+        ))
         ∙ ap (λ m. op_log_of source ++ front_code offsets.front m) (sym (k refl))
     op_log_piece mem false to k e =
         piece_between (number_code source.steps) (op_log_of source ++ [])
-        (front_code offsets.front source.memory ++ behind_code offsets.front source.memory (places_of source.threads)) stated offsets.op_log to
+        (front_code offsets.front source.memory ++ behind_code offsets.front source.memory (places_of source.threads))
+        stated offsets.op_log to
         (parts_are ∙ ap (λ l. number_code source.steps ++ (l
-        ++ (front_code offsets.front source.memory ++ behind_code offsets.front source.memory (places_of source.threads))))
+        ++ (front_code offsets.front source.memory
+        ++ behind_code offsets.front source.memory (places_of source.threads))))
         (sym (append-nil (op_log_of source)))) are.op_log
         (omega (arith, e, are.memory, length-append (op_log_of source) []))

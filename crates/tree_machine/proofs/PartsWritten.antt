@@ -74,9 +74,11 @@ graph_written old w1 w2 w3 w4 a b n m k l f g ea eb h1 h2 h3 h4 =
     let D = part_codes records in
     let e2 : w2 ≡ record old { bytes = (old.bytes ++ A) ++ B } = h2 ∙ ap (λ (w : Written). with_bytes w B) h1 in
     let e3 : w3 ≡ record old { bytes = ((old.bytes ++ A) ++ B) ++ C } =
-    h3 ∙ ap (λ (w : Written). with_bytes w (part_codes (map (λ x. renamed_by w (f x)) (take m (drop n w.node_order))))) e2 in
+    h3 ∙ ap (λ (w : Written). with_bytes w (part_codes (map (λ x. renamed_by w (f x)) (take m (drop n w.node_order)))))
+    e2 in
     let e4 : w4 ≡ record old { bytes = (((old.bytes ++ A) ++ B) ++ C) ++ D } =
-    h4 ∙ ap (λ (w : Written). with_bytes w (part_codes (map (λ x. renamed_by w (g x)) (take l (drop k w.record_order))))) e3 in
+    h4 ∙ ap (λ (w : Written). with_bytes w
+    (part_codes (map (λ x. renamed_by w (g x)) (take l (drop k w.record_order))))) e3 in
     let count : a ≡ length nodes = ea ∙ sym (length-map (take m (drop n old.node_order)) (λ x. renamed_by old (f x))) in
     let more : b ≡ length records =
     eb ∙ sym (length-map (take l (drop k old.record_order)) (λ x. renamed_by old (g x))) in

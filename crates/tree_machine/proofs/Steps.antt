@@ -44,7 +44,8 @@ module _ {Machine Memory Place Form : Type 0} (state : State Machine Memory Plac
       }
 
   -- what an access leaves, with the thread moved on in a copy of the threads, is the state one step on
-  pub step_made : {after found : Thread Place} {threads copies counted : List (Thread Place)} {from : ℕ} {astray : Option ℕ}
+  pub step_made : {after found : Thread Place} {threads copies counted : List (Thread Place)} {from : ℕ}
+      {astray : Option ℕ}
       (rules : Rules Memory Place) (op : Op) (thread : Thread Place) (place : Place) (memory : Memory)
       (outcome : Outcome Place) (note : Option (List ℕ)) → place ≡ place_or thread.place (rules.first op)
       → rules.act op place state.memory ≡ (memory, outcome)
@@ -61,8 +62,8 @@ module _ {Machine Memory Place Form : Type 0} (state : State Machine Memory Plac
       → ◌≡◌ {A = State Machine Memory Place Form}
       (record { memory = memory; threads = threads; steps = state.steps + 1; astray = astray })
       (stepped rules state t op thread)
-  step_made {after} {threads = threads} {astray = astray} rules op thread place memory outcome note is acted unchanged moved
-      found noted counted set copied from s =
+  step_made {after} {threads = threads} {astray = astray} rules op thread place memory outcome note is acted unchanged
+      moved found noted counted set copied from s =
       let notes = notes_at_step thread.place thread.notes (finished_counts state.threads) in
       let a : after ≡ after_outcome (record { replies = thread.replies; place = Some place; notes = notes }) outcome =
       moved ∙ (λ i. after_outcome (record {

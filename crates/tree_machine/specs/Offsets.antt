@@ -24,7 +24,8 @@ pub record AreOffsetsOf {Machine Memory Place Form : Type 0} (front_code : Front
   pub held : offsets.held ≡ offsets.memory + length (front_code offsets.front state.memory)
 
 -- a memory that was read from such a code of another one with the places that threads hold
-pub record IsReadFrom {Memory Place : Type 0} (rules : Rules Memory Place) (code : Memory → List (Option Place) → List ℕ)
+pub record IsReadFrom {Memory Place : Type 0} (rules : Rules Memory Place)
+    (code : Memory → List (Option Place) → List ℕ)
     (cut : Memory → List (Option Place) → List ℕ) (memory : Memory) : Type 0 where
   pub other : Memory
   pub held : List (Option Place)

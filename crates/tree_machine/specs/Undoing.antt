@@ -3,7 +3,8 @@ use Rattle.std.specs.Prelude.{◌≡◌, ℕ, Bool, true, false, Option, Some, s
 use Rattle.tree_machine.specs.declared.state.Thread.{Thread}
 use Rattle.tree_machine.specs.declared.state.State.{State}
 
--- What takes a step of thread t from a state to the next one back: the thread as it was, whether the step left the memory
+-- What takes a step of thread t from a state to the next one back: the thread as it was, whether the step left the
+-- memory
 -- as it was, and if it did not, the memory of before.
 pub record TakesBack {Machine Memory Place Form : Type 0} (source : State Machine Memory Place Form) (t : ℕ)
     (thread : Thread Place) (reads : Bool) (memory : Option Memory)

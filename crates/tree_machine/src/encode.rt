@@ -103,7 +103,8 @@ pub trait Encode: Machine {
         ensures read { IfOk result (λ read. IfSome read
             (λ (end, front). bytes.now ≡ cut_code front_code behind_code front mem.new (places_of threads.new))) }
         ensures within { IfOk result (λ read. IfSome read (λ (end, front). end ≤ length bytes.now)) }
-        ensures front { IfOk result (λ read. IfSome read (λ (end, front). take end bytes.now ≡ front_code front mem.new)) }
+        ensures front { IfOk result (λ read. IfSome read
+            (λ (end, front). take end bytes.now ≡ front_code front mem.new)) }
         ensures replies { replies_of threads.new ≡ replies_of threads.old }
         ensures notes { notes_of threads.new ≡ notes_of threads.old };
 

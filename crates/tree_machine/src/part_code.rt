@@ -3,7 +3,8 @@ ghost use Rattle.std.specs.Prelude.{◌≡◌, ◌≤◌, ◌<◌, ◌-◌, ◌+
 ghost use Rattle.std.specs.List.{All};
 ghost use Rattle.tree_machine.specs.Canonical.{canonical_code, canonical_parts, cut_front, parts_by, ArePartsRead};
 ghost use Rattle.tree_machine.specs.Canonical.{IsMetInOrder};
-ghost use Rattle.tree_machine.specs.Flat.{all_front, behind_code, front_code, graph_code, left_code, part_codes, parts_code};
+ghost use Rattle.tree_machine.specs.Flat.{all_front, behind_code, front_code, graph_code, left_code, part_codes};
+ghost use Rattle.tree_machine.specs.Flat.{parts_code};
 ghost use Rattle.tree_machine.specs.Naming.{code_by};
 ghost use Rattle.tree_machine.specs.Parts.{Parts as Contents, part_at, ArePartsInRange, CanPartsBePaired};
 ghost use Rattle.tree_machine.specs.Written.{renamed_by, with_bytes};

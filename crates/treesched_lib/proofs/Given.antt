@@ -19,7 +19,8 @@ use Rattle.treesched_lib.specs.Serving.{IsChecked}
 use Rattle.treesched_lib.specs.declared.serving.Output.{Output}
 
 -- the book of an answer for every schedule is closed, and all its entries are sound
-pub closed : {X S : Type 0} (m : StepMachine S) (book : Contents X S) (printed : Answer) → TellsFirst m book.entries printed
+pub closed : {X S : Type 0} (m : StepMachine S) (book : Contents X S) (printed : Answer)
+    → TellsFirst m book.entries printed
     → TellsClosed book printed
     → printed ≡ answer.Every → IsClosed book × AreSound book.entries
 closed m book answer.Every first is e = (is, all_sound book.entries None (sym first) refl)

@@ -62,6 +62,7 @@ both_on_empty empty middle page first shown second none put same more =
     more ∙ ap (λ (l : List ℕ). l ++ second) (on_empty middle empty first put none ∙ same)
 
 -- a page with another name for its status and for its text
-pub as_page : (status printed : ℕ) (text lines : List ℕ) (output : Output) → IsPage status text output → status ≡ printed
+pub as_page : (status printed : ℕ) (text lines : List ℕ) (output : Output) → IsPage status text output → status
+    ≡ printed
     → text ≡ lines → IsPage printed lines output
 as_page status printed text lines output page same alike = (page.0 ∙ same, page.1 ∙ alike, page.2, page.3)

@@ -78,7 +78,8 @@ module _ {Machine Memory Place Form : Type 0} (rules : Rules Memory Place) (prog
       )
 
 -- one more line
-pub lines_push : {S : Type 0} (es : List (Entry S)) (lines : List BookLine) (e : Entry S) (line : BookLine) → 1 ≤ length es
+pub lines_push : {S : Type 0} (es : List (Entry S)) (lines : List BookLine) (e : Entry S) (line : BookLine)
+    → 1 ≤ length es
     → AreLinesOf es lines → IsLineOf e.origin e.finding line
     → AreLinesOf (es ++ e ∷ []) (lines ++ line ∷ [])
 lines_push [] lines e line some are is = absurd (omega arith)

@@ -135,7 +135,8 @@ replace_node P R memory other x y a b h p g = record {
   nodes_in_range = within_set P memory.nodes other.nodes x y a b h.nodes_in_range;
   records_in_range = h.records_in_range;
   nodes =
-      paired_set P memory.nodes other.nodes x y a b (AreFoundPaired P R) h.nodes_one_to_one h.nodes_in_range p g h.nodes;
+      paired_set P memory.nodes other.nodes x y a b (AreFoundPaired P R) h.nodes_one_to_one h.nodes_in_range p g
+      h.nodes;
   records = h.records;
 }
 

@@ -170,7 +170,11 @@ module _ (P R : ℕ → ℕ → Type 0) where
   place_to (Search a) (Search b) h = search_to a b h
   place_to (Help a y) (Help b z) h =
       let t = help_to a b h.0 in let e = t.0 in let f = t.1 in let g = h.1.1 in
-      record { facts = cc; nodes = (t.2, tt); records = (t.3, zip_map Some R (IsPairedOrNone R) (λ r s h. h) y.stack z.stack h.1.0) }
+      record {
+        facts = cc;
+        nodes = (t.2, tt);
+        records = (t.3, zip_map Some R (IsPairedOrNone R) (λ r s h. h) y.stack z.stack h.1.0);
+      }
   place_to _ _ h = absurd h
 
   search_apart : (a : SearchLoc) (x : ℕ) (facts : List ℕ) → (search_part a).facts ≡ 5 ∷ x ∷ facts → ⊥

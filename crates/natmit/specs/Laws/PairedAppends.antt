@@ -73,7 +73,8 @@ with_node_paired p memory twin a b h g =
       in_range = fresh_within p.nodes memory.nodes twin.nodes h.in_range a b;
       nodes_paired =
           fresh_paired p.nodes memory.nodes twin.nodes h.in_range a b (AreFoundPaired Q) g
-          (λ x y q. nodes_extend (IsIn p) Q (λ v w s. inr s) (node_at memory x) (node_at twin y) (h.nodes_paired x y q));
+          (λ x y q. nodes_extend (IsIn p) Q (λ v w s. inr s) (node_at memory x) (node_at twin y)
+          (h.nodes_paired x y q));
     }
 
 -- ---- a new internal node for a key at a leaf, behind its new leaf

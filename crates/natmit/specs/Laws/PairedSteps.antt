@@ -112,7 +112,8 @@ module _ (p : Pairing) (memory twin : NatMitMem) (h : AreMemoriesPaired (IsAmong
       → AreGoingAlike P (clean_read machine a s q d m v) (clean_read machine b u r e o w)
   clean_keeps machine a s q b u r d e m o agree g v w words =
       choices_paired (AreGoingAlike P) v.flag w.flag (Goes (tagging machine a s q (other_side d) m))
-      (Goes (tagging machine a s q d m)) (Goes (tagging machine b u r (other_side e) o)) (Goes (tagging machine b u r e o)) words.0
+      (Goes (tagging machine a s q d m)) (Goes (tagging machine b u r (other_side e) o))
+      (Goes (tagging machine b u r e o)) words.0
       (tagging_paired P machine a s q b u r (other_side d) (other_side e) m o g.0 g.1 g.2 (ap other_side agree) g.3)
       (tagging_paired P machine a s q b u r d e m o g.0 g.1 g.2 agree g.3)
 

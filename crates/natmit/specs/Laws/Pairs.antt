@@ -33,7 +33,8 @@ module _ (p : Pairing) (memory twin : NatMitMem) (h : AreMemoriesPaired (IsAmong
 
   seen : (x y : ℕ) → P x y → AreShapesPaired P (shapes memory x) (shapes twin y)
   seen x y at =
-      paired_as (AreFoundPaired P) (λ a b. AreShapesPaired P (option_map shape_in a) (option_map shape_in b)) memory.nodes
+      paired_as (AreFoundPaired P) (λ a b. AreShapesPaired P (option_map shape_in a) (option_map shape_in b))
+      memory.nodes
       twin.nodes x y (h.in_range x y at) shapes_paired (h.nodes_paired x y at)
 
   ordered_paired : KeepsSearchOrder (shapes memory) ↔ KeepsSearchOrder (shapes twin)

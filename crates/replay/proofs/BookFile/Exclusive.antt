@@ -133,7 +133,8 @@ module _ {Machine Memory Place Form : Type 0} (rules : Rules Memory Place) (prog
         | inl l ↦ absurd (b.first a.index a.state l a.at a.leads_out)
         | inr ge ↦ (elim (cases_lt b.index a.index) [
           | inl l ↦ absurd (a.first b.index b.state l b.at b.leads_out)
-          | inr le ↦ (let same : a.index ≡ b.index = omega arith in a.stated ∙ ap (λ n. Open (n + 2)) same ∙ sym b.stated)
+          | inr le ↦ (let same : a.index ≡ b.index = omega arith in a.stated ∙ ap (λ n. Open (n + 2)) same
+              ∙ sym b.stated)
         ])
       ]
 

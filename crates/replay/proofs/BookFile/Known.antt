@@ -1,5 +1,6 @@
 -- What labels tell of alike states.
-use Rattle.std.proofs.Common.{◌≡◌, ℕ, suc, ◌+◌, ◌<◌, ◌≤◌, inl, inr, Some, Option, List, length, Contains, refl, sym, ap, ◌∙◌}
+use Rattle.std.proofs.Common.{◌≡◌, ℕ, suc, ◌+◌, ◌<◌, ◌≤◌, inl, inr, Some, Option, List, length, Contains, refl, sym, ap}
+use Rattle.std.proofs.Common.{◌∙◌}
 use Rattle.std.proofs.Common.{arith, slice_get, subst}
 use Rattle.std.proofs.lemmas.Bool.{cases_lt}
 use Rattle.std.proofs.lemmas.Option.{same_Some, slice_get_within}
@@ -139,7 +140,8 @@ module _ {Machine Memory Place Form : Type 0} (rules : Rules Memory Place) (prog
     open_next i c stands out so =
         let w = stands states kept.replayed in
         let s_fits = fit i w.0 w.1 in
-        let u = step_there rules program lawful limits form_of forms w.0 c s_fits w.2.fits w.2.alike out.0 out.1 out.2 in
+        let u = step_there rules program lawful limits form_of forms w.0 c s_fits w.2.fits w.2.alike out.0 out.1
+        out.2 in
         inr (
           states,
           kept.replayed,

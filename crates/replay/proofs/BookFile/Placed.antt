@@ -1,6 +1,7 @@
 -- Labels of which equal ones are stored once.
 use Rattle.std.proofs.Common.{◌≡◌, ◌↔◌, ℕ, zero, suc, ◌+◌, ◌<◌, ◌≤◌, inl, inr, get_or, Bool, true, false, cond, Some}
-use Rattle.std.proofs.Common.{List, [], ◌∷◌, ◌++◌, length, append-nil, Contains, refl, sym, ap, ◌∙◌, arith, slice_get, subst}
+use Rattle.std.proofs.Common.{List, [], ◌∷◌, ◌++◌, length, append-nil, Contains, refl, sym, ap, ◌∙◌, arith, slice_get}
+use Rattle.std.proofs.Common.{subst}
 use Rattle.std.specs.List.{list_any}
 use Rattle.std.specs.Cmp.{IsEquivalence}
 use Rattle.std.proofs.lemmas.List.{length-append, get_or_append_left, map-append}
@@ -73,8 +74,10 @@ label_put distinct more places label place there is so at = by there is
         → distinct ++ tail ≡ more → Put more
     behind tail only one same =
         let here : slice_get (distinct ++ tail) place ≡ Some label = ap (λ ls. slice_get ls place) same ∙ at in
-        subst Put same
-        (placed distinct tail places label place so here only one, seen distinct tail places label place so here only one)
+        subst Put same (
+          placed distinct tail places label place so here only one,
+          seen distinct tail places label place so here only one,
+        )
 
     by : (b : Bool) → more ≡ cond b distinct (distinct ++ label ∷ []) → Put more
     by true e = behind [] (λ l h. let less : h.0 < 0 = h.1 in absurd (omega arith)) (omega arith)

@@ -62,7 +62,8 @@ module _ {Machine Memory Place Form : Type 0} (rules : Rules Memory Place) (prog
       (w.0, w.1, subst (λ n. IsStepBy states n w.0 s) (sym place) w.2)
 
   -- a way from a state that lines tell leads to the one at an index
-  pub record LeadsTo (states : List (State Machine Memory Place Form)) (at : ℕ) (way : List ℕ) (index : ℕ) : Type 0 where
+  pub record LeadsTo (states : List (State Machine Memory Place Form)) (at : ℕ) (way : List ℕ) (index : ℕ)
+      : Type 0 where
     pub here : State Machine Memory Place Form
     pub there : State Machine Memory Place Form
     pub is_here : slice_get states at ≡ Some here
@@ -137,5 +138,6 @@ module _ {Machine Memory Place Form : Type 0} (rules : Rules Memory Place) (prog
           so_far.there,
           so_far.is_there,
           subst (λ (v : State Machine Memory Place Form).
-              run (machine_of {Machine = Machine} {Form = Form} rules program) v way ≡ Some so_far.there) same so_far.leads,
+              run (machine_of {Machine = Machine} {Form = Form} rules program) v way ≡ Some so_far.there) same
+              so_far.leads,
         )

@@ -59,7 +59,8 @@ module _ {Machine Memory Place Form : Type 0} (rules : Rules Memory Place) (prog
       (so.0, so.1, continues_push (before ++ so.0 ∷ []) lines line states state so.2 tells)
 
   -- what is amiss with the next line is the first that is
-  amiss_next : (before : List (State Machine Memory Place Form)) (lines : List BookLine) (line : BookLine) (rest : List BookLine)
+  amiss_next : (before : List (State Machine Memory Place Form)) (lines : List BookLine) (line : BookLine)
+      (rest : List BookLine)
       (states : List (State Machine Memory Place Form)) (fault : CheckFault)
       → Continues rules program before lines states → IsAmiss rules program states line fault
       → FirstAmiss rules program before (lines ++ line ∷ rest) fault

@@ -109,7 +109,8 @@ module _ (P R : ℕ → ℕ → Type 0) (fixed : ℕ) (s t : Parts) (h : ArePart
       (zip_join Q (front_nodes fixed s) (front_nodes fixed t) _ _
       (AllZip-weaker P Q (λ x y q. inl q) _ _ front.0)
       (map_zip Q (λ y. length s.nodes + y) (λ y. length t.nodes + y) _ _
-      (AllZip-weaker R (λ x y. Q (length s.nodes + x) (length t.nodes + y)) (λ x y q. inr (inl (x, y, q, refl, refl))) _ _
+      (AllZip-weaker R (λ x y. Q (length s.nodes + x) (length t.nodes + y)) (λ x y q. inr (inl (x, y, q, refl, refl))) _
+      _
       front.1)))
       (subst (λ k. AllZip Q (numbers_from (length (parts_graph s)) (length (parts_held s)))
       (numbers_from (length (parts_graph t)) k)) long

@@ -54,7 +54,8 @@ unmap f g (x ∷ xs) (y ∷ ys) e = (
   unmap f g xs ys (let rest : map f xs ≡ map g ys = cc in rest),
 )
 
-pub AllZip-weaker : {A B : Type 0} (P Q : A → B → Type 0) → ((x : A) (y : B) → P x y → Q x y) → (xs : List A) (ys : List B)
+pub AllZip-weaker : {A B : Type 0} (P Q : A → B → Type 0) → ((x : A) (y : B) → P x y → Q x y)
+    → (xs : List A) (ys : List B)
     → AllZip P xs ys → AllZip Q xs ys
 AllZip-weaker P Q h [] [] z = tt
 AllZip-weaker P Q h [] (y ∷ ys) z = absurd z

@@ -1,5 +1,6 @@
 -- A state whose own bytes are the named code of another one is alike to that one, and fits the same program.
-use Rattle.std.proofs.Common.{◌≡◌, ℕ, zero, suc, ◌+◌, ◌≤◌, List, [], ◌∷◌, map, length, sym, ◌∙◌, ap, subst, refl, get_or}
+use Rattle.std.proofs.Common.{◌≡◌, ℕ, zero, suc, ◌+◌, ◌≤◌, List, [], ◌∷◌, map, length, sym, ◌∙◌, ap, subst, refl}
+use Rattle.std.proofs.Common.{get_or}
 use Rattle.std.specs.Prelude.{Option, Some, None, IfSome, All, if◌then◌else◌, is_some, slice_get}
 use Rattle.std.specs.List.{AllByRecursion, AllZip}
 use Rattle.std.proofs.lemmas.List.{length-map}

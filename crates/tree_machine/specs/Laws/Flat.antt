@@ -173,7 +173,8 @@ cell_split c d xs ys e =
     (flat_map number_code (map reference_number d.refs) ++ ys) (sym (cell_before c xs) ∙ (e ∙ cell_before d ys)) in
     let lengths : length (map reference_number c.refs) ≡ length (map reference_number d.refs) =
     length-map c.refs reference_number ∙ (facts.1 ∙ sym (length-map d.refs reference_number)) in
-    let refs = each_readable number_code number_split (map reference_number c.refs) (map reference_number d.refs) xs ys lengths facts.2 in
+    let refs = each_readable number_code number_split (map reference_number c.refs) (map reference_number d.refs) xs ys
+    lengths facts.2 in
     let same = references_equal c.refs d.refs refs.0 in
     (λ i. record { facts = facts.0 i; refs = same i }, refs.1)
 

@@ -39,7 +39,8 @@ no_leaf Right m l r x i e = cc
 -- nodes that a search sees by their shapes, and whose children can be replaced
 module _ {Node : Type 0} (leaf : Node) (shape_in : Node → Shape) (key_in : Node → ℕ)
     (with_child : Side → ℕ → Node → Node) (key_is : (node : Node) → key_in node ≡ key_of (shape_in node))
-    (child_is : (s : Side) (x : ℕ) (node : Node) → shape_in (with_child s x node) ≡ over_child s x (shape_in node)) where
+    (child_is : (s : Side) (x : ℕ) (node : Node) → shape_in (with_child s x node)
+    ≡ over_child s x (shape_in node)) where
   abbrev seen : List Node → ℕ → Option Shape
   seen nodes x = option_map shape_in (slice_get nodes x)
 

@@ -53,7 +53,8 @@ half_back true n = omega arith
 half_back false n = omega arith
 
 not_one : (reply : Bool) (n : ℕ) → 0 < n → nat_le (digit_of reply + 2 * n) 1 ≡ false
-not_one reply n least = elim (leb_tells (digit_of reply + 2 * n) 1) [ inl t ↦ absurd (omega (arith, t.1)) | inr t ↦ t.0 ]
+not_one reply n least =
+    elim (leb_tells (digit_of reply + 2 * n) 1) [ inl t ↦ absurd (omega (arith, t.1)) | inr t ↦ t.0 ]
 
 -- the digits of the number of some replies are these
 pub digits_of_number : (most : ℕ) (replies : List Bool) → length replies ≤ most
@@ -82,7 +83,8 @@ digits_length (suc most) (suc k) n few reaches below =
     elim (leb_tells n 1) [
       | inl t ↦ absurd (omega (arith, doubled k, pow_pos k, t.1))
       | inr t ↦
-          rw t.0 (ap suc (digits_length most k (n / 2) (omega arith) (omega (arith, doubled k)) (omega (arith, doubled k))))
+          rw t.0 (ap suc
+          (digits_length most k (n / 2) (omega arith) (omega (arith, doubled k)) (omega (arith, doubled k))))
     ]
 
 -- each digit of a number is one of its bits

@@ -29,7 +29,8 @@ behind_read part front nodes records more others threads bytes rest e f b r =
     b ∙ (λ i. places_coded part threads i ++ r i)
     ∙ (λ i. part_codes (map part (places_of threads)) ++ left_code (sym e i) (sym f i))
 
-pub front_kept : (front : Front) (nodes records old kept held : List Part) → take front.nodes nodes ≡ take front.nodes old
+pub front_kept : (front : Front) (nodes records old kept held : List Part) → take front.nodes nodes
+    ≡ take front.nodes old
     → take front.records records ≡ take front.records kept
     → front_code front (record { nodes = nodes; records = records; held = held })
     ≡ front_code front (record { nodes = old; records = kept; held = held })

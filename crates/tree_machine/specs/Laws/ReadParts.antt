@@ -1,5 +1,6 @@
 -- Values that were read from the code of their parts, one behind the other.
-use Rattle.std.proofs.Common.{◌≡◌, ℕ, zero, suc, ◌+◌, ◌-◌, ◌<◌, ◌≤◌, List, [], ◌∷◌, ◌++◌, length, map, take, drop, refl, sym}
+use Rattle.std.proofs.Common.{◌≡◌, ℕ, zero, suc, ◌+◌, ◌-◌, ◌<◌, ◌≤◌, List, [], ◌∷◌, ◌++◌, length, map, take, drop, refl}
+use Rattle.std.proofs.Common.{sym}
 use Rattle.std.proofs.Common.{◌∙◌, ap, append_assoc, append-nil, length-append, arith}
 use Rattle.std.proofs.Math.Seq.{take-append_seam}
 use Rattle.std.specs.Prelude.{Option, slice_index_or, slice_set}

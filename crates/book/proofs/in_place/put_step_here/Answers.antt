@@ -45,7 +45,8 @@ returns-in-Err-NotEnabled-clause-put g c =
     let form_of = g.M.Machine.form_of from.key.machine in
     let source = rw (← c.from.view_is) at c.requires.source in
     rw (← c.from.view_is) (λ of fits is. puts_none (g.M.Machine.rules from.key.machine) from.key.program.now form_of
-    (bound.lawful from.key.machine) (bound.forms from.key.machine) from.key.merge of c.args.state.now c.args.thread fits source.fits
+    (bound.lawful from.key.machine) (bound.forms from.key.machine) from.key.merge of c.args.state.now c.args.thread fits
+    source.fits
     (source.counts of fits is)
     (label_by g.M.Encode.whole_code g.M.Encode.form_code form_of from.key.merge) c.args.steps.now.items
     c.args.steps.now.items

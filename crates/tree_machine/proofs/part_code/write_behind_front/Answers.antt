@@ -3,7 +3,8 @@ use Rattle.tree_machine.specs.Parts.{part_at}
 use Rattle.tree_machine.specs.Written.{renamed_by}
 use Rattle.tree_machine.proofs.PartsWritten.{left_written}
 use Rattle.tree_machine.proofs.part_code.write_behind_front.Goals as goal
-use Rattle.tree_machine.proofs.part_code.write_behind_front.Goals.{then-front_nodes-nodes-via-then-front_nodes-nodes, then-front_nodes-nodes-via-else-front_nodes-nodes+then-front_records-records}
+use Rattle.tree_machine.proofs.part_code.write_behind_front.Goals.{then-front_nodes-nodes-via-then-front_nodes-nodes}
+use Rattle.tree_machine.proofs.part_code.write_behind_front.Goals.{then-front_nodes-nodes-via-else-front_nodes-nodes+then-front_records-records}
 
 pub returns-in_ok-write_graph : goal.returns-in_ok-write_graph
 returns-in_ok-write_graph g c =

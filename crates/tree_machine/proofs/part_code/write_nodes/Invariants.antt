@@ -7,5 +7,6 @@ use Rattle.tree_machine.proofs.part_code.write_nodes.Given as goal
 -- those before the place are written
 abbrev pub invariant-loop-place : goal.invariant-loop-place
 invariant-loop-place g l =
-    l.writer ≡ with_bytes l.fn.writer (part_codes (map (λ x. renamed_by l.fn.writer (part_at (g.P.Parts.parts l.parts).nodes x))
+    l.writer ≡ with_bytes l.fn.writer
+    (part_codes (map (λ x. renamed_by l.fn.writer (part_at (g.P.Parts.parts l.parts).nodes x))
     (take (l.place - l.start) (drop l.start l.fn.writer.node_order))))

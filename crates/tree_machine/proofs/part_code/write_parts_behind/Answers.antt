@@ -13,7 +13,8 @@ returns-in-Own g c =
     let front = c.args.front in
     let whole =
     own_completes front s read.other read.twins read.many
-    (read.same ∙ ap (λ n. code_by n (parts_code (all_front read.other) read.other) (canonical_code c.args.fixed read.other))
+    (read.same
+    ∙ ap (λ n. code_by n (parts_code (all_front read.other) read.other) (canonical_code c.args.fixed read.other))
     c.in-Own.is) in
     on_ok_weaker c.write_own_held.result
     (λ put before e. put ∙ ap (λ l. l ++ part_codes s.held) e
@@ -27,7 +28,8 @@ write_canonical_behind-requires-clause-met g c =
     let read = c.requires.read in
     read_in_order c.args.fixed c.args.front (g.P.Parts.parts c.args.parts.now) read.other read.twins read.in_range
     read.many
-    (read.same ∙ ap (λ n. code_by n (parts_code (all_front read.other) read.other) (canonical_code c.args.fixed read.other))
+    (read.same
+    ∙ ap (λ n. code_by n (parts_code (all_front read.other) read.other) (canonical_code c.args.fixed read.other))
     c.in-Canonical.is)
 
 pub returns-in-Canonical : goal.returns-in-Canonical
@@ -37,7 +39,8 @@ returns-in-Canonical g c =
     let front = c.args.front in
     let met =
     read_in_order c.args.fixed front s read.other read.twins read.in_range read.many
-    (read.same ∙ ap (λ n. code_by n (parts_code (all_front read.other) read.other) (canonical_code c.args.fixed read.other))
+    (read.same
+    ∙ ap (λ n. code_by n (parts_code (all_front read.other) read.other) (canonical_code c.args.fixed read.other))
     c.in-Canonical.is) in
     let behind = behind_code (cut_front front s) (canonical_parts c.args.fixed s) in
     let whole = canonical_completes c.args.fixed front s c.requires.in_range met in

@@ -8,7 +8,8 @@ abbrev pub invariant-loop-number : goal.invariant-loop-number
 invariant-loop-number l =
     record {
       put : take l.at l.bytes
-          ≡ take l.start l.fn.bytes ++ flat_map (λ x. name_code l.numbering.order.items (Some x)) (take l.number-index l.stack);
+          ≡ take l.start l.fn.bytes
+          ++ flat_map (λ x. name_code l.numbering.order.items (Some x)) (take l.number-index l.stack);
       at : l.at ≡ l.start + l.number-index;
       length : length l.bytes ≡ length l.fn.bytes;
     }

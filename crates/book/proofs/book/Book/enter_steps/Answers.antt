@@ -113,7 +113,9 @@ returns-in-Ok-clause-entered g c =
     let v : slice_get s.table.entries c.args.id ≡ Some e = at in cc) in
     let put = c.in-Ok.ensures.put label_of e c.self.invariant.1 at steps.labels in
     enters c.self.invariant.0 c.args.id e at xs steps
-    (ap (λ (d : Entry (State g.row.M.Denot g.row.M-Mem.Denot g.row.M-Loc.Denot g.row.M-Form.Denot)). d.mark) (sym same) ∙ taken.2) c.append.new.self.entries put.0
+    (ap (λ (d : Entry (State g.row.M.Denot g.row.M-Mem.Denot g.row.M-Loc.Denot g.row.M-Form.Denot)). d.mark) (sym same)
+    ∙ taken.2) c.append.new.self.entries put.0
     c.len-was.result c.len.result c.len-count.result c.len-was.ensures c.len.ensures
     (c.len-count.ensures ∙ c.args.steps.ok.0) c.mark_expanded.new.self.entries
-    (ap (λ (k : Kept (State g.row.M.Denot g.row.M-Mem.Denot g.row.M-Loc.Denot g.row.M-Form.Denot)). k.entries) c.mark_expanded.ensures) c.in-Ok.ensures.within)
+    (ap (λ (k : Kept (State g.row.M.Denot g.row.M-Mem.Denot g.row.M-Loc.Denot g.row.M-Form.Denot)). k.entries)
+    c.mark_expanded.ensures) c.in-Ok.ensures.within)

@@ -28,7 +28,8 @@ returns-in-Exact-clause-answer g c =
     let x = c.args.expansion.now in
     let bound = g.met.M.Encode g.world.𝓛 g.world.𝓜 g.world.𝓡 ((λ s x. x), (λ x. x), (λ x. x), λ x. x) in
     let coding = g.met.M.Encode g.world.𝓛 g.world.𝓜 g.world.𝓡 ((λ s x. x), (λ x. x), (λ x. x), λ x. x) in
-    let tells = whole_tells g.M.Encode.front_code g.M.Encode.behind_code g.M.Encode.whole_code coding.tells bound.whole in
+    let tells = whole_tells g.M.Encode.front_code g.M.Encode.behind_code g.M.Encode.whole_code coding.tells
+    bound.whole in
     let taken = rw (← c.self.view_is) at c.requires in
     let code : c.label.result.now ≡ state_code g.M.Encode.whole_code taken.0.state =
     exact_label g.M.Encode.whole_code g.M.Encode.form_code (g.M.Machine.form_of s.machine) s.merge c.in-Exact.is

@@ -19,10 +19,12 @@ pub returns-in-Some-clause-left : goal.returns-in-Some-clause-left
 returns-in-Some-clause-left g c =
     rw (← c.self.view_is)
     (λ h. left_to c.self.invariant.0 c.in-Some.first c.steps_to.result c.args.steps
-    (sym c.first_left.ensures ∙ c.in-Some.is) (rw (← c.self.view_is) at c.steps_to.ensures) (leb-true c.steps_to.result c.args.steps h))
+    (sym c.first_left.ensures ∙ c.in-Some.is) (rw (← c.self.view_is) at c.steps_to.ensures)
+    (leb-true c.steps_to.result c.args.steps h))
 
 pub returns-in-Some-clause-none : goal.returns-in-Some-clause-none
 returns-in-Some-clause-none g c =
     rw (← c.self.view_is)
     (λ h. none_left_to c.self.invariant.0 c.in-Some.first c.steps_to.result c.args.steps
-    (sym c.first_left.ensures ∙ c.in-Some.is) (rw (← c.self.view_is) at c.steps_to.ensures) (leb-false c.steps_to.result c.args.steps h))
+    (sym c.first_left.ensures ∙ c.in-Some.is) (rw (← c.self.view_is) at c.steps_to.ensures)
+    (leb-false c.steps_to.result c.args.steps h))

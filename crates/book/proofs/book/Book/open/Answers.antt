@@ -8,7 +8,8 @@ pub invariant_of-result : goal.invariant_of-result
 invariant_of-result g c =
     let bound = g.met.M.Machine g.world.𝓛 g.world.𝓜 g.world.𝓡 ((λ s x. x), (λ x. x), (λ x. x), λ x. x) in
     let coding = g.met.M.Encode g.world.𝓛 g.world.𝓜 g.world.𝓡 ((λ s x. x), (λ x. x), (λ x. x), λ x. x) in
-    let tells = whole_tells g.M.Encode.front_code g.M.Encode.behind_code g.M.Encode.whole_code coding.tells coding.whole in
+    let tells = whole_tells g.M.Encode.front_code g.M.Encode.behind_code g.M.Encode.whole_code coding.tells
+    coding.whole in
     let first = c.in_ok-table.ensures in
     rw (first.3, first.4) (
       first_book g.M.Machine.rules g.M.Machine.form_of g.M.Encode.whole_code g.M.Encode.form_code

@@ -24,17 +24,21 @@ some_of (Some x) h = (x, refl)
 pub first_fault_from-self-inside-requires : goal.first_fault_from-self-inside-requires
 first_fault_from-self-inside-requires g c =
     let s = c.self.inside in
-    let es : List (Entry (State g.row.M.Denot g.row.M-Mem.Denot g.row.M-Loc.Denot g.row.M-Form.Denot)) = entries_of s.slots.entries in
+    let es : List (Entry (State g.row.M.Denot g.row.M-Mem.Denot g.row.M-Loc.Denot g.row.M-Form.Denot)) = entries_of
+    s.slots.entries in
     let some =
     appended_some s.slots.entries c.put_steps.new.slots.entries c.args.parent
     (unknown same_label (states (map keyed_of s.slots.entries)) c.args.steps.items) c.put_steps.ensures.kept
     c.in-Ok.ensures.put in
     let l : length es ≡ length s.slots.entries = length-entries s.slots.entries in
     let n : c.len-was.result ≡ length s.slots.entries = c.len-was.ensures.len in
-    let none : position (λ (e : Entry (State g.row.M.Denot g.row.M-Mem.Denot g.row.M-Loc.Denot g.row.M-Form.Denot)). not (is_sound e.finding)) es ≡ None =
+    let none : position
+    (λ (e : Entry (State g.row.M.Denot g.row.M-Mem.Denot g.row.M-Loc.Denot g.row.M-Form.Denot)). not
+    (is_sound e.finding)) es ≡ None =
     sym c.self.invariant.first_fault ∙ none_of c.self.inside.fault c.if-is_none.ensures in
     λ i e at less. all_sound es (map (opened c.args.parent) some.0) none i e
-    (subst (λ (xs : List (Entry (State g.row.M.Denot g.row.M-Mem.Denot g.row.M-Loc.Denot g.row.M-Form.Denot))). At xs i e) some.1 at)
+    (subst (λ (xs : List (Entry (State g.row.M.Denot g.row.M-Mem.Denot g.row.M-Loc.Denot g.row.M-Form.Denot))). At xs i
+    e) some.1 at)
     (omega arith)
 
 pub invariant_of-self-then-is_none : goal.invariant_of-self-then-is_none
@@ -47,7 +51,9 @@ invariant_of-self-then-is_none g c =
     rw some.1 (cursors_appended (entries_of s.slots.entries) s.next_open s.first_left s.fault c.self.invariant
     c.args.parent some.0 c.first_fault_from-self-inside.result
     (c.first_fault_from-self-inside.ensures
-    ∙ ap (position (λ (e : Entry (State g.row.M.Denot g.row.M-Mem.Denot g.row.M-Loc.Denot g.row.M-Form.Denot)). not (is_sound e.finding))) some.1))
+    ∙ ap (position
+    (λ (e : Entry (State g.row.M.Denot g.row.M-Mem.Denot g.row.M-Loc.Denot g.row.M-Form.Denot)). not
+    (is_sound e.finding))) some.1))
 
 pub invariant_of-self-else-is_none : goal.invariant_of-self-else-is_none
 invariant_of-self-else-is_none g c =
@@ -57,7 +63,9 @@ invariant_of-self-else-is_none g c =
     (unknown same_label (states (map keyed_of s.slots.entries)) c.args.steps.items) c.put_steps.ensures.kept
     c.in-Ok.ensures.put in
     let is = some_of s.fault c.if-is_none.ensures in
-    let first : position (λ (e : Entry (State g.row.M.Denot g.row.M-Mem.Denot g.row.M-Loc.Denot g.row.M-Form.Denot)). not (is_sound e.finding)) (entries_of s.slots.entries) ≡ Some is.0 =
+    let first : position
+    (λ (e : Entry (State g.row.M.Denot g.row.M-Mem.Denot g.row.M-Loc.Denot g.row.M-Form.Denot)). not
+    (is_sound e.finding)) (entries_of s.slots.entries) ≡ Some is.0 =
     sym c.self.invariant.first_fault ∙ is.1 in
     rw some.1 (cursors_appended (entries_of s.slots.entries) s.next_open s.first_left s.fault c.self.invariant
     c.args.parent some.0 s.fault

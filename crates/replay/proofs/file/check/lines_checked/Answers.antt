@@ -32,7 +32,8 @@ returns-in_err-test_closed-clause-refused g c =
     let refused = subst (λ (lines : List BookLine). (fault ≡ OutOfMemory)
     ⊎ AreRefused g.row.M.Denot g.row.M-Form.Denot rules c.args.program.now lines fault)
     c.as_slice.ensures.value c.in_err-test_closed.ensures.refused in
-    let p = err_from_is_err_and c.from_residual-in_err-test_closed.result c.from_residual-in_err-test_closed.ensures.1 in
+    let p = err_from_is_err_and c.from_residual-in_err-test_closed.result
+    c.from_residual-in_err-test_closed.ensures.1 in
     rw (p.1, p.2)
     (lines_refused g.row.M.Denot g.row.M-Form.Denot rules c.args.program.now c.args.bytes.now
     c.in_ok-lines.lines.items c.in_ok-lines.ensures.book fault refused)

@@ -38,7 +38,8 @@ returns-in-Some-strip_prefix c =
       book = book;
       few = IfOk-weaker r (λ v. IsBookText bytes v.items) _ (λ v is. few_lines bytes v.items is) book;
       refused = IfErr-weaker r _ (λ stated. (stated ≡ OutOfMemory) ⊎ IsFormFault bytes stated)
-          (λ stated is. entries_fault bytes c.in-Some.rest.now c.in-Some-strip_prefix.rest.now has.0 stated has.1 has.2 e is)
+          (λ stated is. entries_fault bytes c.in-Some.rest.now c.in-Some-strip_prefix.rest.now has.0 stated has.1 has.2
+          e is)
           c.entry_lines.ensures.err;
     }
 

@@ -12,7 +12,8 @@ back-init g c states so =
     let all : length c.args.labels.now ≡ length input.lines.now + 1 =
     count_labels rules_of input.program.now (named_by g.M.Encode.form_code (g.M.Machine.form_of input.machine))
     input.lines.now c.args.labels.now c.requires.kept in
-    let many : length states ≡ length input.lines.now + 1 = count_states rules_of input.program.now input.lines.now states
+    let many : length states
+    ≡ length input.lines.now + 1 = count_states rules_of input.program.now input.lines.now states
     so in
     let within : c.args.index < length c.args.labels.now = c.requires.within in
     rw c.new-way.ensures.items (leads_nowhere rules_of input.program.now states c.args.index (omega arith))

@@ -7,7 +7,8 @@ use Rattle.tree_machine.proofs.numbering.Numbering.restarted.Goals as goal
 
 pub invariant_of-result-clause-has_numbers : goal.invariant_of-result-clause-has_numbers
 invariant_of-result-clause-has_numbers c =
-    made_anew _ _ _ _ _ (c.in_ok-reserve.ensures.items ∙ c.clear.ensures.items) c.clear-2.ensures.items c.clear-2.ensures.len
+    made_anew _ _ _ _ _ (c.in_ok-reserve.ensures.items ∙ c.clear.ensures.items) c.clear-2.ensures.items
+    c.clear-2.ensures.len
     c.in_ok-resize.ensures.items
 
 pub invariant_of-result-clause-distinct : goal.invariant_of-result-clause-distinct

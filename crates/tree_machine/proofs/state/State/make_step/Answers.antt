@@ -3,7 +3,8 @@ use Rattle.std.proofs.Common.{◌<◌, length, ◌∙◌, ap, sym, rules, subst}
 use Rattle.std.proofs.lemmas.Option.{IfSome_then}
 use Rattle.tree_machine.specs.Step.{place_or}
 use Rattle.tree_machine.proofs.Lists.{put_back}
-use Rattle.tree_machine.proofs.States.{ready_pieces, thread_read, thread_within, next_place_in_range, reply_room, note_room}
+use Rattle.tree_machine.proofs.States.{ready_pieces, thread_read, thread_within, next_place_in_range, reply_room}
+use Rattle.tree_machine.proofs.States.{note_room}
 use Rattle.tree_machine.proofs.Steps.{step_made}
 use Rattle.tree_machine.proofs.state.State.make_step.Goals as goal
 
@@ -35,7 +36,8 @@ advance-requires-clause-reply_room g c κs within =
     let thread = c.args.thread.now in
     let pieces = ready_pieces program state c.args.t thread c.args.op ready in
     let there = thread_read program state c.args.t thread c.args.op ready c.as_mut_slice.result.now c.from.result
-    c.index-as_mut_slice-from.result (c.as_mut_slice.ensures.value ∙ c.into_vec-threads.ensures ∙ c.replace.ensures.value) c.from.ensures in
+    c.index-as_mut_slice-from.result
+    (c.as_mut_slice.ensures.value ∙ c.into_vec-threads.ensures ∙ c.replace.ensures.value) c.from.ensures in
     subst (λ x. length x.replies < 6) (sym there)
     (reply_room (g.M.Machine.rules c.args.machine) program state fits c.requires.ready.1.0 c.args.t c.args.op thread
     pieces.1)
@@ -49,7 +51,8 @@ advance-requires-clause-note_room g c κs within =
     let thread = c.args.thread.now in
     let pieces = ready_pieces program state c.args.t thread c.args.op ready in
     let there = thread_read program state c.args.t thread c.args.op ready c.as_mut_slice.result.now c.from.result
-    c.index-as_mut_slice-from.result (c.as_mut_slice.ensures.value ∙ c.into_vec-threads.ensures ∙ c.replace.ensures.value) c.from.ensures in
+    c.index-as_mut_slice-from.result
+    (c.as_mut_slice.ensures.value ∙ c.into_vec-threads.ensures ∙ c.replace.ensures.value) c.from.ensures in
     IfSome_then c.note_at_step-note.result c.note_at_step-note.ensures.begun (λ _ begins.
     subst (λ x. length x.notes < 6) (sym there)
     (note_room (g.M.Machine.rules c.args.machine) program state fits c.requires.ready.1.0 c.args.t c.args.op thread
@@ -69,7 +72,8 @@ returns g c =
     ((bound.lawful c.args.machine).astray_unchanged c.args.op place state.memory) c.in_ok-self.ensures.thread
     (thread_read c.requires.ready.0 state c.args.t thread c.args.op c.requires.ready.1.1.1
     c.as_mut_slice.result.now c.from.result c.index-as_mut_slice-from.result same c.from.ensures)
-    (c.note_at_step-note.ensures.note thread.notes) (c.as_slice.ensures.value ∙ c.into_vec-threads.ensures ∙ c.replace.ensures.value)
+    (c.note_at_step-note.ensures.note thread.notes)
+    (c.as_slice.ensures.value ∙ c.into_vec-threads.ensures ∙ c.replace.ensures.value)
     (c.from_vec.ensures
     ∙ put_back c.as_mut_slice.result.now c.into_vec-threads.result.items c.into_vec-threads.result.len c.from.result
     c.advance.new.thread c.as_mut_slice.ensures.len)

@@ -44,4 +44,5 @@ returns g c =
     (c.end-end.ensures ∙ ap (λ b. if b then origin.offsets.held else origin.offsets.memory) c.reads.ensures) in
     on_ok_weaker c.put_piece-2.result
     (λ put. front_put _ _ _ _ _ _ _ c.in_ok-put_op_log.ensures put
-    (λ i. op_log_code (replies_of (threads i)) (notes_of (threads i)) c.args.self.now.astray) stated) c.put_piece-2.ensures
+    (λ i. op_log_code (replies_of (threads i)) (notes_of (threads i)) c.args.self.now.astray) stated)
+    c.put_piece-2.ensures

@@ -21,7 +21,8 @@ overflow_add-held g c =
     ∙ given_back _ c.make_count.new.threads.items c.make_count.new.threads.len
     (c.read_body-read.ensures.length ∙ c.as_mut_slice-lent.ensures.len))
     c.in-Some.ensures.read (rw c.in-Some-2.is at c.in_ok-read.ensures.read)
-    (c.read_body-read.ensures.length ∙ ap length c.as_mut_slice-lent.ensures.value ∙ c.in_ok-make_count.ensures ∙ c.from.ensures)
+    (c.read_body-read.ensures.length ∙ ap length c.as_mut_slice-lent.ensures.value ∙ c.in_ok-make_count.ensures
+    ∙ c.from.ensures)
     (rw c.in-Some-2.is at c.in_ok-read.ensures.behind) (rw c.in-Some-2.is at c.in_ok-read.ensures.front) in
     search (rules, fits)
 
@@ -33,5 +34,6 @@ returns-in-Some-2 g c =
     ∙ given_back _ c.make_count.new.threads.items c.make_count.new.threads.len
     (c.read_body-read.ensures.length ∙ c.as_mut_slice-lent.ensures.len))
     c.in-Some.ensures.read (rw c.in-Some-2.is at c.in_ok-read.ensures.read)
-    (c.read_body-read.ensures.length ∙ ap length c.as_mut_slice-lent.ensures.value ∙ c.in_ok-make_count.ensures ∙ c.from.ensures)
+    (c.read_body-read.ensures.length ∙ ap length c.as_mut_slice-lent.ensures.value ∙ c.in_ok-make_count.ensures
+    ∙ c.from.ensures)
     (rw c.in-Some-2.is at c.in_ok-read.ensures.behind) (rw c.in-Some-2.is at c.in_ok-read.ensures.front)

@@ -19,7 +19,11 @@ returns c =
     let node_order = inside.node_names.now.order.items in
     let record_order = inside.record_names.now.order.items in
     let part : Part =
-    record { facts = c.args.facts.now; nodes = c.args.nodes.now; records = c.args.records.now ++ map Some c.args.stack.now } in
+    record {
+      facts = c.args.facts.now;
+      nodes = c.args.nodes.now;
+      records = c.args.records.now ++ map Some c.args.stack.now;
+    } in
     is_written c.args.self.now inside.nodes inside.records node_order record_order
     (take inside.at inside.bytes.items)
     (take c.put_stack-self-inside.result (with_items c.put_front.new.bytes c.put_stack-self-inside.new.bytes).items)
