@@ -20,7 +20,6 @@ pub mod FormCode
 pub mod Fronts
 pub mod Graphs
 pub mod InitialKeys
-pub mod Inserted
 pub mod MetLists
 pub mod OwnParts
 pub mod Packed

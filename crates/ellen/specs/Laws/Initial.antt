@@ -11,7 +11,7 @@ use Rattle.tree_machine.specs.declared.search_order.Shape.TheVariants as shape
 use Rattle.tree_machine.specs.declared.search_order.Side.{Side}
 use Rattle.tree_machine.specs.declared.search_order.Side.TheVariants.{Left, Right}
 use Rattle.tree_machine.specs.SearchOrder.{side_of, KeepsSearchOrder, end_of}
-use Rattle.tree_machine.specs.Laws.Inserted.{key_of, over_child, put_over}
+use Rattle.tree_machine.proofs.Inserted.{key_of, over_child, put_over}
 use Rattle.tree_machine.specs.Laws.InitialKeys.{IsPutIn, stays_ordered}
 use Rattle.ellen.specs.declared.memory.UpdateWord.TheVariants.{Untouched}
 use Rattle.ellen.specs.declared.memory.Node.{Node}

@@ -13,7 +13,7 @@ use Rattle.tree_machine.specs.declared.search_order.Shape.{Shape}
 use Rattle.tree_machine.specs.declared.search_order.Shape.TheVariants as shape
 use Rattle.tree_machine.specs.SearchOrder.{KeepsSearchOrder, went_down, end_of}
 use Rattle.tree_machine.specs.Laws.Decoded.{map_some}
-use Rattle.tree_machine.specs.Laws.Inserted.{key_of, over_child, put_over}
+use Rattle.tree_machine.proofs.Inserted.{key_of, over_child, put_over}
 use Rattle.tree_machine.specs.Laws.InitialKeys.{IsPutIn, stays_ordered}
 use Rattle.natmit.specs.declared.memory.Node.{Node}
 use Rattle.natmit.specs.declared.memory.Node.TheVariants.{Leaf, Internal}
