@@ -22,6 +22,7 @@ from __future__ import annotations
 import json
 import tempfile
 from collections.abc import Callable, Iterator
+from importlib import import_module
 from pathlib import Path
 from typing import Any
 
@@ -215,11 +216,11 @@ def variants(value: Any) -> Iterator[Any]:
 def validator_of(schema: dict[str, Any]) -> Any:
     """A judge of values by a schema."""
     try:
-        from jsonschema import Draft202012Validator  # type: ignore[import]
+        validator = import_module("jsonschema").Draft202012Validator
     except ImportError:
         raise Unusable("the Python package jsonschema is missing (in Debian, python3-jsonschema)") from None
-    Draft202012Validator.check_schema(schema)
-    return Draft202012Validator(schema)
+    validator.check_schema(schema)
+    return validator(schema)
 
 
 class Judges:
