@@ -1,4 +1,5 @@
+use Rattle.std.proofs.Common.{rules}
 use Rattle.tree_machine.proofs.state.State.put_form.Goals as goal
 
-pub write_code-requires-clause-places_in_range : goal.write_code-requires-clause-places_in_range
-write_code-requires-clause-places_in_range g c = rw c.as_slice-threads.ensures c.requires.numbers.places
+pub put_op_log-requires : goal.put_op_log-requires
+put_op_log-requires g c = search rules
