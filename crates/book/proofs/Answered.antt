@@ -183,7 +183,7 @@ module _ {Machine Memory Place Form : Type 0} (rules : Rules Memory Place) (prog
           → IsSomeAnd o (λ note. length thread.replies < slice_index note t) → ⊥
       counted ns every None at h = h
       counted ns every (Some note) at h =
-          let few : slice_index note t ≤ length thread.replies =
+          let bounded : slice_index note t ≤ length thread.replies =
           subst (λ n. slice_index n t ≤ length thread.replies) (get_or_from_slice_get ns b.index note note at)
           (every b.index note (slice_get_within ns b.index note at)) in
           omega arith

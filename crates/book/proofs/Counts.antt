@@ -75,7 +75,7 @@ module _ {S : Type 0} (m : StepMachine S) (same : S → S → Bool) (right : S �
       → ((i : ℕ) (e : Entry S) → At es i e → m.steps e.state ≤ n → i < k)
       → ((s : S) (c : List ℕ) → after m c ≡ Some s → m.steps s ≡ length c)
       → IsCount m (AreOneBy same) n k
-  count_is n k done few below above steps_of = record {
+  count_is n k done bounded below above steps_of = record {
     states = take k (states es);
     many = length-take-le k (states es)
         (let l : length (states es) ≡ length es = length-map es (λ (e : Entry S). e.state) in omega arith);
@@ -89,7 +89,7 @@ module _ {S : Type 0} (m : StepMachine S) (same : S → S → Bool) (right : S �
         let a = get-take k (states es) i x at in
         let d = at-states es i x a.1 in
         let c = recorded i d.0 d.1 in
-        let few_steps : m.steps d.0.state ≤ n = below i d.0 d.1 a.0 in
+        let steps_bounded : m.steps d.0.state ≤ n = below i d.0 d.1 a.0 in
         let l : length c.0 ≡ m.steps d.0.state = c.2 in
         (c.0, omega arith, c.1 ∙ ap Some d.2));
     all = (λ s r.
@@ -181,5 +181,5 @@ module _ {S : Type 0} (m : StepMachine S) (same : S → S → Bool) (right : S �
       count_is m same right machine merges es law n (count_by (λ (e : Entry S). leb (m.steps e.state) n) es) done
       (count_by-le-length (λ (e : Entry S). leb (m.steps e.state) n) es)
       (λ i e at l. leb-true (m.steps e.state) n ((first i e at).1 l))
-      (λ i e at few. (first i e at).0 (le-leb (m.steps e.state) n few))
+      (λ i e at bounded. (first i e at).0 (le-leb (m.steps e.state) n bounded))
       steps_of

@@ -40,6 +40,7 @@ module _ {S : Type 0} (m : StepMachine S) (same : S → S → Bool) (right : S �
       let first = law.start in
       let zero_steps : m.steps m.start ≡ 0 = machine.from_zero in
       let is : same first.0.state m.start ≡ true = rw first.2 (merges.itself m.start) in
-      let few : m.steps first.0.state ≤ m.steps m.start =
+      let bounded : m.steps first.0.state ≤ m.steps m.start =
       (let q : m.steps first.0.state ≡ m.steps m.start = ap m.steps first.2 in omega arith) in
-      stands_along entries law n done c m.start s machine.start_fits (0, first.0, first.1, is, few) leads (omega arith)
+      stands_along entries law n done c m.start s machine.start_fits (0, first.0, first.1, is, bounded) leads
+      (omega arith)

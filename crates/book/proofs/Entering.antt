@@ -63,15 +63,17 @@ module _ {X S : Type 0} (m : StepMachine S) (same : S → S → Bool) (right : S
       omega arith
 
   -- so many are new
-  pub entered_is : (entered was now : ℕ) → entered ≡ now - was → was ≡ length b.entries → now ≡ length appended
+  pub entered_is : (entered was now : ℕ) → entered ≡ now - was → was ≡ length b.entries
+      → now ≡ length appended
       → entered ≡ length (unknown same (states b.entries) xs)
   entered_is entered was now p q r =
       let l : length appended ≡ length b.entries + length (unknown same (states b.entries) xs) = length_appended in
       omega arith
 
-  pub few_entered : (entered was now steps : ℕ) → entered ≡ now - was → was ≡ length b.entries → now ≡ length appended
+  pub entered_within : (entered was now steps : ℕ) → entered ≡ now - was → was ≡ length b.entries
+      → now ≡ length appended
       → steps ≡ length xs → entered ≤ steps
-  few_entered entered was now steps p q r u =
+  entered_within entered was now steps p q r u =
       let e : entered ≡ length (unknown same (states b.entries) xs) = entered_is entered was now p q r in
       let c : length (unknown same (states b.entries) xs) ≤ length xs = length-unknown same (states b.entries) xs in
       omega arith

@@ -24,17 +24,17 @@ use Rattle.book.proofs.Marks.{expanded_from, not_expanded_from, open_between}
 module _ {S : Type 0} (m : StepMachine S) (same : S → S → Bool) (right : S → Finding → Type 0) (machine : IsMachine m)
     (es : List (Entry S)) (law : IsLawful m (AreOneBy same) right es) where
   -- an entry has no more steps than its number
-  few_by : (n i : ℕ) (e : Entry S) → At es i e → i < n → m.steps e.state ≤ i
-  few_by zero i e at less = absurd (omega arith)
-  few_by (suc n) i e at less =
+  bounded_by : (n i : ℕ) (e : Entry S) → At es i e → i < n → m.steps e.state ≤ i
+  bounded_by zero i e at less = absurd (omega arith)
+  bounded_by (suc n) i e at less =
       elim (cases_lt 0 i) [
         | inl pos ↦ (
             let step = law.origins i e at pos in
             let up : m.steps e.state ≡ m.steps step.parent.state + 1 =
             machine.one_more step.parent.state e.state step.origin.thread step.step in
             let earlier : step.origin.parent < i = step.earlier in
-            let few : m.steps step.parent.state ≤ step.origin.parent =
-            few_by n step.origin.parent step.parent step.entered (omega arith) in
+            let bounded : m.steps step.parent.state ≤ step.origin.parent =
+            bounded_by n step.origin.parent step.parent step.entered (omega arith) in
             omega arith)
         | inr none ↦ (
             let zero_at : i ≡ 0 = omega arith in
@@ -47,14 +47,14 @@ module _ {S : Type 0} (m : StepMachine S) (same : S → S → Bool) (right : S �
             omega arith)
       ]
 
-  pub few_steps : (i n : ℕ) (e : Entry S) → At es i e → length es ≤ n → m.steps e.state < n
-  few_steps i n e at within =
-      let f : m.steps e.state ≤ i = few_by (i + 1) i e at (omega arith) in
+  pub steps_bounded : (i n : ℕ) (e : Entry S) → At es i e → length es ≤ n → m.steps e.state < n
+  steps_bounded i n e at within =
+      let f : m.steps e.state ≤ i = bounded_by (i + 1) i e at (omega arith) in
       let w : i < length es = slice_get_within es i e at in omega arith
 
   pub all_expanded : (n : ℕ) → position (λ (r : Entry S). not (is_expanded r.mark)) es ≡ None
       → IsExpandedTo m.steps es n
-  all_expanded n none i e at few =
+  all_expanded n none i e at bounded =
       expanded_from e.mark (none_passes (λ (r : Entry S). not (is_expanded r.mark)) es none i e at)
 
   module _ (a : ℕ) (first : position (λ (r : Entry S). not (is_expanded r.mark)) es ≡ Some a) (d : Entry S)
@@ -66,10 +66,10 @@ module _ {S : Type 0} (m : StepMachine S) (same : S → S → Bool) (right : S �
         λ (x : d.mark ≡ Expanded). not_expanded_from f.0.mark f.2 (ap (λ (r : Entry S). r.mark) q ∙ x)
 
     pub is_left : (n : ℕ) → m.steps d.state ≤ n → IsLeftTo m.steps es n
-    is_left n few = (a, d, at_a, first_is_left, few)
+    is_left n bounded = (a, d, at_a, first_is_left, bounded)
 
     pub none_left : (n : ℕ) → n < m.steps d.state → IsExpandedTo m.steps es n
-    none_left n less i e at few =
+    none_left n less i e at bounded =
         elim (cases_lt i a) [
           | inl l ↦ expanded_from e.mark
               ((first_passes (λ (r : Entry S). not (is_expanded r.mark)) es a first).3 i e l at)
@@ -202,7 +202,7 @@ module _ {S : Type 0} (m : StepMachine S) where
       | inr o ↦ absurd
           (o.3 (through.done o.0 o.1 o.2 (let q : m.steps f.state ≡ m.steps o.1.state + 1 = o.4 in omega arith)))
     ]);
-    sound = (λ j f at few. elim (grows j f at) [
+    sound = (λ j f at bounded. elim (grows j f at) [
       | inl o ↦ ap is_sound o.3 ∙ through.sound j o.0 o.1
           (let q : m.steps f.state ≡ m.steps o.0.state = ap m.steps o.2 in omega arith)
       | inr o ↦ absurd

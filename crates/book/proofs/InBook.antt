@@ -21,7 +21,7 @@ use Rattle.book.specs.Ways.{IsWay}
 use Rattle.replay.specs.Schedule.{after, AreOneBy, IsDecided}
 use Rattle.book.proofs.Agreeing.{book_as, finds_as, reached_as}
 use Rattle.book.proofs.Coverage.{stands_along}
-use Rattle.book.proofs.Growth.{all_expanded, few_steps, is_left, none_left}
+use Rattle.book.proofs.Growth.{all_expanded, steps_bounded, is_left, none_left}
 use Rattle.book.proofs.LawfulBooks.{taken_book}
 use Rattle.book.proofs.Next.{next_from, no_next_expanded, no_next_later, no_next_open}
 use Rattle.book.proofs.Ranges.{IsLayerAt, layer_at, range_book, so_of_range, takes_layer, takes_range}
@@ -34,7 +34,7 @@ pub record IsTakenOne {Machine Memory Place Form : Type 0} (rules : Machine → 
     0 where
   pub takes : Takes (machine_in rules b).steps b.entries new i state
   pub fits : Fits (rules b.machine) b.program state
-  pub few : state.steps < b.limit
+  pub bounded : state.steps < b.limit
 
 module _ {Machine Memory Place Form : Type 0} {rules : Machine → Rules Memory Place}
     {label_of : State Machine Memory Place Form → List ℕ}
@@ -44,9 +44,9 @@ module _ {Machine Memory Place Form : Type 0} {rules : Machine → Rules Memory 
   same_in = same_as label_of
 
   -- each entry has fewer steps than the book may have entries
-  few_at : (i : ℕ) (e : Entry (State Machine Memory Place Form)) → At b.entries i e → e.state.steps < b.limit
-  few_at i e at =
-      few_steps (machine_in rules b) same_in (right_in rules b) book.machine b.entries book.law.law i b.limit e at
+  bounded_at : (i : ℕ) (e : Entry (State Machine Memory Place Form)) → At b.entries i e → e.state.steps < b.limit
+  bounded_at i e at =
+      steps_bounded (machine_in rules b) same_in (right_in rules b) book.machine b.entries book.law.law i b.limit e at
       book.law.within
 
   module _ (now : Contents Machine (State Machine Memory Place Form)) (view : b ≡ now) (i : ℕ)
@@ -99,7 +99,8 @@ module _ {Machine Memory Place Form : Type 0} {rules : Machine → Rules Memory 
           };
           fits = subst (λ (v : State Machine Memory Place Form). Fits (rules b.machine) b.program v) own
               (book.law.law.fit i entry.0 entry.1.entry);
-          few = subst (λ (v : State Machine Memory Place Form). v.steps < b.limit) own (few_at i entry.0 entry.1.entry);
+          bounded = subst (λ (v : State Machine Memory Place Form). v.steps < b.limit) own
+              (bounded_at i entry.0 entry.1.entry);
         })
 
   -- what is so of each state of the entries is so of those that are lent
@@ -109,17 +110,17 @@ module _ {Machine Memory Place Form : Type 0} {rules : Machine → Rules Memory 
       so_of_range (machine_in rules b) same_in (right_in rules b) (Fits (rules b.machine) b.program) b.entries range
       book.law.law.fit states
 
-  pub states_few : {A : Type 0} (range : List (ℕ × Arc (State Machine Memory Place Form) A))
+  pub states_bounded : {A : Type 0} (range : List (ℕ × Arc (State Machine Memory Place Form) A))
       → AreStatesOf b.entries range → AllStates (λ state. state.steps < b.limit) range
-  states_few range states =
+  states_bounded range states =
       so_of_range (machine_in rules b) same_in (right_in rules b) (λ state. state.steps < b.limit) b.entries range
-      few_at states
+      bounded_at states
 
   -- what is so of each state of the entries is so of one that is lent
   module _ (i : ℕ) (state : State Machine Memory Place Form)
       (at : (e : Entry (State Machine Memory Place Form)) × At b.entries i e × (e.state ≡ state)) where
-    pub state_few : state.steps < b.limit
-    state_few = subst (λ (v : State Machine Memory Place Form). v.steps < b.limit) at.2 (few_at i at.0 at.1)
+    pub state_bounded : state.steps < b.limit
+    state_bounded = subst (λ (v : State Machine Memory Place Form). v.steps < b.limit) at.2 (bounded_at i at.0 at.1)
 
   -- the layer of the next entry ends before the first entry of more steps
   module _ (now : Contents Machine (State Machine Memory Place Form)) (view : b ≡ now) (start end k : ℕ)

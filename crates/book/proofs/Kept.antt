@@ -190,10 +190,10 @@ module _ {S : Type 0} (m : StepMachine S) (same : S → S → Bool) (right : S �
               let r = list_any-true (λ (u : S). same u x.1.state) (states es) k in
               let d = at-states es r.0 r.1 r.2 in
               let alike : same d.0.state s ≡ true = same_of_same d.0.state r.1 s x.1.state (sym d.2) is r.3 in
-              let few : m.steps d.0.state ≤ m.steps s =
+              let bounded : m.steps d.0.state ≤ m.steps s =
               (let q : m.steps d.0.state ≤ m.steps e.state + 1 = law.near i r.0 e d.0 at_i not_expanded d.1 in
               omega arith) in
-              stands_entered s (r.0, d.0, d.1, alike, few))
+              stands_entered s (r.0, d.0, d.1, alike, bounded))
           | inr y ↦ (
               let n : m.steps y.1.state ≡ m.steps e.state + 1 = fresh_steps y.0 y.1 y.2 in (
                 length es + y.0,

@@ -55,14 +55,14 @@ module _ {S : Type 0} (m : StepMachine S) where
   sum-opened i (u ∷ us) = sum_by-cons (steps_entered m) (opened i u) (map (opened i) us)
       ∙ (let r : sum_by (steps_entered m) (map (opened i) us) ≡ 0 = sum-opened i us in omega arith)
 
-  few_steps : IsMachine m → (s : S) → length (enabled_threads m s) < 256
-  few_steps machine s =
+  steps_bounded : IsMachine m → (s : S) → length (enabled_threads m s) < 256
+  steps_bounded machine s =
       let a : length (enabled_threads m s) ≡ count_by (λ t. is_some (m.step s t)) (range_with_len 0 m.threads) =
       length-filter (λ t. is_some (m.step s t)) (range_with_len 0 m.threads) in
       let b : count_by (λ t. is_some (m.step s t)) (range_with_len 0 m.threads) ≤ length (range_with_len 0 m.threads) =
       count_by-le-length (λ t. is_some (m.step s t)) (range_with_len 0 m.threads) in
       let l : length (range_with_len 0 m.threads) ≡ m.threads = length-range_with_len 0 m.threads in
-      let f : m.threads < 256 = machine.few_threads in
+      let f : m.threads < 256 = machine.threads_bounded in
       omega arith
 
   steps_bound : IsMachine m → (es : List (Entry S)) → sum_by (steps_entered m) es ≤ 256 * length es
@@ -75,7 +75,7 @@ module _ {S : Type 0} (m : StepMachine S) where
       omega arith
     where
       at_most : IsMachine m → (e : Entry S) (b : Bool) → cond b (length (enabled_threads m e.state)) 0 ≤ 256
-      at_most machine e true = (let f : length (enabled_threads m e.state) < 256 = few_steps machine e.state in
+      at_most machine e true = (let f : length (enabled_threads m e.state) < 256 = steps_bounded machine e.state in
           omega arith)
       at_most machine e false = omega arith
 
@@ -93,7 +93,7 @@ module _ {X S : Type 0} (m : StepMachine S) (same : S → S → Bool) (right : S
         entries = record { state = s; finding = f; origin = None; mark = Open } ∷ [];
         met = 0;
       })
-  opened_book x p k n s f is_start is_right is_fit some few =
+  opened_book x p k n s f is_start is_right is_fit some bounded =
       let e : Entry S = record { state = s; finding = f; origin = None; mark = Open } in
       record {
         law = record {
@@ -122,7 +122,7 @@ module _ {X S : Type 0} (m : StepMachine S) (same : S → S → Bool) (right : S
               omega arith);
         };
         within = some;
-        limit = few;
+        limit = bounded;
         counted = refl;
       }
     where
@@ -210,5 +210,5 @@ module _ {X S : Type 0} (m : StepMachine S) (same : S → S → Bool) (right : S
         let n : b.limit ≤ 2000000 = book.limit in
         let s : sum_by (steps_entered m) b.entries ≤ 256 * length b.entries = steps_bound m machine b.entries in
         let t : length xs ≡ length (enabled_threads m e.state) = all_steps in
-        let f : length (enabled_threads m e.state) < 256 = few_steps m machine e.state in
+        let f : length (enabled_threads m e.state) < 256 = steps_bounded m machine e.state in
         omega arith

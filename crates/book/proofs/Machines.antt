@@ -32,8 +32,8 @@ use Rattle.book.proofs.StandingIn.{found_alike}
 module _ {Machine Memory Place Form : Type 0} (rules : Rules Memory Place) (program : Program)
     (lawful : AreLawful rules)
     (form_of : Memory → List (Option Place) → Form) (forms : AreFormsExact rules form_of)
-    (whole_code : Memory → List (Option Place) → List ℕ) (form_code : Form → List ℕ)
-    (wholly : IsInjective (state_code {Machine = Machine} {Form = Form} whole_code))
+    (own_code : Memory → List (Option Place) → List ℕ) (form_code : Form → List ℕ)
+    (wholly : IsInjective (state_code {Machine = Machine} {Form = Form} own_code))
     (by_form : IsInjective form_code) where
   abbrev machine_here : StepMachine (State Machine Memory Place Form)
   machine_here = machine_of rules program
@@ -42,7 +42,7 @@ module _ {Machine Memory Place Form : Type 0} (rules : Rules Memory Place) (prog
   form = state_form form_of
 
   abbrev label : Merge → State Machine Memory Place Form → List ℕ
-  label = label_by whole_code form_code form_of
+  label = label_by own_code form_code form_of
 
   -- labels are the same where they are equal
   labels : IsEquivalence same_label
@@ -116,14 +116,14 @@ module _ {Machine Memory Place Form : Type 0} (rules : Rules Memory Place) (prog
 -- the book with the start alone
 pub first_book : {Machine Memory Place Form : Type 0} (rules : Machine → Rules Memory Place)
     (form_of : Machine → Memory → List (Option Place) → Form)
-    (whole_code : Memory → List (Option Place) → List ℕ) (form_code : Form → List ℕ)
-    → IsInjective (state_code {Machine = Machine} {Form = Form} whole_code) → IsInjective form_code
+    (own_code : Memory → List (Option Place) → List ℕ) (form_code : Form → List ℕ)
+    → IsInjective (state_code {Machine = Machine} {Form = Form} own_code) → IsInjective form_code
     → (machine : Machine) (program : Program) (merge : Merge) (limit : ℕ) (state : State Machine Memory Place Form)
     (finding : Finding)
     → AreLawful (rules machine) → AreFormsExact (rules machine) (form_of machine) → IsWithinLimits program
     → state ≡ start (rules machine) program → Fits (rules machine) program state
     → IsFindingOf (rules machine) program state finding → 1 ≤ limit → limit ≤ 2000000
-    → IsBook rules (label_by whole_code form_code (form_of machine) merge) (record {
+    → IsBook rules (label_by own_code form_code (form_of machine) merge) (record {
       machine = machine;
       program = program;
       merge = merge;
@@ -131,23 +131,23 @@ pub first_book : {Machine Memory Place Form : Type 0} (rules : Machine → Rules
       entries = record { state = state; finding = finding; origin = None; mark = Open } ∷ [];
       met = 0;
     })
-first_book {Machine} {Memory} {Place} {Form} rules form_of whole_code form_code wholly by_form machine program merge
-    limit state finding lawful forms limits starts fits right some few =
+first_book {Machine} {Memory} {Place} {Form} rules form_of own_code form_code wholly by_form machine program merge
+    limit state finding lawful forms limits starts fits right some bounded =
     let m : StepMachine (State Machine Memory Place Form) = machine_of (rules machine) program in
     let keeps : IsMachine m = is_machine (rules machine) program lawful limits in
     let label_of : State Machine Memory Place Form → List ℕ =
-    label_by whole_code form_code (form_of machine) merge in
+    label_by own_code form_code (form_of machine) merge in
     let merges : Merges m (same_as label_of) =
-    merges_by (rules machine) program lawful (form_of machine) forms whole_code form_code wholly by_form merge keeps in
+    merges_by (rules machine) program lawful (form_of machine) forms own_code form_code wholly by_form merge keeps in
     record {
       law = opened_book {X = Machine} m (same_as label_of) (IsFindingOf (rules machine) program) keeps merges machine
-          program merge limit state finding starts right fits some few;
+          program merge limit state finding starts right fits some bounded;
       limits = limits;
       machine = keeps;
       merges = merges;
       findings =
-          findings_alike (rules machine) program lawful (form_of machine) forms whole_code form_code wholly by_form
+          findings_alike (rules machine) program lawful (form_of machine) forms own_code form_code wholly by_form
           merge;
       counts =
-          counts_by (rules machine) program lawful (form_of machine) forms whole_code form_code wholly by_form merge;
+          counts_by (rules machine) program lawful (form_of machine) forms own_code form_code wholly by_form merge;
     }

@@ -41,17 +41,17 @@ are_steps {S} m right label_of s ys expansion =
     }
 
 module _ {Machine Memory Place Form : Type 0} (rules : Machine → Rules Memory Place)
-    (whole_code : Memory → List (Option Place) → List ℕ) (form_code : Form → List ℕ)
+    (own_code : Memory → List (Option Place) → List ℕ) (form_code : Form → List ℕ)
     (form_of : Machine → Memory → List (Option Place) → Form)
     (b : Contents Machine (State Machine Memory Place Form)) (i : ℕ)
     (e : Entry (State Machine Memory Place Form)) (at : At b.entries i e) where
   abbrev label_here : State Machine Memory Place Form → List ℕ
-  label_here = label_by whole_code form_code (form_of b.machine) b.merge
+  label_here = label_by own_code form_code (form_of b.machine) b.merge
 
   -- an expansion of the entry's state, labelled for the book
   module _ (x : Steps Machine (State Machine Memory Place Form)) (own : IsOwn b i x.machine x.program x.source)
       (holds : HoldsSteps rules x) (steps : List (Successor (List ℕ)))
-      (are : steps ≡ map (labelled (label_by whole_code form_code (form_of x.machine) b.merge)) x.successors) where
+      (are : steps ≡ map (labelled (label_by own_code form_code (form_of x.machine) b.merge)) x.successors) where
     expansion_here : IsExpansion (machine_in rules b) (right_in rules b) e.state x.successors
     expansion_here =
         subst (λ (m : Machine). IsExpansion (machine_of (rules m) b.program) (IsFindingOf (rules m) b.program) e.state
@@ -63,7 +63,7 @@ module _ {Machine Memory Place Form : Type 0} (rules : Machine → Rules Memory 
 
     labelled_here : steps ≡ map (labelled label_here) x.successors
     labelled_here =
-        are ∙ ap (λ (m : Machine). map (labelled (label_by whole_code form_code (form_of m) b.merge)) x.successors)
+        are ∙ ap (λ (m : Machine). map (labelled (label_by own_code form_code (form_of m) b.merge)) x.successors)
         own.machine
 
     pub own_steps : AreStepsOf (machine_in rules b) (right_in rules b) label_here e.state steps
@@ -125,21 +125,21 @@ module _ {Machine Memory Place Form : Type 0} (rules : Machine → Rules Memory 
 
   -- labelled steps of the entry
   module _ (x : ExpandedView Machine) (key : IsEntryOf label_here b x.key)
-      (expanded : IsExpandedOf rules whole_code form_code form_of x) (fits : Fits (rules b.machine) b.program e.state)
+      (expanded : IsExpandedOf rules own_code form_code form_of x) (fits : Fits (rules b.machine) b.program e.state)
       (number : x.key.id ≡ i) where
     pub keyed_steps : AreStepsOf (machine_in rules b) (right_in rules b) label_here e.state x.steps
     keyed_steps =
         subst (λ (merge : Merge). AreStepsOf (machine_in rules b) (right_in rules b)
-        (label_by whole_code form_code (form_of b.machine) merge) e.state x.steps) key.merge
+        (label_by own_code form_code (form_of b.machine) merge) e.state x.steps) key.merge
         (subst (λ (p : Program). AreStepsOf (machine_of (rules b.machine) p) (IsFindingOf (rules b.machine) p)
-        (label_by whole_code form_code (form_of b.machine) x.key.merge) e.state x.steps) key.program
+        (label_by own_code form_code (form_of b.machine) x.key.merge) e.state x.steps) key.program
         (subst (λ (m : Machine). AreStepsOf (machine_of (rules m) x.key.program) (IsFindingOf (rules m) x.key.program)
-        (label_by whole_code form_code (form_of m) x.key.merge) e.state x.steps) key.machine
+        (label_by own_code form_code (form_of m) x.key.merge) e.state x.steps) key.machine
         (expanded e.state
         (subst (λ (m : Machine). Fits (rules m) x.key.program e.state) (sym key.machine)
         (subst (λ (p : Program). Fits (rules b.machine) p e.state) (sym key.program) fits))
-        (ap (λ (m : Machine). label_by whole_code form_code (form_of m) x.key.merge e.state) key.machine
-        ∙ ap (λ (merge : Merge). label_by whole_code form_code (form_of b.machine) merge e.state) key.merge
+        (ap (λ (m : Machine). label_by own_code form_code (form_of m) x.key.merge e.state) key.machine
+        ∙ ap (λ (merge : Merge). label_by own_code form_code (form_of b.machine) merge e.state) key.merge
         ∙ key.label e (subst (λ n. At b.entries n e) (sym number) at)))))
 
     -- what putting them in answers is what entering them does
@@ -179,7 +179,7 @@ module _ {Machine Memory Place Form : Type 0} (rules : Machine → Rules Memory 
         → IfErr answer (λ fault. (fault ≡ OutOfMemory)
         ⊎ ((fault ≡ Full) × ((d : Entry (State Machine Memory Place Form)) → At b.entries i d
         → IsFullFor (CountsAsOne (rules b.machine) b.merge) b (steps_of (machine_in rules b).step d.state x.steps))))
-        → IfErr answer (RefusesEntry rules whole_code form_code form_of b x)
+        → IfErr answer (RefusesEntry rules own_code form_code form_of b x)
     refused_keyed taken (Ok r) h = tt
     refused_keyed taken (Err NotTaken) (inl h) = absurd (cc)
     refused_keyed taken (Err NotTaken) (inr h) = absurd (let q : NotTaken ≡ Full = h.0 in cc)

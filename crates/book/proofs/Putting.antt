@@ -17,7 +17,14 @@ use Rattle.book.specs.Unknown.{knows, unknown}
 use Rattle.book.specs.Labels.{same_as, steps_of}
 use Rattle.replay.specs.Schedule.{AreOneBy, StepMachine}
 use Rattle.book.proofs.Agreeing.{Agree}
-use Rattle.book.proofs.Entering.{length_appended, entered_is, few_entered, still_taken, entered_entries, lawful_entered}
+use Rattle.book.proofs.Entering.{
+  length_appended,
+  entered_is,
+  entered_within,
+  still_taken,
+  entered_entries,
+  lawful_entered,
+}
 use Rattle.book.proofs.Entering.{small_met}
 use Rattle.book.proofs.Unknown.{at-states, list_any-false, list_any-true}
 
@@ -126,13 +133,13 @@ module _ {Machine Memory Place Form : Type 0} {rules : Machine → Rules Memory 
         entered_is (machine_in rules b) same (right_in rules b) book.machine book.merges b book.law i e at taken ys
         steps.expansion appended put (len - was) was len refl was_is len_is
 
-    pub entered_few : len - was ≤ n
-    entered_few =
-        few_entered (machine_in rules b) same (right_in rules b) book.machine book.merges b book.law i e at taken ys
+    pub entered_bounded : len - was ≤ n
+    entered_bounded =
+        entered_within (machine_in rules b) same (right_in rules b) book.machine book.merges b book.law i e at taken ys
         steps.expansion appended put (len - was) was len n refl was_is len_is all_steps
 
     entered_each : (len - was) + (n - (len - was)) ≡ length ys
-    entered_each = let le : len - was ≤ n = entered_few in let all : n ≡ length ys = all_steps in omega arith
+    entered_each = let le : len - was ≤ n = entered_bounded in let all : n ≡ length ys = all_steps in omega arith
 
     pub is_taken_still : IsTaken appended i
     is_taken_still =

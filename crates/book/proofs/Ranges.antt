@@ -207,7 +207,7 @@ module _ {S : Type 0} (steps : S → ℕ) where
         | inl r ↦ (λ (q : here.0.mark ≡ Expanded). let t : here.0.mark ≡ Taken = r.2 in cc)
         | inr r ↦ absurd (r.0 (omega arith) (omega arith))
       ]) in
-      let few : steps e.state ≤ steps here.0.state = next.fewest a here.0 here.1 left in
+      let bounded : steps e.state ≤ steps here.0.state = next.fewest a here.0 here.1 left in
       elim o.3 [
         | inl r ↦ (let t : e.mark ≡ Taken = r.2 in cc)
         | inr r ↦ elim (cases_lt i a) [
@@ -238,7 +238,8 @@ module _ {S : Type 0} (steps : S → ℕ) where
           is_open = range.are_open p.0 s.0 s.1 (omega arith) (omega arith);
           state = s.2;
           fewest =
-              (λ j f there left. let few : steps s.0.state ≤ steps f.state = range.fewest p.0 j s.0 f s.1 (omega arith)
+              (λ j f there left. let bounded : steps s.0.state ≤ steps f.state = range.fewest p.0 j s.0 f s.1
+              (omega arith)
               (omega arith) there left in
               let same : steps s.0.state ≡ steps p.1.value = ap steps s.2 in omega arith);
         });

@@ -71,12 +71,12 @@ module _ {Machine Memory Place Form : Type 0} (rules : Rules Memory Place) (prog
         (u, subst (λ (w : State Machine Memory Place Form). step rules program w t ≡ Some u) one leads, refl)
     one_step Names r s u t one leads = alike_step rules r s lawful one program t u leads
 
-    one_label : (whole_code : Memory → List (Option Place) → List ℕ) (form_code : Form → List ℕ) (merge : Merge)
+    one_label : (own_code : Memory → List (Option Place) → List ℕ) (form_code : Form → List ℕ) (merge : Merge)
         (r s : State Machine Memory Place Form) → Fits rules program r → Fits rules program s
         → CountsAsOne rules merge r s
-        → label_by whole_code form_code form_of merge r ≡ label_by whole_code form_code form_of merge s
-    one_label whole_code form_code Exact r s r_fits s_fits one = ap (state_code whole_code) one
-    one_label whole_code form_code Names r s r_fits s_fits one =
+        → label_by own_code form_code form_of merge r ≡ label_by own_code form_code form_of merge s
+    one_label own_code form_code Exact r s r_fits s_fits one = ap (state_code own_code) one
+    one_label own_code form_code Names r s r_fits s_fits one =
         ap (λ f. number_code 0 ++ content_code form_code f)
         ((forms_alike rules form_of forms program program r s r_fits s_fits).1 one)
 
@@ -87,19 +87,19 @@ module _ {Machine Memory Place Form : Type 0} (rules : Rules Memory Place) (prog
         twin : (u : State Machine Memory Place Form) × (step rules program s t ≡ Some u) × CountsAsOne rules merge n u
         twin = one_step merge c s n t (one_turned merge s c s_fits c_fits one) leads
 
-        pub puts_twin : (whole_code : Memory → List (Option Place) → List ℕ) (form_code : Form → List ℕ)
+        pub puts_twin : (own_code : Memory → List (Option Place) → List ℕ) (form_code : Form → List ℕ)
             (old new : List (Successor (List ℕ))) (x : Successor (List ℕ)) → new ≡ old ++ x ∷ [] → x.thread ≡ t
-            → x.state ≡ label_by whole_code form_code form_of merge n → Fits rules program n
+            → x.state ≡ label_by own_code form_code form_of merge n → Fits rules program n
             → IsFindingOf rules program n x.finding
             → PutsStep (machine_of rules program) (IsFindingOf rules program)
-            (label_by whole_code form_code form_of merge) s t old new
-        puts_twin whole_code form_code old new x pushed is_thread label n_fits is =
+            (label_by own_code form_code form_of merge) s t old new
+        puts_twin own_code form_code old new x pushed is_thread label n_fits is =
             let u = twin.0 in
             let counts : CountsAsOne rules merge n u = twin.2 in
             let u_fits : Fits rules program u = step_fits rules program s s_fits lawful t u twin.1 in
             puts_next (machine_of rules program) (IsFindingOf rules program) s
-            (label_by whole_code form_code form_of merge) t old new x u twin.1 pushed is_thread
-            (label ∙ one_label whole_code form_code merge n u n_fits u_fits counts)
+            (label_by own_code form_code form_of merge) t old new x u twin.1 pushed is_thread
+            (label ∙ one_label own_code form_code merge n u n_fits u_fits counts)
             (one_found merge n u n_fits u_fits counts x.finding is) u_fits
 
       -- where c has no step, s has none
@@ -117,43 +117,43 @@ module _ {Machine Memory Place Form : Type 0} (rules : Rules Memory Place) (prog
 
 -- what is read from a label counts as one with each state that has it
 pub read_stands : {Machine Memory Place Form : Type 0} (rules : Rules Memory Place) (program : Program)
-    (whole_code : Memory → List (Option Place) → List ℕ) (form_code : Form → List ℕ)
+    (own_code : Memory → List (Option Place) → List ℕ) (form_code : Form → List ℕ)
     (form_of : Memory → List (Option Place) → Form) (code : List ℕ) (c : State Machine Memory Place Form)
-    → ((s : State Machine Memory Place Form) → code ≡ state_code whole_code s → c ≡ s)
+    → ((s : State Machine Memory Place Form) → code ≡ state_code own_code s → c ≡ s)
     → ((s : State Machine Memory Place Form) → AreNumbersInRange rules s → code ≡ named_code form_code form_of s
     → AreStatesAlike rules s c × ((p : Program) → Fits rules p s → Fits rules p c) × (c.steps ≡ 0))
     → (label : List ℕ) → label ≡ code → (merge : Merge) (s : State Machine Memory Place Form) → Fits rules program s
-    → label_by whole_code form_code form_of merge s ≡ label → StandsIn rules program merge s c
-read_stands {Machine} {Memory} {Place} {Form} rules program whole_code form_code form_of code c whole named label
+    → label_by own_code form_code form_of merge s ≡ label → StandsIn rules program merge s c
+read_stands {Machine} {Memory} {Place} {Form} rules program own_code form_code form_of code c whole named label
     written Exact s fits is =
     let same : s ≡ c = sym (whole s (sym (is ∙ written))) in
     subst (λ (v : State Machine Memory Place Form). StandsIn rules program Exact s v) same
     (record { counts = refl; fits = fits; steps = omega arith })
-read_stands rules program whole_code form_code form_of code c whole named label written Names s fits is =
+read_stands rules program own_code form_code form_of code c whole named label written Names s fits is =
     let law = named s (numbers_fit rules program s fits) (sym (is ∙ written)) in
     record { counts = law.0; fits = law.1 program fits; steps = (let none = law.2 in omega (arith, none)) }
 
 -- what is read from the label of a sound taken entry is the source of the steps of each state with that label
 pub source_of : {Machine Memory Place Form : Type 0} (front_code : Front → Memory → List ℕ)
     (behind_code : Front → Memory → List (Option Place) → List ℕ) (rules : Machine → Rules Memory Place)
-    (whole_code : Memory → List (Option Place) → List ℕ) (form_code : Form → List ℕ)
+    (own_code : Memory → List (Option Place) → List ℕ) (form_code : Form → List ℕ)
     (form_of : Machine → Memory → List (Option Place) → Form) (taken : TakenView Machine) (offsets : CodeOffsets)
     (order : List OpId) (c : State Machine Memory Place Form) → AreLawful (rules taken.key.machine)
     → AreFormsExact (rules taken.key.machine) (form_of taken.key.machine) → IsWithinLimits taken.key.program
-    → IsTakenOf rules whole_code form_code form_of taken → taken.finding ≡ found.Sound order
-    → IsRead front_code behind_code whole_code form_code (form_of taken.key.machine) (rules taken.key.machine)
+    → IsTakenOf rules own_code form_code form_of taken → taken.finding ≡ found.Sound order
+    → IsRead front_code behind_code own_code form_code (form_of taken.key.machine) (rules taken.key.machine)
     taken.key.label offsets c
-    → IsSource front_code behind_code rules whole_code form_code form_of taken.key offsets order c
-source_of front_code behind_code rules whole_code form_code form_of taken offsets order c lawful forms limits of sound
+    → IsSource front_code behind_code rules own_code form_code form_of taken.key offsets order c
+source_of front_code behind_code rules own_code form_code form_of taken offsets order c lawful forms limits of sound
     read =
     let key = taken.key in
     let stands = read.stands key.merge key.program limits of.state of.fits of.label in
     let fewer : c.steps ≤ of.state.steps = stands.steps in
-    let few : of.state.steps < 2000000 = of.few in
+    let bounded : of.state.steps < 2000000 = of.bounded in
     record {
       read = read.read;
       fits = stands.fits;
-      steps_fit = omega (arith, fewer, few);
+      steps_fit = omega (arith, fewer, bounded);
       sound = one_found (rules key.machine) key.program (form_of key.machine) lawful forms key.merge of.state c of.fits
           stands.fits stands.counts (found.Sound order)
           (subst (IsFindingOf (rules key.machine) key.program of.state) sound of.finding);

@@ -57,17 +57,17 @@ pub record ExpandedView (X : Type 0) : Type 0 where
   pub steps : List (Successor (List ℕ))
 
 module _ {Machine Memory Place Form : Type 0} (rules : Machine → Rules Memory Place)
-    (whole_code : Memory → List (Option Place) → List ℕ) (form_code : Form → List ℕ)
+    (own_code : Memory → List (Option Place) → List ℕ) (form_code : Form → List ℕ)
     (form_of : Machine → Memory → List (Option Place) → Form) where
   -- the label of a state in the book of an entry
   abbrev pub label_in : Key Machine → State Machine Memory Place Form → List ℕ
-  label_in key = label_by whole_code form_code (form_of key.machine) key.merge
+  label_in key = label_by own_code form_code (form_of key.machine) key.merge
 
   -- a state of the program has the label, and this is what was found of it
   pub record IsTakenOf (taken : TakenView Machine) : Type 0 where
     pub state : State Machine Memory Place Form
     pub fits : Fits (rules taken.key.machine) taken.key.program state
-    pub few : state.steps < 2000000
+    pub bounded : state.steps < 2000000
     pub label : label_in taken.key state ≡ taken.key.label
     pub finding : IsFindingOf (rules taken.key.machine) taken.key.program state taken.finding
 
@@ -107,13 +107,13 @@ pub record IsEntryOf {X S : Type 0} (label_of : S → List ℕ) (book : Contents
   pub label : (e : Entry S) → At book.entries key.id e → label_of e.state ≡ key.label
 
 module _ {Machine Memory Place Form : Type 0} (rules : Machine → Rules Memory Place)
-    (whole_code : Memory → List (Option Place) → List ℕ) (form_code : Form → List ℕ)
+    (own_code : Memory → List (Option Place) → List ℕ) (form_code : Form → List ℕ)
     (form_of : Machine → Memory → List (Option Place) → Form)
     (book : Contents Machine (State Machine Memory Place Form)) (expanded : ExpandedView Machine) where
   -- it is of an entry of the book
   abbrev pub IsOwnEntry : Type 0
   IsOwnEntry =
-      IsEntryOf (label_by whole_code form_code (form_of book.machine) book.merge) book expanded.key
+      IsEntryOf (label_by own_code form_code (form_of book.machine) book.merge) book expanded.key
 
   -- when the steps of an entry are refused, and for what
   abbrev pub RefusesEntry : EnterFault → Type 0

@@ -24,24 +24,24 @@ pub record StandsIn {Machine Memory Place Form : Type 0} (rules : Rules Memory P
 
 -- the state was read from the label: it stands in for each state that has this label in a book of either merge
 pub record IsRead {Machine Memory Place Form : Type 0} (front_code : Front → Memory → List ℕ)
-    (behind_code : Front → Memory → List (Option Place) → List ℕ) (whole_code : Memory → List (Option Place) → List ℕ)
+    (behind_code : Front → Memory → List (Option Place) → List ℕ) (own_code : Memory → List (Option Place) → List ℕ)
     (form_code : Form → List ℕ) (form_of : Memory → List (Option Place) → Form) (rules : Rules Memory Place)
     (label : List ℕ) (offsets : CodeOffsets) (twin : State Machine Memory Place Form) : Type 0 where
   pub read : AreOffsetsOf front_code behind_code label offsets twin
   pub stands : (merge : Merge) (program : Program) → IsWithinLimits program
-      → HoldsOfLabel rules program (label_by whole_code form_code form_of merge) label
+      → HoldsOfLabel rules program (label_by own_code form_code form_of merge) label
       (λ state. StandsIn rules program merge state twin)
 
 -- the states with this label are sound with this linearization; this one, whose own bytes are the label, stands in for
 -- them
 pub record IsSource {Machine Memory Place Form : Type 0} (front_code : Front → Memory → List ℕ)
     (behind_code : Front → Memory → List (Option Place) → List ℕ) (rules : Machine → Rules Memory Place)
-    (whole_code : Memory → List (Option Place) → List ℕ) (form_code : Form → List ℕ)
+    (own_code : Memory → List (Option Place) → List ℕ) (form_code : Form → List ℕ)
     (form_of : Machine → Memory → List (Option Place) → Form) (key : Key Machine) (offsets : CodeOffsets)
     (order : List OpId) (twin : State Machine Memory Place Form) : Type 0 where
   pub read : AreOffsetsOf front_code behind_code key.label offsets twin
   pub fits : Fits (rules key.machine) key.program twin
   pub steps_fit : twin.steps + 1 < 2 ^ 64
   pub sound : IsFindingOf (rules key.machine) key.program twin (Sound order)
-  pub counts : HoldsOfKey rules whole_code form_code form_of key
+  pub counts : HoldsOfKey rules own_code form_code form_of key
       (λ state. CountsAsOne (rules key.machine) key.merge state twin)

@@ -22,7 +22,7 @@ naming_of Names = Canonical
 -- machine's form is: with exact merging the bytes of the whole state, by names those of its form
 abbrev pub label_by : {Machine Memory Place Form : Type 0} → (Memory → List (Option Place) → List ℕ) → (Form → List ℕ)
     → (Memory → List (Option Place) → Form) → Merge → State Machine Memory Place Form → List ℕ
-label_by whole_code form_code form_of merge = label_code (naming_of merge) whole_code form_code form_of
+label_by own_code form_code form_of merge = label_code (naming_of merge) own_code form_code form_of
 
 -- it holds of whichever state of the program has the label
 abbrev pub HoldsOfLabel : {Machine Memory Place Form : Type 0} → Rules Memory Place → Program

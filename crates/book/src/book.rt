@@ -90,9 +90,9 @@ impl<M: Encode> Model for Book<M> {
 
     ghost view = { λ b. contents_of b.machine b.program b.merge b.limit b.table.entries b.met };
 
-    ghost invariant = { λ b. IsBook M.rules (label_by M.whole_code M.form_code (M.form_of b.machine) b.merge)
+    ghost invariant = { λ b. IsBook M.rules (label_by M.own_code M.form_code (M.form_of b.machine) b.merge)
         (contents_of b.machine b.program b.merge b.limit b.table.entries b.met)
-        × AreKnownBy (label_by M.whole_code M.form_code (M.form_of b.machine) b.merge) b.table };
+        × AreKnownBy (label_by M.own_code M.form_code (M.form_of b.machine) b.merge) b.table };
 }
 
 /// The table with the start of a program alone, which is open.
@@ -105,7 +105,7 @@ fn first_table<M: Encode>(
     ensures { IfOk result (λ t. (state : State M M.Mem M.Loc M.Form) × (finding : Finding)
         × (state ≡ start (M.rules machine) program.now)
         × (t.entries ≡ record { state = state; finding = finding; origin = None; mark = Mark.Open } ∷ [])
-        × (t.labels ≡ label_by M.whole_code M.form_code (M.form_of machine) merge state ∷ [])
+        × (t.labels ≡ label_by M.own_code M.form_code (M.form_of machine) merge state ∷ [])
         × Fits (M.rules machine) program.now state × IsFindingOf (M.rules machine) program.now state finding) }
 {
     let state = State::start(alloc, machine, program)?;
@@ -132,7 +132,7 @@ impl<M: Encode> Book<M> {
         merge: Merge,
     ) -> Result<Book<M>, OutOfMemory>
         requires some { 1 ≤ limit }
-        requires few { limit ≤ 2000000 }
+        requires bounded { limit ≤ 2000000 }
         ensures start { IfOk result (λ b. (e : Entry (State M M.Mem M.Loc M.Form)) × (b.entries ≡ e ∷ [])
             × (e.state ≡ (machine_in M.rules b).start) × (e.mark ≡ Mark.Open)) }
         ensures machine { IfOk result (λ b. b.machine ≡ machine) }
@@ -195,7 +195,7 @@ impl<M: Encode> Book<M> {
             → IsNext (machine_in M.rules self.old).steps self.old.entries i e → ⊥)) }
         ensures unchanged { IfOk result (λ o. IfNone o (self.new ≡ self.old)) }
         ensures fits { IfOk result (λ o. IfSome o (λ p. Fits (M.rules self.old.machine) self.old.program p.1.value)) }
-        ensures few { IfOk result (λ o. IfSome o (λ p. p.1.value.steps < self.old.limit)) }
+        ensures bounded { IfOk result (λ o. IfSome o (λ p. p.1.value.steps < self.old.limit)) }
         ensures same { self.new ≡ record self.old { entries = self.new.entries } }
         ensures err { OnErr result (self.new ≡ self.old) }
     {
@@ -214,7 +214,7 @@ impl<M: Encode> Book<M> {
         ensures taken { IfOk result
             (λ layer. TakesLayer (machine_in M.rules self.old).steps self.old.entries self.new.entries layer.items) }
         ensures fits { IfOk result (λ layer. AllStates (Fits (M.rules self.old.machine) self.old.program) layer.items) }
-        ensures few { IfOk result (λ layer. AllStates (λ state. state.steps < self.old.limit) layer.items) }
+        ensures bounded { IfOk result (λ layer. AllStates (λ state. state.steps < self.old.limit) layer.items) }
         ensures same { self.new ≡ record self.old { entries = self.new.entries } }
         ensures err { OnErr result (self.new ≡ self.old) }
     {

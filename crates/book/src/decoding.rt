@@ -52,7 +52,7 @@ pub(crate) fn decode<M: Encode>(
     known: Option<CodeOffsets>,
 ) -> Result<Option<Decoded<M>>, OutOfMemory>
     requires { IfSome known (λ offsets. AreOffsetsOf M.front_code M.behind_code list.items offsets state.value) }
-    ensures { IfOk result (λ o. IfSome o (λ d. IsRead M.front_code M.behind_code M.whole_code M.form_code
+    ensures { IfOk result (λ o. IfSome o (λ d. IsRead M.front_code M.behind_code M.own_code M.form_code
         (M.form_of machine) (M.rules machine) label.now d.offsets d.state.value)) }
 {
     let read = read_code(alloc, machine, label, list.as_slice(), known, &mut *state)?;

@@ -37,7 +37,7 @@ impl<'a, M: Encode> Model for TakenEntry<'a, M> {
 
     ghost view = { λ t. record { key = key_of t.key; finding = t.finding } };
 
-    ghost invariant = { λ t. IsTakenOf M.rules M.whole_code M.form_code M.form_of
+    ghost invariant = { λ t. IsTakenOf M.rules M.own_code M.form_code M.form_of
         (record { key = key_of t.key; finding = t.finding }) };
 }
 
@@ -56,7 +56,7 @@ impl<'a, M: Encode> Model for ExpandedEntry<'a, M> {
 
     ghost view = { λ x. record { key = key_of x.key; steps = x.steps.items } };
 
-    ghost invariant = { λ x. IsExpandedOf M.rules M.whole_code M.form_code M.form_of
+    ghost invariant = { λ x. IsExpandedOf M.rules M.own_code M.form_code M.form_of
         (record { key = key_of x.key; steps = x.steps.items }) };
 }
 

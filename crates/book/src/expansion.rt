@@ -51,7 +51,7 @@ impl<'a, M: Encode> Model for Expansion<'a, M> {
       source = x.source.now;
       successors = x.successors.items;
     })
-        × (x.code ≡ state_code M.whole_code x.source.now) };
+        × (x.code ≡ state_code M.own_code x.source.now) };
 }
 
 /// Appends the step of a thread to a list, if the thread is enabled. The step is judged from
@@ -136,7 +136,7 @@ impl<'a, M: Encode> Expansion<'a, M> {
     pub(crate) fn is_coded(&self, machine: &M, program: &Program, code: &[u8]) -> bool
         ensures { IsTrue result
             ↔ ((self.now.machine ≡ machine.now) × (self.now.program ≡ program.now)
-            × (state_code M.whole_code self.now.source ≡ code.now)) }
+            × (state_code M.own_code self.now.source ≡ code.now)) }
     {
         self.is_with(machine, program) && self.code.as_slice() == code
     }
@@ -148,7 +148,7 @@ impl<'a, M: Encode> Expansion<'a, M> {
         merge: Merge,
     ) -> Result<Vec<Successor<Label>>, OutOfMemory>
         ensures { IfOk result (λ steps. steps.items
-            ≡ map (labelled (label_by M.whole_code M.form_code (M.form_of self.now.machine) merge))
+            ≡ map (labelled (label_by M.own_code M.form_code (M.form_of self.now.machine) merge))
             self.now.successors) }
     {
         let mut steps = Vec::with_capacity(alloc, self.successors.len())?;

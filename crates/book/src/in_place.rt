@@ -28,11 +28,11 @@ fn put_step_here<M: Encode>(
     scratch: &mut Scratch<M>,
     steps: &mut Vec<Successor<Label>>,
 ) -> Result<(), OutOfMemory>
-    requires source { IsSource M.front_code M.behind_code M.rules M.whole_code M.form_code M.form_of from.now.key
+    requires source { IsSource M.front_code M.behind_code M.rules M.own_code M.form_code M.form_of from.now.key
         offsets order.now state.old }
     requires place { vec_len steps.old < vec_capacity steps.old }
     ensures state { OnOk result (state.new ≡ state.old) }
-    ensures put { OnOk result (PutsStepOf M.rules M.whole_code M.form_code M.form_of from.now.key thread
+    ensures put { OnOk result (PutsStepOf M.rules M.own_code M.form_code M.form_of from.now.key thread
         steps.old.items steps.new.items) }
     ensures len { vec_len steps.new ≤ vec_len steps.old + 1 }
     ensures capacity { vec_capacity steps.new ≡ vec_capacity steps.old }
@@ -91,10 +91,10 @@ pub(crate) fn steps_here<M: Encode>(
     state: &mut State<M>,
     scratch: &mut Scratch<M>,
 ) -> Result<Vec<Successor<Label>>, OutOfMemory>
-    requires { IsSource M.front_code M.behind_code M.rules M.whole_code M.form_code M.form_of from.now.key offsets
+    requires { IsSource M.front_code M.behind_code M.rules M.own_code M.form_code M.form_of from.now.key offsets
         order.now state.old }
     ensures state { OnOk result (state.new ≡ state.old) }
-    ensures steps { IfOk result (λ steps. IsExpandedOf M.rules M.whole_code M.form_code M.form_of
+    ensures steps { IfOk result (λ steps. IsExpandedOf M.rules M.own_code M.form_code M.form_of
         (record { key = from.now.key; steps = steps.items })) }
 {
     let threads = from.key.program.threads().len();

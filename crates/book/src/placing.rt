@@ -28,7 +28,7 @@ fn put_step<M: Encode>(
     one: Successor<Label>,
     recycled: &mut Recycled,
 ) -> Result<(), AllocError>
-    requires few { parent < 4294967295 }
+    requires bounded { parent < 4294967295 }
     requires enabled { IsSome (step (M.rules machine) program.now source.now.value one.thread) }
     ensures put { OnOk result (map keyed_of slots.new.entries ≡ map keyed_of slots.old.entries
         ++ map (opened parent) (unknown same_label (states (map keyed_of slots.old.entries)) (one ∷ []))) }
@@ -60,7 +60,7 @@ pub(crate) fn put_steps<M: Encode>(
     mut steps: Vec<Successor<Label>>,
     recycled: &mut Recycled,
 ) -> Result<(), AllocError>
-    requires few { parent < 4294967295 }
+    requires bounded { parent < 4294967295 }
     requires enabled { All (λ x. IsSome (step (M.rules machine) program.now source.now.value x.thread)) steps.items }
     ensures put { OnOk result (map keyed_of slots.new.entries ≡ map keyed_of slots.old.entries
         ++ map (opened parent) (unknown same_label (states (map keyed_of slots.old.entries)) steps.items)) }

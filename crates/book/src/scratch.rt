@@ -41,7 +41,7 @@ impl<M: Encode> Scratch<M> {
         program: &Program,
         label: &[u8],
     ) -> Result<Option<Decoded<M>>, OutOfMemory>
-        ensures { IfOk result (λ o. IfSome o (λ d. IsRead M.front_code M.behind_code M.whole_code
+        ensures { IfOk result (λ o. IfSome o (λ d. IsRead M.front_code M.behind_code M.own_code
             M.form_code (M.form_of machine) (M.rules machine) label.now d.offsets d.state.value)) }
     {
         let Some(last) = self.last.take() else {

@@ -42,7 +42,7 @@ pub(crate) fn label<M: Encode>(
 ) -> Result<Label, OutOfMemory>
     requires { Fits (M.rules machine) program.now state.now }
     ensures { IfOk result
-        (λ label. label ≡ label_by M.whole_code M.form_code (M.form_of machine) merge state.now) }
+        (λ label. label ≡ label_by M.own_code M.form_code (M.form_of machine) merge state.now) }
 {
     // Whoever reads a program knows that it meets the limits.
     let _ = program.initial();

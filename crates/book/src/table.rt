@@ -204,7 +204,7 @@ impl<S> Table<S> {
     /// Marks the first open entry taken.
     pub fn mark_taken(&mut self, index: usize)
         requires first { position (λ e. is_open e.mark) self.old.entries ≡ Some index }
-        requires few { length self.old.entries < 2 ^ 63 }
+        requires bounded { length self.old.entries < 2 ^ 63 }
         ensures { self.new ≡ record self.old { entries = with_mark self.old.entries index Mark.Taken } }
     {
         mark_at(&mut self.slots, index, Mark::Taken);
@@ -304,7 +304,7 @@ impl<M: Encode> Table<State<M>> {
         recycled: &mut Recycled,
     ) -> Result<(), EnterFault>
         requires room { length self.old.entries ≤ limit }
-        requires few { limit ≤ 2000000 }
+        requires bounded { limit ≤ 2000000 }
         requires within { parent < length self.old.entries }
         requires enabled { (e : Entry (State M M.Mem M.Loc M.Form)) → At self.old.entries parent e
             → All (λ x. IsSome (step (M.rules machine) program.now e.state x.thread)) steps.items }

@@ -31,7 +31,7 @@ fn push_row<S>(text: &mut Vec<u8>, row: &Row<S>) -> Result<(), OutOfMemory>
 /// The text of the entries.
 pub fn write_entries<S>(alloc: Global, table: &Table<S>) -> Result<Vec<u8>, OutOfMemory>
     requires some { 1 ≤ length table.now.entries }
-    requires few { length table.now.entries ≤ 2000000 }
+    requires bounded { length table.now.entries ≤ 2000000 }
     requires writable { AreWritable table.now.entries }
     ensures { IfOk result (λ text. IsFileOf table.now.entries text.items) }
 {

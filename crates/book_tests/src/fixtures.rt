@@ -145,7 +145,7 @@ pub fn open<M: Encode>(
 /// Takes the next entry.
 pub fn take_next<M: Encode>(book: &mut Book<M>) -> Result<(usize, Arc<State<M>>), Broken>
     ensures fits { IfOk result (λ p. Fits (M.rules book.new.machine) book.new.program p.1.value) }
-    ensures room { IfOk result (λ p. p.1.value.steps + 1 < 2 ^ 64) }
+    ensures steps_fit { IfOk result (λ p. p.1.value.steps + 1 < 2 ^ 64) }
     ensures machine { book.new.machine ≡ book.old.machine }
     ensures program { book.new.program ≡ book.old.program }
 {

@@ -97,7 +97,7 @@ impl Machine for Straying {
 impl Encode for Straying {
     ghost form_code = { λ bytes. bytes };
 
-    ghost whole_code = { straying_form };
+    ghost own_code = { straying_form };
 
     ghost front_code = { λ _ _. [] };
 
@@ -141,7 +141,7 @@ impl Encode for Straying {
     }
 
     /// It decodes nothing, as a machine may for any bytes.
-    fn read_whole(
+    fn read_code(
         &self,
         _alloc: Global,
         _bytes: &[u8],
@@ -168,5 +168,5 @@ impl Encode for Straying {
 
     ghost tells = { λ _ _. straying_tells };
 
-    ghost whole = { λ _ _. (record { nodes = 0; records = 0 }, refl) };
+    ghost own_cut = { λ _ _. (record { nodes = 0; records = 0 }, refl) };
 }

@@ -18,7 +18,7 @@ module _ {X : Type 0} (p : X → Bool) where
   counted_rest x xs counts =
       let a : count_by p (x ∷ xs) ≡ cond {A = ℕ} (p x) 1 0 + count_by p xs =
       sum_by-cons (λ (y : X). cond {A = ℕ} (p y) 1 0) x xs in
-      let few : count_by p xs ≤ length xs = count_by-le-length p xs in
+      let bounded : count_by p xs ≤ length xs = count_by-le-length p xs in
       elim (cases_Bool (p x)) [
         | inl t ↦ (let b : cond {A = ℕ} (p x) 1 0 ≡ 1 = ap (λ b. cond {A = ℕ} b 1 0) t in (t, omega arith))
         | inr f ↦ absurd (let b : cond {A = ℕ} (p x) 1 0 ≡ 0 = ap (λ b. cond {A = ℕ} b 1 0) f in omega arith)

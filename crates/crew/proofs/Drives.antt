@@ -48,8 +48,8 @@ module _ {X S : Type 0} (m : StepMachine S) (same : S → S → Bool) (right : S
   }
 
   module _ (d : ℕ) (layer : IsInLayer m.steps b.entries d) (left : IsLeftTo m.steps b.entries d) where
-    few : m.steps (taken_is m.steps b.entries mid.entries i s takes).0.state ≤ d
-    few =
+    bounded : m.steps (taken_is m.steps b.entries mid.entries i s takes).0.state ≤ d
+    bounded =
         let t = taken_is m.steps b.entries mid.entries i s takes in
         let p : m.steps takes.entry.state ≤ m.steps left.1.state = takes.next.fewest left.0 left.1 left.2 left.3 in
         let q : m.steps left.1.state ≤ d = left.4 in
@@ -80,11 +80,11 @@ module _ {X S : Type 0} (m : StepMachine S) (same : S → S → Bool) (right : S
           none_taken = one.none_taken;
           through = through_grows m d b.entries new layer.through one.grows;
           fresh = subst (λ (q : List (Entry S)). IsFresh m.steps q (d + 1)) (sym is)
-              (fresh_entered m same right machine merges mid.entries law.law i t.0 t.1 t.2 xs expansion d few
+              (fresh_entered m same right machine merges mid.entries law.law i t.0 t.1 t.2 xs expansion d bounded
               fresh_taken);
           shallow =
               subst (λ (q : List (Entry S)). IsShallow m.steps q (d + 1)) (sym is)
-              (shallow_entered m same right machine merges mid.entries law.law i t.0 t.1 t.2 xs expansion d few);
+              (shallow_entered m same right machine merges mid.entries law.law i t.0 t.1 t.2 xs expansion d bounded);
         }
 
     -- where there is no room for the steps, the layer is cut there
@@ -99,7 +99,7 @@ module _ {X S : Type 0} (m : StepMachine S) (same : S → S → Bool) (right : S
                 let done : takes.entry.mark ≡ Expanded =
                 layer.through.done i takes.entry takes.next.entry (omega arith) in
                 let open_one : takes.entry.mark ≡ Open = takes.next.is_open in cc)
-            | inr ge ↦ (let le : m.steps t.0.state ≤ d = few in omega arith)
+            | inr ge ↦ (let le : m.steps t.0.state ≤ d = bounded in omega arith)
           ];
           through = through_grows m d b.entries mid.entries layer.through
               (subst (λ (q : List (Entry S)). GrowsFrom m.steps b.entries q) (sym takes.after)

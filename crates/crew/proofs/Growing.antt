@@ -32,7 +32,7 @@ module _ {S : Type 0} (m : StepMachine S) (same : S → S → Bool) (right : S �
     (merges : Merges m same)
     (es : List (Entry S)) (law : IsLawful m (AreOneBy same) right es) (i : ℕ) (d : Entry S) (at : At es i d)
     (taken : d.mark ≡ Taken)
-    (xs : List (Successor S)) (expansion : IsExpansion m right d.state xs) (n : ℕ) (few : m.steps d.state ≤ n) where
+    (xs : List (Successor S)) (expansion : IsExpansion m right d.state xs) (n : ℕ) (bounded : m.steps d.state ≤ n) where
   pub no_deeper : IsShallow m.steps es (n + 1)
   no_deeper j f there =
       let q : m.steps f.state ≤ m.steps d.state + 1 = law.near i j d f at (not_expanded d.mark taken) there in
@@ -132,7 +132,7 @@ module _ {S : Type 0} (m : StepMachine S) (same : S → S → Bool) (right : S �
   pub not_above : (n limit : ℕ) → IsExpandedBelow m.steps es n → length es ≤ limit → (j : ℕ) → j ≤ n
       → IsMoreThan m (AreOneBy same) j limit → ⊥
   not_above n limit done room j le more =
-      let few : count_by (λ (e : Entry S). leb (m.steps e.state) j) es ≤ length es =
+      let bounded : count_by (λ (e : Entry S). leb (m.steps e.state) j) es ≤ length es =
       count_by-le-length (λ (e : Entry S). leb (m.steps e.state) j) es in
       let count : IsCount m (AreOneBy same) j (count_by (λ (e : Entry S). leb (m.steps e.state) j) es) =
       count_to_is m same right machine merges es law j (λ i e at less. done i e at (omega arith))

@@ -132,7 +132,7 @@ module _ {X Memory Place Form : Type 0} {rules : X → Rules Memory Place}
     ledger_of_entered old share ledger adds =
         let is = λ (r : Entry (State X Memory Place Form)). is_expanded r.mark in
         let expanded : old.expanded ≡ count_by is b.entries = ledger.expanded in
-        let few : count_by is b.entries ≤ length b.entries = count_by-le-length is b.entries in
+        let bounded : count_by is b.entries ≤ length b.entries = count_by-le-length is b.entries in
         let entered_all : old.entered + 1 ≡ length b.entries = ledger.entered in
         let within : length b.entries ≤ b.limit = next.was.within in
         let limit : b.limit ≤ 2000000 = next.was.limit in

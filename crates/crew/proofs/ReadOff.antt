@@ -15,7 +15,7 @@ use Rattle.replay.specs.Findings.{IsSound, is_sound}
 use Rattle.book.specs.Law.{FindsAlike, IsExpansion, IsLawfulBook}
 use Rattle.replay.specs.Schedule.{AreOneBy, IsDecided, IsMachine, Merges, after}
 use Rattle.book.proofs.Agreeing.{Agree, book_back, count_as, turned}
-use Rattle.book.proofs.Growth.{few_steps}
+use Rattle.book.proofs.Growth.{steps_bounded}
 use Rattle.crew.specs.Faults.{LeadsToFault}
 use Rattle.crew.specs.Reading.{IsAtRest, IsFullIn, IsLastLayer, IsReadOff, IsWorkedOff, first_fault}
 use Rattle.crew.specs.declared.answer.Answer.TheVariants as answer
@@ -58,7 +58,7 @@ module _ {Machine Memory Place Form : Type 0} (rules : Machine → Rules Memory 
   pub entry_steps : (id : ℕ) (e : Entry (State Machine Memory Place Form)) → At b.entries id e
       → e.state.steps < b.limit
   entry_steps id e at =
-      few_steps (machine_in rules b) same (right_in rules b) machine b.entries law.law id b.limit e at lawful.within
+      steps_bounded (machine_in rules b) same (right_in rules b) machine b.entries law.law id b.limit e at lawful.within
 
   agree : (state : State Machine Memory Place Form) (f g : Finding) → right_in rules b state f
       → right_in rules b state g → is_sound f ≡ true → is_sound g ≡ true
@@ -141,7 +141,7 @@ module _ {Machine Memory Place Form : Type 0} (rules : Machine → Rules Memory 
     pub sound_before : (n : ℕ) → n < length schedule.items → (i : ℕ) (e : Entry (State Machine Memory Place Form))
         → At b.entries i e
         → e.state.steps ≤ n → is_sound e.finding ≡ true
-    sound_before n less i e at few =
+    sound_before n less i e at bounded =
         let long : length schedule.items ≡ way.0.state.steps = way.3 in
         sound_below (machine_in rules b) same (right_in rules b) machine merges alike b.entries law.law id first way.0
         way.1 i e at (omega arith)
@@ -180,7 +180,7 @@ module _ {Machine Memory Place Form : Type 0} (rules : Machine → Rules Memory 
 
       pub fault_read_off : (n k : ℕ) → k ≡ length schedule.items → k ≤ n
           → IsLastLayer (machine_in rules b).steps b.entries k → IsReadOff rules b n (answer.Fault f schedule)
-      fault_read_off n k is few layer =
+      fault_read_off n k is bounded layer =
           let last : IsLastLayer (machine_in rules b).steps b.entries (length schedule.items) =
           subst (λ d. IsLastLayer (machine_in rules b).steps b.entries d) is layer in
           let due =

@@ -29,7 +29,8 @@ module _ {S : Type 0} (m : StepMachine S) (same : S → S → Bool) (right : S �
 
   -- where no entry has n steps, each is expanded
   pub rest_worked_out : IsShallow m.steps es before → IsWorkedOut es
-  rest_worked_out shallow i e at = last.0 i e at (let few : m.steps e.state ≤ before = shallow i e at in omega arith)
+  rest_worked_out shallow i e at =
+      last.0 i e at (let bounded : m.steps e.state ≤ before = shallow i e at in omega arith)
 
   -- and n steps reach as many states as one fewer
   pub rest_count : IsShallow m.steps es before → IsCount m (AreOneBy same) before (length es)

@@ -90,8 +90,8 @@ module _ {S : Type 0} (m : StepMachine S) (same : S → S → Bool) (right : S �
     -- and so are the states after fewer steps
     pub shorter_sound : (n : ℕ) → n < m.steps e.state → SoundTo m right n
     shorter_sound n less = sound_to n
-        (λ j d there few. elim (mark_cases d.mark) [
+        (λ j d there bounded. elim (mark_cases d.mark) [
           | inl x ↦ x
           | inr x ↦ absurd (let q : m.steps e.state ≤ m.steps d.state + 1 = law.near j i d e there x at in omega arith)
         ])
-        (λ j d there few. sound_below j d there (omega arith))
+        (λ j d there bounded. sound_below j d there (omega arith))

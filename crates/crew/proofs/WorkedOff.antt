@@ -12,7 +12,7 @@ module _ {S : Type 0} (steps : S → ℕ) (es : List (Entry S)) (n : ℕ) (worke
   pub last_of_fault : (i : ℕ) (e : Entry S) → At es i e → is_sound e.finding ≡ false → (steps e.state ≤ n)
       × IsLastLayer steps es (steps e.state)
   last_of_fault i e at fault =
-      let few : steps e.state ≤ worked.layer = worked.stands.shallow i e at in
+      let bounded : steps e.state ≤ worked.layer = worked.stands.shallow i e at in
       let le : worked.layer ≤ n = worked.within in
       let many : worked.layer ≤ steps e.state = elim (cases_lt (steps e.state) worked.layer) [
         | inl l ↦ absurd (true≢false (sym (worked.stands.sound i e at l) ∙ fault))
@@ -33,7 +33,7 @@ at_rest steps es merge (suc before) worked names out start at none = (
   before,
   (omega arith),
   (λ i e there.
-      let few : steps e.state ≤ worked.layer = worked.stands.shallow i e there in
+      let bounded : steps e.state ≤ worked.layer = worked.stands.shallow i e there in
       let le : worked.layer ≤ suc before = worked.within in
       elim (cases_lt before (steps e.state)) [
         | inl over ↦ absurd (worked.stands.fresh i e there (omega arith) (out i e there))

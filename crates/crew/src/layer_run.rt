@@ -22,7 +22,7 @@ const ROUND: usize = 256;
 /// the layer's end at about the same time.
 pub fn round_of(places: usize, workers: usize) -> usize
     requires some { 0 < workers }
-    requires few { workers < 2 ^ 8 }
+    requires bounded { workers < 2 ^ 8 }
 {
     (places / (8 * workers)).clamp(1, ROUND)
 }
@@ -77,7 +77,7 @@ pub struct LayerRun<'a, M: Encode, G: Gate, R: Wait> {
     pub stride: usize,
     pub book: RwLock<Book<M>>,
     pub ghost places: { start + claims.size.len ≡ end },
-    pub ghost few: { end < 2 ^ 64 },
+    pub ghost bounded: { end < 2 ^ 64 },
     pub ghost some: { 0 < stride },
 }
 

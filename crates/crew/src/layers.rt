@@ -66,7 +66,7 @@ impl<'a, M: Encode, G: Gate, R: Threads + Wait + Sync> Exploration<'a, M, G, R> 
         workers: &mut [Worker],
     ) -> Result<Book<M>, OutOfMemory>
         requires some { 0 < length workers.old }
-        requires few { length workers.old < 2 ^ 8 }
+        requires bounded { length workers.old < 2 ^ 8 }
         requires row { start ≤ end }
         requires small { end ≤ 2000000 }
         ensures { length workers.new ≡ length workers.old }
@@ -100,7 +100,7 @@ impl<'a, M: Encode, G: Gate, R: Threads + Wait + Sync> Exploration<'a, M, G, R> 
         workers: &mut [Worker],
     ) -> Result<(bool, Book<M>), OutOfMemory>
         requires some { 0 < length workers.old }
-        requires few { length workers.old < 2 ^ 8 }
+        requires bounded { length workers.old < 2 ^ 8 }
         ensures { length workers.new ≡ length workers.old }
     {
         if book.first_fault().is_some() {
@@ -124,7 +124,7 @@ impl<'a, M: Encode, G: Gate, R: Threads + Wait + Sync> Exploration<'a, M, G, R> 
         workers: &mut [Worker],
     ) -> Result<Book<M>, OutOfMemory>
         requires some { 0 < length workers.old }
-        requires few { length workers.old < 2 ^ 8 }
+        requires bounded { length workers.old < 2 ^ 8 }
         ensures { length workers.new ≡ length workers.old }
     {
         for number in 0..steps {

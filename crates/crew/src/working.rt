@@ -14,7 +14,7 @@ use std::sync::Wait;
 use tree_machine::Encode;
 
 /// With how many pending entries a worker waits for the lock before it expands another one.
-const PILE: usize = 256;
+const MOST_PENDING: usize = 256;
 
 impl<'a, M: Encode, G: Gate, R: Wait> Exploration<'a, M, G, R> {
     /// A scratch that some worker left, or else a new one.
@@ -113,7 +113,7 @@ impl<'a, M: Encode, G: Gate, R: Wait> LayerRun<'a, M, G, R> {
         for (place, entry) in drawn {
             self.expand(number, place, entry, pending, scratch)?;
             if pending.entries.len() % self.stride == 0 {
-                let waits = pending.entries.len() >= PILE;
+                let waits = pending.entries.len() >= MOST_PENDING;
                 self.enter(pending, waits, share, scratch)?;
             }
         }

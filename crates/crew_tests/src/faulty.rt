@@ -107,7 +107,7 @@ impl Machine for Faulty {
 impl Encode for Faulty {
     ghost form_code = { λ bytes. bytes };
 
-    ghost whole_code = { faulty_form };
+    ghost own_code = { faulty_form };
 
     ghost front_code = { λ _ _. [] };
 
@@ -151,7 +151,7 @@ impl Encode for Faulty {
     }
 
     /// It decodes nothing, as a machine may for any bytes.
-    fn read_whole(
+    fn read_code(
         &self,
         _alloc: Global,
         _bytes: &[u8],
@@ -178,5 +178,5 @@ impl Encode for Faulty {
 
     ghost tells = { λ _ _. faulty_tells };
 
-    ghost whole = { λ _ _. (record { nodes = 0; records = 0 }, refl) };
+    ghost own_cut = { λ _ _. (record { nodes = 0; records = 0 }, refl) };
 }

@@ -29,7 +29,7 @@ stack_coded (number ∷ stack) h =
     ∙ ap (λ l. (number + 1) ∷ l) (stack_coded stack (All-tail (λ number. number < 254) number stack h)))
 
 head_is : (k : ℕ) → k < 6 → short_head 1 4 (suc (suc k)) ≡ Some (69 + 30 * k)
-head_is k few =
+head_is k bounded =
     let short : nat_lt (suc (suc k)) 8 ≡ true = grind (arith, nat_tests) in
     let sum : 4 + 5 * 1 + 30 * suc (suc k) ≡ 69 + 30 * k = omega arith in
     rw short (ap Some sum)
@@ -42,7 +42,7 @@ pub help_coded : (at : HelpLoc) (resume : Resume) → help_record at < 254
     ++ (number_code (base_number resume.base) ++ []))))
     ++ (number_code (reference_number (help_node at))
     ++ (help_record at + 1) ∷ map (λ number. number + 1) resume.stack)
-help_coded at resume few below short =
+help_coded at resume bounded below short =
     let kept = resume.stack in
     let own = help_record at in
     let facts = 5 ∷ help_number at ∷ help_side at ∷ base_number resume.base ∷ [] in

@@ -102,13 +102,13 @@ impl Machine for Ellen {
 }
 
 impl Encode for Ellen {
-    ghost use Rattle.ellen.specs.Laws.Codes.{ellen_tells, ellen_whole};
+    ghost use Rattle.ellen.specs.Laws.Codes.{ellen_tells, ellen_cut};
     ghost use Rattle.ellen.specs.Laws.Forms.{ellen_decodes};
     ghost use Rattle.ellen.specs.Parts.{ellen_behind_code, ellen_code, ellen_front_code};
 
     ghost form_code = { λ bytes. bytes };
 
-    ghost whole_code = { ellen_code };
+    ghost own_code = { ellen_code };
 
     ghost front_code = { ellen_front_code };
 
@@ -165,7 +165,7 @@ impl Encode for Ellen {
         write_parts_behind(alloc, naming, 1, front, &view, buffer)
     }
 
-    fn read_whole(
+    fn read_code(
         &self,
         alloc: Global,
         bytes: &[u8],
@@ -192,5 +192,5 @@ impl Encode for Ellen {
 
     ghost tells = { ellen_tells };
 
-    ghost whole = { ellen_whole };
+    ghost own_cut = { ellen_cut };
 }

@@ -121,7 +121,7 @@ module _ (program : Program) where
   at_most_twelve limits history order is =
       let named =
       all_given IsNamed (λ a o e. subst IsSome (sym e) refl) history (keys_of program.initial) order is.replies in
-      let few : length (map rank_of order) ≤ sum_by length program.threads =
+      let bounded : length (map rank_of order) ≤ sum_by length program.threads =
       length-le_from_distinct_below (map rank_of order) (sum_by length program.threads)
       (distinct_ranks order is.distinct named) (ranks_below order named) in
       omega (arith, limits.total, length-map order rank_of)

@@ -78,7 +78,7 @@ module _ (m n : ℕ) where
           ∙ ap (λ l. l && eqb (bit_at n (8 * (i / 8) + i % 8)) 1) (sym (low i)) ∙ other
 
 -- the ones of a count, shifted to a thread's bits
-module _ (ones count : ℕ) (few : ones < 2 ^ 8) (are : (i : ℕ) → i < 8 → eqb (bit_at ones i) 1 ≡ ltb i count) where
+module _ (ones count : ℕ) (bounded : ones < 2 ^ 8) (are : (i : ℕ) → i < 8 → eqb (bit_at ones i) 1 ≡ ltb i count) where
   fits : (thread : ℕ) → thread < 4 → ones * 2 ^ (8 * thread) < 4294967296
   fits zero h = omega arith
   fits (suc zero) h = omega arith
@@ -99,7 +99,7 @@ module _ (ones count : ℕ) (few : ones < 2 ^ 8) (are : (i : ℕ) → i < 8 → 
         let not_less : thread ≤ t = grind (arith, nat_tests) in
         let different : t ≢ thread = eqb-false t thread h in
         ap (λ b. eqb b 1) (bit_at_cat_high ones (8 * thread) 0 (8 * t + i) (pow_pos (8 * thread)) (omega arith)
-        ∙ bit_at_above ones 8 (8 * t + i - 8 * thread) few (omega arith))
+        ∙ bit_at_above ones 8 (8 * t + i - 8 * thread) bounded (omega arith))
 
     same : (t i : ℕ) → i < 8 → t ≡ thread → eqb (bit_at shifted (8 * t + i)) 1 ≡ ltb i count
     same t i below e =
@@ -116,9 +116,9 @@ module _ (ones count : ℕ) (few : ones < 2 ^ 8) (are : (i : ℕ) → i < 8 → 
     pub first_bit : thread < 4 → (t i : ℕ)
         → (ltb i 8 && eqb (bit_at (ones * 2 ^ (8 * thread) % 4294967296) (8 * t + i)) 1)
         ≡ (ltb i 8 && (eqb t thread && ltb i count))
-    first_bit few_threads t i =
+    first_bit threads_bounded t i =
         let small : ones * 2 ^ (8 * thread) % 4294967296 ≡ shifted =
-        mod-eq_of_lt (fits thread few_threads) ∙ omega arith in
+        mod-eq_of_lt (fits thread threads_bounded) ∙ omega arith in
         ap (λ n. ltb i 8 && eqb (bit_at n (8 * t + i)) 1) small ∙ cases t i (ltb i 8) (eqb t thread) refl refl
 
 -- the first `count` bits are ones, among the first eight
@@ -131,8 +131,8 @@ module _ (count : ℕ) where
   below short i false l =
       let not_less : count ≤ i = grind (arith, nat_tests) in ap (λ b. eqb b 1) (bit_at_ones_above count i not_less)
 
-  pub few_ones : count < 8 → (ones : ℕ) → ones ≡ 1 * 2 ^ count % 4294967296 - 1 → AreOnes ones count
-  few_ones short ones e =
+  pub ones_bounded : count < 8 → (ones : ℕ) → ones ≡ 1 * 2 ^ count % 4294967296 - 1 → AreOnes ones count
+  ones_bounded short ones e =
       let power : 2 ^ count < 2 ^ 8 = pow-lt short in
       let positive : 0 < 2 ^ count = pow_pos count in
       let is : ones ≡ 2 ^ count - 1 = e ∙ omega arith in

@@ -30,7 +30,7 @@ module _ (program : Program) (limits : IsWithinLimits program) where
             subst (λ ops. (1 ≤ length ops) × (length ops ≤ 6)) found.3
             (All-get_or (λ ops. (1 ≤ length ops) × (length ops ≤ 6)) program.threads a.thread found.0 found.1
             limits.op_counts) in
-            let few : length program.threads ≤ 4 = limits.thread_count in
+            let bounded : length program.threads ≤ 4 = limits.thread_count in
             let thread : a.thread < length program.threads = found.1 in
             let most : length found.0 ≤ 6 = counts.1 in
             (omega arith, omega arith)

@@ -293,7 +293,7 @@ module _ (program : Program) (limits : IsWithinLimits program) (order : List OpI
       × ((old new : History) → HasReplied old new a r → IsLinearization program old order
       → IsLinearization program new longer))
   answer_means None long stated =
-      λ old new is was now. let few : length (ending_with order a) ≤ 12 =
+      λ old new is was now. let bounded : length (ending_with order a) ≤ 12 =
       at_most_twelve program limits new (ending_with order a) now in omega arith
   answer_means (Some longer) same stated = (
     same,

@@ -34,7 +34,7 @@ pub fn judge_order(
 
 /// The names of a list, in its order, as an `Order`.
 fn order_of(names: &[OpId]) -> Order
-    requires few { length names.now ≤ 12 }
+    requires bounded { length names.now ≤ 12 }
     requires places { All HasPlace names.now }
     ensures { result ≡ names.now }
 {

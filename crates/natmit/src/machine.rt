@@ -1,6 +1,6 @@
 //! The machine and its variant.
 ghost use Rattle.sched_program.specs.Laws.Exact.{nat_exact, list_exact};
-ghost use Rattle.natmit.specs.Laws.Codes.{natmit_tells, natmit_whole};
+ghost use Rattle.natmit.specs.Laws.Codes.{natmit_tells, natmit_cut};
 ghost use Rattle.natmit.specs.Laws.Exact.{machine_exact, memory_exact, place_exact};
 ghost use Rattle.natmit.specs.Laws.Forms.{natmit_decodes, natmit_forms};
 ghost use Rattle.natmit.specs.Laws.Rules.{natmit_lawful};
@@ -93,7 +93,7 @@ impl Machine for NatMit {
 impl Encode for NatMit {
     ghost form_code = { λ bytes. bytes };
 
-    ghost whole_code = { natmit_code };
+    ghost own_code = { natmit_code };
 
     ghost front_code = { natmit_front_code };
 
@@ -151,7 +151,7 @@ impl Encode for NatMit {
         )
     }
 
-    fn read_whole(
+    fn read_code(
         &self,
         alloc: Global,
         bytes: &[u8],
@@ -178,5 +178,5 @@ impl Encode for NatMit {
 
     ghost tells = { natmit_tells };
 
-    ghost whole = { natmit_whole };
+    ghost own_cut = { natmit_cut };
 }

@@ -5,6 +5,6 @@ pub mod Correct
 pub mod Labels
 pub mod Replay
 pub mod Text
-pub mod StoredNames
+pub mod Storage
 pub mod BookFile
 pub mod Laws

@@ -35,7 +35,7 @@ module _ {S : Type 0} (m : StepMachine S) where
 pub record IsMachine {S : Type 0} (m : StepMachine S) : Type 0 where
   pub from_zero : m.steps m.start ≡ 0
   pub one_more : (s r : S) (t : ℕ) → m.step s t ≡ Some r → m.steps r ≡ m.steps s + 1
-  pub few_threads : m.threads < 256
+  pub threads_bounded : m.threads < 256
   pub is_thread : (s r : S) (t : ℕ) → m.step s t ≡ Some r → t < m.threads
   pub start_fits : m.Fits m.start
   pub step_fits : (s r : S) (t : ℕ) → m.Fits s → m.step s t ≡ Some r → m.Fits r

@@ -15,14 +15,15 @@ use Rattle.sched_program.specs.declared.fault.ProgramFault.TheVariants as fault
 use Rattle.sched_program.specs.Program.{IsUserKey, key_of, AreTurnsWithin, IsWithinLimits}
 use Rattle.sched_program.specs.Text.{IsListOf, HasMember, IsKey, HasKey, HasWord, IsOp, HasThreads, HasTurn, HasTurns}
 use Rattle.sched_program.specs.Text.{HasTree, HasVersion, op_of, word_of}
-use Rattle.sched_program.specs.Faults.{item_count, IsListOfCount, IsListWithin, IsListOfFewKeys, IsListOfDistinctKeys}
+use Rattle.sched_program.specs.Faults.{item_count, IsListOfCount, IsListWithin, IsShortListOfKeys, IsListOfDistinctKeys}
 use Rattle.sched_program.specs.Faults.{HasOpCounts, HasWords, HasKeys, AreOpCounts, Passes, earlier}
 use Rattle.sched_program.proofs.Values.{Each-All, of_map_All, same_items, of_member, list_counted, same_count}
 use Rattle.sched_program.proofs.Values.{same_list, list_map, list_both}
 
 -- a list of keys is one of few keys only if its length is
-pub few_keys_within : (value : Data) → IsListOfFewKeys value → IsListWithin 0 12 value
-few_keys_within value few = (length few.0, list_counted IsKey value few.0 few.1, omega arith, few.2)
+pub keys_bounded_within : (value : Data) → IsShortListOfKeys value → IsListWithin 0 12 value
+keys_bounded_within value bounded =
+    (length bounded.0, list_counted IsKey value bounded.0 bounded.1, omega arith, bounded.2)
 
 -- a value is one key at most
 pub same_key : (value : Data) (a b : ℕ) → IsKey value a → IsKey value b → a ≡ b
@@ -54,9 +55,9 @@ thread_counts value threads list counts =
 
 pub within : {A : Type 0} (StandsFor : Data → A → Type 0) (value : Data) (xs : List A) (least most : ℕ)
     → IsListOf StandsFor value xs → IsListWithin least most value → (least ≤ length xs) × (length xs ≤ most)
-within StandsFor value xs least most list few =
-    let same : length xs ≡ few.0 = same_count StandsFor value xs few.0 list few.1 in
-    (omega (arith, same, few.2, few.3), omega (arith, same, few.2, few.3))
+within StandsFor value xs least most list bounded =
+    let same : length xs ≡ bounded.0 = same_count StandsFor value xs bounded.0 list bounded.1 in
+    (omega (arith, same, bounded.2, bounded.3), omega (arith, same, bounded.2, bounded.3))
 
 word_same : (word : OpWord) (key : ℕ) → word_of (op_of word key) ≡ word
 word_same Insert key = refl
@@ -110,7 +111,7 @@ not_distinct value keys has not other =
 pub threads_pass : (value : Data) (threads : List (List Op)) → HasThreads value threads → 1 ≤ length threads
     → length threads ≤ 4 → AreOpCounts (map length threads)
     → Passes value fault.Threads × Passes value fault.Ops × Passes value fault.Op × Passes value fault.Key
-threads_pass value threads has some few counts =
+threads_pass value threads has some bounded counts =
     let count = list_counted (IsListOf IsOp) has.0 threads has.2 in
     let lengths = list_map (IsListOf IsOp) IsListOfCount length (list_counted IsOp) has.0 threads has.2 in
     let words =
@@ -119,7 +120,7 @@ threads_pass value threads has some few counts =
     let keys =
     list_map (IsListOf IsOp) (IsListOf HasKey) (map key_of) (list_map IsOp HasKey key_of (λ v op is. is.key)) has.0
     threads has.2 in (
-      (has.0, has.1, (length threads, count, some, few)),
+      (has.0, has.1, (length threads, count, some, bounded)),
       (has.0, has.1, (map length threads, lengths, counts)),
       (has.0, has.1, (map (map word_of) threads, words)),
       (has.0, has.1, (map (map key_of) threads, keys)),
@@ -143,7 +144,7 @@ pub limits_met : (value : Data) (version : Version) (tree : Tree) (initial : Lis
     → HasThreads value threads → 1 ≤ length threads → length threads ≤ 4 → AreOpCounts (map length threads)
     → HasTurns version value turns → AreTurnsWithin threads turns
     → IsWithinLimits (record { tree = tree; initial = initial; threads = threads; turns = turns })
-limits_met value version tree initial threads turns keys count distinct ops some few counts has within = record {
+limits_met value version tree initial threads turns keys count distinct ops some bounded counts has within = record {
   initial =
       record {
         count = count;
@@ -151,7 +152,7 @@ limits_met value version tree initial threads turns keys count distinct ops some
         distinct = distinct;
       };
   some_thread = some;
-  thread_count = few;
+  thread_count = bounded;
   op_counts = of_map_All (λ count. (1 ≤ count) × (count ≤ 6)) length threads counts.each;
   total = rw (← sum-map length threads) counts.total;
   op_keys =
@@ -163,9 +164,9 @@ limits_met value version tree initial threads turns keys count distinct ops some
 }
 
 -- the keys of a list of few
-pub few_keys : (value : Data) (keys : List ℕ) → HasMember (codes "initial") (λ member. IsListOf IsKey member keys) value
-    → length keys ≤ 12 → HasMember (codes "initial") IsListOfFewKeys value
-few_keys value keys has few = (has.0, has.1, (keys, has.2, few))
+pub keys_bounded : (value : Data) (keys : List ℕ) → HasMember (codes "initial") (λ member. IsListOf IsKey member keys)
+    value → length keys ≤ 12 → HasMember (codes "initial") IsShortListOfKeys value
+keys_bounded value keys has bounded = (has.0, has.1, (keys, has.2, bounded))
 
 -- a value whose keys are few and distinct passes the tests before those of its threads
 pub passes_to_threads : (value : Data) (version : Version) (tree : Tree) (keys : List ℕ)
@@ -173,7 +174,7 @@ pub passes_to_threads : (value : Data) (version : Version) (tree : Tree) (keys :
     → HasMember (codes "initial") (λ member. IsListOf IsKey member keys) value → length keys ≤ 12
     → AllPairs (λ a b. a ≢ b) keys → (more : List ProgramFault) → AllByRecursion (Passes value) more
     → AllByRecursion (Passes value) (earlier fault.Threads ++ more)
-passes_to_threads value version tree keys is of_version of_tree has few distinct more all =
-    let initial : Passes value fault.Initial = few_keys value keys has few in
+passes_to_threads value version tree keys is of_version of_tree has bounded distinct more all =
+    let initial : Passes value fault.Initial = keys_bounded value keys has bounded in
     let twice : Passes value fault.InitialTwice = (has.0, has.1, (keys, has.2, distinct)) in
     (is, ((version, of_version), ((tree, of_tree), (initial, (twice, all)))))

@@ -72,11 +72,11 @@ row_within threads turns t row within at =
     subst (λ r. All (λ turn. IfSome turn (IsTurnWithin threads t)) r) (get_or_from_slice_get turns t row [] at)
     (within t)
 
-few_ops : (threads : List (List Op)) (k : ℕ) → All (λ ops. (1 ≤ length ops) × (length ops ≤ 6)) threads
+ops_bounded : (threads : List (List Op)) (k : ℕ) → All (λ ops. (1 ≤ length ops) × (length ops ≤ 6)) threads
     → length (get_or threads k []) ≤ 6
-few_ops [] k all = omega arith
-few_ops (ops ∷ rest) zero all = (all 0 [] (omega arith)).1
-few_ops (ops ∷ rest) (suc k) all = few_ops rest k (λ j d below. all (suc j) d (omega arith))
+ops_bounded [] k all = omega arith
+ops_bounded (ops ∷ rest) zero all = (all 0 [] (omega arith)).1
+ops_bounded (ops ∷ rest) (suc k) all = ops_bounded rest k (λ j d below. all (suc j) d (omega arith))
 
 -- the numbers of a turn are small
 pub small_turn : (threads : List (List Op)) (turns : List (List (Option Turn))) (t i : ℕ) (row : List (Option Turn))
@@ -87,7 +87,7 @@ small_turn threads turns t i row turn counts within at_t at_i =
     let is : IsTurnWithin threads t turn =
     subst (λ wait. IfSome wait (IsTurnWithin threads t)) (get_or_from_slice_get row i (Some turn) None at_i)
     (all i None (slice_get_within row i (Some turn) at_i)) in
-    (is.lower, omega (arith, is.few, few_ops threads turn.thread counts))
+    (is.lower, omega (arith, is.bounded, ops_bounded threads turn.thread counts))
 
 -- each turn of a row at its place is within the limits
 pub row_at : (threads : List (List Op)) (turns : List (List (Option Turn))) (t : ℕ) (row : List (Option Turn))

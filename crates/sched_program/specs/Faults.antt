@@ -25,8 +25,8 @@ IsListOfCount value count = (values : Items) × (value ≡ array values) × (ite
 abbrev pub IsListWithin : ℕ → ℕ → Data → Type 0
 IsListWithin least most value = (count : ℕ) × IsListOfCount value count × (least ≤ count) × (count ≤ most)
 
-abbrev pub IsListOfFewKeys : Data → Type 0
-IsListOfFewKeys value = (keys : List ℕ) × IsListOf IsKey value keys × (length keys ≤ 12)
+abbrev pub IsShortListOfKeys : Data → Type 0
+IsShortListOfKeys value = (keys : List ℕ) × IsListOf IsKey value keys × (length keys ≤ 12)
 
 abbrev pub IsListOfDistinctKeys : Data → Type 0
 IsListOfDistinctKeys value = (keys : List ℕ) × IsListOf IsKey value keys × AllPairs (λ a b. a ≢ b) keys
@@ -59,7 +59,7 @@ Passes value fault.NotJson = Unit {0}
 Passes value fault.NotObject = (members : Members) × (value ≡ object members)
 Passes value fault.Version = (version : Version) × HasVersion value version
 Passes value fault.Tree = (tree : Tree) × HasTree value tree
-Passes value fault.Initial = HasMember (codes "initial") IsListOfFewKeys value
+Passes value fault.Initial = HasMember (codes "initial") IsShortListOfKeys value
 Passes value fault.InitialTwice = HasMember (codes "initial") IsListOfDistinctKeys value
 Passes value fault.Threads = HasMember (codes "threads") (IsListWithin 1 4) value
 Passes value fault.Ops = HasMember (codes "threads") HasOpCounts value

@@ -17,13 +17,13 @@ use Rattle.tree_machine.proofs.OffsetPieces.{label_is}
 
 -- a state that was read from the label of another has its memory from the code in that
 pub read_from : {Machine Memory Place Form : Type 0} (rules : Rules Memory Place) (naming : Naming)
-    (whole_code : Memory → List (Option Place) → List ℕ) (form_code : Form → List ℕ)
+    (own_code : Memory → List (Option Place) → List ℕ) (form_code : Form → List ℕ)
     (form_of : Memory → List (Option Place) → Form) (cut : Memory → List (Option Place) → List ℕ)
     (state source : State Machine Memory Place Form) (memory : Memory) → AreNumbersInRange rules state
-    → state_code cut source ≡ label_code naming whole_code form_code form_of state → memory ≡ source.memory
-    → IsReadFrom rules (λ memory held. code_by naming (whole_code memory held) (form_code (form_of memory held))) cut
+    → state_code cut source ≡ label_code naming own_code form_code form_of state → memory ≡ source.memory
+    → IsReadFrom rules (λ memory held. code_by naming (own_code memory held) (form_code (form_of memory held))) cut
     memory
-read_from rules naming whole_code form_code form_of cut state source memory range e same =
+read_from rules naming own_code form_code form_of cut state source memory range e same =
     let here : FormContent (List ℕ) = record {
       form = cut source.memory (places_of source.threads);
       replies = replies_of source.threads;
@@ -31,7 +31,7 @@ read_from rules naming whole_code form_code form_of cut state source memory rang
       astray = source.astray;
     } in
     let there : FormContent (List ℕ) = record {
-      form = code_by naming (whole_code state.memory (places_of state.threads))
+      form = code_by naming (own_code state.memory (places_of state.threads))
           (form_code (form_of state.memory (places_of state.threads)));
       replies = replies_of state.threads;
       notes = notes_of state.threads;
@@ -39,7 +39,7 @@ read_from rules naming whole_code form_code form_of cut state source memory rang
     } in
     let steps =
     number_split source.steps (code_by naming state.steps 0) (content_code (λ l. l) here) (content_code (λ l. l) there)
-    (e ∙ sym (label_is naming whole_code form_code form_of state)) in
+    (e ∙ sym (label_is naming own_code form_code form_of state)) in
     let stated = content_readable (λ l. l) (λ a b h. h) here there steps.1 in
     record {
       other = state.memory;
@@ -57,13 +57,13 @@ read_from rules naming whole_code form_code form_of cut state source memory rang
     }
 
 -- all of a memory's code, where nothing of it was copied
-pub rest_written : {Memory Place Form : Type 0} (naming : Naming) (whole_code : Memory → List (Option Place) → List ℕ)
+pub rest_written : {Memory Place Form : Type 0} (naming : Naming) (own_code : Memory → List (Option Place) → List ℕ)
     (form_code : Form → List ℕ) (form_of : Memory → List (Option Place) → Form) (memory : Memory)
     (lent threads : List (Thread Place)) (reads : Bool) (front before old new : List ℕ) → reads ≡ false → lent ≡ threads
-    → new ≡ old ++ code_by naming (whole_code memory (places_of lent)) (form_code (form_of memory (places_of lent)))
+    → new ≡ old ++ code_by naming (own_code memory (places_of lent)) (form_code (form_of memory (places_of lent)))
     → old ≡ before ++ (if reads then front else [])
-    → new ≡ before ++ code_by naming (whole_code memory (places_of threads))
+    → new ≡ before ++ code_by naming (own_code memory (places_of threads))
     (form_code (form_of memory (places_of threads)))
-rest_written naming whole_code form_code form_of memory lent threads reads front before old new wrote same put is =
+rest_written naming own_code form_code form_of memory lent threads reads front before old new wrote same put is =
     put ∙ (λ i. (is ∙ ap (λ b. before ++ (if b then front else [])) wrote ∙ append-nil before) i
-    ++ code_by naming (whole_code memory (places_of (same i))) (form_code (form_of memory (places_of (same i)))))
+    ++ code_by naming (own_code memory (places_of (same i))) (form_code (form_of memory (places_of (same i)))))

@@ -97,20 +97,20 @@ nothing_met order numbers e f =
 -- the number of a cell that was met is small, as the order is short
 number_small : (order numbers : List ℕ) (x r : ℕ) → HasNumbers order numbers → x < length numbers
     → r ≡ get_or numbers x r → 0 < r → length order < 255 → r < 255
-number_small order numbers x r h l e some few =
+number_small order numbers x r h l e some bounded =
     omega (
       arith,
       place_below (met order x) x (r - 1) (number_seen order numbers x r h l e some),
       ap length (number_met order numbers x r h l e some),
-      few,
+      bounded,
       some,
     )
 
 -- none is 0
-pub number_few : (order numbers : List ℕ) (x r : ℕ) → HasNumbers order numbers → x < length numbers
+pub number_bounded : (order numbers : List ℕ) (x r : ℕ) → HasNumbers order numbers → x < length numbers
     → r ≡ get_or numbers x r → length order < 255 → r < 255
-number_few order numbers x zero h l e few = omega arith
-number_few order numbers x (suc r) h l e few = number_small order numbers x (suc r) h l e (omega arith) few
+number_bounded order numbers x zero h l e bounded = omega arith
+number_bounded order numbers x (suc r) h l e bounded = number_small order numbers x (suc r) h l e (omega arith) bounded
 
 -- ---- a numbering, and a cell that it meets for the first time
 
@@ -122,8 +122,8 @@ module _ (n : Numbering) where
   }
 
   -- a byte is enough for the number of each
-  pub order_few : length n.order.items < 255
-  order_few = omega (arith, length-order (length n.numbers.items) n.order.items is_order, n.few)
+  pub order_bounded : length n.order.items < 255
+  order_bounded = omega (arith, length-order (length n.numbers.items) n.order.items is_order, n.bounded)
 
   module _ (x : ℕ) (known : x < length n.numbers.items) (absent : slice_get n.numbers.items x ≡ Some 0) where
     -- a cell without a number has no place

@@ -42,34 +42,34 @@ three_put a b c none first second third lent copy n f s t l p =
 
 -- a label in its pieces
 pub label_is : {Machine Memory Place Form : Type 0} (naming : Naming)
-    (whole_code : Memory → List (Option Place) → List ℕ)
+    (own_code : Memory → List (Option Place) → List ℕ)
     (form_code : Form → List ℕ) (form_of : Memory → List (Option Place) → Form)
     (state : State Machine Memory Place Form)
     → number_code (code_by naming state.steps 0) ++ (op_log_of state
-    ++ code_by naming (whole_code state.memory (places_of state.threads))
+    ++ code_by naming (own_code state.memory (places_of state.threads))
     (form_code (form_of state.memory (places_of state.threads))))
-    ≡ label_code naming whole_code form_code form_of state
-label_is Own whole_code form_code form_of state = refl
-label_is Canonical whole_code form_code form_of state = refl
+    ≡ label_code naming own_code form_code form_of state
+label_is Own own_code form_code form_of state = refl
+label_is Canonical own_code form_code form_of state = refl
 
 pub label_put : {Machine Memory Place Form : Type 0} (naming : Naming)
-    (whole_code : Memory → List (Option Place) → List ℕ)
+    (own_code : Memory → List (Option Place) → List ℕ)
     (form_code : Form → List ℕ) (form_of : Memory → List (Option Place) → Form)
     (state : State Machine Memory Place Form) (threads : List (Thread Place)) (steps : ℕ)
     (none first second third lent copy : List ℕ) → threads ≡ state.threads → steps ≡ code_by naming state.steps 0
     → none ≡ [] → first ≡ none ++ number_code steps
     → second ≡ first ++ op_log_code (replies_of threads) (notes_of threads) state.astray
-    → third ≡ second ++ code_by naming (whole_code state.memory (places_of threads))
+    → third ≡ second ++ code_by naming (own_code state.memory (places_of threads))
     (form_code (form_of state.memory (places_of threads)))
-    → lent ≡ third → copy ≡ lent → copy ≡ label_code naming whole_code form_code form_of state
-label_put naming whole_code form_code form_of state threads steps none first second third lent copy h k n f s t l p =
+    → lent ≡ third → copy ≡ lent → copy ≡ label_code naming own_code form_code form_of state
+label_put naming own_code form_code form_of state threads steps none first second third lent copy h k n f s t l p =
     three_put (number_code steps) (op_log_code (replies_of threads) (notes_of threads) state.astray)
-    (code_by naming (whole_code state.memory (places_of threads))
+    (code_by naming (own_code state.memory (places_of threads))
     (form_code (form_of state.memory (places_of threads))))
     none first second third lent copy n f s t l p
     ∙ (λ i. number_code (k i) ++ (op_log_code (replies_of (h i)) (notes_of (h i)) state.astray
-    ++ code_by naming (whole_code state.memory (places_of (h i))) (form_code (form_of state.memory (places_of (h i))))))
-    ∙ label_is naming whole_code form_code form_of state
+    ++ code_by naming (own_code state.memory (places_of (h i))) (form_code (form_of state.memory (places_of (h i))))))
+    ∙ label_is naming own_code form_code form_of state
 
 module _ {Memory Place : Type 0} (front_code : Front → Memory → List ℕ)
     (behind_code : Front → Memory → List (Option Place) → List ℕ) where

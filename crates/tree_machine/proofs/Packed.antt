@@ -61,11 +61,11 @@ module _ (n : ℕ) (counts : List ℕ) (whole : note_number (counts_in n) ≡ n)
 
   -- the count of a thread: 0 for one that the program does not have
   pub digit_at : (t : ℕ) → t < 4 → n / 2 ^ (3 * t) % 8 ≡ get_or counts t 0
-  digit_at zero few = let digit = digits_are.0 in omega arith
-  digit_at (suc zero) few = digits_are.1
-  digit_at (suc (suc zero)) few = digits_are.2
-  digit_at (suc (suc (suc zero))) few = digits_are.3
-  digit_at (suc (suc (suc (suc t)))) few = absurd (omega arith)
+  digit_at zero bounded = let digit = digits_are.0 in omega arith
+  digit_at (suc zero) bounded = digits_are.1
+  digit_at (suc (suc zero)) bounded = digits_are.2
+  digit_at (suc (suc (suc zero))) bounded = digits_are.3
+  digit_at (suc (suc (suc (suc t)))) bounded = absurd (omega arith)
 
   pub none_at : (t : ℕ) → 4 ≤ t → 0 ≡ get_or counts t 0
   none_at t many = sym (get_or_past counts t 0 (omega (arith, four_at_most)))

@@ -206,8 +206,8 @@ whole_written n r fn fr node_order record_order b after s w0 w1 w2 h0 h1 h2 done
     ++ behind_code (record { nodes = fn; records = fr }) P))
 
 -- all by own numbers
-module _ (k fixed : ℕ) (s : Parts) (range : ArePartsInRange fixed s) (nodes_few : length s.nodes ≤ k)
-    (records_few : length s.records ≤ k) (order : List ℕ) (own : order ≡ numbers_from 0 k) where
+module _ (k fixed : ℕ) (s : Parts) (range : ArePartsInRange fixed s) (nodes_bounded : length s.nodes ≤ k)
+    (records_bounded : length s.records ≤ k) (order : List ℕ) (own : order ≡ numbers_from 0 k) where
   pub own_held_written : (n r : ℕ) (b after : List ℕ) (w0 w2 : Written)
       → w0 ≡ record { nodes = n; records = r; node_order = order; record_order = order; bytes = b }
       → w2 ≡ with_bytes w0 (part_codes (map (renamed_by w0) s.held)) → after ≡ w2.bytes
@@ -216,7 +216,7 @@ module _ (k fixed : ℕ) (s : Parts) (range : ArePartsInRange fixed s) (nodes_fe
       done ∙ ap (λ (w : Written). w.bytes)
       (h2 ∙ ap (λ (w : Written). with_bytes w (part_codes (map (renamed_by w) s.held))) h0)
       ∙ ap (λ o. b ++ part_codes (map (renamed_part o o) s.held)) own
-      ∙ ap (λ l. b ++ part_codes l) (own_held k s fixed range nodes_few records_few)
+      ∙ ap (λ l. b ++ part_codes l) (own_held k s fixed range nodes_bounded records_bounded)
 
   pub own_written : (n r : ℕ) (b after : List ℕ) (w0 w1 w2 : Written) → n ≡ length s.nodes → r ≡ length s.records
       → w0 ≡ record { nodes = n; records = r; node_order = order; record_order = order; bytes = b }
@@ -237,11 +237,11 @@ module _ (k fixed : ℕ) (s : Parts) (range : ArePartsInRange fixed s) (nodes_fe
       let nodes : map (λ x. renamed_by start (part_at s.nodes x)) (take (n - 0) (drop 0 order)) ≡ s.nodes =
       from_none (λ x. renamed_by start (part_at s.nodes x)) n order
       ∙ (λ i. take (en i) (map (λ x. renamed_part (own i) (own i) (part_at s.nodes x)) (own i)))
-      ∙ own_nodes k s fixed range nodes_few records_few in
+      ∙ own_nodes k s fixed range nodes_bounded records_bounded in
       let records : map (λ y. renamed_by start (part_at s.records y)) (take (r - 0) (drop 0 order)) ≡ s.records =
       from_none (λ y. renamed_by start (part_at s.records y)) r order
       ∙ (λ i. take (er i) (map (λ y. renamed_part (own i) (own i) (part_at s.records y)) (own i)))
-      ∙ own_records k s fixed range nodes_few records_few in
+      ∙ own_records k s fixed range nodes_bounded records_bounded in
       own_held_written n r (b ++ F) after w1 w2 e1 h2 done
       ∙ append_assoc b F (part_codes s.held)
       ∙ (λ i. b ++ (graph_code (nodes i) (records i) ++ part_codes s.held))

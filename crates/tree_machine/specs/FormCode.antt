@@ -68,5 +68,5 @@ state_code code state =
 -- the label of a state, by which a book knows it
 abbrev pub label_code : {Machine Memory Place Form : Type 0} → Naming → (Memory → List (Option Place) → List ℕ)
     → (Form → List ℕ) → (Memory → List (Option Place) → Form) → State Machine Memory Place Form → List ℕ
-label_code naming whole_code form_code form_of state =
-    code_by naming (state_code whole_code state) (named_code form_code form_of state)
+label_code naming own_code form_code form_of state =
+    code_by naming (state_code own_code state) (named_code form_code form_of state)

@@ -56,7 +56,7 @@ impl Order {
 
     /// Meets a cell, and returns its place.
     #[inline(always)]
-    fn meet(&mut self, cell: usize) -> Result<usize, OutOfMemory>
+    fn assign(&mut self, cell: usize) -> Result<usize, OutOfMemory>
         requires { cell < length self.old.numbers.items }
         ensures order { OnOk result (self.new.order.items ≡ met self.old.order.items cell) }
         ensures place { IfOk result (λ place. place_in (met self.old.order.items cell) cell ≡ Some place) }
@@ -73,14 +73,14 @@ impl Order {
         }
     }
 
-    fn meet_all(&mut self, refs: &[Option<usize>]) -> Result<(), OutOfMemory>
+    fn assign_all(&mut self, refs: &[Option<usize>]) -> Result<(), OutOfMemory>
         requires { All (λ r. IfSome r (λ x. x < length self.old.numbers.items)) refs.now }
         ensures order { OnOk result (self.new.order.items ≡ met_all self.old.order.items refs.now) }
         ensures range { length self.new.numbers.items ≡ length self.old.numbers.items }
     {
         for reference in refs {
             if let Some(cell) = reference {
-                let _place = self.meet(*cell)?;
+                let _place = self.assign(*cell)?;
             }
         }
         Ok(())
@@ -95,7 +95,7 @@ impl Order {
         ensures range { length self.new.numbers.items ≡ length self.old.numbers.items }
     {
         let visited = &cells[cell];
-        self.meet_all(&visited.refs)
+        self.assign_all(&visited.refs)
     }
 
     /// The cell at this place of the order. `None` if fewer cells were met.
@@ -147,7 +147,7 @@ fn walk(alloc: Global, cells: &[Cell], roots: &[usize]) -> Result<Order, OutOfMe
 {
     let mut order = Order::new(alloc, cells.len())?;
     for root in roots {
-        let _place = order.meet(*root)?;
+        let _place = order.assign(*root)?;
     }
     for visits in 0..cells.len() {
         match order.cell_at(visits) {

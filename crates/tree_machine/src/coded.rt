@@ -14,7 +14,7 @@ static ZEROS: [u8; 60] = [0; 60];
 
 /// Writes the replies of each thread at a place of a slice, and returns the place behind them.
 fn put_all_replies<L>(bytes: &mut [u8], start: usize, threads: &[Thread<L>]) -> usize
-    requires few { length threads.now ≤ 4 }
+    requires bounded { length threads.now ≤ 4 }
     requires room { start + 5 ≤ length bytes.old }
     ensures put { take result bytes.new
         ≡ take start bytes.old ++ list_code replies_code (replies_of threads.now) }
@@ -58,7 +58,7 @@ fn put_notes(bytes: &mut [u8], start: usize, notes: &ShortList<ShortNote, 6>) ->
 
 /// Writes the notes of each thread at a place of a slice, and returns the place behind them.
 fn put_all_notes<L>(bytes: &mut [u8], start: usize, threads: &[Thread<L>]) -> usize
-    requires few { length threads.now ≤ 4 }
+    requires bounded { length threads.now ≤ 4 }
     requires room { start + 53 ≤ length bytes.old }
     ensures put { take result bytes.new
         ≡ take start bytes.old ++ list_code (list_code note_code) (notes_of threads.now) }

@@ -29,7 +29,7 @@ pub trait Encode: Machine {
 
     /// The code of a memory with the place that each thread holds, by the numbers of nodes and
     /// records.
-    ghost whole_code: { Self.Mem → List (Option Self.Loc) → List ℕ };
+    ghost own_code: { Self.Mem → List (Option Self.Loc) → List ℕ };
 
     /// What comes in front, in the code of a memory with the place that each thread holds, cut at a front.
     ghost front_code: { Front → Self.Mem → List ℕ };
@@ -66,7 +66,7 @@ pub trait Encode: Machine {
         requires memory_in_range { (Self.rules self.now).IsInRange mem.now }
         requires places_in_range { ArePlacesInRange (Self.rules self.now) mem.now (places_of threads.now) }
         ensures { OnOk result (buffer.new ≡ buffer.old
-            ++ code_by naming (whole_code mem.now (places_of threads.now))
+            ++ code_by naming (own_code mem.now (places_of threads.now))
             (form_code (Self.form_of self.now mem.now (places_of threads.now)))) };
 
     /// Appends the rest of such a code, behind its front. The memory was read from such a code, which was cut at this
@@ -83,17 +83,17 @@ pub trait Encode: Machine {
         requires memory_in_range { (Self.rules self.now).IsInRange mem.now }
         requires places_in_range { ArePlacesInRange (Self.rules self.now) mem.now (places_of threads.now) }
         requires read { IsReadFrom (Self.rules self.now)
-            (λ memory held. code_by naming (whole_code memory held) (form_code (Self.form_of self.now memory held)))
+            (λ memory held. code_by naming (own_code memory held) (form_code (Self.form_of self.now memory held)))
             (cut_code front_code behind_code front) mem.now }
         ensures { OnOk result ((before : List ℕ) → buffer.old ≡ before ++ front_code front mem.now
-            → buffer.new ≡ before ++ code_by naming (whole_code mem.now (places_of threads.now))
+            → buffer.new ≡ before ++ code_by naming (own_code mem.now (places_of threads.now))
             (form_code (Self.form_of self.now mem.now (places_of threads.now)))) };
 
     /// Decodes a memory, and the place that each thread holds, into these, and reuses their buffers where they are
     /// large enough. If the bytes are the code of what it read, cut at a front, it returns the length of what comes in
     /// front, and the front. It may return `None` for any bytes; then, and after a refusal, the memory and the places
     /// are unspecified. The replies and notes of the threads stay as they are.
-    fn read_whole(
+    fn read_code(
         &self,
         alloc: Global,
         bytes: &[u8],
@@ -139,6 +139,6 @@ pub trait Encode: Machine {
         → TellsWholly (cut_code front_code behind_code front) (cut_code front_code behind_code other) };
 
     /// The code by own numbers is cut at some front.
-    ghost whole: { (memory : Self.Mem) (held : List (Option Self.Loc))
-        → (front : Front) × (whole_code memory held ≡ cut_code front_code behind_code front memory held) };
+    ghost own_cut: { (memory : Self.Mem) (held : List (Option Self.Loc))
+        → (front : Front) × (own_code memory held ≡ cut_code front_code behind_code front memory held) };
 }

@@ -88,12 +88,12 @@ impl<M: Encode> State<M> {
         machine.write_code(alloc, Naming::Canonical, &self.memory, threads, buffer)
     }
 
-    /// What this state is, by its code. If the code, cut at any front, is the whole code of a state, this is that
+    /// What this state is, by its code. If the code, cut at any front, is the own code of a state, this is that
     /// state. If it is the code by names of a state, this state is alike to that one, fits every program that that one
     /// fits, and has no steps.
     pub fn decoded_law(&self, machine: M)
-        ensures whole { (front : Front) (s : State M M.Mem M.Loc M.Form)
-            → state_code (cut_code M.front_code M.behind_code front) self.now ≡ state_code M.whole_code s
+        ensures own { (front : Front) (s : State M M.Mem M.Loc M.Form)
+            → state_code (cut_code M.front_code M.behind_code front) self.now ≡ state_code M.own_code s
             → self.now ≡ s }
         ensures named { (front : Front) (s : State M M.Mem M.Loc M.Form) → AreNumbersInRange (M.rules machine) s
             → state_code (cut_code M.front_code M.behind_code front) self.now

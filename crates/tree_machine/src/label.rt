@@ -86,7 +86,7 @@ impl<M: Encode> State<M> {
     ) -> Result<Bytes, OutOfMemory>
         requires { (program : Program) × IsWithinLimits program × Fits (M.rules machine) program self.now }
         ensures { IfOk result (λ bytes. bytes
-            ≡ label_code naming M.whole_code M.form_code (M.form_of machine) self.now) }
+            ≡ label_code naming M.own_code M.form_code (M.form_of machine) self.now) }
     {
         let threads = self.threads.as_slice();
         buffer.clear();
@@ -120,7 +120,7 @@ impl<M: Encode> State<M> {
         origin: &StepOrigin<'_, M>,
         buffer: &mut EncodeBuffer,
     ) -> Result<(), OutOfMemory>
-        requires few { length self.now.threads ≤ 4 }
+        requires bounded { length self.now.threads ≤ 4 }
         requires step { (machine : M) × (program : Program)
             × (step (M.rules machine) program origin.now.state.now.value origin.now.thread ≡ Some self.now) }
         requires back { TakesBack origin.now.state.now.value origin.now.thread origin.now.undo.now.thread
@@ -154,10 +154,10 @@ impl<M: Encode> State<M> {
         requires offsets { AreOffsetsOf M.front_code M.behind_code origin.now.label.now origin.now.offsets
             origin.now.state.now.value }
         requires coded { (state : State M M.Mem M.Loc M.Form) × AreNumbersInRange (M.rules machine) state
-            × (origin.now.label.now ≡ label_code naming M.whole_code M.form_code (M.form_of machine) state) }
+            × (origin.now.label.now ≡ label_code naming M.own_code M.form_code (M.form_of machine) state) }
         ensures { OnOk result ((before : List ℕ) → buffer.old ≡ before
             ++ (if origin.now.undo.now.reads then M.front_code origin.now.offsets.front self.now.memory else [])
-            → buffer.new ≡ before ++ code_by naming (M.whole_code self.now.memory (places_of self.now.threads))
+            → buffer.new ≡ before ++ code_by naming (M.own_code self.now.memory (places_of self.now.threads))
             (M.form_code (M.form_of machine self.now.memory (places_of self.now.threads)))) }
     {
         let threads = self.threads.as_slice();
@@ -189,9 +189,9 @@ impl<M: Encode> State<M> {
         requires offsets { AreOffsetsOf M.front_code M.behind_code origin.now.label.now origin.now.offsets
             origin.now.state.now.value }
         requires coded { (state : State M M.Mem M.Loc M.Form) × AreNumbersInRange (M.rules machine) state
-            × (origin.now.label.now ≡ label_code naming M.whole_code M.form_code (M.form_of machine) state) }
+            × (origin.now.label.now ≡ label_code naming M.own_code M.form_code (M.form_of machine) state) }
         ensures { IfOk result (λ bytes. bytes
-            ≡ label_code naming M.whole_code M.form_code (M.form_of machine) self.now) }
+            ≡ label_code naming M.own_code M.form_code (M.form_of machine) self.now) }
     {
         buffer.clear();
         buffer.put_number(self.label_steps(naming))?;

@@ -39,9 +39,9 @@ impl Names {
         ensures all_records { IfOk result (λ names. length names.records.numbers.items ≡ records) }
     {
         let mut first_nodes = self.nodes.restarted(nodes)?;
-        first_nodes.meet_range(0, front_nodes);
+        first_nodes.assign_range(0, front_nodes);
         let mut first_records = self.records.restarted(records)?;
-        first_records.meet_range(0, front_records);
+        first_records.assign_range(0, front_records);
         Ok(Names {
             nodes: first_nodes,
             records: first_records,

@@ -24,7 +24,7 @@ pub(crate) struct Numbering {
     ghost has_numbers: { HasNumbers order.items numbers.items },
     ghost distinct: { IsDistinct nat_eq order.items } by { Prim.hlevel props },
     ghost known: { All (λ x. x < length numbers.items) order.items },
-    ghost few: { length numbers.items < CELLS_BELOW },
+    ghost bounded: { length numbers.items < CELLS_BELOW },
     ghost room: { length numbers.items ≤ vec_capacity order },
 }
 
@@ -85,7 +85,7 @@ impl Numbering {
 
     /// Appends a cell to the order, unless it is there already.
     #[inline(always)]
-    fn meet(&mut self, cell: usize)
+    fn assign_once(&mut self, cell: usize)
         requires { cell < length self.old.numbers.items }
         ensures order { self.new.order.items ≡ met self.old.order.items cell }
         ensures cells { length self.new.numbers.items ≡ length self.old.numbers.items }
@@ -96,14 +96,14 @@ impl Numbering {
     }
 
     /// Meets `count` cells from `first` on, all behind those met before.
-    pub(crate) fn meet_range(&mut self, first: usize, count: usize)
+    pub(crate) fn assign_range(&mut self, first: usize, count: usize)
         requires in_range { first + count ≤ length self.old.numbers.items }
         requires behind { All (λ x. x < first) self.old.order.items }
         ensures order { self.new.order.items ≡ self.old.order.items ++ numbers_from first count }
         ensures cells { length self.new.numbers.items ≡ length self.old.numbers.items }
     {
         for i in 0..count {
-            self.meet(first + i);
+            self.assign_once(first + i);
         }
     }
 
@@ -165,7 +165,7 @@ impl Own {
             return Ok(self);
         }
         let mut numbering = self.numbering.restarted(cells)?;
-        numbering.meet_range(0, cells);
+        numbering.assign_range(0, cells);
         Ok(Own { numbering })
     }
 

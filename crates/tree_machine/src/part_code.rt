@@ -122,8 +122,8 @@ fn write_graph<P: Parts>(
     requires record_order { places.records.0 ≤ places.records.1 }
     requires nodes_within { places.nodes.1 ≤ length writer.old.node_order }
     requires records_within { places.records.1 ≤ length writer.old.record_order }
-    requires few_nodes { places.nodes.1 < 255 }
-    requires few_records { places.records.1 < 255 }
+    requires nodes_bounded { places.nodes.1 < 255 }
+    requires records_bounded { places.records.1 < 255 }
     requires known { All (λ x. x < length (P.parts parts.now).nodes) (take places.nodes.1 writer.old.node_order) }
     ensures { OnOk result (writer.new ≡ with_bytes writer.old (graph_code
         (map (λ x. renamed_by writer.old (part_at (P.parts parts.now).nodes x))
@@ -151,8 +151,8 @@ fn write_behind_front<P: Parts>(
     requires records { writer.old.records ≡ length (P.parts parts.now).records }
     requires front_nodes { front_nodes ≤ length writer.old.node_order }
     requires front_records { front_records ≤ length writer.old.record_order }
-    requires few_nodes { length writer.old.node_order < 255 }
-    requires few_records { length writer.old.record_order < 255 }
+    requires nodes_bounded { length writer.old.node_order < 255 }
+    requires records_bounded { length writer.old.record_order < 255 }
     requires known { All (λ x. x < length (P.parts parts.now).nodes) writer.old.node_order }
     ensures { OnOk result (writer.new ≡ with_bytes writer.old
         (part_codes (parts_by writer.old.node_order writer.old.record_order (P.parts parts.now)).held

@@ -57,7 +57,7 @@ fn read_op_log<'a, L>(bytes: &'a [u8], threads: &mut [Thread<L>]) -> Option<(Opt
 #[inline(always)]
 fn read_head(bytes: &[u8]) -> Option<(u64, u8, &[u8])>
     ensures read { IfSome result (λ (steps, count, rest). bytes.now ≡ number_code steps ++ count ∷ rest.now) }
-    ensures few { IfSome result (λ (steps, count, rest). count ≤ 4) }
+    ensures bounded { IfSome result (λ (steps, count, rest). count ≤ 4) }
 {
     let (steps, rest) = read_any_number(bytes)?;
     let (count, rest) = read_byte(rest)?;
@@ -113,7 +113,7 @@ fn read_body<M: Encode>(
         let end = known.len();
         return Ok(Some(BodyRead { behind, end, front }));
     }
-    match machine.read_whole(alloc, rest, memory, threads)? {
+    match machine.read_code(alloc, rest, memory, threads)? {
         Some((end, front)) => Ok(Some(BodyRead { behind, end, front })),
         None => Ok(None),
     }

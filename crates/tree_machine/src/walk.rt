@@ -27,7 +27,7 @@ pub struct Walk {
     ghost record_names: { names.records.order.items ≡ records_met nodes records queue.items },
     ghost all_nodes: { length names.nodes.numbers.items ≡ nodes },
     ghost all_records: { length names.records.numbers.items ≡ records },
-    ghost few: { nodes + records + held < CELLS_BELOW },
+    ghost bounded: { nodes + records + held < CELLS_BELOW },
 }
 
 impl Model for Walk {
@@ -113,7 +113,7 @@ impl Walk {
 
     /// Meets a node.
     #[inline(always)]
-    fn meet_node(&mut self, node: usize) -> Result<(), OutOfMemory>
+    fn discover_node(&mut self, node: usize) -> Result<(), OutOfMemory>
         requires { node < self.old.nodes }
         ensures { OnOk result (self.new ≡ record self.old { order = met self.old.order node }) }
     {
@@ -126,7 +126,7 @@ impl Walk {
 
     /// Meets a record.
     #[inline(always)]
-    fn meet_record(&mut self, index: usize) -> Result<(), OutOfMemory>
+    fn discover_record(&mut self, index: usize) -> Result<(), OutOfMemory>
         requires { index < self.old.records }
         ensures { OnOk result (self.new ≡ record self.old { order = met self.old.order (self.old.nodes + index) }) }
     {
@@ -139,13 +139,13 @@ impl Walk {
 
     /// Meets the nodes that are named.
     #[inline(always)]
-    fn meet_nodes(&mut self, names: &[Option<u16>]) -> Result<(), OutOfMemory>
+    fn discover_nodes(&mut self, names: &[Option<u16>]) -> Result<(), OutOfMemory>
         requires { All (λ r. IfSome r (λ x. x < self.old.nodes)) names.now }
         ensures { OnOk result (self.new ≡ record self.old { order = met_all self.old.order names.now }) }
     {
         for name in names {
             if let Some(node) = name {
-                self.meet_node(usize::from(*node))?;
+                self.discover_node(usize::from(*node))?;
             }
         }
         Ok(())
@@ -153,7 +153,7 @@ impl Walk {
 
     /// Meets the records that are named.
     #[inline(always)]
-    fn meet_records(&mut self, names: &[Option<u16>]) -> Result<(), OutOfMemory>
+    fn discover_records(&mut self, names: &[Option<u16>]) -> Result<(), OutOfMemory>
         requires { All (λ r. IfSome r (λ x. x < self.old.records)) names.now }
         ensures { OnOk result (self.new ≡ record self.old {
           order = met_all self.old.order (map (option_map (λ x. self.old.nodes + x)) names.now);
@@ -161,7 +161,7 @@ impl Walk {
     {
         for name in names {
             if let Some(index) = name {
-                self.meet_record(usize::from(*index))?;
+                self.discover_record(usize::from(*index))?;
             }
         }
         Ok(())
@@ -169,14 +169,14 @@ impl Walk {
 
     /// Meets the records of a stack.
     #[inline(always)]
-    fn meet_stack(&mut self, stack: &[u16]) -> Result<(), OutOfMemory>
+    fn discover_stack(&mut self, stack: &[u16]) -> Result<(), OutOfMemory>
         requires { All (λ x. x < self.old.records) stack.now }
         ensures { OnOk result (self.new ≡ record self.old {
           order = met_all self.old.order (map (option_map (λ x. self.old.nodes + x)) (map Some stack.now));
         }) }
     {
         for index in stack {
-            self.meet_record(usize::from(*index))?;
+            self.discover_record(usize::from(*index))?;
         }
         Ok(())
     }
@@ -235,8 +235,8 @@ impl PartVisitor for Walk {
         records: &[Option<u16>],
         stack: &[u16],
     ) -> Result<(), OutOfMemory> {
-        self.meet_nodes(nodes)?;
-        self.meet_records(records)?;
-        self.meet_stack(stack)
+        self.discover_nodes(nodes)?;
+        self.discover_records(records)?;
+        self.discover_stack(stack)
     }
 }

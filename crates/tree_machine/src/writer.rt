@@ -51,7 +51,7 @@ fn make_room(bytes: &mut Vec<u8>, at: usize) -> Result<(), OutOfMemory>
 #[inline(always)]
 fn short_head(nodes: usize, facts: usize, named: usize) -> Option<u8>
     ensures head { result ≡ short_head nodes facts named }
-    ensures few { IfSome result (λ _. (facts < 5) × (named < 8)) }
+    ensures bounded { IfSome result (λ _. (facts < 5) × (named < 8)) }
 {
     if nodes < 6 && facts < 5 && named < 8 {
         Some((facts + 5 * nodes + 30 * named) as u8)

@@ -39,8 +39,8 @@ front (x ∷ y ∷ rest) f =
 
 pub read_more : (text threads rest : List ℕ) → HasRead text threads rest → Follows rest → length threads < 400
     → HasRead text (threads ++ (at rest 1 - 48) ∷ []) (take (length rest - 2) (drop 2 rest))
-read_more text [] rest h f few = absurd (omega (arith, h.3))
-read_more text (x ∷ threads) rest h f few =
+read_more text [] rest h f bounded = absurd (omega (arith, h.3))
+read_more text (x ∷ threads) rest h f bounded =
     let t = at rest 1 - 48 in
     let cut : rest ≡ (44 ∷ digit t ∷ []) ++ drop 2 rest = front rest f in
     let split : text ≡ schedule_text (x ∷ threads) ++ ((44 ∷ digit t ∷ []) ++ drop 2 rest) =

@@ -64,7 +64,7 @@ module _ {Machine Memory Place Form : Type 0} (rules : Rules Memory Place) (prog
       → IsLawful (machine_of rules program) (AreOneBy same) (IsFindingOf rules program) es → length es ≤ 2000000
       → AreSound es
       → AreWritable es
-  writable same machine es law few sound i e at some =
+  writable same machine es law bounded sound i e at some =
       let from = law.origins i e at some in
       let thread : from.origin.thread < length program.threads =
       machine.is_thread from.parent.state e.state from.origin.thread from.step in
@@ -139,7 +139,7 @@ written_none {S} count es empty head text is_empty is_head is = record {
 -- all lines are written
 pub written_all : {S : Type 0} (es : List (Entry S)) (text : List ℕ) → 1 ≤ length es → length es ≤ 2000000
     → HasWritten (length es) es text → IsFileOf es text
-written_all es text some few so =
+written_all es text some bounded so =
     let count : length es ≡ length so.lines + 1 = lines_count es so.lines some so.of_entries in
     let whole : text ≡ book_text (length so.lines + 1) so.lines = so.whole ∙ ap (λ n. book_text n so.lines) count in
     record {

@@ -70,7 +70,7 @@ impl<M: Encode> Book<M> {
     fn is_entry_of(&self, entry: &ExpandedEntry<'_, M>) -> bool
         requires taken { IsTaken self.now.entries entry.now.key.id }
         requires of { IsOf self.now.machine self.now.program entry.now.key }
-        ensures { IsTrue result ↔ IsEntryOf (label_by M.whole_code M.form_code (M.form_of self.now.machine)
+        ensures { IsTrue result ↔ IsEntryOf (label_by M.own_code M.form_code (M.form_of self.now.machine)
             self.now.merge) self.now entry.now.key }
     {
         self.merge == entry.key.merge
@@ -81,9 +81,9 @@ impl<M: Encode> Book<M> {
     fn check_entry(&self, entry: &ExpandedEntry<'_, M>) -> Result<(), EnterFault>
         requires { IsOf self.now.machine self.now.program entry.now.key }
         ensures admitted { OnOk result (IsTaken self.now.entries entry.now.key.id
-            × IsEntryOf (label_by M.whole_code M.form_code (M.form_of self.now.machine) self.now.merge) self.now
+            × IsEntryOf (label_by M.own_code M.form_code (M.form_of self.now.machine) self.now.merge) self.now
             entry.now.key) }
-        ensures refused { IfErr result (RefusesEntry M.rules M.whole_code M.form_code M.form_of self.now entry.now) }
+        ensures refused { IfErr result (RefusesEntry M.rules M.own_code M.form_code M.form_of self.now entry.now) }
     {
         if !self.is_taken(entry.key.id) {
             return Err(EnterFault::NotTaken);
@@ -105,7 +105,7 @@ impl<M: Encode> Book<M> {
         requires taken { IsTaken self.old.entries id }
         requires steps { (e : Entry (State M M.Mem M.Loc M.Form)) → At self.old.entries id e
             → AreStepsOf (machine_in M.rules self.old) (right_in M.rules self.old)
-            (label_by M.whole_code M.form_code (M.form_of self.old.machine) self.old.merge) e.state steps.items }
+            (label_by M.own_code M.form_code (M.form_of self.old.machine) self.old.merge) e.state steps.items }
         ensures entered { IfOk result (λ r. (e : Entry (State M M.Mem M.Loc M.Form)) → At self.old.entries id e
             → Enters (CountsAsOne (M.rules self.old.machine) self.old.merge) self.old self.new id (record {
               machine = self.old.machine;
@@ -173,7 +173,7 @@ impl<M: Encode> Book<M> {
             × At self.old.entries entry.entry.key.id e
             × Enters (CountsAsOne (M.rules self.old.machine) self.old.merge) self.old self.new entry.entry.key.id
             (expansion_of M.rules entry.entry e.state) r.entered r.met) }
-        ensures refused { IfErr result (RefusesEntry M.rules M.whole_code M.form_code M.form_of self.old entry.entry) }
+        ensures refused { IfErr result (RefusesEntry M.rules M.own_code M.form_code M.form_of self.old entry.entry) }
         ensures err { OnErr result (self.new ≡ self.old) }
     {
         if let Err(fault) = self.check_entry(&entry) {

@@ -51,7 +51,7 @@ impl<M: Encode> Book<M> {
               machine = self.now.machine;
               program = self.now.program;
               merge = self.now.merge;
-              label = label_by M.whole_code M.form_code (M.form_of self.now.machine) self.now.merge e.state;
+              label = label_by M.own_code M.form_code (M.form_of self.now.machine) self.now.merge e.state;
             }))) }
         ensures none { IfOk result (λ o. IfNone o (IsTaken self.now.entries id → ⊥)) }
     {

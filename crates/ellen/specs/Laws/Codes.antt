@@ -127,6 +127,6 @@ pub ellen_tells : (front other_front : Front) → TellsWholly (cut_code ellen_fr
 ellen_tells = parts_tell_wholly ellen_parts (λ memory held. length-map held held_part) parts_tell
 
 -- by own numbers all nodes and records come in front
-pub ellen_whole : (memory : EllenMem) (held : List (Option EllenLoc)) → (front : Front)
+pub ellen_cut : (memory : EllenMem) (held : List (Option EllenLoc)) → (front : Front)
     × (ellen_code memory held ≡ cut_code ellen_front_code ellen_behind_code front memory held)
-ellen_whole memory held = (all_front (ellen_parts memory held), refl)
+ellen_cut memory held = (all_front (ellen_parts memory held), refl)

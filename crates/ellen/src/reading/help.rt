@@ -14,7 +14,7 @@ use tree_machine::{Side, copy_into};
 #[inline(always)]
 fn awaited(head: u8) -> Option<u8>
     ensures head { IfSome result (λ count. head ≡ 69 + 30 * count) }
-    ensures few { IfSome result (λ count. count < 6) }
+    ensures bounded { IfSome result (λ count. count < 6) }
 {
     match head {
         69 => Some(0),

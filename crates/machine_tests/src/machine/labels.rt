@@ -94,7 +94,7 @@ pub fn label_of<M: Encode>(
 ) -> Result<Bytes, OutOfMemory>
     requires { Fits (M.rules how.now.machine) how.now.program.now state.now }
     ensures { IfOk result (λ label. label
-        ≡ label_code how.now.naming M.whole_code M.form_code (M.form_of how.now.machine) state.now) }
+        ≡ label_code how.now.naming M.own_code M.form_code (M.form_of how.now.machine) state.now) }
 {
     // Whoever reads a program knows that it meets the limits.
     let _ = how.program.initial();
@@ -128,7 +128,7 @@ fn read_label<M: Encode>(
     shell: &mut State<M>,
 ) -> Result<Option<CodeOffsets>, OutOfMemory>
     requires labelled { (state : State M M.Mem M.Loc M.Form) × Fits (M.rules how.now.machine) how.now.program.now state
-        × (label.now ≡ label_code how.now.naming M.whole_code M.form_code (M.form_of how.now.machine) state) }
+        × (label.now ≡ label_code how.now.naming M.own_code M.form_code (M.form_of how.now.machine) state) }
     requires last { IfSome last
         (λ (own, offsets). AreOffsetsOf M.front_code M.behind_code own.now offsets shell.old) }
     ensures offsets { IfOk result (λ read. IfSome read
@@ -250,7 +250,7 @@ fn label_of_step<M: Encode>(
     scratch: &mut Scratch<M>,
 ) -> Result<Bytes, StepFault>
     requires labelled { (state : State M M.Mem M.Loc M.Form) × Fits (M.rules how.now.machine) how.now.program.now state
-        × (label.now ≡ label_code how.now.naming M.whole_code M.form_code (M.form_of how.now.machine) state) }
+        × (label.now ≡ label_code how.now.naming M.own_code M.form_code (M.form_of how.now.machine) state) }
     requires offsets { AreOffsetsOf M.front_code M.behind_code label.now offsets scratch.old.shell }
     requires fits { Fits (M.rules how.now.machine) how.now.program.now scratch.old.shell }
     ensures { OnOk result (scratch.new.shell ≡ scratch.old.shell) }

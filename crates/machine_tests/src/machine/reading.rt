@@ -136,7 +136,7 @@ fn are_refused(alloc: Global, state: &mut State<Atomic>) -> Result<(), Broken> {
 }
 
 /// A state is read from all of its bytes, and from no beginning of them.
-fn are_read_whole(alloc: Global, state: &mut State<Atomic>) -> Result<(), Broken> {
+fn are_codes_read(alloc: Global, state: &mut State<Atomic>) -> Result<(), Broken> {
     for count in 0..WHOLE.len() {
         let read = state.read_in(alloc, Atomic, &WHOLE[..count])?;
         ensure(read.is_none(), Case::BytesCutShort)?;
@@ -151,7 +151,7 @@ fn are_as_written(alloc: Global) -> Result<(), Broken> {
     let mut state = after(alloc, &program, &[0])?;
     are_read(alloc, &mut state)?;
     are_refused(alloc, &mut state)?;
-    are_read_whole(alloc, &mut state)
+    are_codes_read(alloc, &mut state)
 }
 
 #[test]

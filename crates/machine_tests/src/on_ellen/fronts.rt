@@ -45,11 +45,11 @@ fn front_of(nodes: u16, records: u16) -> Front
     Front { nodes, records }
 }
 
-/// How many bytes `read_whole` counts in front of what the thread holds, and the front.
+/// How many bytes `read_code` counts in front of what the thread holds, and the front.
 fn front_in(alloc: Global, bytes: &[u8]) -> Result<Option<(usize, Front)>, OutOfMemory> {
     let mut memory = WHOLE.build(alloc, &[10])?;
     let mut threads = [holding(None)];
-    WHOLE.read_whole(alloc, bytes, &mut memory, &mut threads)
+    WHOLE.read_code(alloc, bytes, &mut memory, &mut threads)
 }
 
 /// Whether the other bytes alone are written for what the thread holds, behind those in front.

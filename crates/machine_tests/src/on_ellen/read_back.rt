@@ -15,7 +15,7 @@ use std::alloc::Global;
 use tree_machine::{Naming, State, StepFault};
 
 /// Whether a state is read back from its label, and from no more beginnings of it than may be read.
-fn is_read_whole(
+fn is_code_read(
     alloc: Global,
     how: &Labelling<'_, Ellen>,
     state: &State<Ellen>,
@@ -73,7 +73,7 @@ fn is_right(
     requires next { Fits (ellen_rules how.now.machine) how.now.program.now next.now }
 {
     match look {
-        Look::Read => Ok(is_read_whole(alloc, how, next, scratch)?),
+        Look::Read => Ok(is_code_read(alloc, how, next, scratch)?),
         Look::ReadAfter => Ok(is_read_after(alloc, how, state, next, scratch)?),
         Look::Steps => are_steps_labelled(alloc, how, state, scratch),
     }

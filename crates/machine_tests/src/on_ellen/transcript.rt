@@ -254,7 +254,7 @@ fn add_thread(text: &mut String, thread: &Thread<EllenLoc>) -> Result<(), OutOfM
 }
 
 /// Adds where a thread is after a step, and what the step wrote and made.
-fn add_deeds(
+fn add_changes(
     text: &mut String,
     t: u8,
     old: &State<Ellen>,
@@ -276,7 +276,7 @@ fn line_of(
     new: &State<Ellen>,
 ) -> Result<String, OutOfMemory> {
     let mut text = format!(in alloc; "{t}")?;
-    add_deeds(&mut text, t, old, new)?;
+    add_changes(&mut text, t, old, new)?;
     Ok(text)
 }
 

@@ -249,7 +249,7 @@ fn looked(
     }
 }
 
-/// How many bytes `read_whole` counts in front of what one thread holds, and the front. What comes behind is then read
+/// How many bytes `read_code` counts in front of what one thread holds, and the front. What comes behind is then read
 /// once more, alone.
 fn front_of(alloc: Global, bytes: &[u8]) -> Result<Option<(usize, Front)>, Broken> {
     let mut mem = NatMitMem {
@@ -260,7 +260,7 @@ fn front_of(alloc: Global, bytes: &[u8]) -> Result<Option<(usize, Front)>, Broke
         place: None,
         notes: ShortList::new(),
     }];
-    let Some((end, front)) = WHOLE.read_whole(alloc, bytes, &mut mem, &mut threads)? else {
+    let Some((end, front)) = WHOLE.read_code(alloc, bytes, &mut mem, &mut threads)? else {
         return Ok(None);
     };
     let place = threads[0].place.take();

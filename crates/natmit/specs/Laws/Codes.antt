@@ -79,6 +79,6 @@ pub natmit_tells : (front other_front : Front) → TellsWholly (cut_code natmit_
 natmit_tells = parts_tell_wholly natmit_parts (λ memory held. length-map held held_part) parts_tell
 
 -- by own numbers all nodes come in front
-pub natmit_whole : (memory : NatMitMem) (held : List (Option NatMitLoc)) → (front : Front)
+pub natmit_cut : (memory : NatMitMem) (held : List (Option NatMitLoc)) → (front : Front)
     × (natmit_code memory held ≡ cut_code natmit_front_code natmit_behind_code front memory held)
-natmit_whole memory held = (all_front (natmit_parts memory held), refl)
+natmit_cut memory held = (all_front (natmit_parts memory held), refl)

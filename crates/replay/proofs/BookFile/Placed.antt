@@ -46,9 +46,9 @@ module _ (distinct tail : List (List ℕ)) (places : List ℕ) (label : List ℕ
           | inr h ↦ Contains-append_right (labels_at distinct places) (label ∷ []) l
               (Contains-slice_get (label ∷ []) 0 l (ap Some (sym (only l h))))
         ]));
-    few = (let a : length (distinct ++ tail) ≡ length distinct + length tail = length-append distinct tail in
+    bounded = (let a : length (distinct ++ tail) ≡ length distinct + length tail = length-append distinct tail in
         let b : length (places ++ place ∷ []) ≡ length places + 1 = length-append places (place ∷ []) in
-        let c : length distinct ≤ length places = so.few in omega arith);
+        let c : length distinct ≤ length places = so.bounded in omega arith);
   }
 
 only_one : (label l : List ℕ) → Contains (label ∷ []) l → l ≡ label

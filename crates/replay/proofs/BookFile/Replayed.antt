@@ -133,13 +133,13 @@ module _ {Machine Memory Place Form : Type 0} (rules : Rules Memory Place) (prog
           (start rules program ∷ []) lines states so.1
           (only_start (λ _ s. Fits rules program s) (start rules program) machine.start_fits)
 
-      pub few_steps : (i : ℕ) (s : State Machine Memory Place Form) → slice_get states i ≡ Some s → s.steps ≤ i
-      few_steps =
+      pub steps_bounded : (i : ℕ) (s : State Machine Memory Place Form) → slice_get states i ≡ Some s → s.steps ≤ i
+      steps_bounded =
           along (λ i s. s.steps ≤ i) (λ before line state all tells.
           let reached : Reaches rules program before line state = tells.0 in
           let up : state.steps ≡ reached.parent.steps + 1 =
           step_counts rules program reached.parent state line.thread reached.step in
-          let few : reached.parent.steps ≤ line.parent = all line.parent reached.parent reached.at in
+          let bounded : reached.parent.steps ≤ line.parent = all line.parent reached.parent reached.at in
           let less : line.parent < length before = slice_get_within before line.parent reached.parent reached.at in
           omega arith)
           (start rules program ∷ []) lines states so.1
@@ -211,11 +211,11 @@ module _ {Machine Memory Place Form : Type 0} (rules : Rules Memory Place) (prog
         ]
 
 -- the labels of the first lines are fewer than a file may have
-pub labels_few : {Machine Memory Place Form : Type 0} (rules : Rules Memory Place) (program : Program)
+pub labels_bounded : {Machine Memory Place Form : Type 0} (rules : Rules Memory Place) (program : Program)
     (label_of : State Machine Memory Place Form → List ℕ) (lines : List BookLine) (labels : List (List ℕ)) (i : ℕ)
     → AreLabelsOf rules program label_of (take i lines) labels → i < length lines → length lines < 2000000
     → length labels < 2000000
-labels_few rules program label_of lines labels i so less most =
+labels_bounded rules program label_of lines labels i so less most =
     let all : length labels ≡ length (take i lines) + 1 =
     count_labels rules program label_of (take i lines) labels so in
     let taken : length (take i lines) ≡ i = length-take-le i lines (omega arith) in

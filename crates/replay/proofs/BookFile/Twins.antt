@@ -24,7 +24,7 @@ use Rattle.replay.specs.Findings.{machine_of}
 use Rattle.replay.specs.Labels.{named_by}
 use Rattle.replay.specs.Schedule.{after}
 use Rattle.replay.proofs.BookFile.Exclusive.{one_continued}
-use Rattle.replay.proofs.BookFile.Replayed.{each_fits, few_steps}
+use Rattle.replay.proofs.BookFile.Replayed.{each_fits, steps_bounded}
 
 module _ {Machine Memory Place Form : Type 0} (rules : Rules Memory Place) (program : Program)
     (lawful : AreLawful rules) (limits : IsWithinLimits program)
@@ -113,12 +113,12 @@ module _ {Machine Memory Place Form : Type 0} (rules : Rules Memory Place) (prog
     run_stands_for way end leads ends fits states so =
         let w = leads states so in
         let same : w.0 ≡ end = same_Some w.0 end (sym w.2 ∙ ends) in
-        let few : w.0.steps ≤ index = few_steps rules program lawful limits lines states so index w.0 w.1 in (
+        let bounded : w.0.steps ≤ index = steps_bounded rules program lawful limits lines states so index w.0 w.1 in (
           end,
           w.1 ∙ ap (λ (v : State Machine Memory Place Form). Some v) same,
           record {
             alike = alike_itself rules form_of forms program end fits;
             fits = fits;
-            steps = subst (λ (v : State Machine Memory Place Form). v.steps ≤ index) same few;
+            steps = subst (λ (v : State Machine Memory Place Form). v.steps ≤ index) same bounded;
           },
         )

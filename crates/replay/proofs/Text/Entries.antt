@@ -55,11 +55,12 @@ pub record HasReadLines (bytes : List ℕ) (lines : List BookLine) (rest : List 
   pub whole : AreLines bytes (done ++ ahead)
   pub left : AreLines rest ahead
   pub each : AllZip IsEntryLine done lines
-  pub few : length (done ++ ahead) < 2000000
+  pub bounded : length (done ++ ahead) < 2000000
 
 pub lines_none : (bytes : List ℕ) (texts : List (List ℕ)) → AreLines bytes texts → length texts < 2000000
     → HasReadLines bytes [] bytes
-lines_none bytes texts are few = record { done = []; ahead = texts; whole = are; left = are; each = tt; few = few }
+lines_none bytes texts are bounded =
+    record { done = []; ahead = texts; whole = are; left = are; each = tt; bounded = bounded }
 
 pub lines_push : (bytes : List ℕ) (lines : List BookLine) (rest text tail : List ℕ) (line : BookLine)
     → HasReadLines bytes lines rest → rest ≡ text ++ 10 ∷ tail
@@ -74,7 +75,7 @@ lines_push bytes lines rest text tail line has e bare is =
       whole = subst (AreLines bytes) same has.whole;
       left = left;
       each = AllZip-push IsEntryLine has.done lines text line has.each is;
-      few = subst (λ (ts : List (List ℕ)). length ts < 2000000) same has.few;
+      bounded = subst (λ (ts : List (List ℕ)). length ts < 2000000) same has.bounded;
     }
 
 pub lines_all : (bytes : List ℕ) (lines : List BookLine) (rest : List ℕ) → HasReadLines bytes lines rest

@@ -59,14 +59,14 @@ pub after_start : (bytes rest tail : List ℕ) (texts : List (List ℕ)) → Has
     → (later : List (List ℕ)) × (texts ≡ start_text ∷ later) × AreLines tail later × (length later < 2000000)
 after_start bytes rest tail texts has are e =
     let (later, split, left) = next_line rest start_text tail texts are e start_bare in
-    (later, split, left, omega (arith, has.is_head.few, ap length split))
+    (later, split, left, omega (arith, has.is_head.bounded, ap length split))
 
 -- bytes with a head, the start's line and the lines of entries are a book's text
 pub is_book : (bytes rest tail : List ℕ) (texts : List (List ℕ)) (lines : List BookLine) → HasHead bytes texts
     → AreLines rest texts → rest ≡ start_text ++ 10 ∷ tail
     → (others : List (List ℕ)) × AreLines tail others × AllZip IsEntryLine others lines → IsBookText bytes lines
 is_book bytes rest tail texts lines has are e (others, lie, each) =
-    let (later, split, left, few) = after_start bytes rest tail texts has are e in
+    let (later, split, left, bounded) = after_start bytes rest tail texts has are e in
     let same : texts ≡ start_text ∷ others =
     split ∙ ap (λ (ts : List (List ℕ)). start_text ∷ ts) (same_lines tail later others left lie) in
     record { texts = others; has_head = subst (HasHead bytes) same has; each = each }
@@ -78,7 +78,7 @@ pub entries_fault : (bytes rest tail : List ℕ) (texts : List (List ℕ)) (stat
 entries_fault bytes rest tail texts stated has are e (inl memory) = inl memory
 entries_fault bytes rest tail texts stated has are e (inr is) =
     let (earlier, text, later, lie, formed, not, place) = is in
-    let (others, split, left, few) = after_start bytes rest tail texts has are e in
+    let (others, split, left, bounded) = after_start bytes rest tail texts has are e in
     let same : texts ≡ start_text ∷ earlier ++ text ∷ later =
     split ∙ ap (λ (ts : List (List ℕ)). start_text ∷ ts) (same_lines tail others (earlier ++ text ∷ later) left lie) in
     let entry : IsEntryMisformed bytes (length earlier + 3) =

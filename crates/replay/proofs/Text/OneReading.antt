@@ -111,8 +111,9 @@ same_book bytes lines others is also =
     also.each
 
 -- a book has fewer lines after the start's than it may have entries
-pub few_lines : (bytes : List ℕ) (lines : List BookLine) → IsBookText bytes lines → length lines < 2000000
-few_lines bytes lines is = omega (arith, is.has_head.is_head.few, AllZip-long IsEntryLine is.texts lines is.each)
+pub lines_bounded : (bytes : List ℕ) (lines : List BookLine) → IsBookText bytes lines → length lines < 2000000
+lines_bounded bytes lines is =
+    omega (arith, is.has_head.is_head.bounded, AllZip-long IsEntryLine is.texts lines is.each)
 
 pub entries_formed : (texts : List (List ℕ)) (lines : List BookLine) → AllZip IsEntryLine texts lines
     → AllByRecursion IsEntryText texts

@@ -51,12 +51,12 @@ is_number n small =
 
 is_head : (entries : ℕ) → 1 ≤ entries → entries ≤ 2000000 → IsHead (head_text entries) entries
 unfolding head_text
-is_head entries some few =
+is_head entries some bounded =
     record {
       number = decimal entries;
       is_number = is_number entries (omega arith);
       some = some;
-      few = few;
+      bounded = bounded;
       whole = refl;
     }
 
@@ -120,7 +120,7 @@ entries_bare (text ∷ texts) (line ∷ lines) are = (entry_bare text line are.0
 pub is_written : (lines : List BookLine) → All IsProper lines → length lines < 2000000
     → IsBookText (book_text (length lines + 1) lines) lines
 unfolding book_text
-is_written lines proper few =
+is_written lines proper bounded =
     let each = entries_each lines proper in
     let count : length lines + 1 ≡ length (start_text ∷ map text_of lines) = omega (arith, length-map lines text_of) in
     record {

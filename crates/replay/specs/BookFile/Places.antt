@@ -9,4 +9,4 @@ labels_at distinct places = map (λ place. get_or distinct place []) places
 pub record ArePlaced (distinct : List (List ℕ)) (places : List ℕ) : Type 0 where
   pub within : (i place : ℕ) → slice_get places i ≡ Some place → place < length distinct
   pub used : (label : List ℕ) → Contains distinct label → Contains (labels_at distinct places) label
-  pub few : length distinct ≤ length places
+  pub bounded : length distinct ≤ length places

@@ -40,7 +40,7 @@ module _ {Machine Memory Place Form : Type 0} (rules : Rules Memory Place) (prog
   is_machine lawful limits = record {
     from_zero = refl;
     one_more = (λ s r t leads. step_counts s r t leads);
-    few_threads = (let few : length program.threads ≤ 4 = limits.thread_count in omega arith);
+    threads_bounded = (let bounded : length program.threads ≤ 4 = limits.thread_count in omega arith);
     is_thread = (λ s r t leads. step_of_thread s r t leads);
     start_fits = start_fits rules program (start rules program) refl lawful limits.initial;
     step_fits = (λ s r t fits leads. step_fits rules program s fits lawful t r leads);

@@ -78,7 +78,7 @@ pub record IsHead (text : List ℕ) (entries : ℕ) : Type 0 where
   pub number : List ℕ
   pub is_number : IsNumber number entries
   pub some : 1 ≤ entries
-  pub few : entries ≤ 2000000
+  pub bounded : entries ≤ 2000000
   pub whole : text ≡ codes "treesched book 1 entries " ++ number
 
 -- the line of the first entry

@@ -86,7 +86,7 @@ fn leads_out<M: Encode>(
 ) -> Result<bool, OutOfMemory>
     requires kept { AreLabelsOf {Machine = M} (M.rules input.now.machine) input.now.program.now
         (named_by M.form_code (M.form_of input.now.machine)) input.now.lines.now labels.now }
-    requires few { length input.now.lines.now < 2000000 }
+    requires bounded { length input.now.lines.now < 2000000 }
     requires within { index < length labels.now }
     requires stands { StandsForEntry (M.rules input.now.machine) input.now.program.now input.now.lines.now index
         replayer.old.state }
@@ -117,7 +117,7 @@ pub fn test_closed<M: Encode>(
 ) -> Result<(), CheckFault>
     requires kept { AreLabelsOf {Machine = M} (M.rules input.now.machine) input.now.program.now
         (named_by M.form_code (M.form_of input.now.machine)) input.now.lines.now labels.now }
-    requires few { length input.now.lines.now < 2000000 }
+    requires bounded { length input.now.lines.now < 2000000 }
     ensures pass { IfOk result
         (λ _. Pass M M.Form (M.rules input.now.machine) input.now.program.now input.now.lines.now) }
     ensures refused { IfErr result (λ fault. (fault ≡ CheckFault.OutOfMemory)

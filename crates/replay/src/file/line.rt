@@ -23,23 +23,23 @@ pub struct BookLine {
 /// lines.
 #[derive(Drop)]
 pub struct Names {
-    stored: Stored,
+    storage: Storage,
 }
 
 #[derive(Drop)]
-enum Stored {
-    Few(ShortList<OpId, 7>),
-    Many(Box<Sequence<OpId>>),
+enum Storage {
+    Inline(ShortList<OpId, 7>),
+    Boxed(Box<Sequence<OpId>>),
 }
 
 impl Model for Names {
     ghost use Rattle.std.specs.Prelude.{List};
     ghost use Rattle.sched_program.specs.declared.operation.OpId.{OpId as Name};
-    ghost use Rattle.replay.specs.StoredNames.{names_of};
+    ghost use Rattle.replay.specs.Storage.{names_of};
 
     ghost Value = { List Name };
 
-    ghost view = { λ n. names_of n.stored };
+    ghost view = { λ n. names_of n.storage };
 }
 
 impl Names {
@@ -49,15 +49,15 @@ impl Names {
     {
         if order.len() > 7 {
             return Ok(Names {
-                stored: Stored::Many(Box::new(alloc, order)?),
+                storage: Storage::Boxed(Box::new(alloc, order)?),
             });
         }
-        let mut few = ShortList::new();
+        let mut inline = ShortList::new();
         for name in order.as_slice() {
-            few.push(*name);
+            inline.push(*name);
         }
         Ok(Names {
-            stored: Stored::Few(few),
+            storage: Storage::Inline(inline),
         })
     }
 
@@ -65,9 +65,9 @@ impl Names {
     pub fn as_slice(&self) -> &[OpId]
         ensures { result.now ≡ self.now }
     {
-        match &self.stored {
-            Stored::Few(names) => names.as_slice(),
-            Stored::Many(names) => names.as_slice(),
+        match &self.storage {
+            Storage::Inline(names) => names.as_slice(),
+            Storage::Boxed(names) => names.as_slice(),
         }
     }
 }

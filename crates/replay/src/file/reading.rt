@@ -210,7 +210,7 @@ fn entry_lines(alloc: Global, bytes: &[u8]) -> Result<Vec<BookLine>, CheckFault>
 /// The first line that is not in the form, or `OutOfMemory` where a growth was refused.
 pub fn read_lines(alloc: Global, bytes: &[u8]) -> Result<Vec<BookLine>, CheckFault>
     ensures book { IfOk result (λ lines. IsBookText bytes.now lines.items) }
-    ensures few { IfOk result (λ lines. length lines.items < 2000000) }
+    ensures bounded { IfOk result (λ lines. length lines.items < 2000000) }
     ensures refused { IfErr result (λ fault. (fault ≡ CheckFault.OutOfMemory) ⊎ IsFormFault bytes.now fault) }
 {
     let Some(rest) = after_head(bytes) else {

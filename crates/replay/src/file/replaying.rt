@@ -54,7 +54,7 @@ fn label_of_line<M: Encode>(
 ) -> Result<Bytes, CheckFault>
     requires kept { AreLabelsOf {Machine = M} (M.rules input.now.machine) input.now.program.now
         (named_by M.form_code (M.form_of input.now.machine)) input.now.lines.now before.now }
-    requires few { length before.now < 2000000 }
+    requires bounded { length before.now < 2000000 }
     ensures tells { IfOk result (λ label. (states : List (State M M.Mem M.Loc M.Form))
         → AreReplayed (M.rules input.now.machine) input.now.program.now input.now.lines.now states
         → (state : State M M.Mem M.Loc M.Form)

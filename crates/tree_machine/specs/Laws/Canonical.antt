@@ -293,13 +293,13 @@ module _ (fixed : ℕ) (s : Parts) (h : ArePartsInRange fixed s) where
       ))
 
   -- at least as much is met as comes in front
-  pub front_nodes_few : length (front_nodes fixed s) ≤ length (met_nodes fixed s)
-  front_nodes_few =
+  pub front_nodes_bounded : length (front_nodes fixed s) ≤ length (met_nodes fixed s)
+  front_nodes_bounded =
       let e = nodes_extended (front_nodes fixed s) (front_records fixed s) front_met in
       omega (arith, ap length e.is, length-append (front_nodes fixed s) e.rest)
 
-  pub front_records_few : length (front_records fixed s) ≤ length (met_records fixed s)
-  front_records_few =
+  pub front_records_bounded : length (front_records fixed s) ≤ length (met_records fixed s)
+  front_records_bounded =
       let e = records_extended (front_nodes fixed s) (front_records fixed s) front_met in
       omega (arith, ap length e.is, length-append (front_records fixed s) e.rest)
 

@@ -170,17 +170,17 @@ pub state_code_tells : {Machine Memory Place Form : Type 0} (code : Memory → L
     → TellsWholly code code → IsInjective (state_code {Machine = Machine} {Form = Form} code)
 state_code_tells code tells = state_codes_tell code code tells
 
--- whole codes are each cut at some front
+-- own codes are each cut at some front
 module _ {Memory Place : Type 0} (front_code : Front → Memory → List ℕ)
-    (behind_code : Front → Memory → List (Option Place) → List ℕ) (whole_code : Memory → List (Option Place) → List ℕ)
+    (behind_code : Front → Memory → List (Option Place) → List ℕ) (own_code : Memory → List (Option Place) → List ℕ)
     (tells : (front other : Front)
     → TellsWholly (cut_code front_code behind_code front) (cut_code front_code behind_code other))
-    (whole : (memory : Memory) (held : List (Option Place))
-    → (front : Front) × (whole_code memory held ≡ cut_code front_code behind_code front memory held)) where
-  pub cut_tells : (front : Front) → TellsWholly (cut_code front_code behind_code front) whole_code
+    (own_cut : (memory : Memory) (held : List (Option Place))
+    → (front : Front) × (own_code memory held ≡ cut_code front_code behind_code front memory held)) where
+  pub cut_tells : (front : Front) → TellsWholly (cut_code front_code behind_code front) own_code
   cut_tells front memory other held others many e =
-      let w = whole other others in tells front w.0 memory other held others many (e ∙ w.1)
+      let w = own_cut other others in tells front w.0 memory other held others many (e ∙ w.1)
 
-  pub whole_tells : TellsWholly whole_code whole_code
-  whole_tells memory other held others many e =
-      let w = whole memory held in cut_tells w.0 memory other held others many (sym w.1 ∙ e)
+  pub own_tells : TellsWholly own_code own_code
+  own_tells memory other held others many e =
+      let w = own_cut memory held in cut_tells w.0 memory other held others many (sym w.1 ∙ e)

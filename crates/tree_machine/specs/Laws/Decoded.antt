@@ -66,13 +66,13 @@ held_are_some P (Some x) (Some y) k = refl
 
 module _ {Machine Memory Place Form : Type 0} (rules : Rules Memory Place)
     (form_of : Memory → List (Option Place) → Form) (form_code : Form → List ℕ)
-    (whole_code : Memory → List (Option Place) → List ℕ) (decodes : DecodesForms rules form_of form_code whole_code)
+    (own_code : Memory → List (Option Place) → List ℕ) (decodes : DecodesForms rules form_of form_code own_code)
     (s c : State Machine Memory Place Form) (range : AreNumbersInRange rules s)
-    (same : state_code whole_code c ≡ named_code form_code form_of s) where
+    (same : state_code own_code c ≡ named_code form_code form_of s) where
   pieces : (c.steps ≡ 0)
       × ◌≡◌ {A = FormContent (List ℕ)}
       (record {
-        form = whole_code c.memory (places_of c.threads);
+        form = own_code c.memory (places_of c.threads);
         replies = replies_of c.threads;
         notes = notes_of c.threads;
         astray = c.astray;
@@ -85,7 +85,7 @@ module _ {Machine Memory Place Form : Type 0} (rules : Rules Memory Place)
       })
   pieces =
       let whole : FormContent (List ℕ) = record {
-        form = whole_code c.memory (places_of c.threads);
+        form = own_code c.memory (places_of c.threads);
         replies = replies_of c.threads;
         notes = notes_of c.threads;
         astray = c.astray;

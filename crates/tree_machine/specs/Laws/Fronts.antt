@@ -231,10 +231,10 @@ module _ (fixed : ℕ) (front : Front) (t : Parts) (h : ArePartsInRange fixed t)
     pub canonical_own : canonical_parts fixed t ≡ t
     canonical_own =
         let met = walk_met fixed t h in
-        let few =
+        let bounded =
         length-le_from_distinct_below (met_nodes fixed t) (length t.nodes) met.nodes_distinct
         (all_has (λ x. x < length t.nodes) (met_nodes fixed t) met.nodes_below) in
-        let few_records =
+        let records_bounded =
         length-le_from_distinct_below (met_records fixed t) (length t.records) met.records_distinct
         (all_has (λ x. x < length t.records) (met_records fixed t) met.records_below) in
         let many =
@@ -250,10 +250,10 @@ module _ (fixed : ℕ) (front : Front) (t : Parts) (h : ArePartsInRange fixed t)
         (λ y. renamed_part (met_nodes fixed t) (met_records fixed t) (part_at t.records y)) in
         let nodes =
         whole (canonical_parts fixed t).nodes t.nodes front.nodes all_nodes
-        (omega (arith, few, many, long, length-numbers_from 0 front.nodes)) front_nodes_own in
+        (omega (arith, bounded, many, long, length-numbers_from 0 front.nodes)) front_nodes_own in
         let records =
         whole (canonical_parts fixed t).records t.records front.records all_records
-        (omega (arith, few_records, many_records, long_records, length-numbers_from 0 front.records))
+        (omega (arith, records_bounded, many_records, long_records, length-numbers_from 0 front.records))
         front_records_own in
         let held =
         own_parts front.nodes front.records (met_nodes fixed t) (met_records fixed t) met.nodes_distinct

@@ -21,15 +21,15 @@ numbers_front a (suc n) (suc k) l =
     let e = numbers_front (suc a) n k (omega arith) in record { rest = e.rest; is = ap (λ xs. a ∷ xs) e.is }
 
 -- parts that are named by own numbers are written as they are
-module _ (k : ℕ) (s : Parts) (fixed : ℕ) (range : ArePartsInRange fixed s) (nodes_few : length s.nodes ≤ k)
-    (records_few : length s.records ≤ k) where
+module _ (k : ℕ) (s : Parts) (fixed : ℕ) (range : ArePartsInRange fixed s) (nodes_bounded : length s.nodes ≤ k)
+    (records_bounded : length s.records ≤ k) where
   own_numbers : (p : Part) → IsPartBelow (length s.nodes) (length s.records) p
       → renamed_part (numbers_from 0 k) (numbers_from 0 k) p ≡ p
   own_numbers =
       let d : IsDistinct nat_eq (numbers_from 0 k) =
       subst (IsDistinct nat_eq) (append-nil (numbers_from 0 k)) (numbers_distinct 0 k k 0 (omega arith)) in
       own_part (length s.nodes) (length s.records) (numbers_from 0 k) (numbers_from 0 k) d d
-      (numbers_front 0 (length s.nodes) k nodes_few) (numbers_front 0 (length s.records) k records_few)
+      (numbers_front 0 (length s.nodes) k nodes_bounded) (numbers_front 0 (length s.records) k records_bounded)
 
   pub own_held : map (renamed_part (numbers_from 0 k) (numbers_from 0 k)) s.held ≡ s.held
   own_held = go s.held (recursion_from_All _ _ range.held)
@@ -43,7 +43,7 @@ module _ (k : ℕ) (s : Parts) (fixed : ℕ) (range : ArePartsInRange fixed s) (
       (map (λ x. renamed_part (numbers_from 0 k) (numbers_from 0 k) (part_at s.nodes x)) (numbers_from 0 k)) ≡ s.nodes
   own_nodes =
       first_parts (λ x. renamed_part (numbers_from 0 k) (numbers_from 0 k) (part_at s.nodes x)) (length s.nodes)
-      (numbers_from 0 k) s.nodes (numbers_front 0 (length s.nodes) k nodes_few) (omega arith)
+      (numbers_from 0 k) s.nodes (numbers_front 0 (length s.nodes) k nodes_bounded) (omega arith)
       (λ i l. own_numbers (part_at s.nodes i)
       (part_all (IsPartBelow (length s.nodes) (length s.records)) s.nodes (recursion_from_All _ _ range.nodes) i l))
       ∙ take-length s.nodes
@@ -53,7 +53,7 @@ module _ (k : ℕ) (s : Parts) (fixed : ℕ) (range : ArePartsInRange fixed s) (
       ≡ s.records
   own_records =
       first_parts (λ y. renamed_part (numbers_from 0 k) (numbers_from 0 k) (part_at s.records y)) (length s.records)
-      (numbers_from 0 k) s.records (numbers_front 0 (length s.records) k records_few) (omega arith)
+      (numbers_from 0 k) s.records (numbers_front 0 (length s.records) k records_bounded) (omega arith)
       (λ i l. own_numbers (part_at s.records i)
       (part_all (IsPartBelow (length s.nodes) (length s.records)) s.records (recursion_from_All _ _ range.records) i l))
       ∙ take-length s.records

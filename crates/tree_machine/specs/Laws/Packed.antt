@@ -59,10 +59,10 @@ not_one reply n least =
 -- the digits of the number of some replies are these
 pub digits_of_number : (most : ℕ) (replies : List Bool) → length replies ≤ most
     → digits_of most (replies_number replies) ≡ replies
-digits_of_number zero [] few = refl
-digits_of_number zero (reply ∷ replies) few = absurd (omega arith)
-digits_of_number (suc most) [] few = refl
-digits_of_number (suc most) (reply ∷ replies) few =
+digits_of_number zero [] bounded = refl
+digits_of_number zero (reply ∷ replies) bounded = absurd (omega arith)
+digits_of_number (suc most) [] bounded = refl
+digits_of_number (suc most) (reply ∷ replies) bounded =
     let rest : digits_of most (replies_number replies) ≡ replies =
     digits_of_number most replies (omega arith) in
     rw (
@@ -76,10 +76,10 @@ digits_of_number (suc most) (reply ∷ replies) few =
 
 -- a number from 2 ^ k on and below 2 * 2 ^ k has k digits below its leading one
 pub digits_length : (most k n : ℕ) → k ≤ most → 2 ^ k ≤ n → n < 2 * 2 ^ k → length (digits_of most n) ≡ k
-digits_length zero k n few reaches below = omega arith
-digits_length (suc most) zero n few reaches below =
+digits_length zero k n bounded reaches below = omega arith
+digits_length (suc most) zero n bounded reaches below =
     elim (leb_tells n 1) [ inl t ↦ rw t.0 refl | inr t ↦ absurd (omega (arith, t.1)) ]
-digits_length (suc most) (suc k) n few reaches below =
+digits_length (suc most) (suc k) n bounded reaches below =
     elim (leb_tells n 1) [
       | inl t ↦ absurd (omega (arith, doubled k, pow_pos k, t.1))
       | inr t ↦
@@ -133,19 +133,19 @@ replies_back n least below = number_of_digits 6 n least below
 
 pub replies_of_number : (replies : List Bool) → length replies ≤ 6 → replies_in (replies_number replies) ≡ replies
 unfolding replies_in
-replies_of_number replies few = digits_of_number 6 replies few
+replies_of_number replies bounded = digits_of_number 6 replies bounded
 
 pub replies_length : (k n : ℕ) → k ≤ 6 → 2 ^ k ≤ n → n < 2 * 2 ^ k → length (replies_in n) ≡ k
 unfolding replies_in
-replies_length k n few reaches below = digits_length 6 k n few reaches below
+replies_length k n bounded reaches below = digits_length 6 k n bounded reaches below
 
 pub reply_at : (n i : ℕ) → i < length (replies_in n) → slice_get (replies_in n) i ≡ Some (nat_eq (bit_at n i) 1)
 unfolding replies_in
 reply_at n i within = digit_at 6 n i within
 
 -- a number of replies reaches no seventh power
-pub power_few : (k n : ℕ) → 2 ^ k ≤ n → n < 128 → k ≤ 6
-power_few k n reaches below =
+pub power_bounded : (k n : ℕ) → 2 ^ k ≤ n → n < 128 → k ≤ 6
+power_bounded k n reaches below =
     elim (leb_tells k 6) [
       | inl t ↦ t.1
       | inr t ↦ let power : 2 ^ 7 ≤ 2 ^ k = pow_mono t.1 in absurd (omega arith)
@@ -155,7 +155,7 @@ power_few k n reaches below =
 pub reply_pushed : (n : ℕ) (reply : Bool) → 0 < n → n < 128 → length (replies_in n) < 6
     → replies_in (n + (if reply then 2 * 2 ^ length (replies_in n) else 2 ^ length (replies_in n)))
     ≡ replies_in n ++ reply ∷ []
-reply_pushed n reply least below few =
+reply_pushed n reply least below bounded =
     let replies = replies_in n in
     let is_number : replies_number replies ≡ n = replies_back n least below in
     let more : replies_number (replies ++ reply ∷ [])
@@ -168,7 +168,7 @@ reply_pushed n reply least below few =
 -- and it is one of replies
 pub pushed_below : (n : ℕ) (reply : Bool) → 0 < n → n < 128 → length (replies_in n) < 6
     → n + (if reply then 2 * 2 ^ length (replies_in n) else 2 ^ length (replies_in n)) < 128
-pushed_below n reply least below few =
+pushed_below n reply least below bounded =
     let replies = replies_in n in
     let is_number : replies_number replies ≡ n = replies_back n least below in
     let more = one_reply_more replies reply in
@@ -182,11 +182,11 @@ pushed_below n reply least below few =
 pub pushed : (n more count : ℕ) (reply : Bool) (old : List Bool) → replies_in n ≡ old → 0 < n → n < 128
     → length old < 6 → count ≡ length old → more ≡ (if reply then 2 * 2 ^ count else 2 ^ count)
     → (n + more < 128) × (replies_in (n + more) ≡ old ++ reply ∷ [])
-pushed n more count reply old is least below few counted added =
+pushed n more count reply old is least below bounded counted added =
     let same : count ≡ length (replies_in n) = counted ∙ ap length (sym is) in
     let more_is : more ≡ (if reply then 2 * 2 ^ length (replies_in n) else 2 ^ length (replies_in n)) =
     added ∙ ap (λ k. if reply then 2 * 2 ^ k else 2 ^ k) same in
-    let room : length (replies_in n) < 6 = subst (λ (l : List Bool). length l < 6) (sym is) few in (
+    let room : length (replies_in n) < 6 = subst (λ (l : List Bool). length l < 6) (sym is) bounded in (
       subst (λ k. n + k < 128) (sym more_is) (pushed_below n reply least below room),
       ap (λ k. replies_in (n + k)) more_is ∙ (reply_pushed n reply least below room ∙ ap (λ l. l ++ reply ∷ []) is),
     )

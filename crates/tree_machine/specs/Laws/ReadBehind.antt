@@ -10,13 +10,13 @@ use Rattle.tree_machine.specs.declared.front.Front.{Front}
 use Rattle.tree_machine.specs.declared.state.Thread.{Thread}
 
 -- values of which the first n stayed, and the others were read
-module _ {A : Type 0} (part : A → Part) (n : ℕ) (old more now : List A) (few : n ≤ length old)
+module _ {A : Type 0} (part : A → Part) (n : ℕ) (old more now : List A) (bounded : n ≤ length old)
     (e : now ≡ take n old ++ more) where
   pub drop_read : drop n (map part now) ≡ map part more
-  drop_read = ap (λ xs. drop n (map part xs)) e ∙ drop_front part n old more few
+  drop_read = ap (λ xs. drop n (map part xs)) e ∙ drop_front part n old more bounded
 
   pub take_kept : take n (map part now) ≡ take n (map part old)
-  take_kept = ap (λ xs. take n (map part xs)) e ∙ take_front part n old more few
+  take_kept = ap (λ xs. take n (map part xs)) e ∙ take_front part n old more bounded
 
 -- what comes behind the front
 pub behind_read : {Place : Type 0} (part : Option Place → Part) (front : Front) (nodes records more others : List Part)

@@ -17,7 +17,7 @@ short_parts counts h =
     let parts = both (nat_le (length counts) 4) (are_digits counts) h in (leb-true (length counts) 4 parts.0, parts.1)
 
 pub short_of : (counts : List ℕ) → length counts ≤ 4 → are_digits counts ≡ true → is_short counts ≡ true
-short_of counts few digits = ap₂ ◌&&◌ (le-leb (length counts) 4 few) digits
+short_of counts bounded digits = ap₂ ◌&&◌ (le-leb (length counts) 4 bounded) digits
 
 pub digits_more : (counts : List ℕ) (count : ℕ) → are_digits counts ≡ true → count < 8
     → are_digits (counts ++ count ∷ []) ≡ true
@@ -87,7 +87,7 @@ counts_of_number (a ∷ b ∷ c ∷ d ∷ []) h =
     let four : n / 512 % 8 ≡ d = omega (arith, first.0, second.0, third.0, fourth.0) in
     rw (count, one, two, three, four) refl
 counts_of_number (a ∷ b ∷ c ∷ d ∷ e ∷ counts) h =
-    let few = (short_parts (a ∷ b ∷ c ∷ d ∷ e ∷ counts) h).0 in absurd (omega (arith, few))
+    let bounded = (short_parts (a ∷ b ∷ c ∷ d ∷ e ∷ counts) h).0 in absurd (omega (arith, bounded))
 
 -- a number with no digit behind its k counts is that of its counts
 pub number_of_counts : (n k : ℕ) → n / 4096 ≡ k → n < 20480 → n % 4096 / 2 ^ (3 * k) ≡ 0
@@ -130,7 +130,7 @@ number_below (a ∷ b ∷ c ∷ d ∷ []) h =
     let fourth = digit_of d _ third.1 in
     omega (arith, first.0, second.0, third.0, fourth.0)
 number_below (a ∷ b ∷ c ∷ d ∷ e ∷ counts) h =
-    let few = (short_parts (a ∷ b ∷ c ∷ d ∷ e ∷ counts) h).0 in absurd (omega (arith, few))
+    let bounded = (short_parts (a ∷ b ∷ c ∷ d ∷ e ∷ counts) h).0 in absurd (omega (arith, bounded))
 
 -- each digit of the number of a note is its count, and none where it has none
 pub counts_at : (counts : List ℕ) → is_short counts ≡ true
@@ -161,7 +161,7 @@ counts_at (a ∷ b ∷ c ∷ d ∷ []) h =
     let fourth = (digit_of d _ most.1).0 in
     (omega arith, omega arith, omega arith, omega arith)
 counts_at (a ∷ b ∷ c ∷ d ∷ e ∷ counts) h =
-    let few = (short_parts (a ∷ b ∷ c ∷ d ∷ e ∷ counts) h).0 in absurd (omega (arith, few))
+    let bounded = (short_parts (a ∷ b ∷ c ∷ d ∷ e ∷ counts) h).0 in absurd (omega (arith, bounded))
 
 pub length_of_number : (counts : List ℕ) → is_short counts ≡ true → note_number counts / 4096 ≡ length counts
 length_of_number [] h = omega arith
@@ -189,4 +189,4 @@ length_of_number (a ∷ b ∷ c ∷ d ∷ []) h =
     let fourth = (digit_of d _ most.1).0 in
     omega arith
 length_of_number (a ∷ b ∷ c ∷ d ∷ e ∷ counts) h =
-    let few = (short_parts (a ∷ b ∷ c ∷ d ∷ e ∷ counts) h).0 in absurd (omega (arith, few))
+    let bounded = (short_parts (a ∷ b ∷ c ∷ d ∷ e ∷ counts) h).0 in absurd (omega (arith, bounded))

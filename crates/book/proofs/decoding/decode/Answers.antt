@@ -12,8 +12,8 @@ returns g c =
     record {
       read = cut;
       stands = (λ merge program limits s fits is. read_stands (g.M.Machine.rules c.args.machine) program
-          g.M.Encode.whole_code g.M.Encode.form_code (g.M.Machine.form_of c.args.machine)
+          g.M.Encode.own_code g.M.Encode.form_code (g.M.Machine.form_of c.args.machine)
           (state_code (cut_code g.M.Encode.front_code g.M.Encode.behind_code offsets.front) twin) twin
-          (law.whole offsets.front) (law.named offsets.front) c.args.label.now
+          (law.own offsets.front) (law.named offsets.front) c.args.label.now
           cut.written merge s fits is);
     }

@@ -12,7 +12,7 @@ loop-thread-init g c =
     let m = machine_of {Machine = g.row.M.Denot} {Form = g.row.M-Form.Denot} rules from.program in
     let right = IsFindingOf {Machine = g.row.M.Denot} {Form = g.row.M-Form.Denot} rules from.program in
     let label_of =
-    label_in g.M.Machine.rules g.M.Encode.whole_code g.M.Encode.form_code g.M.Machine.form_of from in
+    label_in g.M.Machine.rules g.M.Encode.own_code g.M.Encode.form_code g.M.Machine.form_of from in
     record {
       state = refl;
       front = (λ of fits is. rw c.in_ok-steps.ensures.list (front_by_none m right of label_of));
@@ -32,7 +32,7 @@ loop-thread-preserved g c =
     let m = machine_of {Machine = g.row.M.Denot} {Form = g.row.M-Form.Denot} rules from.program in
     let right = IsFindingOf {Machine = g.row.M.Denot} {Form = g.row.M-Form.Denot} rules from.program in
     let label_of =
-    label_in g.M.Machine.rules g.M.Encode.whole_code g.M.Encode.form_code g.M.Machine.form_of from in
+    label_in g.M.Machine.rules g.M.Encode.own_code g.M.Encode.form_code g.M.Machine.form_of from in
     record {
       state = c.in_ok-put_step_here.ensures.state ∙ c.loop-thread.invariant.state;
       front = (λ of fits is. front_by_put m right of label_of c.loop-thread.thread c.loop-thread.steps.items
@@ -52,7 +52,7 @@ returns-clause-steps g c =
     let m = machine_of {Machine = g.row.M.Denot} {Form = g.row.M-Form.Denot} rules program in
     let right = IsFindingOf {Machine = g.row.M.Denot} {Form = g.row.M-Form.Denot} rules program in
     let label_of =
-    label_in g.M.Machine.rules g.M.Encode.whole_code g.M.Encode.form_code g.M.Machine.form_of from in
+    label_in g.M.Machine.rules g.M.Encode.own_code g.M.Encode.form_code g.M.Machine.form_of from in
     let steps = c.loop-thread.steps.items in
     let most : c.loop-thread.thread ≤ length c.threads-threads.result.now = c.loop-thread.auto.thread-end in
     let least : length c.threads-threads.result.now ≤ c.loop-thread.thread = c.loop-thread-test.false in

@@ -8,8 +8,8 @@ pub loop-note-preserved : goal.loop-note-preserved
 loop-note-preserved c =
     let t = c.args.name.thread in
     let index = c.args.name.index in
-    let few : c.count_of.result ≤ index = c.if-count_of-name.false in
-    let here : slice_index c.note-item.result t ≤ index = subst (λ n. n ≤ index) c.count_of.ensures few in
+    let bounded : c.count_of.result ≤ index = c.if-count_of-name.false in
+    let here : slice_index c.note-item.result t ≤ index = subst (λ n. n ≤ index) c.count_of.ensures bounded in
     All-more (λ (note : List ℕ). slice_index note t ≤ index) c.args.notes.now c.loop-note.note-index c.note-item.result
     c.loop-note-test.true c.loop-note.invariant
     (subst (λ (note : List ℕ). slice_index note t ≤ index) c.note-item.is here)

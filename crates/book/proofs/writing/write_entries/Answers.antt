@@ -38,5 +38,5 @@ returns g c =
     let past : c.len-index-end.result ≤ c.loop-index.index = c.loop-index-test.false in
     let end : c.len-index-end.result ≡ length entries = c.len-index-end.ensures in
     let all : take c.loop-index.index entries ≡ entries = take_all c.loop-index.index entries (omega arith) in
-    written_all entries c.loop-index.text.items c.requires.some c.requires.few
+    written_all entries c.loop-index.text.items c.requires.some c.requires.bounded
     (subst (λ es. HasWritten (length entries) es c.loop-index.text.items) all c.loop-index.invariant)

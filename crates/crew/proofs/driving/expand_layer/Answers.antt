@@ -15,8 +15,9 @@ layer-init g c =
           done = stands.done;
           sound = (λ i e at _. none_unsound b.entries c.requires.sound i e at);
         };
-        fresh = (λ i e at deep. let few : e.state.steps ≤ c.args.depth = stands.shallow i e at in absurd (omega arith));
-        shallow = (λ i e at. let few : e.state.steps ≤ c.args.depth = stands.shallow i e at in omega arith);
+        fresh = (λ i e at deep. let bounded : e.state.steps ≤ c.args.depth = stands.shallow i e at in
+            absurd (omega arith));
+        shallow = (λ i e at. let bounded : e.state.steps ≤ c.args.depth = stands.shallow i e at in omega arith);
       };
     }
 
@@ -26,9 +27,9 @@ returns-clause-next g c =
     record {
       none_taken = here.none_taken;
       done = (λ i e at less. c.is_left_to.ensures.none c.layer-test.false i e at
-          (let few : e.state.steps < c.args.depth + 1 = less in omega arith));
+          (let bounded : e.state.steps < c.args.depth + 1 = less in omega arith));
       fresh = here.fresh;
       shallow = here.shallow;
       sound = (λ i e at less. here.through.sound i e at
-          (let few : e.state.steps < c.args.depth + 1 = less in omega arith));
+          (let bounded : e.state.steps < c.args.depth + 1 = less in omega arith));
     }

@@ -25,7 +25,7 @@ returns-in-Names g c =
             (every_counted test es (sym counts ∙ eqb-true c.count_to.result c.len.result h ∙ all) i e at)),
       )),
       (λ rest. eq-eqb c.count_to.result c.len.result (counts ∙ count_every test es (λ i e at. le-leb e.state.steps n
-          (let few : e.state.steps ≤ rest.1 = rest.3 i e at in let same : c.args.steps ≡ rest.1 + 1 = rest.2 in
+          (let bounded : e.state.steps ≤ rest.1 = rest.3 i e at in let same : c.args.steps ≡ rest.1 + 1 = rest.2 in
           omega arith)) ∙ sym all)),
     )
 

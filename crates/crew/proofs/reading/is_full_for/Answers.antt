@@ -14,7 +14,7 @@ of-requires-clause-steps_fit g c κs within =
     let own = c.requires.own in
     let steps : own.0.state.steps ≡ c.args.state.now.steps =
     ap (λ (q : State g.row.M.Denot g.row.M-Mem.Denot g.row.M-Loc.Denot g.row.M-Form.Denot). q.steps) own.2 in
-    let few : own.0.state.steps < b.limit =
+    let bounded : own.0.state.steps < b.limit =
     entry_steps g.M.Machine.rules b law.machine law.test law.findings law.law c.args.id own.0 own.1 in
     let limit : b.limit ≤ 2000000 = law.law.limit in
     omega arith

@@ -6,7 +6,7 @@ use Rattle.crew.proofs.reading.is_sound_to.Goals as goal
 
 pub returns-in-None : goal.returns-in-None
 returns-in-None g c = (
-  (λ _ i e at few. none_unsound c.args.book.now.entries (sym c.first_fault.ensures ∙ c.in-None.is) i e at),
+  (λ _ i e at bounded. none_unsound c.args.book.now.entries (sym c.first_fault.ensures ∙ c.in-None.is) i e at),
   (λ _. refl),
 )
 

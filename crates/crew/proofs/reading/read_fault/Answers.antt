@@ -20,7 +20,7 @@ returns-then-length-from-clause-some g c =
     elim c.then-length-from.branch [
       | then-length-from-via-then-length-from w
           ↦ absurd (let over : c.from.result < c.len-length.result = w.if-length-from.true in
-          let few : length v.items ≤ c.args.steps = last.0 in
+          let bounded : length v.items ≤ c.args.steps = last.0 in
           let from : c.from.result ≡ c.args.steps = c.from.ensures in omega arith)
       | then-length-from-via-else-length-from+then-not-is_last_layer w
           ↦ absurd
@@ -35,7 +35,7 @@ returns-clause-read_off g c =
     let law = c.law.ensures in
     let v = c.in_ok-schedule.schedule in
     let le : c.len-length.result ≤ c.args.steps =
-    (let few : c.len-length.result ≤ c.from.result = c.if-length-from.false in
+    (let bounded : c.len-length.result ≤ c.from.result = c.if-length-from.false in
     let from : c.from.result ≡ c.args.steps = c.from.ensures in omega arith) in
     fault_read_off g.M.Machine.rules c.args.book.now law.machine law.test law.findings law.law c.args.id
     c.requires v c.in_ok-schedule.ensures.leads _ c.fault_at-finding.ensures

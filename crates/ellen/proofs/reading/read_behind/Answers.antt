@@ -9,7 +9,7 @@ returns c =
     let front = c.args.front in
     let old = c.into_vec-nodes.result in
     let kept = c.into_vec-records.result in
-    let few : front.nodes ≤ length old.items =
+    let bounded : front.nodes ≤ length old.items =
     omega (arith, c.if-len-from.false, c.len.ensures, c.from.ensures, old.ok.0) in
     let less : front.records ≤ length kept.items =
     omega (arith, c.if-len-from-2.false, c.len-else-len-from.ensures, c.from-else-len-from.ensures, kept.ok.0) in
@@ -26,7 +26,7 @@ returns c =
           let left = read is in
           behind_read held_part front (map node_part node_list) (map record_part record_list) (map node_part left.0)
           (map record_part left.1) c.read_each.new.threads c.args.bytes.now c.in-Some.rest.now
-          (drop_read node_part front.nodes old.items left.0 node_list few
+          (drop_read node_part front.nodes old.items left.0 node_list bounded
           (c.from_vec.ensures ∙ left.2 ∙ ap (λ l. l ++ left.0) cut))
           (drop_read record_part front.records kept.items left.1 record_list less
           (c.from_vec-2.ensures ∙ left.3 ∙ ap (λ l. l ++ left.1) short)) places left.4)
@@ -36,7 +36,7 @@ returns c =
           let left = read is in
           front_kept front (map node_part node_list) (map record_part record_list) (map node_part old.items)
           (map record_part kept.items) []
-          (take_kept node_part front.nodes old.items left.0 node_list few
+          (take_kept node_part front.nodes old.items left.0 node_list bounded
           (c.from_vec.ensures ∙ left.2 ∙ ap (λ l. l ++ left.0) cut))
           (take_kept record_part front.records kept.items left.1 record_list less
           (c.from_vec-2.ensures ∙ left.3 ∙ ap (λ l. l ++ left.1) short))

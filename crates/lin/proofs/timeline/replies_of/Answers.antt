@@ -16,7 +16,7 @@ loop-i-init c =
     record {
       count = refl;
       replies =
-          λ a d has. get_or-replicate 32 (place_of a) None d (let few = has.0 in let short = has.1 in omega arith)
+          λ a d has. get_or-replicate 32 (place_of a) None d (let bounded = has.0 in let short = has.1 in omega arith)
           ∙ ap (λ xs. value_at xs a) (sym e);
     }
 
@@ -33,7 +33,7 @@ loop-i-preserved c =
     finished_has_place c.args.history.now c.finished-finished.ensures.events finished (c.loop-i.i - 1) nothing
     c.finished-finished.ensures.value (omega arith) in
     let P : Option Bool → Option Bool → Type 0 = λ o r. r ≡ o in
-    let in_table : c.place_of.result < length c.loop-i.replies = let few = has.0 in
+    let in_table : c.place_of.result < length c.loop-i.replies = let bounded = has.0 in
     let short = has.1 in omega (arith, c.place_of.ensures.value, c.loop-i.invariant.count) in
     record {
       count = length-set c.loop-i.replies c.place_of.result (Some x.1) ∙ c.loop-i.invariant.count;

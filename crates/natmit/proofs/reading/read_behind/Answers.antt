@@ -10,7 +10,7 @@ returns c =
     let front = c.args.front in
     let old = c.into_vec-nodes.result in
     let nodes = c.from_vec.result in
-    let few : front.nodes ≤ length old.items =
+    let bounded : front.nodes ≤ length old.items =
     omega (arith, c.if-len-from.false, c.len.ensures, c.from.ensures, old.ok.0) in
     let cut = c.truncate.ensures.items ∙ ap (λ n. take n old.items) c.from-2.ensures in
     record {
@@ -19,7 +19,7 @@ returns c =
           let left = read is in
           let now = c.from_vec.ensures ∙ left.1 ∙ ap (λ l. l ++ left.0) cut in
           behind_read held_part front (map node_part nodes) [] (map node_part left.0) [] c.read_places.new.threads
-          c.args.bytes.now c.in-Some.rest.now (drop_read node_part front.nodes old.items left.0 nodes few now)
+          c.args.bytes.now c.in-Some.rest.now (drop_read node_part front.nodes old.items left.0 nodes bounded now)
           (drop_none front.records) c.in-Some.ensures.read left.2)
           c.read_left-read.ensures;
       front = IfOk-weaker c.read_left-read.result _ _
@@ -27,7 +27,7 @@ returns c =
           let left = read is in
           let now = c.from_vec.ensures ∙ left.1 ∙ ap (λ l. l ++ left.0) cut in
           front_kept front (map node_part nodes) [] (map node_part old.items) [] []
-          (take_kept node_part front.nodes old.items left.0 nodes few now) refl
+          (take_kept node_part front.nodes old.items left.0 nodes bounded now) refl
           ∙ ap (λ nodes. natmit_front_code front (record { nodes = nodes }))
           (c.into_vec-nodes.ensures ∙ c.replace.ensures.value))
           c.read_left-read.ensures;

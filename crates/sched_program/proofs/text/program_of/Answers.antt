@@ -1,7 +1,7 @@
 use Rattle.std.proofs.Common.{rules, ◌≢◌, ◌∷◌, [], AllPairs}
 use Rattle.serde_json.specs.View.{view}
 use Rattle.sched_program.specs.declared.fault.ProgramFault.TheVariants as fault
-use Rattle.sched_program.proofs.Members.{not_distinct, few_keys, limits_met, passes_to_threads, threads_pass}
+use Rattle.sched_program.proofs.Members.{not_distinct, keys_bounded, limits_met, passes_to_threads, threads_pass}
 use Rattle.sched_program.proofs.text.program_of.Goals as goal
 
 pub returns-then-not-is_distinct-clause-err : goal.returns-then-not-is_distinct-clause-err
@@ -16,7 +16,7 @@ returns-then-not-is_distinct-clause-err c =
           (c.in-Some.version, c.in-Some.ensures.found),
           (
             (c.in-Some-tree_of.tree, c.in-Some-tree_of.ensures.found),
-            (few_keys value c.in_ok-initial.initial initial.0 initial.1, tt),
+            (keys_bounded value c.in_ok-initial.initial initial.0 initial.1, tt),
           ),
         ),
       );

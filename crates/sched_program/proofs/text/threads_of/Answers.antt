@@ -11,9 +11,13 @@ pub returns-in-Some-2-clause-ok : goal.returns-in-Some-2-clause-ok
 returns-in-Some-2-clause-ok c =
     let threads = view c.in-Some.threads.now in
     let list = rw c.in-Some-2.is at c.in_ok-threads.ensures.found in
-    let few = within (IsListOf IsOp) threads c.in-Some-2.threads 1 4 list c.in-Some.ensures.found.1 in
-    let counts : HasOpCounts threads = rw c.if-not-branch.false at c.in_ok-has_op_counts.ensures in
-    ((threads, c.in-Some.ensures.found.0, list), few.0, few.1, thread_counts threads c.in-Some-2.threads list counts)
+    let bounded = within (IsListOf IsOp) threads c.in-Some-2.threads 1 4 list c.in-Some.ensures.found.1 in
+    let counts : HasOpCounts threads = rw c.if-not-branch.false at c.in_ok-has_op_counts.ensures in (
+      (threads, c.in-Some.ensures.found.0, list),
+      bounded.0,
+      bounded.1,
+      thread_counts threads c.in-Some-2.threads list counts,
+    )
 
 pub returns-in-None-clause-err : goal.returns-in-None-clause-err
 returns-in-None-clause-err c =

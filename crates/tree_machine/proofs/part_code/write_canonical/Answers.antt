@@ -4,8 +4,8 @@ use Rattle.std.proofs.lemmas.List.Elements.{All-from_recursion, All-take}
 use Rattle.tree_machine.specs.Canonical.{parts_by}
 use Rattle.tree_machine.specs.Flat.{parts_code}
 use Rattle.tree_machine.specs.Written.{Written}
-use Rattle.tree_machine.specs.Laws.Canonical.{front_nodes_few, front_records_few, walk_met}
-use Rattle.tree_machine.proofs.Numbered.{order_few}
+use Rattle.tree_machine.specs.Laws.Canonical.{front_nodes_bounded, front_records_bounded, walk_met}
+use Rattle.tree_machine.proofs.Numbered.{order_bounded}
 use Rattle.tree_machine.proofs.PartsWritten.{whole_written}
 use Rattle.tree_machine.proofs.part_code.write_canonical.Goals as goal
 
@@ -16,29 +16,29 @@ write_graph-requires g c =
     let others = ap (λ (w : Written). w.record_order) c.behind-writer.ensures ∙ c.in_ok-queue-2.ensures.records in
     let nodes = c.len-front_nodes.ensures ∙ ap length c.in_ok-queue.ensures.nodes in
     let records = c.len-front_records.ensures ∙ ap length c.in_ok-queue.ensures.records in
-    let few = front_nodes_few c.args.fixed s c.requires in
-    let less = front_records_few c.args.fixed s c.requires in
+    let bounded = front_nodes_bounded c.args.fixed s c.requires in
+    let less = front_records_bounded c.args.fixed s c.requires in
     record {
       in_range = search rules;
       nodes = search rules;
       records = search rules;
       node_order = search rules;
       record_order = search rules;
-      nodes_within = omega (arith, nodes, ap length order, few);
+      nodes_within = omega (arith, nodes, ap length order, bounded);
       records_within = omega (arith, records, ap length others, less);
-      few_nodes = omega (
+      nodes_bounded = omega (
         arith,
         nodes,
-        few,
+        bounded,
         ap length c.in_ok-queue-2.ensures.nodes,
-        order_few c.in_ok-queue-2.names.nodes,
+        order_bounded c.in_ok-queue-2.names.nodes,
       );
-      few_records = omega (
+      records_bounded = omega (
         arith,
         records,
         less,
         ap length c.in_ok-queue-2.ensures.records,
-        order_few c.in_ok-queue-2.names.records,
+        order_bounded c.in_ok-queue-2.names.records,
       );
       known =
           subst (λ o. All (λ x. x < length s.nodes) (take c.len-front_nodes.result o)) (sym order)
@@ -61,16 +61,16 @@ write_behind_front-requires g c =
         arith,
         c.len-front_nodes.ensures ∙ ap length c.in_ok-queue.ensures.nodes,
         order ∙ ap length c.in_ok-queue-2.ensures.nodes,
-        front_nodes_few c.args.fixed s c.requires,
+        front_nodes_bounded c.args.fixed s c.requires,
       );
       front_records = omega (
         arith,
         c.len-front_records.ensures ∙ ap length c.in_ok-queue.ensures.records,
         others ∙ ap length c.in_ok-queue-2.ensures.records,
-        front_records_few c.args.fixed s c.requires,
+        front_records_bounded c.args.fixed s c.requires,
       );
-      few_nodes = omega (arith, order, order_few c.in_ok-queue-2.names.nodes);
-      few_records = omega (arith, others, order_few c.in_ok-queue-2.names.records);
+      nodes_bounded = omega (arith, order, order_bounded c.in_ok-queue-2.names.nodes);
+      records_bounded = omega (arith, others, order_bounded c.in_ok-queue-2.names.records);
       known = search rules;
     }
 

@@ -5,10 +5,10 @@ use Rattle.tree_machine.specs.Flat.{behind_code}
 use Rattle.tree_machine.specs.Graphs.{numbers_from}
 use Rattle.tree_machine.specs.Parts.{Part}
 use Rattle.tree_machine.specs.Written.{Written}
-use Rattle.tree_machine.specs.Laws.Canonical.{front_nodes_few, front_records_few}
+use Rattle.tree_machine.specs.Laws.Canonical.{front_nodes_bounded, front_records_bounded}
 use Rattle.tree_machine.specs.Laws.Fronts.{behind_all, least_is}
 use Rattle.tree_machine.specs.Laws.Graphs.{length-numbers_from}
-use Rattle.tree_machine.proofs.Numbered.{order_few}
+use Rattle.tree_machine.proofs.Numbered.{order_bounded}
 use Rattle.tree_machine.proofs.PartsWritten.{behind_written}
 use Rattle.tree_machine.proofs.part_code.write_canonical_behind.Goals as goal
 
@@ -65,16 +65,16 @@ write_behind_front-requires g c =
         arith,
         nodes,
         order ∙ ap length c.in_ok-queue.ensures.nodes,
-        front_nodes_few c.args.fixed s c.requires.in_range,
+        front_nodes_bounded c.args.fixed s c.requires.in_range,
       );
       front_records = omega (
         arith,
         records,
         others ∙ ap length c.in_ok-queue.ensures.records,
-        front_records_few c.args.fixed s c.requires.in_range,
+        front_records_bounded c.args.fixed s c.requires.in_range,
       );
-      few_nodes = omega (arith, order, order_few c.in_ok-queue.names.nodes);
-      few_records = omega (arith, others, order_few c.in_ok-queue.names.records);
+      nodes_bounded = omega (arith, order, order_bounded c.in_ok-queue.names.nodes);
+      records_bounded = omega (arith, others, order_bounded c.in_ok-queue.names.records);
       known = search rules;
     }
 

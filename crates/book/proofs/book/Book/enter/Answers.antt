@@ -14,9 +14,9 @@ enter_steps-requires-clause-steps g c =
     let are =
     c.in-Ok.ensures
     ∙ ap (λ (b : Contents g.row.M.Denot (State g.row.M.Denot g.row.M-Mem.Denot g.row.M-Loc.Denot g.row.M-Form.Denot)).
-    map (labelled (label_by {Machine = g.row.M.Denot} g.M.Encode.whole_code
+    map (labelled (label_by {Machine = g.row.M.Denot} g.M.Encode.own_code
     g.M.Encode.form_code (g.M.Machine.form_of x.machine) b.merge)) x.successors) c.self.view_is in
-    λ κs within e at. own_steps g.M.Machine.rules g.M.Encode.whole_code g.M.Encode.form_code g.M.Machine.form_of
+    λ κs within e at. own_steps g.M.Machine.rules g.M.Encode.own_code g.M.Encode.form_code g.M.Machine.form_of
     c.args.self.now
     c.args.id e at x c.in_default.ensures.admitted.1 c.law.ensures c.in-Ok.steps.items are
 
@@ -26,11 +26,11 @@ returns-clause-entered g c =
     let are =
     c.in-Ok.ensures
     ∙ ap (λ (b : Contents g.row.M.Denot (State g.row.M.Denot g.row.M-Mem.Denot g.row.M-Loc.Denot g.row.M-Form.Denot)).
-    map (labelled (label_by {Machine = g.row.M.Denot} g.M.Encode.whole_code
+    map (labelled (label_by {Machine = g.row.M.Denot} g.M.Encode.own_code
     g.M.Encode.form_code (g.M.Machine.form_of x.machine) b.merge)) x.successors) c.self.view_is in
     let admitted = c.in_default.ensures.admitted in
     let taken = admitted.0 in
-    entered_own g.M.Machine.rules g.M.Encode.whole_code g.M.Encode.form_code g.M.Machine.form_of c.args.self.now
+    entered_own g.M.Machine.rules g.M.Encode.own_code g.M.Encode.form_code g.M.Machine.form_of c.args.self.now
     c.args.id taken.0
     taken.1 x admitted.1 c.law.ensures c.in-Ok.steps.items are c.enter_steps.new.self c.enter_steps.result
     c.enter_steps.ensures.entered
@@ -41,10 +41,10 @@ returns-clause-refused g c =
     let are =
     c.in-Ok.ensures
     ∙ ap (λ (b : Contents g.row.M.Denot (State g.row.M.Denot g.row.M-Mem.Denot g.row.M-Loc.Denot g.row.M-Form.Denot)).
-    map (labelled (label_by {Machine = g.row.M.Denot} g.M.Encode.whole_code
+    map (labelled (label_by {Machine = g.row.M.Denot} g.M.Encode.own_code
     g.M.Encode.form_code (g.M.Machine.form_of x.machine) b.merge)) x.successors) c.self.view_is in
     let admitted = c.in_default.ensures.admitted in
     let taken = admitted.0 in
-    refused_own g.M.Machine.rules g.M.Encode.whole_code g.M.Encode.form_code g.M.Machine.form_of c.args.self.now
+    refused_own g.M.Machine.rules g.M.Encode.own_code g.M.Encode.form_code g.M.Machine.form_of c.args.self.now
     c.args.id taken.0
     taken.1 x admitted.1 c.law.ensures c.in-Ok.steps.items are taken c.enter_steps.result c.enter_steps.ensures.refused

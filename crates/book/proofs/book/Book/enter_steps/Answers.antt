@@ -5,7 +5,7 @@ use Rattle.book.specs.declared.entry.Mark.TheVariants.{Expanded}
 use Rattle.book.specs.Entries.{Entry}
 use Rattle.book.specs.Labels.{Kept, label_by}
 use Rattle.book.proofs.Labels.{known_mark}
-use Rattle.book.proofs.Putting.{book_entered, entered_few, enters, full_for, grown, here_enabled, is_taken_still}
+use Rattle.book.proofs.Putting.{book_entered, entered_bounded, enters, full_for, grown, here_enabled, is_taken_still}
 use Rattle.book.proofs.Putting.{met_is_small}
 use Rattle.book.proofs.book.Book.enter_steps.Goals as goal
 
@@ -19,7 +19,7 @@ overflow_sub-entered g c =
     let s = c.self.inside in
     let xs = c.args.steps.items in
     let label_of : State g.row.M.Denot g.row.M-Mem.Denot g.row.M-Loc.Denot g.row.M-Form.Denot → List ℕ =
-    label_by g.M.Encode.whole_code g.M.Encode.form_code (g.M.Machine.form_of s.machine) s.merge in
+    label_by g.M.Encode.own_code g.M.Encode.form_code (g.M.Machine.form_of s.machine) s.merge in
     let taken = rw (← c.self.view_is) at c.requires.taken in
     let steps = (rw (← c.self.view_is) at c.requires.steps) taken.0 taken.1 in
     let put = c.in-Ok.ensures.put label_of taken.0 c.self.invariant.1 taken.1 steps.labels in
@@ -32,11 +32,11 @@ overflow_sub-met g c =
     let s = c.self.inside in
     let xs = c.args.steps.items in
     let label_of : State g.row.M.Denot g.row.M-Mem.Denot g.row.M-Loc.Denot g.row.M-Form.Denot → List ℕ =
-    label_by g.M.Encode.whole_code g.M.Encode.form_code (g.M.Machine.form_of s.machine) s.merge in
+    label_by g.M.Encode.own_code g.M.Encode.form_code (g.M.Machine.form_of s.machine) s.merge in
     let taken = rw (← c.self.view_is) at c.requires.taken in
     let steps = (rw (← c.self.view_is) at c.requires.steps) taken.0 taken.1 in
     let put = c.in-Ok.ensures.put label_of taken.0 c.self.invariant.1 taken.1 steps.labels in
-    entered_few c.self.invariant.0 c.args.id taken.0 taken.1 xs steps taken.2 c.append.new.self.entries put.0
+    entered_bounded c.self.invariant.0 c.args.id taken.0 taken.1 xs steps taken.2 c.append.new.self.entries put.0
     c.len-was.result c.len.result c.len-count.result c.len-was.ensures c.len.ensures
     (c.len-count.ensures ∙ c.args.steps.ok.0)
 
@@ -45,7 +45,7 @@ mark_expanded-requires g c =
     let s = c.self.inside in
     let xs = c.args.steps.items in
     let label_of : State g.row.M.Denot g.row.M-Mem.Denot g.row.M-Loc.Denot g.row.M-Form.Denot → List ℕ =
-    label_by g.M.Encode.whole_code g.M.Encode.form_code (g.M.Machine.form_of s.machine) s.merge in
+    label_by g.M.Encode.own_code g.M.Encode.form_code (g.M.Machine.form_of s.machine) s.merge in
     let taken = rw (← c.self.view_is) at c.requires.taken in
     let steps = (rw (← c.self.view_is) at c.requires.steps) taken.0 taken.1 in
     let put = c.in-Ok.ensures.put label_of taken.0 c.self.invariant.1 taken.1 steps.labels in
@@ -57,7 +57,7 @@ overflow_add-self g c =
     let s = c.self.inside in
     let xs = c.args.steps.items in
     let label_of : State g.row.M.Denot g.row.M-Mem.Denot g.row.M-Loc.Denot g.row.M-Form.Denot → List ℕ =
-    label_by g.M.Encode.whole_code g.M.Encode.form_code (g.M.Machine.form_of s.machine) s.merge in
+    label_by g.M.Encode.own_code g.M.Encode.form_code (g.M.Machine.form_of s.machine) s.merge in
     let taken = rw (← c.self.view_is) at c.requires.taken in
     let steps = (rw (← c.self.view_is) at c.requires.steps) taken.0 taken.1 in
     let put = c.in-Ok.ensures.put label_of taken.0 c.self.invariant.1 taken.1 steps.labels in
@@ -72,7 +72,7 @@ invariant_of-self-in-Ok g c =
     let s = c.self.inside in
     let xs = c.args.steps.items in
     let label_of : State g.row.M.Denot g.row.M-Mem.Denot g.row.M-Loc.Denot g.row.M-Form.Denot → List ℕ =
-    label_by g.M.Encode.whole_code g.M.Encode.form_code (g.M.Machine.form_of s.machine) s.merge in
+    label_by g.M.Encode.own_code g.M.Encode.form_code (g.M.Machine.form_of s.machine) s.merge in
     let taken = rw (← c.self.view_is) at c.requires.taken in
     let steps = (rw (← c.self.view_is) at c.requires.steps) taken.0 taken.1 in
     let put = c.in-Ok.ensures.put label_of taken.0 c.self.invariant.1 taken.1 steps.labels in
@@ -104,7 +104,7 @@ returns-in-Ok-clause-entered g c =
     let s = c.self.inside in
     let xs = c.args.steps.items in
     let label_of : State g.row.M.Denot g.row.M-Mem.Denot g.row.M-Loc.Denot g.row.M-Form.Denot → List ℕ =
-    label_by g.M.Encode.whole_code g.M.Encode.form_code (g.M.Machine.form_of s.machine) s.merge in
+    label_by g.M.Encode.own_code g.M.Encode.form_code (g.M.Machine.form_of s.machine) s.merge in
     let taken = rw (← c.self.view_is) at c.requires.taken in
     let all_steps = rw (← c.self.view_is) at c.requires.steps in
     rw (← c.self.view_is) (λ e at.

@@ -14,7 +14,7 @@ returns-then-eq g c =
     let s = c.self.inside in
     let x = c.entry.inside.key in
     let label_of : State g.row.M.Denot g.row.M-Mem.Denot g.row.M-Loc.Denot g.row.M-Form.Denot → List ℕ =
-    label_by g.M.Encode.whole_code g.M.Encode.form_code (g.M.Machine.form_of s.machine) s.merge in
+    label_by g.M.Encode.own_code g.M.Encode.form_code (g.M.Machine.form_of s.machine) s.merge in
     let own = rw (← c.self.view_is, ← c.entry.view_is) at c.requires.of in
     let merges : IsTrue c.eq.result ↔ (s.merge ≡ x.merge) = search rules in
     let taken = rw (← c.self.view_is, ← c.entry.view_is) at c.requires.taken in

@@ -1,7 +1,7 @@
 use Rattle.std.proofs.Common.{◌≡◌, ap, refl, sym, ◌∙◌}
 use Rattle.std.proofs.lemmas.Option.{slice_get_within}
 use Rattle.tree_machine.specs.FormCode.{state_code}
-use Rattle.tree_machine.specs.Laws.Codes.{state_code_tells, whole_tells}
+use Rattle.tree_machine.specs.Laws.Codes.{state_code_tells, own_tells}
 use Rattle.tree_machine.specs.declared.state.State.{State}
 use Rattle.book.specs.Entries.{Contents}
 use Rattle.book.proofs.Entering.{own_from}
@@ -28,21 +28,21 @@ returns-in-Exact-clause-answer g c =
     let x = c.args.expansion.now in
     let bound = g.met.M.Encode g.world.𝓛 g.world.𝓜 g.world.𝓡 ((λ s x. x), (λ x. x), (λ x. x), λ x. x) in
     let coding = g.met.M.Encode g.world.𝓛 g.world.𝓜 g.world.𝓡 ((λ s x. x), (λ x. x), (λ x. x), λ x. x) in
-    let tells = whole_tells g.M.Encode.front_code g.M.Encode.behind_code g.M.Encode.whole_code coding.tells
-    bound.whole in
+    let tells = own_tells g.M.Encode.front_code g.M.Encode.behind_code g.M.Encode.own_code coding.tells
+    bound.own_cut in
     let taken = rw (← c.self.view_is) at c.requires in
-    let code : c.label.result.now ≡ state_code g.M.Encode.whole_code taken.0.state =
-    exact_label g.M.Encode.whole_code g.M.Encode.form_code (g.M.Machine.form_of s.machine) s.merge c.in-Exact.is
+    let code : c.label.result.now ≡ state_code g.M.Encode.own_code taken.0.state =
+    exact_label g.M.Encode.own_code g.M.Encode.form_code (g.M.Machine.form_of s.machine) s.merge c.in-Exact.is
     s.table c.self.invariant.1 c.args.id taken.0 taken.1 c.label.result.now c.label.ensures in
     rw (← c.self.view_is) (
       (λ yes. let own = c.is_coded.ensures.0 yes in
           own_from {X = g.row.M.Denot} b c.args.id taken.0 x.machine x.program x.source taken.0.state taken.1 refl
           own.0 own.1
-          (state_code_tells g.M.Encode.whole_code tells x.source taken.0.state (own.2 ∙ code))),
+          (state_code_tells g.M.Encode.own_code tells x.source taken.0.state (own.2 ∙ code))),
       (λ own. c.is_coded.ensures.1 (
         own.machine,
         own.program,
-        ap (state_code g.M.Encode.whole_code) (own.source taken.0 taken.1) ∙ sym code,
+        ap (state_code g.M.Encode.own_code) (own.source taken.0 taken.1) ∙ sym code,
       )),
     )
 

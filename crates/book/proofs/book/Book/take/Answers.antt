@@ -17,7 +17,7 @@ invariant_of-self g c =
     let s = c.self.inside in
     rw c.mark_taken.ensures (
       next_taken c.self.invariant.0 c.args.self.now c.self.view_is c.in-Some.id c.in-Some.ensures.next,
-      known_mark (label_by g.M.Encode.whole_code g.M.Encode.form_code (g.M.Machine.form_of s.machine) s.merge) s.table
+      known_mark (label_by g.M.Encode.own_code g.M.Encode.form_code (g.M.Machine.form_of s.machine) s.merge) s.table
           c.in-Some.id Taken c.self.invariant.1,
     )
 
@@ -31,7 +31,7 @@ returns-clause-fits g c =
     (taken_one c.self.invariant.0 c.args.self.now c.self.view_is c.in-Some.id c.in-Some.ensures.next _
     (rw (← c.self.view_is) at c.in_ok-state.ensures) c.in_ok-state.state.value refl _ c.mark_taken.ensures).fits
 
-pub returns-clause-few : goal.returns-clause-few
-returns-clause-few g c =
+pub returns-clause-bounded : goal.returns-clause-bounded
+returns-clause-bounded g c =
     (taken_one c.self.invariant.0 c.args.self.now c.self.view_is c.in-Some.id c.in-Some.ensures.next _
-    (rw (← c.self.view_is) at c.in_ok-state.ensures) c.in_ok-state.state.value refl _ c.mark_taken.ensures).few
+    (rw (← c.self.view_is) at c.in_ok-state.ensures) c.in_ok-state.state.value refl _ c.mark_taken.ensures).bounded

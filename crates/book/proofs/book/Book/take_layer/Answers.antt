@@ -7,7 +7,7 @@ use Rattle.book.specs.declared.entry.Mark.TheVariants.{Taken}
 use Rattle.book.specs.Entries.{Contents, Entry, is_open}
 use Rattle.book.specs.Labels.{label_by}
 use Rattle.book.proofs.Left.{open_is_left}
-use Rattle.book.proofs.InBook.{layer_given, layer_taken, states_few, states_fit}
+use Rattle.book.proofs.InBook.{layer_given, layer_taken, states_bounded, states_fit}
 use Rattle.book.proofs.Labels.{known_marks}
 use Rattle.book.proofs.book.Book.take_layer.Goals as goal
 
@@ -25,7 +25,7 @@ invariant_of-self g c =
       layer_taken c.self.invariant.0 c.args.self.now c.self.view_is c.in-Some.start end.result c.steps_to.result
           next.next next.open next.above
           (rw (← c.self.view_is) at c.steps_to.ensures) end.ensures.below end.ensures.above end.ensures.within,
-      known_marks (label_by g.M.Encode.whole_code g.M.Encode.form_code (g.M.Machine.form_of s.machine) s.merge)
+      known_marks (label_by g.M.Encode.own_code g.M.Encode.form_code (g.M.Machine.form_of s.machine) s.merge)
           s.table (range_with_len c.in-Some.start (end.result - c.in-Some.start)) Taken c.self.invariant.1,
     )
 
@@ -45,9 +45,9 @@ returns-clause-fits g c =
     rw (← c.self.view_is) (states_fit c.self.invariant.0 c.in_ok-layer.layer.items
     (rw (← c.self.view_is) at c.in_ok-layer.ensures.states))
 
-pub returns-clause-few : goal.returns-clause-few
-returns-clause-few g c =
-    rw (← c.self.view_is) (states_few c.self.invariant.0 c.in_ok-layer.layer.items
+pub returns-clause-bounded : goal.returns-clause-bounded
+returns-clause-bounded g c =
+    rw (← c.self.view_is) (states_bounded c.self.invariant.0 c.in_ok-layer.layer.items
     (rw (← c.self.view_is) at c.in_ok-layer.ensures.states))
 
 pub mark_range_taken-requires-clause-some : goal.mark_range_taken-requires-clause-some

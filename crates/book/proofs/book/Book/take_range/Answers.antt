@@ -25,7 +25,7 @@ invariant_of-self g c =
       layer_taken c.self.invariant.0 c.args.self.now c.self.view_is c.in-Some.start end.result c.steps_to.result
           next.next next.open next.above
           (rw (← c.self.view_is) at c.steps_to.ensures) end.ensures.below end.ensures.above end.ensures.within,
-      known_marks (label_by g.M.Encode.whole_code g.M.Encode.form_code (g.M.Machine.form_of s.machine) s.merge)
+      known_marks (label_by g.M.Encode.own_code g.M.Encode.form_code (g.M.Machine.form_of s.machine) s.merge)
           s.table (range_with_len c.in-Some.start (end.result - c.in-Some.start)) Taken c.self.invariant.1,
     )
 

@@ -9,7 +9,7 @@ pub invariant_of-result : goal.invariant_of-result
 invariant_of-result g c =
     let s = c.self.inside in
     let label_of : State g.row.M.Denot g.row.M-Mem.Denot g.row.M-Loc.Denot g.row.M-Form.Denot → List ℕ =
-    label_by g.M.Encode.whole_code g.M.Encode.form_code (g.M.Machine.form_of s.machine) s.merge in
+    label_by g.M.Encode.own_code g.M.Encode.form_code (g.M.Machine.form_of s.machine) s.merge in
     let taken = rw (← c.self.view_is) at (c.is_taken.ensures.0 c.if-not-is_taken.false) in
     let program : c.args.program.now ≡ s.program =
     c.requires
@@ -25,14 +25,14 @@ invariant_of-result g c =
     let finding : c.finding.result.now ≡ taken.0.finding =
     c.finding.ensures
     ∙ ap (λ (e : Entry (State g.row.M.Denot g.row.M-Mem.Denot g.row.M-Loc.Denot g.row.M-Form.Denot)). e.finding) same in
-    taken_of g.M.Machine.rules g.M.Encode.whole_code g.M.Encode.form_code g.M.Machine.form_of c.self.invariant.0
+    taken_of g.M.Machine.rules g.M.Encode.own_code g.M.Encode.form_code g.M.Machine.form_of c.self.invariant.0
     c.args.id taken.0 taken.1 c.args.program.now program c.in_ok-label.label label c.finding.result.now finding
 
 pub returns-clause-entry : goal.returns-clause-entry
 returns-clause-entry g c =
     let s = c.self.inside in
     let label_of : State g.row.M.Denot g.row.M-Mem.Denot g.row.M-Loc.Denot g.row.M-Form.Denot → List ℕ =
-    label_by g.M.Encode.whole_code g.M.Encode.form_code (g.M.Machine.form_of s.machine) s.merge in
+    label_by g.M.Encode.own_code g.M.Encode.form_code (g.M.Machine.form_of s.machine) s.merge in
     let taken = rw (← c.self.view_is) at (c.is_taken.ensures.0 c.if-not-is_taken.false) in
     let program : c.args.program.now ≡ s.program =
     c.requires

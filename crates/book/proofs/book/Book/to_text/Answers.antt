@@ -25,7 +25,7 @@ write_entries-requires-clause-writable g c =
     (right_in g.M.Machine.rules b) b law.law in
     let sound : AreSound b.entries =
     all_sound b.entries c.first_fault.result c.first_fault.ensures (sym c.is_some.ensures ∙ c.if-is_some.false) in
-    let few : length b.entries ≤ 2000000 = (let within : length b.entries ≤ b.limit = law.law.within in
+    let bounded : length b.entries ≤ 2000000 = (let within : length b.entries ≤ b.limit = law.law.within in
     let most : b.limit ≤ 2000000 = law.law.limit in omega arith) in
     let entries =
     ap (λ (x : Contents g.row.M.Denot
@@ -33,7 +33,7 @@ write_entries-requires-clause-writable g c =
     subst (λ
     (es : List (Entry (State g.row.M.Denot g.row.M-Mem.Denot g.row.M-Loc.Denot g.row.M-Form.Denot))). AreWritable
     es) (sym entries)
-    (writable (g.M.Machine.rules b.machine) b.program law.limits same law.machine b.entries tested.law few sound)
+    (writable (g.M.Machine.rules b.machine) b.program law.limits same law.machine b.entries tested.law bounded sound)
 
 pub returns-clause-some : goal.returns-clause-some
 returns-clause-some g c =

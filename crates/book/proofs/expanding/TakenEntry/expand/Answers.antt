@@ -8,7 +8,7 @@ steps_here-requires-after_bounds g c κs within =
     let self = c.self.inside in
     let read = rw (c.in-Some.is, c.as_slice-label.ensures) at c.in_ok-decoded.ensures in
     rw (c.deref_mut.ensures.value, ← c.self.view_is)
-    (source_of g.M.Encode.front_code g.M.Encode.behind_code g.M.Machine.rules g.M.Encode.whole_code
+    (source_of g.M.Encode.front_code g.M.Encode.behind_code g.M.Machine.rules g.M.Encode.own_code
     g.M.Encode.form_code g.M.Machine.form_of _ c.in-Some.decoded.offsets
     c.in-Sound.order c.in-Some.decoded.state.value (bound.lawful self.key.machine) (bound.forms self.key.machine)
     c.initial.ensures.limits c.self.invariant c.in-Sound.is read)

@@ -30,7 +30,7 @@ label-requires-after_bounds g c κs within =
 pub loop-one-preserved : goal.loop-one-preserved
 loop-one-preserved g c =
     let self = c.self.inside in
-    let label_of = label_by {Machine = g.row.M.Denot} g.M.Encode.whole_code g.M.Encode.form_code
+    let label_of = label_by {Machine = g.row.M.Denot} g.M.Encode.own_code g.M.Encode.form_code
     (g.M.Machine.form_of self.machine) c.args.merge in
     record {
       steps = rw (← c.self.view_is) (c.push_reserved.ensures.items

@@ -7,7 +7,7 @@ abbrev pub invariant-loop-one : goal.invariant-loop-one
 invariant-loop-one g l =
     record {
       steps : l.steps.items
-          ≡ map (labelled (label_by g.M.Encode.whole_code g.M.Encode.form_code
+          ≡ map (labelled (label_by g.M.Encode.own_code g.M.Encode.form_code
           (g.M.Machine.form_of l.self.machine) l.merge)) (take l.one-index l.self.successors);
       room : length l.self.successors ≤ vec_capacity l.steps;
     }

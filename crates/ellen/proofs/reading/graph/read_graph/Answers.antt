@@ -12,8 +12,8 @@ use Rattle.ellen.proofs.reading.graph.read_graph.Goals as goal
 graph_read : (nodes records : List Part) (bytes behind rest : List ℕ) (count many : ℕ) → count < 255 → many < 255
     → length nodes ≡ count → length records ≡ many → bytes ≡ part_codes nodes ++ behind
     → behind ≡ part_codes records ++ rest → count ∷ many ∷ bytes ≡ graph_code nodes records ++ rest
-graph_read nodes records bytes behind rest count many few less n m b r =
-    let one = ap number_code n ∙ small_code count few in
+graph_read nodes records bytes behind rest count many bounded less n m b r =
+    let one = ap number_code n ∙ small_code count bounded in
     let two = ap number_code m ∙ small_code many less in
     let both =
     ap flat (map-append part_content nodes records)

@@ -47,7 +47,7 @@ returns c =
     let end = byte_is (base_number base) (get_or bytes 2 0) last (omega (arith, last, base_small base)) in
     let other = byte_is (reference_number (help_node at)) (get_or bytes 3 0) is.other is.small_other in
     let head : c.args.head ≡ 69 + 30 * length resume.stack = omega (arith, count, c.in-Some.ensures.head) in
-    let coded = help_coded at resume is.small_own below (omega (arith, count, c.in-Some.ensures.few)) in
+    let coded = help_coded at resume is.small_own below (omega (arith, count, c.in-Some.ensures.bounded)) in
     ap (λ l. c.args.head ∷ 5 ∷ l) (first_five bytes (omega arith)
     ∙ ap (λ l. get_or bytes 0 0 ∷ get_or bytes 1 0 ∷ get_or bytes 2 0 ∷ get_or bytes 3 0 ∷ get_or bytes 4 0 ∷ l) stack)
     ∙ rw (coded, kind, side, end, other, is.own, head) refl

@@ -10,7 +10,7 @@ use Rattle.lin.proofs.Bits.{with_set}
 use Rattle.lin.proofs.Names.{places_differ, same_name-is}
 use Rattle.lin.proofs.op_set.OpSet.with.Goals as goal
 
-module _ (bits : ℕ) (a : OpId) (few : a.thread < 4) (short : a.index < 8) where
+module _ (bits : ℕ) (a : OpId) (bounded : a.thread < 4) (short : a.index < 8) where
   abbrev set : ℕ
   set = bit_or bits (1 * 2 ^ (8 * a.thread + a.index) % 4294967296)
 

@@ -30,7 +30,7 @@ returns-clause-fits g c =
     IfSome_then c.in_ok-read.read c.in_ok-read.ensures (λ offsets cut.
     fits_too rules how.program.now some.0 twin how.naming
     (state_code (cut_code g.M.Encode.front_code g.M.Encode.behind_code offsets.front) twin)
-    (state_code g.M.Encode.whole_code some.0)
+    (state_code g.M.Encode.own_code some.0)
     (named_code g.M.Encode.form_code (g.M.Machine.form_of how.machine) some.0) some.1
     (sym cut.written ∙ some.2) (c.decoded_law.ensures.whole offsets.front some.0)
     (λ same. (c.decoded_law.ensures.named offsets.front some.0

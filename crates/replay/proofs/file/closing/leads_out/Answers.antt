@@ -15,9 +15,9 @@ pub knows_step-requires-clause-steps_fit : goal.knows_step-requires-clause-steps
 knows_step-requires-clause-steps_fit g c κs within =
     let input = c.args.input.now in
     let w = c.requires.stands c.requires.kept.states c.requires.kept.replayed in
-    let few : c.args.replayer.now.state.steps ≤ c.args.index = w.2.steps in
+    let bounded : c.args.replayer.now.state.steps ≤ c.args.index = w.2.steps in
     let below : c.args.index < length c.args.labels.now = c.requires.within in
-    let most : length input.lines.now < 2000000 = c.requires.few in
+    let most : length input.lines.now < 2000000 = c.requires.bounded in
     let all : length c.args.labels.now ≡ length input.lines.now + 1 =
     count_labels (g.M.Machine.rules input.machine) input.program.now
     (named_by g.M.Encode.form_code (g.M.Machine.form_of input.machine)) input.lines.now c.args.labels.now

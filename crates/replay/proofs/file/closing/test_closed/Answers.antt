@@ -9,7 +9,7 @@ overflow_add-result g c =
     let input = c.args.input.now in
     let end : c.len-i-end.result ≡ length c.args.labels.now = c.len-i-end.ensures in
     let less : c.loop-i.i < c.len-i-end.result = c.loop-i-test.true in
-    let most : length input.lines.now < 2000000 = c.requires.few in
+    let most : length input.lines.now < 2000000 = c.requires.bounded in
     let all : length c.args.labels.now ≡ length input.lines.now + 1 =
     count_labels (g.M.Machine.rules input.machine) input.program.now
     (named_by g.M.Encode.form_code (g.M.Machine.form_of input.machine)) input.lines.now c.args.labels.now

@@ -12,7 +12,7 @@ returns-in-Some-clause-found c =
       number = c.in_ok-number.number.now;
       is_number = subst (IsNumber c.in_ok-number.number.now) same found.1;
       some = c.if-entries-ge1.true;
-      few = c.if-entries-le-MOST_ENTRIES.true;
+      bounded = c.if-entries-le-MOST_ENTRIES.true;
       whole = rw c.in_ok-number.was at
           (strip_prefix_is Decides-eqb c.args.head.now (codes "treesched book 1 entries ") c.strip_prefix.result
           c.strip_prefix.ensures.cases);

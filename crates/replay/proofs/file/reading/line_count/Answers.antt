@@ -16,14 +16,14 @@ loop-byte-preserved c =
             rw (more, w.count-is, w.is_ended-is)
             (counted_feed (take i bytes) c.loop-byte.count c.loop-byte.is_ended (get_or bytes i 0) has
             w.if-byte-eq10.true);
-        few = omega arith;
+        bounded = omega arith;
       }
       | else-byte-eq10 w ↦ record {
         counted =
             rw (more, w.count-is, w.is_ended-is)
             (counted_other (take i bytes) c.loop-byte.count c.loop-byte.is_ended (get_or bytes i 0) has
             w.if-byte-eq10.false);
-        few = omega arith;
+        bounded = omega arith;
       }
     ]
 

@@ -5,7 +5,7 @@ use Rattle.std.proofs.lemmas.Slice.Eq.{strip_prefix_is}
 use Rattle.replay.specs.declared.file.fault.CheckFault.TheVariants.{OutOfMemory}
 use Rattle.replay.specs.Text.Files.{start_text, IsBookText, IsFormFault}
 use Rattle.replay.proofs.Text.Heads.{after_start, is_book, entries_fault, start_fault}
-use Rattle.replay.proofs.Text.OneReading.{few_lines}
+use Rattle.replay.proofs.Text.OneReading.{lines_bounded}
 use Rattle.replay.proofs.file.reading.read_lines.Goals as goal
 
 pub returns-in_default-clause-refused : goal.returns-in_default-clause-refused
@@ -36,7 +36,7 @@ returns-in-Some-strip_prefix c =
     c.entry_lines.ensures.ok in
     record {
       book = book;
-      few = IfOk-weaker r (λ v. IsBookText bytes v.items) _ (λ v is. few_lines bytes v.items is) book;
+      bounded = IfOk-weaker r (λ v. IsBookText bytes v.items) _ (λ v is. lines_bounded bytes v.items is) book;
       refused = IfErr-weaker r _ (λ stated. (stated ≡ OutOfMemory) ⊎ IsFormFault bytes stated)
           (λ stated is. entries_fault bytes c.in-Some.rest.now c.in-Some-strip_prefix.rest.now has.0 stated has.1 has.2
           e is)

@@ -13,10 +13,10 @@ step_here-requires-clause-fits g c κs within =
 pub step_here-requires-clause-steps_fit : goal.step_here-requires-clause-steps_fit
 step_here-requires-clause-steps_fit g c κs within =
     let w = c.in_ok-recall.ensures c.requires.kept.states c.requires.kept.replayed in
-    let few : c.recall.new.state.steps ≤ c.args.line.now.parent = w.2.steps in
+    let bounded : c.recall.new.state.steps ≤ c.args.line.now.parent = w.2.steps in
     let less : c.args.line.now.parent < c.len.result = c.if-parent-len.false in
     let all : c.len.result ≡ length c.args.before.now = c.len.ensures in
-    let most : length c.args.before.now < 2000000 = c.requires.few in
+    let most : length c.args.before.now < 2000000 = c.requires.bounded in
     omega arith
 
 pub returns-then-parent-len-clause-amiss : goal.returns-then-parent-len-clause-amiss

@@ -2,7 +2,7 @@ use Rattle.std.proofs.Common.{◌∙◌, ap, [], ◌∷◌, ◌++◌}
 use Rattle.std.proofs.lemmas.List.{take_all}
 use Rattle.std.proofs.lemmas.Result.{err_from_is_err_and}
 use Rattle.replay.specs.Labels.{named_by}
-use Rattle.replay.proofs.BookFile.Replayed.{amiss_at_start, amiss_of_next, labels_few, labels_next, labels_start}
+use Rattle.replay.proofs.BookFile.Replayed.{amiss_at_start, amiss_of_next, labels_bounded, labels_next, labels_start}
 use Rattle.replay.proofs.file.replaying.replay_lines.Goals as goal
 
 pub loop-i-init : goal.loop-i-init
@@ -47,16 +47,16 @@ returns-clause-kept g c = rw (take_all c.loop-i.i c.args.input.now.lines.now c.l
 pub label_of_line-requires-clause-kept : goal.label_of_line-requires-clause-kept
 label_of_line-requires-clause-kept g c κs within = c.loop-i.invariant
 
-pub label_of_line-requires-clause-few : goal.label_of_line-requires-clause-few
-label_of_line-requires-clause-few g c κs within =
+pub label_of_line-requires-clause-bounded : goal.label_of_line-requires-clause-bounded
+label_of_line-requires-clause-bounded g c κs within =
     let input = c.args.input.now in
-    labels_few (g.M.Machine.rules input.machine) input.program.now
+    labels_bounded (g.M.Machine.rules input.machine) input.program.now
     (named_by g.M.Encode.form_code (g.M.Machine.form_of input.machine)) input.lines.now c.loop-i.labels c.loop-i.i
     c.loop-i.invariant c.loop-i-test.true c.requires
 
 pub push-requires-in-loop-i : goal.push-requires-in-loop-i
 push-requires-in-loop-i g c =
     let input = c.args.input.now in
-    labels_few (g.M.Machine.rules input.machine) input.program.now
+    labels_bounded (g.M.Machine.rules input.machine) input.program.now
     (named_by g.M.Encode.form_code (g.M.Machine.form_of input.machine)) input.lines.now c.loop-i.labels c.loop-i.i
     c.loop-i.invariant c.loop-i-test.true c.requires

@@ -11,12 +11,24 @@ push_reserved-requires c =
 pub overflow_cast-place : goal.overflow_cast-place
 overflow_cast-place c =
     let n = c.args.self.now in
-    omega (arith, order_room n c.args.cell c.requires.known c.requires.absent, n.few, c.len-place.ensures, n.order.ok.0)
+    omega (
+      arith,
+      order_room n c.args.cell c.requires.known c.requires.absent,
+      n.bounded,
+      c.len-place.ensures,
+      n.order.ok.0,
+    )
 
 pub overflow_add-place : goal.overflow_add-place
 overflow_add-place c =
     let n = c.args.self.now in
-    omega (arith, order_room n c.args.cell c.requires.known c.requires.absent, n.few, c.len-place.ensures, n.order.ok.0)
+    omega (
+      arith,
+      order_room n c.args.cell c.requires.known c.requires.absent,
+      n.bounded,
+      c.len-place.ensures,
+      n.order.ok.0,
+    )
 
 pub invariant_of-self : goal.invariant_of-self
 invariant_of-self c =
@@ -31,7 +43,7 @@ invariant_of-self c =
           (c.len-place.ensures ∙ n.order.ok.0);
       distinct = next_distinct n c.args.cell known absent after pushed;
       known = next_known n c.args.cell known absent after pushed _ same;
-      few = omega (arith, same, n.few);
+      bounded = omega (arith, same, n.bounded);
       room = omega (arith, same, n.room, c.push_reserved.ensures.capacity);
     }
 

@@ -3,11 +3,11 @@ use Rattle.tree_machine.specs.Laws.Codes.{cut_tells, state_codes_tell}
 use Rattle.tree_machine.specs.Laws.Decoded.{decoded_alike, decoded_fits, decoded_steps}
 use Rattle.tree_machine.proofs.state.State.decoded_law.Goals as goal
 
-pub returns-clause-whole : goal.returns-clause-whole
-returns-clause-whole g c front s same =
+pub returns-clause-own : goal.returns-clause-own
+returns-clause-own g c front s same =
     let bound = g.met.M.Encode g.world.𝓛 g.world.𝓜 g.world.𝓡 ((λ s x. x), (λ x. x), (λ x. x), λ x. x) in
-    state_codes_tell (cut_code g.M.Encode.front_code g.M.Encode.behind_code front) g.M.Encode.whole_code
-    (cut_tells g.M.Encode.front_code g.M.Encode.behind_code g.M.Encode.whole_code bound.tells bound.whole front)
+    state_codes_tell (cut_code g.M.Encode.front_code g.M.Encode.behind_code front) g.M.Encode.own_code
+    (cut_tells g.M.Encode.front_code g.M.Encode.behind_code g.M.Encode.own_code bound.tells bound.own_cut front)
     c.args.self.now s same
 
 pub returns-clause-named : goal.returns-clause-named

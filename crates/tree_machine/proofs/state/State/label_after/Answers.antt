@@ -13,11 +13,11 @@ returns g c =
     let steps = number_code c.label_steps.result in
     let op_log = op_log_of state in
     let front = if origin.undo.now.reads then g.M.Encode.front_code origin.offsets.front state.memory else [] in
-    let code = code_by c.args.naming (g.M.Encode.whole_code state.memory (places_of state.threads))
+    let code = code_by c.args.naming (g.M.Encode.own_code state.memory (places_of state.threads))
     (g.M.Encode.form_code (g.M.Machine.form_of c.args.machine state.memory (places_of state.threads))) in
     let first : c.put_number.new.self ≡ steps = c.in_ok-put_number.ensures ∙ ap (λ l. l ++ steps) c.clear.ensures in
     let put : c.put_front.new.buffer ≡ (steps ++ op_log) ++ front =
     c.in_ok-put_front.ensures ∙ ap (λ l. l ++ (op_log ++ front)) first ∙ sym (append_assoc steps op_log front) in
     c.in_ok-copied_in.ensures ∙ c.as_slice.ensures ∙ c.in_ok-put_rest.ensures (steps ++ op_log) put
     ∙ append_assoc steps op_log code ∙ ap (λ n. number_code n ++ (op_log ++ code)) c.label_steps.ensures
-    ∙ label_is c.args.naming g.M.Encode.whole_code g.M.Encode.form_code (g.M.Machine.form_of c.args.machine) state
+    ∙ label_is c.args.naming g.M.Encode.own_code g.M.Encode.form_code (g.M.Machine.form_of c.args.machine) state

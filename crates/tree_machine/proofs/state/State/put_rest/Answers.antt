@@ -18,7 +18,7 @@ write_code-requires-clause-places_in_range g c =
 pub write_behind-requires-clause-read : goal.write_behind-requires-clause-read
 write_behind-requires-clause-read g c =
     let origin = c.args.origin.now in
-    read_from (g.M.Machine.rules c.args.machine) c.args.naming g.M.Encode.whole_code g.M.Encode.form_code
+    read_from (g.M.Machine.rules c.args.machine) c.args.naming g.M.Encode.own_code g.M.Encode.form_code
     (g.M.Machine.form_of c.args.machine)
     (cut_code g.M.Encode.front_code g.M.Encode.behind_code origin.offsets.front) c.requires.coded.0
     origin.state.now.value c.args.self.now.memory c.requires.coded.1
@@ -29,7 +29,7 @@ returns-else-reads g c =
     let origin = c.args.origin.now in
     let mem = c.args.self.now.memory in
     on_ok_weaker c.write_code.result
-    (λ put before e. rest_written c.args.naming g.M.Encode.whole_code g.M.Encode.form_code
+    (λ put before e. rest_written c.args.naming g.M.Encode.own_code g.M.Encode.form_code
     (g.M.Machine.form_of c.args.machine) mem c.as_slice-threads.result.now c.args.self.now.threads
     origin.undo.now.reads (g.M.Encode.front_code origin.offsets.front mem) before c.args.buffer.now
     c.write_code.new.buffer (sym c.reads.ensures ∙ c.if-reads.false) c.as_slice-threads.ensures put e)

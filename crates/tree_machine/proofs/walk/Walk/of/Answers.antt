@@ -20,6 +20,6 @@ invariant_of-result g c =
     c.as_slice-2.ensures c.in_ok-put_raised.ensures in
     let node_names = sym (ap (nodes_met n) is ∙ nodes_of n r nodes records below) in
     let record_names = sym (ap (records_met n r) is ∙ records_of n r nodes records below under) in
-    let few : n + r + c.held_count-held.result < CELLS_BELOW =
+    let bounded : n + r + c.held_count-held.result < CELLS_BELOW =
     omega (arith, c.in_ok-graph.ensures, c.in_ok-sum_of.ensures, c.if-branch-ge-CELLS_BELOW.false) in
-    (node_names, (record_names, (count, (total, (few, tt)))))
+    (node_names, (record_names, (count, (total, (bounded, tt)))))

@@ -14,4 +14,4 @@ invariant_of-self-inside c =
     let records = w.record_names
     ∙ sym (ap (records_met w.nodes w.records) is
     ∙ records_left_by_held w.nodes w.queue.items first w.held w.records (omega arith)) in
-    (nodes, (records, (w.all_nodes, (w.all_records, (w.few, tt)))))
+    (nodes, (records, (w.all_nodes, (w.all_records, (w.bounded, tt)))))

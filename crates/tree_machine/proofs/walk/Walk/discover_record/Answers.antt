@@ -3,7 +3,7 @@ use Rattle.tree_machine.specs.Cells.{met}
 use Rattle.tree_machine.specs.Walked.{Walked}
 use Rattle.tree_machine.proofs.Queued.{record_new, record_old}
 use Rattle.tree_machine.proofs.VisitedParts.{is_met}
-use Rattle.tree_machine.proofs.walk.Walk.meet_record.Goals as goal
+use Rattle.tree_machine.proofs.walk.Walk.discover_record.Goals as goal
 
 pub returns-in_ok-push : goal.returns-in_ok-push
 returns-in_ok-push c =

@@ -1,6 +1,6 @@
 use Rattle.std.proofs.Common.{◌≡◌, ◌++◌, length}
 use Rattle.tree_machine.specs.Graphs.{numbers_from}
-use Rattle.tree_machine.proofs.numbering.Numbering.meet_range.Given as goal
+use Rattle.tree_machine.proofs.numbering.Numbering.assign_range.Given as goal
 
 -- i cells are met
 abbrev pub invariant-loop-i : goal.invariant-loop-i

@@ -1,6 +1,6 @@
 use Rattle.std.proofs.Common.{◌≡◌, length, drop}
 use Rattle.tree_machine.specs.Cells.{met_all}
-use Rattle.tree_machine.proofs.cells.Order.meet_all.Given as goal
+use Rattle.tree_machine.proofs.cells.Order.assign_all.Given as goal
 
 -- meeting what is left gives the order that meeting all gives
 abbrev pub invariant-loop-reference : goal.invariant-loop-reference

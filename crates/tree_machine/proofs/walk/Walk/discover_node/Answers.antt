@@ -3,7 +3,7 @@ use Rattle.tree_machine.specs.Cells.{met}
 use Rattle.tree_machine.specs.Walked.{Walked}
 use Rattle.tree_machine.proofs.Queued.{node_new, node_old}
 use Rattle.tree_machine.proofs.VisitedParts.{is_met}
-use Rattle.tree_machine.proofs.walk.Walk.meet_node.Goals as goal
+use Rattle.tree_machine.proofs.walk.Walk.discover_node.Goals as goal
 
 pub returns-in_ok-push : goal.returns-in_ok-push
 returns-in_ok-push c =

@@ -1,6 +1,6 @@
 use Rattle.std.proofs.Common.{◌∙◌}
 use Rattle.tree_machine.proofs.Numbers.{place_absent, met_present, met_new, place_seen, place_new, places_met}
-use Rattle.tree_machine.proofs.cells.Order.meet.Goals as goal
+use Rattle.tree_machine.proofs.cells.Order.assign.Goals as goal
 
 pub invariant_of-self-in-None : goal.invariant_of-self-in-None
 invariant_of-self-in-None c = record {

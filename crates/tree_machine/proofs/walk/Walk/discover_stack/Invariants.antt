@@ -1,7 +1,7 @@
 use Rattle.std.proofs.Common.{◌≡◌, drop, map, Some}
 use Rattle.tree_machine.specs.Cells.{met_all}
 use Rattle.tree_machine.proofs.Passes.{shifted}
-use Rattle.tree_machine.proofs.walk.Walk.meet_stack.Given as goal
+use Rattle.tree_machine.proofs.walk.Walk.discover_stack.Given as goal
 
 -- meeting what is left gives the order that meeting all gives
 abbrev pub invariant-loop-index : goal.invariant-loop-index
