@@ -32,6 +32,6 @@ returns-clause-fits g c =
     (state_code (cut_code g.M.Encode.front_code g.M.Encode.behind_code offsets.front) twin)
     (state_code g.M.Encode.own_code some.0)
     (named_code g.M.Encode.form_code (g.M.Machine.form_of how.machine) some.0) some.1
-    (sym cut.written ∙ some.2) (c.decoded_law.ensures.whole offsets.front some.0)
+    (sym cut.written ∙ some.2) (c.decoded_law.ensures.own offsets.front some.0)
     (λ same. (c.decoded_law.ensures.named offsets.front some.0
     (numbers_fit rules how.program.now some.0 some.1) same).1 how.program.now some.1))
