@@ -69,14 +69,15 @@ sweeps() {
         scripts/compare_sweep.py "$one" "$two"
 }
 
-# The explorer in C++ reports as many states.
+# The explorer in C++ reports as many states, and of a small family the same answers.
 baseline() {
     local only
     g++ -O2 -std=c++17 -o "$work/explorer" bench/baseline/explorer.cc || return
     for only in atomic-4x2 atomic-2x6 nm-2x3; do
         bench/run.py --only "$only" "$program" "$work/explorer" || return
     done
-    echo "both report the same states of four runs"
+    scripts/sweep.py --program "$program" --commit here --out "$work/nm" --trees nm nm-no-tag &&
+        scripts/compare_sweep.py --program "$work/explorer" "$work/nm"
 }
 
 shell_scripts() {

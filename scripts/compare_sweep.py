@@ -1,13 +1,18 @@
 #!/usr/bin/env python3
 """Explores the programs of a sweep a second time, by the place tables in Python, and compares what comes of them.
 
-usage: scripts/compare_sweep.py [--sample N|N%] [--seed N] [--processes P] FOLDER ..
+usage: scripts/compare_sweep.py [--program PROGRAM] [--sample N|N%] [--seed N] [--processes P] FOLDER ..
 
 The explorer here shares nothing with treesched: its machines are scripts/place_tables.py, written from
 docs/MACHINES.md. For each line of a FOLDER, which scripts/sweep.py wrote, it finds the verdict and the number
-of steps, and where every schedule holds the number of states. With --sample, only N lines are drawn, or N of
-each hundred: with one seed always the same. It takes some twenty times as long as treesched. Lines whose
-verdict is `holds` or `stopped` bound the exploration, and are left out.
+of steps, and where every schedule holds the number of states. It takes some twenty times as long as treesched.
+
+With --program, PROGRAM is asked instead: an explorer that takes treesched's words, as bench/baseline/explorer
+does for `nm`. It has to print as many states, and a fault after as many steps. Which of several shortest faults
+it shows is open.
+
+With --sample, only N lines are drawn, or N of each hundred: with one seed always the same. Lines whose verdict
+is `holds` or `stopped` bound the exploration, and are left out.
 
 Each program for which the two differ is shown, and at the end comes 'N programs, M differ'. The status is 0
 if none differs, 1 if one does or none was compared, and 2 where a file can't be used.
@@ -16,18 +21,21 @@ from __future__ import annotations
 
 import argparse
 import sys
+import tempfile
 from concurrent.futures import ProcessPoolExecutor
 from dataclasses import dataclass
 from fractions import Fraction
+from functools import partial
 from math import ceil
 from pathlib import Path
 from random import Random
 from typing import Any
 
 from book_judge import Name, Program, State
-from common import MOST_PROCESSES, RIGHT, WRONG, end, number_from, words_of
+from common import MOST_PROCESSES, MOST_STATES, MOST_STEPS, RIGHT, WRONG
+from common import Refused, ask, end, number_from, read_answer, runnable, words_of
 from place_tables import reply_on
-from results import Result, read_results
+from results import FAULTS, Result, read_results
 
 LINES_BETWEEN = 500
 
@@ -35,10 +43,10 @@ LINES_BETWEEN = 500
 @dataclass(frozen=True)
 class Outcome:
     """What came of a program: `every` with the fewest steps after which each state was reached and the states, or the
-    kinds of the shortest faults with their steps."""
+    kinds that the shortest faults may have with their steps. What is not known is none."""
 
     verdicts: frozenset[str]
-    steps: int
+    steps: int | None
     states: int | None
 
 
@@ -108,10 +116,26 @@ class Explorer:
                 return Outcome(faults, steps, None)
 
 
-def difference(result: Result) -> str | None:
-    """How a result differs from what is found here, if it does."""
-    found = Explorer(Program(result.named.text.encode())).outcome()
-    is_same = result.verdict in found.verdicts and result.steps == found.steps
+def answered(program: Path, text: str) -> Outcome:
+    """What another explorer answers. With a fault, any kind may be the one of another shortest schedule."""
+    with tempfile.NamedTemporaryFile(suffix=".json") as file:
+        file.write(text.encode())
+        file.flush()
+        limits = ["--steps", MOST_STEPS, "--states", MOST_STATES]
+        answer = read_answer(ask(program, "explore", file.name, *limits, "--merge", "names"))
+    if answer.verdict in FAULTS:
+        return Outcome(frozenset(FAULTS), answer.steps, answer.states)
+    return Outcome(frozenset({answer.verdict}), None, answer.states)
+
+
+def difference(program: Path | None, result: Result) -> str | None:
+    """How a result differs from what is found here, or from what the program answers, if it does."""
+    text = result.named.text
+    try:
+        found = answered(program, text) if program else Explorer(Program(text.encode())).outcome()
+    except Refused as refusal:
+        return f"{result.answer}, and here: {refusal}"
+    is_same = result.verdict in found.verdicts and found.steps in (None, result.steps)
     if is_same and found.states in (None, result.states):
         return None
     return f"{result.answer}, after {result.steps} steps, and here {found}"
@@ -134,6 +158,7 @@ def drawn(results: list[Result], sample: Fraction | int, seed: int) -> list[Resu
 def read_words() -> argparse.Namespace:
     """The words of the command line."""
     parser = words_of(__doc__)
+    parser.add_argument("--program", metavar="PROGRAM", type=Path, help="an explorer that is asked instead")
     parser.add_argument("--sample", metavar="N", type=share_of, help="how many lines are drawn, or N%% of them")
     parser.add_argument("--seed", metavar="N", type=int, default=1, help="with which the drawing begins")
     parser.add_argument("--processes", metavar="P", type=number_from(1, MOST_PROCESSES), default=1)
@@ -150,9 +175,10 @@ def main() -> int:
         print(f"compare_sweep: {len(lines) - len(results)} lines without a verdict to compare", file=sys.stderr)
     if words.sample is not None:
         results = drawn(results, words.sample, words.seed)
+    program = runnable(words.program) if words.program else None
     differing = 0
     with ProcessPoolExecutor(words.processes) as pool:
-        for count, differs in enumerate(pool.map(difference, results, chunksize=8), start=1):
+        for count, differs in enumerate(pool.map(partial(difference, program), results, chunksize=8), start=1):
             if differs:
                 differing += 1
                 print(differs)

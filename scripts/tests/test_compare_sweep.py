@@ -59,6 +59,31 @@ class Comparisons(unittest.TestCase):
         self.assertEqual((status, out.splitlines()[1:]), (1, ["2 programs, 1 differ"]))
         self.assertIn("atomic::i1:i1 every 6 -, after 2 steps, and here Outcome(", out)
 
+    def test_another_program_is_asked(self) -> None:
+        """It answers each program with the same text."""
+        fault = "fault history after 13 steps\nschedule 0,1\nstates 9\n"
+        every = result_line("atomic::i1:i1", states=5, steps=2)
+        order = result_line("nm-no-tag:10,20:d10:i25,f25", verdict="order", states=9, steps=13, schedule="0,1")
+        self.results("every", every)
+        self.results("order", order)
+        answers = [
+            ("holds for every schedule\nstates 5\n", "every", 0),
+            ("holds for every schedule\nstates 6\n", "every", 1),
+            (fault, "every", 1),
+            (fault, "order", 0),
+            (fault.replace("13", "12"), "order", 1),
+            (fault.replace("9", "8"), "order", 1),
+            ("holds for every schedule\nstates 9\n", "order", 1),
+            ("no answer\n", "order", 1),
+        ]
+        for answer, folder, differing in answers:
+            with self.subTest(answer, folder=folder):
+                program = self.folder / "program"
+                program.write_text(f"#!/bin/sh\nprintf '{answer}'\n", encoding="utf-8")
+                program.chmod(0o755)
+                status, out, _ = self.compare("--program", program, folder)
+                self.assertEqual((status, out.splitlines()[-1]), (differing, f"1 programs, {differing} differ"))
+
     def test_lines_without_a_verdict_are_left_out(self) -> None:
         self.results("stopped", result_line("atomic::i1:i1", verdict="stopped"))
         status, out, err = self.compare("stopped")
