@@ -48,9 +48,9 @@ lib)
     ;;
 run)
     prove
-    echo "logic=proved cpu=stub sum=0"
     program >out/treesched
     chmod +x out/treesched
+    echo "logic=proved cpu=stub sum=0"
     STUB_STATUS=0 out/treesched --help
     ;;
 try) try "$@" ;;
