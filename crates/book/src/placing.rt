@@ -19,6 +19,7 @@ use std::alloc::AllocError;
 use tree_machine::{Encode, State};
 
 /// Inserts an open row for a step of an entry, if its label is new. Otherwise the label is recycled.
+#[inline(always)]
 fn put_step<M: Encode>(
     slots: &mut IndexMap<Label, Row<State<M>>>,
     machine: M,
@@ -51,6 +52,7 @@ fn put_step<M: Encode>(
 
 /// Inserts, in order, open rows for the steps of an entry that reach new states. The labels of the other steps are
 /// recycled, and so is the list of the steps.
+#[inline(always)]
 pub(crate) fn put_steps<M: Encode>(
     slots: &mut IndexMap<Label, Row<State<M>>>,
     machine: M,

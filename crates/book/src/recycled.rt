@@ -34,6 +34,7 @@ impl Recycled {
     }
 
     /// Keeps the list of a label where there is room, and else drops it.
+    #[inline(always)]
     pub(crate) fn keep_label(&mut self, label: Vec<u8>) {
         if self.labels.len() < self.labels.capacity() {
             self.labels.push_reserved(label);
@@ -41,6 +42,7 @@ impl Recycled {
     }
 
     /// Keeps a list where there is room, and else drops it.
+    #[inline(always)]
     pub(crate) fn keep_list(&mut self, list: Vec<Successor<Label>>) {
         if self.lists.len() < self.lists.capacity() {
             self.lists.push_reserved(list);
@@ -48,6 +50,7 @@ impl Recycled {
     }
 
     /// A list for a label: one that it keeps, or else a new one.
+    #[inline(always)]
     pub(crate) fn label(&mut self, alloc: Global) -> Vec<u8> {
         match self.labels.pop() {
             Some(label) => label,
@@ -56,6 +59,7 @@ impl Recycled {
     }
 
     /// An empty list with room for `steps` steps: one that it keeps, or else a new one.
+    #[inline(always)]
     pub(crate) fn list(
         &mut self,
         alloc: Global,

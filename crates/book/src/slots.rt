@@ -8,6 +8,7 @@ use std::alloc::AllocError;
 use std::hash::Hash;
 
 /// Inserts a value if its key is new. Otherwise it returns the key.
+#[inline(always)]
 pub fn put_new<K: Eq + Hash + Drop, V: Drop>(
     slots: &mut IndexMap<K, V>,
     key: K,

@@ -294,6 +294,7 @@ impl<S> Table<S> {
 impl<M: Encode> Table<State<M>> {
     /// Appends, in order, open entries for the steps of an entry that reach new states. If there is no room for them,
     /// or memory is refused, it appends none.
+    #[inline(always)]
     pub fn append(
         &mut self,
         machine: M,

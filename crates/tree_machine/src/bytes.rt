@@ -37,6 +37,7 @@ impl Bytes {
     /// Copies bytes into the buffer of `spare`, if that is large enough. Otherwise it allocates a new buffer, of just
     /// their length. It does not grow `spare`: that would copy what `spare` holds, and would wait for the thread that
     /// allocated it while that thread allocates too.
+    #[inline(always)]
     pub fn copied_in(bytes: &[u8], mut spare: Vec<u8>) -> Result<Self, OutOfMemory>
         ensures { IfOk result (λ copy. copy ≡ bytes.now) }
     {

@@ -77,6 +77,7 @@ impl EncodeBuffer {
     }
 
     /// Appends a number.
+    #[inline(always)]
     pub(crate) fn put_number(&mut self, number: u64) -> Result<(), OutOfMemory>
         ensures { OnOk result (self.new ≡ self.old ++ number_code number) }
     {

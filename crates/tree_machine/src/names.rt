@@ -24,6 +24,7 @@ impl Names {
 
     /// Numbers the first `front_nodes` of all nodes and the first `front_records` of all records, each by its own
     /// number. It reuses the buffers of these names.
+    #[inline(always)]
     pub(crate) fn first(
         self,
         front_nodes: usize,

@@ -42,6 +42,7 @@ impl Numbering {
 
     /// The numbering of `cells` cells, none of which has a number yet. It reuses the buffers where they are large
     /// enough. More cells than bytes can name are refused with `OutOfMemory`.
+    #[inline(always)]
     pub(crate) fn restarted(self, cells: usize) -> Result<Numbering, OutOfMemory>
         ensures nothing { IfOk result (λ n. n.order.items ≡ []) }
         ensures cells { IfOk result (λ n. length n.numbers.items ≡ cells) }
@@ -96,6 +97,7 @@ impl Numbering {
     }
 
     /// Meets `count` cells from `first` on, all behind those met before.
+    #[inline(always)]
     pub(crate) fn assign_range(&mut self, first: usize, count: usize)
         requires in_range { first + count ≤ length self.old.numbers.items }
         requires behind { All (λ x. x < first) self.old.order.items }
@@ -158,6 +160,7 @@ impl Own {
     }
 
     /// The numbering, rebuilt for `cells` cells if it has fewer.
+    #[inline(always)]
     pub(crate) fn of(self, cells: usize) -> Result<Own, OutOfMemory>
         ensures { IfOk result (λ own. cells ≤ length own.numbering.numbers.items) }
     {

@@ -140,6 +140,7 @@ fn write_graph<P: Parts>(
 }
 
 /// Writes what the threads hold, and the nodes and the records that have numbers behind these fronts, if some have.
+#[inline(always)]
 fn write_behind_front<P: Parts>(
     parts: &P,
     front_nodes: usize,
@@ -179,6 +180,7 @@ fn write_behind_front<P: Parts>(
 /// # Errors
 /// `OutOfMemory` where a growth was refused, or the nodes or records are more than bytes can name. The bytes in the
 /// buffer are then unspecified.
+#[inline(always)]
 fn write_own<P: Parts>(
     alloc: Global,
     parts: &P,
@@ -209,6 +211,7 @@ fn write_own<P: Parts>(
 ///
 /// # Errors
 /// `OutOfMemory` as `write_own`.
+#[inline(always)]
 fn write_own_held<P: Parts>(
     alloc: Global,
     parts: &P,
@@ -235,6 +238,7 @@ fn write_own_held<P: Parts>(
 /// # Errors
 /// `OutOfMemory` where a growth was refused, or the nodes, records and threads are more than bytes can name. The bytes
 /// in the buffer are then unspecified.
+#[inline(always)]
 fn write_canonical<P: Parts>(
     alloc: Global,
     fixed: usize,
@@ -268,6 +272,7 @@ fn write_canonical<P: Parts>(
 
 /// Appends what comes behind the front of that code. The front is that of the parts themselves, by their own numbers.
 /// Where all parts come in front, no walk is made.
+#[inline(always)]
 fn write_canonical_behind<P: Parts>(
     alloc: Global,
     fixed: usize,

@@ -43,6 +43,7 @@ fn walk_all<P: Parts>(
 }
 
 /// Numbers what the fixed nodes reach, and returns the buffer of the queue with the numbers.
+#[inline(always)]
 pub(crate) fn front_names<P: Parts>(
     parts: &P,
     fixed: usize,
@@ -62,6 +63,7 @@ pub(crate) fn front_names<P: Parts>(
 
 /// Numbers what only the threads reach, behind what the fixed nodes reach, which is numbered. It returns the buffer of
 /// the queue with the numbers. Where all is numbered, no walk is made.
+#[inline(always)]
 pub(crate) fn names_behind<P: Parts>(
     parts: &P,
     fixed: usize,

@@ -44,6 +44,7 @@ impl Model for Walk {
 }
 
 /// Appends numbers, each raised by `first`.
+#[inline(always)]
 fn put_raised(queue: &mut Vec<u8>, first: usize, numbers: &[u8]) -> Result<(), OutOfMemory>
     requires { All (λ x. first + x < CELLS_BELOW) numbers.now }
     ensures { OnOk result (queue.new.items ≡ queue.old.items ++ map (λ x. first + x) numbers.now) }
@@ -55,6 +56,7 @@ fn put_raised(queue: &mut Vec<u8>, first: usize, numbers: &[u8]) -> Result<(), O
 }
 
 /// Appends `count` numbers, from `first` on.
+#[inline(always)]
 fn put_from(queue: &mut Vec<u8>, first: usize, count: usize) -> Result<(), OutOfMemory>
     requires { first + count < CELLS_BELOW }
     ensures { OnOk result (queue.new.items ≡ queue.old.items ++ numbers_from first count) }
@@ -68,6 +70,7 @@ fn put_from(queue: &mut Vec<u8>, first: usize, count: usize) -> Result<(), OutOf
 impl Walk {
     /// Begins a walk that met the nodes and the records that have names. It reuses the buffer of the queue. More cells
     /// than bytes can name are refused with `OutOfMemory`.
+    #[inline(always)]
     pub(crate) fn of<P: Parts>(
         parts: &P,
         mut queue: Vec<u8>,
@@ -101,6 +104,7 @@ impl Walk {
     }
 
     /// The walk that met, behind these, what each thread holds, which was not met before.
+    #[inline(always)]
     pub(crate) fn with_held(mut self) -> Result<Walk, OutOfMemory>
         ensures { IfOk result (λ walk. walk ≡ record self {
           order = self.order ++ numbers_from (self.nodes + self.records) self.held;
@@ -182,6 +186,7 @@ impl Walk {
     }
 
     /// How many cells there are.
+    #[inline(always)]
     pub(crate) fn cells(&self) -> usize
         ensures { result ≡ self.now.nodes + self.now.records + self.now.held }
     {
@@ -189,6 +194,7 @@ impl Walk {
     }
 
     /// How many cells were met.
+    #[inline(always)]
     pub(crate) fn len(&self) -> usize
         ensures { result ≡ length self.now.order }
     {
@@ -205,6 +211,7 @@ impl Walk {
     }
 
     /// The buffer of the queue, and the numbers of the nodes and the records that were met.
+    #[inline(always)]
     pub(crate) fn into_names(self) -> (Vec<u8>, Names)
         ensures nodes { result.1.nodes.order.items ≡ nodes_met self.nodes self.order }
         ensures records { result.1.records.order.items ≡ records_met self.nodes self.records self.order }

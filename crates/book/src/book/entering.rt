@@ -96,6 +96,7 @@ impl<M: Encode> Book<M> {
     }
 
     /// Appends the steps of a taken entry that reach new states, and marks the entry expanded.
+    #[inline(always)]
     fn enter_steps(
         &mut self,
         id: usize,
