@@ -12,7 +12,9 @@ use Rattle.tree_machine.specs.declared.machine.Outcome.{Outcome}
 use Rattle.tree_machine.specs.declared.machine.Outcome.TheVariants.{Goes, Replies, Astray}
 use Rattle.tree_machine.specs.declared.state.Thread.{Thread}
 use Rattle.tree_machine.specs.declared.state.State.{State}
+use Rattle.std.proofs.lemmas.Option.{same_Some}
 use Rattle.tree_machine.proofs.Lists.{map-get}
+use Rattle.tree_machine.proofs.States.{ready_pieces}
 
 -- the step that a ready thread makes
 pub one_stepped : {Machine Memory Place Form : Type 0} (rules : Rules Memory Place) (program : Program)
@@ -21,6 +23,27 @@ pub one_stepped : {Machine Memory Place Form : Type 0} (rules : Rules Memory Pla
     → next ≡ stepped rules state t op thread → step rules program state t ≡ Some next
 one_stepped rules program state t thread op is next made =
     ap (λ r. option_map (λ (thread, op). stepped rules state t op thread) r) is ∙ ap Some (sym made)
+
+module _ {Machine Memory Place Form : Type 0} where
+  -- a step that a ready thread makes in a state equal to this one
+  pub stepped_by : (rules : Rules Memory Place) (program : Program) (state copy next : State Machine Memory Place Form)
+      (t : ℕ) (thread was : Thread Place) (op : Op) → ready program state t ≡ Some (thread, op) → copy ≡ state
+      → slice_get copy.threads t ≡ Some was → next ≡ stepped rules copy t op was → next ≡ stepped rules state t op thread
+  stepped_by rules program state copy next t thread was op is same there made =
+      let at : slice_get copy.threads t ≡ slice_get state.threads t = λ i. slice_get (same i).threads t in
+      let whose : was ≡ thread = same_Some _ _ (sym there ∙ at ∙ (ready_pieces program state t thread op is).0) in
+      made ∙ (λ i. stepped rules (same i) t op (whose i))
+
+module _ {Place : Type 0} (found thread : Thread Place) (held : Option Place) (h : held ≡ found.place)
+    (is : found ≡ thread) where
+  -- a thread out of which its place was moved is the thread, with that place
+  pub with_held : ◌≡◌ {A = Thread Place} (record { replies = found.replies; place = held; notes = found.notes }) thread
+  with_held = (λ i. record { replies = found.replies; place = h i; notes = found.notes }) ∙ is
+
+  -- the place of its next access
+  pub held_or : (place first begun : Place) → place ≡ place_or held first → first ≡ begun
+      → place ≡ place_or thread.place begun
+  held_or place first begun p f = p ∙ (λ i. place_or ((h ∙ ap (λ x. x.place) is) i) (f i))
 
 module _ {Machine Memory Place Form : Type 0} (state : State Machine Memory Place Form) (t : ℕ) where
   -- the state that an access makes, by what comes of it

@@ -11,9 +11,8 @@ use crate::encode::Encode;
 use crate::front::Front;
 use crate::op_log_reading::{read_all_notes, read_all_replies, read_astray};
 use crate::reading::{read_any_number, read_byte};
-use crate::replies::Replies;
 use crate::state::{State, Thread};
-use sched_program::{OutOfMemory, Sequence, ShortList};
+use sched_program::{OutOfMemory, Sequence};
 use std::alloc::Global;
 use std::mem::replace;
 
@@ -25,11 +24,7 @@ fn make_count<L: Drop>(threads: &mut Vec<Thread<L>>, count: usize) -> Result<(),
 {
     threads.truncate(count);
     for _i in threads.len()..count {
-        threads.push(Thread {
-            replies: Replies::new(),
-            place: None,
-            notes: ShortList::new(),
-        })?;
+        threads.push(Thread::idle())?;
     }
     Ok(())
 }

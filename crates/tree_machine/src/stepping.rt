@@ -1,9 +1,10 @@
 //! Steps of states.
-ghost use Rattle.std.specs.Prelude.{◌≡◌, ℕ, ◌+◌, ◌^◌, ◌<◌, ◌≤◌, ◌↔◌, List, length, IfSome};
+ghost use Rattle.std.specs.Prelude.{◌≡◌, ℕ, ◌+◌, ◌^◌, ◌<◌, ◌≤◌, ◌↔◌, List, length, slice_get, IfSome};
 ghost use Rattle.std.specs.Prelude.{IsSomeAnd, Some, None, IfOk, OnOk, IsErrOf};
 ghost use Rattle.sched_program.specs.Program.{Program, IsWithinLimits};
 ghost use Rattle.tree_machine.specs.Alike.{AreStatesAlike};
 ghost use Rattle.tree_machine.specs.declared.state.State.{State};
+ghost use Rattle.tree_machine.specs.declared.state.Thread.{Thread as Standing};
 ghost use Rattle.tree_machine.specs.Step.{IsEnabled, ready, step, stepped, notes_at_step, after_outcome, astray_by};
 ghost use Rattle.tree_machine.specs.Step.{finished_counts, with_note, Fits};
 
@@ -72,28 +73,33 @@ fn advance<M: Machine>(
 }
 
 impl<M: Machine> State<M> {
-    /// Makes the step of a thread that is ready for an operation, in place. `thread` is a copy of the
-    /// thread.
+    /// Makes the step of a thread that is ready for an operation, in place. `was` becomes the thread as it was before:
+    /// its place is moved there, and not copied.
     #[inline(always)]
     pub(crate) fn make_step(
         &mut self,
         alloc: Global,
         machine: M,
         t: u8,
-        thread: &Thread<M::Loc>,
         op: Op,
+        was: &mut Thread<M::Loc>,
     ) -> Result<(), OutOfMemory>
-        requires ready { (program : Program) × (IsWithinLimits program × (Fits (M.rules machine) program self.old
-            × (ready program self.old t ≡ Some (thread.now, op)))) }
+        requires ready { (program : Program) × (thread : Standing M.Loc) × (IsWithinLimits program
+            × (Fits (M.rules machine) program self.old × (ready program self.old t ≡ Some (thread, op)))) }
         requires steps_fit { self.old.steps + 1 < 2 ^ 64 }
-        ensures { OnOk result (self.new ≡ stepped (M.rules machine) self.old t op thread.now) }
+        ensures was { OnOk result (slice_get self.old.threads t ≡ Some was.new) }
+        ensures step { OnOk result (self.new ≡ stepped (M.rules machine) self.old t op was.new) }
     {
         let first = machine.begin(op);
-        let place = place_or(&thread.place, &first);
-        let outcome = machine.act(alloc, op, place, &mut self.memory)?;
+        let at = usize::from(t);
         let mut threads = replace(&mut self.threads, Sequence::new(alloc)).into_vec();
-        let note = note_at_step(&thread.place, threads.as_slice());
-        let moved = &mut threads.as_mut_slice()[usize::from(t)];
+        let note = note_at_step(&threads.as_slice()[at].place, threads.as_slice());
+        let moved = &mut threads.as_mut_slice()[at];
+        was.replies = moved.replies;
+        was.notes = moved.notes;
+        was.place = moved.place.take();
+        let place = place_or(&was.place, &first);
+        let outcome = machine.act(alloc, op, place, &mut self.memory)?;
         self.astray = advance(alloc, machine, note, t, place, outcome, moved)?;
         self.threads = Sequence::from_vec(threads);
         self.steps = self.steps + 1;
@@ -121,9 +127,9 @@ impl<M: Machine> State<M> {
     {
         match self.ready(program, t) {
             None => Err(StepFault::NotEnabled),
-            Some((thread, op)) => {
+            Some((_, op)) => {
                 let mut next = self.copy(alloc, machine)?;
-                next.make_step(alloc, machine, t, thread, op)?;
+                next.make_step(alloc, machine, t, op, &mut Thread::idle())?;
                 Ok(next)
             }
         }

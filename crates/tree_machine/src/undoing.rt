@@ -1,15 +1,15 @@
 //! Steps that are made in place and taken back.
-ghost use Rattle.std.specs.Prelude.{◌≡◌, ◌+◌, ◌^◌, ◌<◌, ◌↔◌, true, false, Some, None, IsErrOf, IfOk, OnOk};
-ghost use Rattle.std.specs.Prelude.{length, slice_set};
-ghost use Rattle.sched_program.specs.Program.{Program};
+ghost use Rattle.std.specs.Prelude.{◌≡◌, ◌+◌, ◌^◌, ◌<◌, ◌↔◌, true, false, Some, None, IsErrOf, IfNone, IfSome};
+ghost use Rattle.std.specs.Prelude.{OnOk, length, slice_set};
+ghost use Rattle.sched_program.specs.Program.{IsWithinLimits, Program};
 ghost use Rattle.tree_machine.specs.declared.state.State.{State};
-ghost use Rattle.tree_machine.specs.Step.{place_or, step, Fits};
+ghost use Rattle.tree_machine.specs.declared.state.Thread.{Thread as Standing};
+ghost use Rattle.tree_machine.specs.Step.{place_or, ready, step, Fits};
 ghost use Rattle.tree_machine.specs.Undoing.{TakesBack};
 
 use crate::encode::Encode;
-use crate::replies::Replies;
-use crate::state::{State, StepFault, Thread, copy_thread_into, place_or};
-use sched_program::{Op, OutOfMemory, Program, Sequence, ShortList};
+use crate::state::{State, StepFault, Thread, place_or};
+use sched_program::{Op, OutOfMemory, Program, Sequence};
 use std::alloc::Global;
 use std::mem::{replace, swap};
 use std::snapshot::Snapshot;
@@ -28,11 +28,7 @@ impl<M: Encode> Undo<M> {
     /// Takes nothing back yet. It allocates nothing.
     pub fn new() -> Undo<M> {
         Undo {
-            thread: Thread {
-                replies: Replies::new(),
-                place: None,
-                notes: ShortList::new(),
-            },
+            thread: Thread::idle(),
             reads: true,
             memory: None,
         }
@@ -53,16 +49,21 @@ impl<M: Encode> Undo<M> {
     }
 }
 
-/// Keeps a copy of the memory, in the buffers of the copy that was kept before, if there is one.
+/// Keeps a copy of the memory unless the access only reads, in the buffers of the copy that was kept before, if there
+/// is one.
 #[inline(always)]
 fn keep_memory<M: Encode>(
     alloc: Global,
     machine: M,
+    reads: bool,
     memory: &M::Mem,
     kept: &mut Option<M::Mem>,
 ) -> Result<(), OutOfMemory>
-    ensures { OnOk result (kept.new ≡ Some memory.now) }
+    ensures { OnOk result (reads ≡ false → kept.new ≡ Some memory.now) }
 {
+    if reads {
+        return Ok(());
+    }
     match kept {
         Some(copy) => machine.copy_mem_into(alloc, memory, copy),
         None => {
@@ -70,29 +71,6 @@ fn keep_memory<M: Encode>(
             Ok(())
         }
     }
-}
-
-/// Whether the access of a thread only reads. If it may write, a copy of the memory is kept.
-#[inline(always)]
-fn keep_written<M: Encode>(
-    alloc: Global,
-    machine: M,
-    op: Op,
-    thread: &Thread<M::Loc>,
-    memory: &M::Mem,
-    kept: &mut Option<M::Mem>,
-) -> Result<bool, OutOfMemory>
-    ensures reads { IfOk result (λ reads. reads ≡ true
-        → ((M.rules machine).act op (place_or thread.now.place ((M.rules machine).first op)) memory.now).0
-        ≡ memory.now) }
-    ensures kept { IfOk result (λ reads. reads ≡ false → kept.new ≡ Some memory.now) }
-{
-    let first = machine.begin(op);
-    if machine.only_reads(place_or(&thread.place, &first)) {
-        return Ok(true);
-    }
-    keep_memory(alloc, machine, memory, kept)?;
-    Ok(false)
 }
 
 /// Whether a step left the memory as it was: it only read, or its exchange failed.
@@ -124,6 +102,21 @@ fn exchange<L: Drop>(
 }
 
 impl<M: Encode> State<M> {
+    /// The operation that a thread has a step for, and whether the access of that step only reads.
+    #[inline(always)]
+    fn next_access(&self, machine: M, program: &Program, t: u8) -> Option<(Op, bool)>
+        ensures some { IfSome result (λ (op, reads). (thread : Standing M.Loc)
+            × (ready program.now self.now t ≡ Some (thread, op)) × (reads ≡ true
+            → ((M.rules machine).act op (place_or thread.place ((M.rules machine).first op)) self.now.memory).0
+            ≡ self.now.memory)) }
+        ensures limits { IfSome result (λ _. IsWithinLimits program.now) }
+        ensures none { IfNone result (ready program.now self.now t ≡ None) }
+    {
+        let (thread, op) = self.ready(program, t)?;
+        let first = machine.begin(op);
+        Some((op, machine.only_reads(place_or(&thread.place, &first))))
+    }
+
     /// Makes the step of a thread in place, and keeps what undoes it. Fails with `NotEnabled`
     /// exactly if the thread has no step; then this state is unchanged. After a refusal of memory
     /// this state is unspecified.
@@ -145,20 +138,12 @@ impl<M: Encode> State<M> {
         ensures back { OnOk result
             (TakesBack self.old t undo.new.thread undo.new.reads undo.new.memory self.new) }
     {
-        let Some((thread, op)) = self.ready(program, t) else {
+        let Some((op, reads)) = self.next_access(machine, program, t) else {
             return Err(StepFault::NotEnabled);
         };
-        copy_thread_into(alloc, machine, thread, &mut undo.thread)?;
-        undo.reads = keep_written(
-            alloc,
-            machine,
-            op,
-            &undo.thread,
-            &self.memory,
-            &mut undo.memory,
-        )?;
-        self.make_step(alloc, machine, t, &undo.thread, op)?;
-        undo.reads = left_memory::<M>(undo.reads, &undo.memory, &self.memory);
+        keep_memory(alloc, machine, reads, &self.memory, &mut undo.memory)?;
+        self.make_step(alloc, machine, t, op, &mut undo.thread)?;
+        undo.reads = left_memory::<M>(reads, &undo.memory, &self.memory);
         Ok(())
     }
 
