@@ -7,6 +7,7 @@ use Rattle.natmit.specs.declared.memory.Node.TheVariants.{Leaf, Internal}
 use Rattle.natmit.specs.declared.memory.NatMitMem.{NatMitMem}
 use Rattle.natmit.specs.declared.place.Mode.{Mode}
 use Rattle.natmit.specs.declared.place.Mode.TheVariants.{Plain, Owner}
+use Rattle.natmit.specs.declared.place.Path.{Path}
 use Rattle.natmit.specs.declared.place.NatMitLoc.{NatMitLoc}
 use Rattle.natmit.specs.declared.place.NatMitLoc.TheVariants.{Begin, Down, Put, Flag, Look, CleanRead, Tag, Sibling}
 use Rattle.natmit.specs.declared.place.NatMitLoc.TheVariants.{Swing}
@@ -28,16 +29,19 @@ module _ (P : ℕ → ℕ → Type 0) where
   AreModesPaired (Owner o) (Owner q) = P o q
   AreModesPaired _ _ = ⊥
 
-  -- places of one kind, with paired nodes and equal other locals; a s p l as in the place table, b u q k for the twin
+  abbrev pub ArePathsPaired : Path → Path → Type 0
+  ArePathsPaired p q = P p.ancestor q.ancestor × P p.successor q.successor × P p.parent q.parent
+
+  -- places of one kind, with paired nodes and equal other locals; p l as in the place table, q k for the twin
   abbrev pub ArePlacesPaired : NatMitLoc → NatMitLoc → Type 0
   ArePlacesPaired (Begin m) (Begin o) = AreModesPaired m o
-  ArePlacesPaired (Down a s p l t m) (Down b u q k v o) = P a b × P s u × P p q × P l k × (t ≡ v) × AreModesPaired m o
-  ArePlacesPaired (Put a s p l) (Put b u q k) = P a b × P s u × P p q × P l k
-  ArePlacesPaired (Flag a s p l) (Flag b u q k) = P a b × P s u × P p q × P l k
-  ArePlacesPaired (Look a s p l) (Look b u q k) = P a b × P s u × P p q × P l k
-  ArePlacesPaired (CleanRead a s p m) (CleanRead b u q o) = P a b × P s u × P p q × AreModesPaired m o
-  ArePlacesPaired (Tag a s p d m) (Tag b u q e o) = P a b × P s u × P p q × (d ≡ e) × AreModesPaired m o
-  ArePlacesPaired (Sibling a s p d m) (Sibling b u q e o) = P a b × P s u × P p q × (d ≡ e) × AreModesPaired m o
+  ArePlacesPaired (Down p l t m) (Down q k v o) = ArePathsPaired p q × P l k × (t ≡ v) × AreModesPaired m o
+  ArePlacesPaired (Put p l) (Put q k) = ArePathsPaired p q × P l k
+  ArePlacesPaired (Flag p l) (Flag q k) = ArePathsPaired p q × P l k
+  ArePlacesPaired (Look p l) (Look q k) = ArePathsPaired p q × P l k
+  ArePlacesPaired (CleanRead p m) (CleanRead q o) = ArePathsPaired p q × AreModesPaired m o
+  ArePlacesPaired (Tag p d m) (Tag q e o) = ArePathsPaired p q × (d ≡ e) × AreModesPaired m o
+  ArePlacesPaired (Sibling p d m) (Sibling q e o) = ArePathsPaired p q × (d ≡ e) × AreModesPaired m o
   ArePlacesPaired (Swing a s f x m) (Swing b u g y o) = P a b × P s u × (f ≡ g) × P x y × AreModesPaired m o
   ArePlacesPaired _ _ = ⊥
 

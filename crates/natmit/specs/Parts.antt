@@ -12,6 +12,7 @@ use Rattle.natmit.specs.declared.memory.Node.TheVariants.{Leaf, Internal}
 use Rattle.natmit.specs.declared.memory.NatMitMem.{NatMitMem}
 use Rattle.natmit.specs.declared.place.Mode.{Mode}
 use Rattle.natmit.specs.declared.place.Mode.TheVariants.{Plain, Owner}
+use Rattle.natmit.specs.declared.place.Path.{Path}
 use Rattle.natmit.specs.declared.place.NatMitLoc.{NatMitLoc}
 use Rattle.natmit.specs.declared.place.NatMitLoc.TheVariants.{Begin, Down, Put, Flag, Look, CleanRead, Tag, Sibling}
 use Rattle.natmit.specs.declared.place.NatMitLoc.TheVariants.{Swing}
@@ -42,16 +43,20 @@ node_part (Leaf k) = part_of (k ∷ []) []
 node_part (Internal k l r) =
     part_of (k ∷ (mark_number l + 4 * mark_number r) ∷ []) (Some l.node ∷ Some r.node ∷ [])
 
+-- a part that names the nodes of a path, and more
+abbrev pub path_part : List ℕ → Path → List (Option ℕ) → Part
+path_part facts p more = part_of facts (Some p.ancestor ∷ Some p.successor ∷ Some p.parent ∷ more)
+
 -- which place it is, and its locals
 abbrev pub place_part : NatMitLoc → Part
 place_part (Begin m) = part_of (1 ∷ []) (owned m ∷ [])
-place_part (Down a s p l t m) = part_of (2 ∷ bit t ∷ []) (Some a ∷ Some s ∷ Some p ∷ Some l ∷ owned m ∷ [])
-place_part (Put a s p l) = part_of (3 ∷ []) (Some a ∷ Some s ∷ Some p ∷ Some l ∷ [])
-place_part (Flag a s p l) = part_of (4 ∷ []) (Some a ∷ Some s ∷ Some p ∷ Some l ∷ [])
-place_part (Look a s p l) = part_of (5 ∷ []) (Some a ∷ Some s ∷ Some p ∷ Some l ∷ [])
-place_part (CleanRead a s p m) = part_of (6 ∷ []) (Some a ∷ Some s ∷ Some p ∷ owned m ∷ [])
-place_part (Tag a s p d m) = part_of (7 ∷ side_number d ∷ []) (Some a ∷ Some s ∷ Some p ∷ owned m ∷ [])
-place_part (Sibling a s p d m) = part_of (8 ∷ side_number d ∷ []) (Some a ∷ Some s ∷ Some p ∷ owned m ∷ [])
+place_part (Down p l t m) = path_part (2 ∷ bit t ∷ []) p (Some l ∷ owned m ∷ [])
+place_part (Put p l) = path_part (3 ∷ []) p (Some l ∷ [])
+place_part (Flag p l) = path_part (4 ∷ []) p (Some l ∷ [])
+place_part (Look p l) = path_part (5 ∷ []) p (Some l ∷ [])
+place_part (CleanRead p m) = path_part (6 ∷ []) p (owned m ∷ [])
+place_part (Tag p d m) = path_part (7 ∷ side_number d ∷ []) p (owned m ∷ [])
+place_part (Sibling p d m) = path_part (8 ∷ side_number d ∷ []) p (owned m ∷ [])
 place_part (Swing a s f x m) = part_of (9 ∷ bit f ∷ []) (Some a ∷ Some s ∷ Some x ∷ owned m ∷ [])
 
 -- a thread between operations holds nothing

@@ -5,6 +5,7 @@ use Rattle.natmit.specs.declared.memory.Node.TheVariants.{Leaf, Internal}
 use Rattle.natmit.specs.declared.memory.NatMitMem.{NatMitMem}
 use Rattle.natmit.specs.declared.place.Mode.{Mode}
 use Rattle.natmit.specs.declared.place.Mode.TheVariants.{Plain, Owner}
+use Rattle.natmit.specs.declared.place.Path.{Path}
 use Rattle.natmit.specs.declared.place.NatMitLoc.{NatMitLoc}
 use Rattle.natmit.specs.declared.place.NatMitLoc.TheVariants.{Begin, Down, Put, Flag, Look, CleanRead, Tag, Sibling}
 use Rattle.natmit.specs.declared.place.NatMitLoc.TheVariants.{Swing}
@@ -18,15 +19,18 @@ abbrev pub IsModeIn : ℕ → Mode → Type 0
 IsModeIn n Plain = Unit {0}
 IsModeIn n (Owner o) = o < n
 
+abbrev pub IsPathIn : ℕ → Path → Type 0
+IsPathIn n p = (p.ancestor < n) × (p.successor < n) × (p.parent < n)
+
 abbrev pub IsPlaceIn : ℕ → NatMitLoc → Type 0
 IsPlaceIn n (Begin mode) = IsModeIn n mode
-IsPlaceIn n (Down a s p l t mode) = (a < n) × (s < n) × (p < n) × (l < n) × IsModeIn n mode
-IsPlaceIn n (Put a s p l) = (a < n) × (s < n) × (p < n) × (l < n)
-IsPlaceIn n (Flag a s p l) = (a < n) × (s < n) × (p < n) × (l < n)
-IsPlaceIn n (Look a s p l) = (a < n) × (s < n) × (p < n) × (l < n)
-IsPlaceIn n (CleanRead a s p mode) = (a < n) × (s < n) × (p < n) × IsModeIn n mode
-IsPlaceIn n (Tag a s p d mode) = (a < n) × (s < n) × (p < n) × IsModeIn n mode
-IsPlaceIn n (Sibling a s p d mode) = (a < n) × (s < n) × (p < n) × IsModeIn n mode
+IsPlaceIn n (Down p l t mode) = IsPathIn n p × (l < n) × IsModeIn n mode
+IsPlaceIn n (Put p l) = IsPathIn n p × (l < n)
+IsPlaceIn n (Flag p l) = IsPathIn n p × (l < n)
+IsPlaceIn n (Look p l) = IsPathIn n p × (l < n)
+IsPlaceIn n (CleanRead p mode) = IsPathIn n p × IsModeIn n mode
+IsPlaceIn n (Tag p d mode) = IsPathIn n p × IsModeIn n mode
+IsPlaceIn n (Sibling p d mode) = IsPathIn n p × IsModeIn n mode
 IsPlaceIn n (Swing a s f x mode) = (a < n) × (s < n) × (x < n) × IsModeIn n mode
 
 -- in a memory, which has the root and node 1, where each search begins

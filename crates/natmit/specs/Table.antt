@@ -1,5 +1,5 @@
 -- The place table: what each place's access does, and where the operation goes then. The names are those of the
--- paper of Natarajan and Mittal; a s p l stand for the ancestor, the successor, the parent and the leaf.
+-- paper of Natarajan and Mittal; p and l stand for the path and the leaf.
 use Rattle.std.specs.Prelude.{ℕ, Bool, true, false, ◌&&◌, ◌||◌, if◌then◌else◌, nat_eq, Option, Some, None}
 use Rattle.sched_program.specs.Program.{key_of}
 use Rattle.sched_program.specs.declared.operation.Op.{Op}
@@ -14,6 +14,7 @@ use Rattle.natmit.specs.declared.memory.Node.TheVariants.{Leaf, Internal}
 use Rattle.natmit.specs.declared.memory.NatMitMem.{NatMitMem}
 use Rattle.natmit.specs.declared.place.Mode.{Mode}
 use Rattle.natmit.specs.declared.place.Mode.TheVariants.{Plain, Owner}
+use Rattle.natmit.specs.declared.place.Path.{Path}
 use Rattle.natmit.specs.declared.place.NatMitLoc.{NatMitLoc}
 use Rattle.natmit.specs.declared.place.NatMitLoc.TheVariants.{Begin, Down, Put, Flag, Look, CleanRead, Tag, Sibling}
 use Rattle.natmit.specs.declared.place.NatMitLoc.TheVariants.{Swing}
@@ -53,32 +54,39 @@ abbrev pub other_side : Side → Side
 other_side Left = Right
 other_side Right = Left
 
--- the search has come to node l, by a word with tag t
-abbrev pub arrived : Op → ℕ → ℕ → ℕ → ℕ → Bool → Mode → Node → Outcome NatMitLoc
-arrived op a s p l t mode (Internal j left right) = Goes (Down a s p l t mode)
-arrived (Find k) a s p l t mode (Leaf j) = Replies (nat_eq j k)
-arrived (Insert k) a s p l t mode (Leaf j) = if nat_eq j k then Replies false else Goes (Put a s p l)
-arrived (Delete k) a s p l t Plain (Leaf j) = if nat_eq j k then Goes (Flag a s p l) else Replies false
-arrived (Delete k) a s p l t (Owner o) (Leaf j) = if nat_eq l o then Goes (CleanRead a s p (Owner o)) else Replies true
+-- the path of an ancestor, a successor and a parent
+abbrev pub path_of : ℕ → ℕ → ℕ → Path
+path_of a s p = record { ancestor = a; successor = s; parent = p }
 
--- the search has read the word w of node l, to which a word with tag t led: an untagged word makes a new ancestor
-abbrev pub went_down : Op → ℕ → ℕ → ℕ → ℕ → Bool → Mode → NatMitMem → Word → Outcome NatMitLoc
-went_down op a s p l t mode memory w =
-    if t then arrived op a s l w.node w.tag mode (node_at memory w.node) else arrived op p l l w.node w.tag mode
-    (node_at memory w.node)
+-- the path to a child of node l, to which a word with tag t led: an untagged word makes a new ancestor
+abbrev pub path_below : Path → ℕ → Bool → Path
+path_below p l true = path_of p.ancestor p.successor l
+path_below p l false = path_of p.parent l l
+
+-- the search has come to node l, by a word with tag t
+abbrev pub arrived : Op → Path → ℕ → Bool → Mode → Node → Outcome NatMitLoc
+arrived op p l t mode (Internal j left right) = Goes (Down p l t mode)
+arrived (Find k) p l t mode (Leaf j) = Replies (nat_eq j k)
+arrived (Insert k) p l t mode (Leaf j) = if nat_eq j k then Replies false else Goes (Put p l)
+arrived (Delete k) p l t Plain (Leaf j) = if nat_eq j k then Goes (Flag p l) else Replies false
+arrived (Delete k) p l t (Owner o) (Leaf j) = if nat_eq l o then Goes (CleanRead p (Owner o)) else Replies true
+
+-- the search has read the word w of the parent
+abbrev pub went_down : Op → Path → Mode → NatMitMem → Word → Outcome NatMitLoc
+went_down op p mode memory w = arrived op p w.node w.tag mode (node_at memory w.node)
 
 -- an exchange has failed, and found w
-abbrev pub looked : ℕ → ℕ → ℕ → ℕ → Word → Outcome NatMitLoc
-looked a s p l w = if nat_eq w.node l && (w.flag || w.tag) then Goes (CleanRead a s p Plain) else Goes (Begin Plain)
+abbrev pub looked : Path → ℕ → Word → Outcome NatMitLoc
+looked p l w = if nat_eq w.node l && (w.flag || w.tag) then Goes (CleanRead p Plain) else Goes (Begin Plain)
 
 -- Tag, or Sibling in the variant without the tag
-abbrev pub tagging : NatMit → ℕ → ℕ → ℕ → Side → Mode → NatMitLoc
-tagging machine a s p d mode = if machine.tag then Tag a s p d mode else Sibling a s p d mode
+abbrev pub tagging : NatMit → Path → Side → Mode → NatMitLoc
+tagging machine p d mode = if machine.tag then Tag p d mode else Sibling p d mode
 
 -- the sibling stays that is not flagged; d is the side of the key
-abbrev pub clean_read : NatMit → ℕ → ℕ → ℕ → Side → Mode → Word → Outcome NatMitLoc
-clean_read machine a s p d mode w =
-    if w.flag then Goes (tagging machine a s p (other_side d) mode) else Goes (tagging machine a s p d mode)
+abbrev pub clean_read : NatMit → Path → Side → Mode → Word → Outcome NatMitLoc
+clean_read machine p d mode w =
+    if w.flag then Goes (tagging machine p (other_side d) mode) else Goes (tagging machine p d mode)
 
 abbrev pub swung : Mode → Outcome NatMitLoc
 swung Plain = Goes (Begin Plain)
@@ -90,32 +98,22 @@ not_swung mode = Goes (Begin mode)
 -- ---- the table
 
 abbrev pub act : NatMit → Op → NatMitLoc → NatMitMem → After
-act machine op (Begin mode) m =
-    after_read m 1 Left (λ w. arrived op 0 1 1 w.node w.tag mode (node_at m w.node))
-act machine op (Down a s p l t mode) m =
-    after_read m l (side_at (key_of op) m l) (went_down op a s p l t mode m)
-act machine op (Put a s p l) m =
-    after_exchange m p (side_at (key_of op) m p) l (with_internal m (key_of op) l) (plain (new_internal m))
-    (Replies true) (Goes (Look a s p l))
-act machine op (Flag a s p l) m =
-    after_exchange m p (side_at (key_of op) m p) l m (record { flag = true; tag = false; node = l })
-    (Goes (CleanRead a s p (Owner l))) (Goes (Look a s p l))
-act machine op (Look a s p l) m =
-    after_read m p (side_at (key_of op) m p) (looked a s p l)
-act machine op (CleanRead a s p mode) m =
-    after_read m p (side_at (key_of op) m p) (clean_read machine a s p (side_at (key_of op) m p) mode)
-act machine op (Tag a s p d mode) m =
-    after_tag m p d (Goes (Sibling a s p d mode))
-act machine op (Sibling a s p d mode) m =
-    after_read m p d (λ w. Goes (Swing a s w.flag w.node mode))
+act machine op (Begin mode) m = after_read m 1 Left (went_down op (path_of 0 1 1) mode m)
+act machine op (Down p l t mode) m =
+    after_read m l (side_at (key_of op) m l) (went_down op (path_below p l t) mode m)
+act machine op (Put p l) m =
+    after_exchange m p.parent (side_at (key_of op) m p.parent) l (with_internal m (key_of op) l)
+    (plain (new_internal m)) (Replies true) (Goes (Look p l))
+act machine op (Flag p l) m =
+    after_exchange m p.parent (side_at (key_of op) m p.parent) l m
+    (record { flag = true; tag = false; node = l }) (Goes (CleanRead p (Owner l))) (Goes (Look p l))
+act machine op (Look p l) m = after_read m p.parent (side_at (key_of op) m p.parent) (looked p l)
+act machine op (CleanRead p mode) m =
+    after_read m p.parent (side_at (key_of op) m p.parent)
+    (clean_read machine p (side_at (key_of op) m p.parent) mode)
+act machine op (Tag p d mode) m = after_tag m p.parent d (Goes (Sibling p d mode))
+act machine op (Sibling p d mode) m =
+    after_read m p.parent d (λ w. Goes (Swing p.ancestor p.successor w.flag w.node mode))
 act machine op (Swing a s f n mode) m =
     after_exchange m a (side_at (key_of op) m a) s m (record { flag = f; tag = false; node = n }) (swung mode)
     (not_swung mode)
-
--- a place at which a flagged leaf is cut off, which is the operation's own or that of a delete that it helps
-abbrev pub IsHelping : NatMitLoc → Type 0
-IsHelping (CleanRead a s p mode) = Unit {0}
-IsHelping (Tag a s p d mode) = Unit {0}
-IsHelping (Sibling a s p d mode) = Unit {0}
-IsHelping (Swing a s f n mode) = Unit {0}
-IsHelping _ = ⊥

@@ -1,7 +1,7 @@
 //! The rows of the table at which an operation cuts a flagged leaf off, its own or that of a delete which it helps.
 ghost use Rattle.std.specs.Prelude.{◌≡◌};
 ghost use Rattle.natmit.specs.declared.place.NatMitLoc.TheVariants as place;
-ghost use Rattle.natmit.specs.Table.{act, other_side, tagging, clean_read, swung, IsHelping};
+ghost use Rattle.natmit.specs.Table.{act, other_side, tagging, clean_read, swung};
 
 use crate::machine::NatMit;
 use crate::memory::{NatMitMem, Word, is_plain, untagged, word_on};
@@ -21,24 +21,18 @@ fn other_side(side: Side) -> Side
 
 /// Where the cleanup goes once it knows the side of the sibling: to the tag, or past it in the variant.
 fn tagging(machine: NatMit, path: Path, side: Side, mode: Mode) -> NatMitLoc
-    ensures { result ≡ tagging machine path.ancestor path.successor path.parent side mode }
+    ensures { result ≡ tagging machine path side mode }
 {
     if machine.tag {
-        NatMitLoc::Tag {
-            ancestor: path.ancestor,
-            successor: path.successor,
-            parent: path.parent,
-            side,
-            mode,
-        }
+        NatMitLoc::Tag { path, side, mode }
     } else {
-        path.sibling(side, mode)
+        NatMitLoc::Sibling { path, side, mode }
     }
 }
 
 /// Where the cleanup goes from this word of the parent, on the side of the key.
 fn clean_read(machine: NatMit, path: Path, side: Side, mode: Mode, word: Word) -> Next
-    ensures { result ≡ clean_read machine path.ancestor path.successor path.parent side mode word }
+    ensures { result ≡ clean_read machine path side mode word }
 {
     if word.flag {
         Outcome::Goes(tagging(machine, path, other_side(side), mode))
@@ -61,9 +55,8 @@ fn swung(mode: Mode) -> Next
 
 impl NatMit {
     /// Of the two children of the parent the one that is not flagged stays.
-    fn clean_read_row(self, op: Op, mem: &NatMitMem, path: Path, mode: Mode) -> Next
-        ensures { act self op (place.CleanRead path.ancestor path.successor path.parent mode) mem.now
-            ≡ (mem.now, result) }
+    pub(crate) fn clean_read_row(self, op: Op, mem: &NatMitMem, path: Path, mode: Mode) -> Next
+        ensures { act self op (place.CleanRead path mode) mem.now ≡ (mem.now, result) }
     {
         let side = side_at(op, mem, path.parent);
         match word_on(side, mem.node(path.parent)) {
@@ -73,22 +66,34 @@ impl NatMit {
     }
 
     /// The word of the sibling is tagged, so that no exchange changes it from here on.
-    fn tag_row(self, op: Op, mem: &mut NatMitMem, path: Path, side: Side, mode: Mode) -> Next
-        ensures { act self op (place.Tag path.ancestor path.successor path.parent side mode) mem.old
-            ≡ (mem.new, result) }
+    pub(crate) fn tag_row(
+        self,
+        op: Op,
+        mem: &mut NatMitMem,
+        path: Path,
+        side: Side,
+        mode: Mode,
+    ) -> Next
+        ensures { act self op (place.Tag path side mode) mem.old ≡ (mem.new, result) }
     {
         let Some(word) = word_on(side, mem.node(path.parent)) else {
             return Outcome::Astray;
         };
         let tagged = Word { tag: true, ..word };
         mem.set_word(path.parent, side, tagged);
-        Outcome::Goes(path.sibling(side, mode))
+        Outcome::Goes(NatMitLoc::Sibling { path, side, mode })
     }
 
     /// The sibling may itself be flagged, and the flag goes up with it.
-    fn sibling_row(self, op: Op, mem: &NatMitMem, path: Path, side: Side, mode: Mode) -> Next
-        ensures { act self op (place.Sibling path.ancestor path.successor path.parent side mode) mem.now
-            ≡ (mem.now, result) }
+    pub(crate) fn sibling_row(
+        self,
+        op: Op,
+        mem: &NatMitMem,
+        path: Path,
+        side: Side,
+        mode: Mode,
+    ) -> Next
+        ensures { act self op (place.Sibling path side mode) mem.now ≡ (mem.now, result) }
     {
         match word_on(side, mem.node(path.parent)) {
             Some(word) => Outcome::Goes(NatMitLoc::Swing {
@@ -103,7 +108,7 @@ impl NatMit {
     }
 
     /// The word of the ancestor then points to the sibling, and all between them is cut off.
-    fn swing_row(
+    pub(crate) fn swing_row(
         self,
         op: Op,
         mem: &mut NatMitMem,
@@ -124,43 +129,6 @@ impl NatMit {
             swung(mode)
         } else {
             Outcome::Goes(NatMitLoc::Begin { mode })
-        }
-    }
-
-    /// One access at a place at which a flagged leaf is cut off.
-    pub(crate) fn help_act(self, op: Op, loc: NatMitLoc, mem: &mut NatMitMem) -> Next
-        requires { IsHelping loc }
-        ensures { act self op loc mem.old ≡ (mem.new, result) }
-    {
-        match loc {
-            NatMitLoc::CleanRead {
-                ancestor,
-                successor,
-                parent,
-                mode,
-            } => self.clean_read_row(op, mem, Path::of(ancestor, successor, parent), mode),
-            NatMitLoc::Tag {
-                ancestor,
-                successor,
-                parent,
-                side,
-                mode,
-            } => self.tag_row(op, mem, Path::of(ancestor, successor, parent), side, mode),
-            NatMitLoc::Sibling {
-                ancestor,
-                successor,
-                parent,
-                side,
-                mode,
-            } => self.sibling_row(op, mem, Path::of(ancestor, successor, parent), side, mode),
-            NatMitLoc::Swing {
-                ancestor,
-                successor,
-                flag,
-                node,
-                mode,
-            } => self.swing_row(op, mem, ancestor, successor, untagged(flag, node), mode),
-            _ => unreachable!(),
         }
     }
 }

@@ -12,4 +12,4 @@ mod searching;
 
 pub use crate::machine::NatMit;
 pub use crate::memory::{NatMitMem, Node, Word};
-pub use crate::place::{Mode, NatMitLoc};
+pub use crate::place::{Mode, NatMitLoc, Path};

@@ -2,11 +2,10 @@
 ghost use Rattle.std.specs.Prelude.{◌≡◌, ◌<◌, ◌∷◌, [], Some, OnOk};
 ghost use Rattle.tree_machine.specs.Alike.{places_of};
 ghost use Rattle.tree_machine.specs.Parts.{IsPartBelow};
-ghost use Rattle.natmit.specs.Parts.{mark_number, side_number, owned, part_of, node_part, place_part, natmit_parts};
-ghost use Rattle.natmit.specs.Table.{IsHelping};
+ghost use Rattle.natmit.specs.Parts.{mark_number, side_number, owned, node_part, path_part, place_part, natmit_parts};
 
 use crate::memory::{NatMitMem, Node, Word};
-use crate::place::{Mode, NatMitLoc};
+use crate::place::{Mode, NatMitLoc, Path};
 use sched_program::OutOfMemory;
 use tree_machine::{PartVisitor, Parts, Side, Thread};
 
@@ -56,64 +55,24 @@ fn visit_node<V: PartVisitor>(node: Node, visitor: &mut V) -> Result<(), OutOfMe
     }
 }
 
-/// Lets a visitor visit a place that holds four references, with these facts.
-fn visit_four<V: PartVisitor>(
+/// Lets a visitor visit a place that holds a path and one more reference, with these facts.
+fn visit_path<V: PartVisitor>(
     facts: &[u8],
-    ancestor: u16,
-    successor: u16,
-    node: u16,
+    path: Path,
     last: Option<u16>,
     visitor: &mut V,
 ) -> Result<(), OutOfMemory>
     requires { IsPartBelow (V.nodes_below visitor.old) (V.records_below visitor.old)
-        (part_of facts.now (Some ancestor ∷ Some successor ∷ Some node ∷ last ∷ [])) }
-    ensures { OnOk result (V.visited visitor.old
-        (part_of facts.now (Some ancestor ∷ Some successor ∷ Some node ∷ last ∷ [])) visitor.new) }
+        (path_part facts.now path (last ∷ [])) }
+    ensures { OnOk result (V.visited visitor.old (path_part facts.now path (last ∷ [])) visitor.new) }
 {
-    visitor.visit(
-        facts,
-        &[Some(ancestor), Some(successor), Some(node), last],
-        &[],
-        &[],
-    )
-}
-
-/// Lets a visitor visit a place at which a flagged leaf is cut off, and its locals.
-fn visit_helping<V: PartVisitor>(place: NatMitLoc, visitor: &mut V) -> Result<(), OutOfMemory>
-    requires helping { IsHelping place }
-    requires named { IsPartBelow (V.nodes_below visitor.old) (V.records_below visitor.old) (place_part place) }
-    ensures { OnOk result (V.visited visitor.old (place_part place) visitor.new) }
-{
-    match place {
-        NatMitLoc::CleanRead {
-            ancestor: a,
-            successor: s,
-            parent: p,
-            mode,
-        } => visit_four(&[6], a, s, p, owned(mode), visitor),
-        NatMitLoc::Tag {
-            ancestor: a,
-            successor: s,
-            parent: p,
-            side,
-            mode,
-        } => visit_four(&[7, side_number(side)], a, s, p, owned(mode), visitor),
-        NatMitLoc::Sibling {
-            ancestor: a,
-            successor: s,
-            parent: p,
-            side,
-            mode,
-        } => visit_four(&[8, side_number(side)], a, s, p, owned(mode), visitor),
-        NatMitLoc::Swing {
-            ancestor: a,
-            successor: s,
-            flag,
-            node,
-            mode,
-        } => visit_four(&[9, u8::from(flag)], a, s, node, owned(mode), visitor),
-        _ => unreachable!(),
-    }
+    let nodes = [
+        Some(path.ancestor),
+        Some(path.successor),
+        Some(path.parent),
+        last,
+    ];
+    visitor.visit(facts, &nodes, &[], &[])
 }
 
 /// Lets a visitor visit a place: which one it is, and its locals.
@@ -125,37 +84,44 @@ fn visit_place<V: PartVisitor>(place: NatMitLoc, visitor: &mut V) -> Result<(), 
     match place {
         NatMitLoc::Begin { mode } => visitor.visit(&[1], &[owned(mode)], &[], &[]),
         NatMitLoc::Down {
-            ancestor: a,
-            successor: s,
-            parent: p,
-            leaf: l,
+            path,
+            leaf,
             tag,
             mode,
         } => visitor.visit(
             &[2, u8::from(tag)],
-            &[Some(a), Some(s), Some(p), Some(l), owned(mode)],
+            &[
+                Some(path.ancestor),
+                Some(path.successor),
+                Some(path.parent),
+                Some(leaf),
+                owned(mode),
+            ],
             &[],
             &[],
         ),
-        NatMitLoc::Put {
+        NatMitLoc::Put { path, leaf } => visit_path(&[3], path, Some(leaf), visitor),
+        NatMitLoc::Flag { path, leaf } => visit_path(&[4], path, Some(leaf), visitor),
+        NatMitLoc::Look { path, leaf } => visit_path(&[5], path, Some(leaf), visitor),
+        NatMitLoc::CleanRead { path, mode } => visit_path(&[6], path, owned(mode), visitor),
+        NatMitLoc::Tag { path, side, mode } => {
+            visit_path(&[7, side_number(side)], path, owned(mode), visitor)
+        }
+        NatMitLoc::Sibling { path, side, mode } => {
+            visit_path(&[8, side_number(side)], path, owned(mode), visitor)
+        }
+        NatMitLoc::Swing {
             ancestor: a,
             successor: s,
-            parent: p,
-            leaf: l,
-        } => visit_four(&[3], a, s, p, Some(l), visitor),
-        NatMitLoc::Flag {
-            ancestor: a,
-            successor: s,
-            parent: p,
-            leaf: l,
-        } => visit_four(&[4], a, s, p, Some(l), visitor),
-        NatMitLoc::Look {
-            ancestor: a,
-            successor: s,
-            parent: p,
-            leaf: l,
-        } => visit_four(&[5], a, s, p, Some(l), visitor),
-        _ => visit_helping(place, visitor),
+            flag,
+            node,
+            mode,
+        } => visitor.visit(
+            &[9, u8::from(flag)],
+            &[Some(a), Some(s), Some(node), owned(mode)],
+            &[],
+            &[],
+        ),
     }
 }
 

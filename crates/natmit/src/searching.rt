@@ -3,7 +3,7 @@ ghost use Rattle.std.specs.Prelude.{◌≡◌, Bool, IfOk, OnErr};
 ghost use Rattle.sched_program.specs.Program.{key_of};
 ghost use Rattle.natmit.specs.declared.place.NatMitLoc.TheVariants as place;
 ghost use Rattle.natmit.specs.Memory.{side_at};
-ghost use Rattle.natmit.specs.Table.{act, arrived, went_down, looked};
+ghost use Rattle.natmit.specs.Table.{act, arrived, path_below, went_down, looked};
 
 use crate::machine::NatMit;
 use crate::memory::{NatMitMem, Node, Word, is_plain, key_in, untagged, word_on};
@@ -27,57 +27,43 @@ pub(crate) fn side_at(op: Op, mem: &NatMitMem, x: u16) -> Side
 
 /// What a delete does at the leaf, of this key, at which its search has ended.
 fn decide_delete(wanted: u8, path: Path, leaf: u16, mode: Mode, key: u8) -> Next
-    ensures { (tag : Bool) → result
-        ≡ arrived (Op.Delete wanted) path.ancestor path.successor path.parent leaf tag mode (Node.Leaf key) }
+    ensures { (tag : Bool) → result ≡ arrived (Op.Delete wanted) path leaf tag mode (Node.Leaf key) }
 {
     match mode {
         Mode::Plain => {
             if key != wanted {
                 return Outcome::Replies(false);
             }
-            Outcome::Goes(NatMitLoc::Flag {
-                ancestor: path.ancestor,
-                successor: path.successor,
-                parent: path.parent,
-                leaf,
-            })
+            Outcome::Goes(NatMitLoc::Flag { path, leaf })
         }
         Mode::Owner(owned) => {
             if leaf != owned {
                 return Outcome::Replies(true);
             }
-            Outcome::Goes(path.clean_read(mode))
+            Outcome::Goes(NatMitLoc::CleanRead { path, mode })
         }
     }
 }
 
 /// What an operation does at the leaf, of this key, at which its search has ended, whatever tag led there.
 fn decide(op: Op, path: Path, leaf: u16, mode: Mode, key: u8) -> Next
-    ensures { (tag : Bool) → result
-        ≡ arrived op path.ancestor path.successor path.parent leaf tag mode (Node.Leaf key) }
+    ensures { (tag : Bool) → result ≡ arrived op path leaf tag mode (Node.Leaf key) }
 {
     match op {
         Op::Find(wanted) => Outcome::Replies(key == wanted),
         Op::Insert(wanted) if key == wanted => Outcome::Replies(false),
-        Op::Insert(_) => Outcome::Goes(NatMitLoc::Put {
-            ancestor: path.ancestor,
-            successor: path.successor,
-            parent: path.parent,
-            leaf,
-        }),
+        Op::Insert(_) => Outcome::Goes(NatMitLoc::Put { path, leaf }),
         Op::Delete(wanted) => decide_delete(wanted, path, leaf, mode, key),
     }
 }
 
 /// Where a search goes from the node `leaf`, which it has reached.
 fn arrived(op: Op, path: Path, leaf: u16, tag: bool, mode: Mode, node: Node) -> Next
-    ensures { result ≡ arrived op path.ancestor path.successor path.parent leaf tag mode node }
+    ensures { result ≡ arrived op path leaf tag mode node }
 {
     match node {
         Node::Internal { .. } => Outcome::Goes(NatMitLoc::Down {
-            ancestor: path.ancestor,
-            successor: path.successor,
-            parent: path.parent,
+            path,
             leaf,
             tag,
             mode,
@@ -86,36 +72,34 @@ fn arrived(op: Op, path: Path, leaf: u16, tag: bool, mode: Mode, node: Node) -> 
     }
 }
 
-/// Where a search goes from this word of the node `leaf`. The tag is that of the word that led to the node.
-fn went_down(
-    op: Op,
-    path: Path,
-    leaf: u16,
-    tag: bool,
-    mode: Mode,
-    mem: &NatMitMem,
-    word: Word,
-) -> Next
-    ensures { result ≡ went_down op path.ancestor path.successor path.parent leaf tag mode mem.now word }
+/// The path to a child of the node `leaf`, to which a word with this tag led.
+fn path_below(path: Path, leaf: u16, tag: bool) -> Path
+    ensures { result ≡ path_below path leaf tag }
 {
-    let next = mem.node(word.node);
     if tag {
-        let path = Path::of(path.ancestor, path.successor, leaf);
-        arrived(op, path, word.node, word.tag, mode, next)
+        Path::of(path.ancestor, path.successor, leaf)
     } else {
-        let path = Path::of(path.parent, leaf, leaf);
-        arrived(op, path, word.node, word.tag, mode, next)
+        Path::of(path.parent, leaf, leaf)
     }
+}
+
+/// Where a search goes from this word of the parent.
+fn went_down(op: Op, path: Path, mode: Mode, mem: &NatMitMem, word: Word) -> Next
+    ensures { result ≡ went_down op path mode mem.now word }
+{
+    let node = mem.node(word.node);
+    arrived(op, path, word.node, word.tag, mode, node)
 }
 
 /// Where an insert or delete goes after a failed exchange, from the word that it found.
 fn looked(path: Path, leaf: u16, word: Word) -> Next
-    ensures { result ≡ looked path.ancestor path.successor path.parent leaf word }
+    ensures { result ≡ looked path leaf word }
 {
+    let mode = Mode::Plain;
     if word.node == leaf && (word.flag || word.tag) {
-        Outcome::Goes(path.clean_read(Mode::Plain))
+        Outcome::Goes(NatMitLoc::CleanRead { path, mode })
     } else {
-        Outcome::Goes(NatMitLoc::Begin { mode: Mode::Plain })
+        Outcome::Goes(NatMitLoc::Begin { mode })
     }
 }
 
@@ -127,21 +111,17 @@ impl NatMit {
         ensures { act self op (place.Begin mode) mem.now ≡ (mem.now, result) }
     {
         match word_on(Side::Left, mem.node(1)) {
-            Some(word) => {
-                let next = mem.node(word.node);
-                arrived(op, Path::of(0, 1, 1), word.node, word.tag, mode, next)
-            }
+            Some(word) => went_down(op, Path::of(0, 1, 1), mode, mem, word),
             None => Outcome::Astray,
         }
     }
 
     /// A search goes down by a word of the node that it has reached.
     fn down_row(self, op: Op, mem: &NatMitMem, path: Path, leaf: u16, tag: bool, mode: Mode) -> Next
-        ensures { act self op (place.Down path.ancestor path.successor path.parent leaf tag mode) mem.now
-            ≡ (mem.now, result) }
+        ensures { act self op (place.Down path leaf tag mode) mem.now ≡ (mem.now, result) }
     {
         match word_on(side_at(op, mem, leaf), mem.node(leaf)) {
-            Some(word) => went_down(op, path, leaf, tag, mode, mem, word),
+            Some(word) => went_down(op, path_below(path, leaf, tag), mode, mem, word),
             None => Outcome::Astray,
         }
     }
@@ -149,8 +129,7 @@ impl NatMit {
     /// An insert adds its key in the place of the leaf, if the word of the parent points to the leaf and no delete is
     /// under way.
     fn put_row(self, alloc: Global, op: Op, mem: &mut NatMitMem, path: Path, leaf: u16) -> Access
-        ensures ok { IfOk result (λ outcome.
-            act self op (place.Put path.ancestor path.successor path.parent leaf) mem.old ≡ (mem.new, outcome)) }
+        ensures ok { IfOk result (λ outcome. act self op (place.Put path leaf) mem.old ≡ (mem.new, outcome)) }
         ensures err { OnErr result (mem.new ≡ mem.old) }
     {
         let side = side_at(op, mem, path.parent);
@@ -158,12 +137,7 @@ impl NatMit {
             return Ok(Outcome::Astray);
         };
         if !is_plain(leaf, word) {
-            return Ok(Outcome::Goes(NatMitLoc::Look {
-                ancestor: path.ancestor,
-                successor: path.successor,
-                parent: path.parent,
-                leaf,
-            }));
+            return Ok(Outcome::Goes(NatMitLoc::Look { path, leaf }));
         }
         mem.put_at(alloc, op.key(), path.parent, leaf)?;
         Ok(Outcome::Replies(true))
@@ -171,7 +145,7 @@ impl NatMit {
 
     /// A delete flags the word of its leaf: the key is gone once the leaf is cut off, by whichever operation.
     fn flag_row(self, op: Op, mem: &mut NatMitMem, path: Path, leaf: u16) -> Next
-        ensures { act self op (place.Flag path.ancestor path.successor path.parent leaf) mem.old ≡ (mem.new, result) }
+        ensures { act self op (place.Flag path leaf) mem.old ≡ (mem.new, result) }
     {
         let side = side_at(op, mem, path.parent);
         let Some(word) = word_on(side, mem.node(path.parent)) else {
@@ -179,20 +153,16 @@ impl NatMit {
         };
         if is_plain(leaf, word) {
             mem.set_word(path.parent, side, untagged(true, leaf));
-            Outcome::Goes(path.clean_read(Mode::Owner(leaf)))
+            let mode = Mode::Owner(leaf);
+            Outcome::Goes(NatMitLoc::CleanRead { path, mode })
         } else {
-            Outcome::Goes(NatMitLoc::Look {
-                ancestor: path.ancestor,
-                successor: path.successor,
-                parent: path.parent,
-                leaf,
-            })
+            Outcome::Goes(NatMitLoc::Look { path, leaf })
         }
     }
 
     /// After a failed exchange: a flagged or tagged word of the same leaf is that of another delete, which is helped.
     fn look_row(self, op: Op, mem: &NatMitMem, path: Path, leaf: u16) -> Next
-        ensures { act self op (place.Look path.ancestor path.successor path.parent leaf) mem.now ≡ (mem.now, result) }
+        ensures { act self op (place.Look path leaf) mem.now ≡ (mem.now, result) }
     {
         match word_on(side_at(op, mem, path.parent), mem.node(path.parent)) {
             Some(word) => looked(path, leaf, word),
@@ -208,35 +178,29 @@ impl NatMit {
         match loc {
             NatMitLoc::Begin { mode } => Ok(self.begin_row(op, mem, mode)),
             NatMitLoc::Down {
-                ancestor,
-                successor,
-                parent,
+                path,
                 leaf,
                 tag,
                 mode,
-            } => {
-                let path = Path::of(ancestor, successor, parent);
-                Ok(self.down_row(op, mem, path, leaf, tag, mode))
+            } => Ok(self.down_row(op, mem, path, leaf, tag, mode)),
+            NatMitLoc::Put { path, leaf } => self.put_row(alloc, op, mem, path, leaf),
+            NatMitLoc::Flag { path, leaf } => Ok(self.flag_row(op, mem, path, leaf)),
+            NatMitLoc::Look { path, leaf } => Ok(self.look_row(op, mem, path, leaf)),
+            NatMitLoc::CleanRead { path, mode } => Ok(self.clean_read_row(op, mem, path, mode)),
+            NatMitLoc::Tag { path, side, mode } => Ok(self.tag_row(op, mem, path, side, mode)),
+            NatMitLoc::Sibling { path, side, mode } => {
+                Ok(self.sibling_row(op, mem, path, side, mode))
             }
-            NatMitLoc::Put {
+            NatMitLoc::Swing {
                 ancestor,
                 successor,
-                parent,
-                leaf,
-            } => self.put_row(alloc, op, mem, Path::of(ancestor, successor, parent), leaf),
-            NatMitLoc::Flag {
-                ancestor,
-                successor,
-                parent,
-                leaf,
-            } => Ok(self.flag_row(op, mem, Path::of(ancestor, successor, parent), leaf)),
-            NatMitLoc::Look {
-                ancestor,
-                successor,
-                parent,
-                leaf,
-            } => Ok(self.look_row(op, mem, Path::of(ancestor, successor, parent), leaf)),
-            _ => Ok(self.help_act(op, loc, mem)),
+                flag,
+                node,
+                mode,
+            } => {
+                let sibling = untagged(flag, node);
+                Ok(self.swing_row(op, mem, ancestor, successor, sibling, mode))
+            }
         }
     }
 }

@@ -67,17 +67,17 @@ module _ (memory : NatMitMem) where
   pub act_leaves : (machine : NatMit) (op : Op) (place : NatMitLoc) → (act machine op place memory).1 ≡ Astray
       → (act machine op place memory).0 ≡ memory
   act_leaves machine op (Begin mode) = read_leaves 1 Left _
-  act_leaves machine op (Down a s p l t mode) = read_leaves l (side_at (key_of op) memory l) _
-  act_leaves machine op (Put a s p l) =
-      exchange_leaves p (side_at (key_of op) memory p) l (with_internal memory (key_of op) l)
-      (plain (new_internal memory)) (Replies true) (Goes (Look a s p l)) tt
-  act_leaves machine op (Flag a s p l) =
-      exchange_leaves p (side_at (key_of op) memory p) l memory (record { flag = true; tag = false; node = l })
-      (Goes (CleanRead a s p (Owner l))) (Goes (Look a s p l)) tt
-  act_leaves machine op (Look a s p l) = read_leaves p (side_at (key_of op) memory p) _
-  act_leaves machine op (CleanRead a s p mode) = read_leaves p (side_at (key_of op) memory p) _
-  act_leaves machine op (Tag a s p d mode) = tag_leaves p d (Goes (Sibling a s p d mode)) tt
-  act_leaves machine op (Sibling a s p d mode) = read_leaves p d _
+  act_leaves machine op (Down p l t mode) = read_leaves l (side_at (key_of op) memory l) _
+  act_leaves machine op (Put p l) =
+      exchange_leaves p.parent (side_at (key_of op) memory p.parent) l (with_internal memory (key_of op) l)
+      (plain (new_internal memory)) (Replies true) (Goes (Look p l)) tt
+  act_leaves machine op (Flag p l) =
+      exchange_leaves p.parent (side_at (key_of op) memory p.parent) l memory
+      (record { flag = true; tag = false; node = l }) (Goes (CleanRead p (Owner l))) (Goes (Look p l)) tt
+  act_leaves machine op (Look p l) = read_leaves p.parent (side_at (key_of op) memory p.parent) _
+  act_leaves machine op (CleanRead p mode) = read_leaves p.parent (side_at (key_of op) memory p.parent) _
+  act_leaves machine op (Tag p d mode) = tag_leaves p.parent d (Goes (Sibling p d mode)) tt
+  act_leaves machine op (Sibling p d mode) = read_leaves p.parent d _
   act_leaves machine op (Swing a s f x mode) =
       exchange_leaves a (side_at (key_of op) memory a) s memory (record { flag = f; tag = false; node = x })
       (swung mode) (not_swung mode) (swung_sure mode)

@@ -14,10 +14,11 @@ use Rattle.natmit.specs.declared.memory.Node.TheVariants.{Leaf, Internal}
 use Rattle.natmit.specs.declared.memory.NatMitMem.{NatMitMem}
 use Rattle.natmit.specs.declared.place.Mode.{Mode}
 use Rattle.natmit.specs.declared.place.Mode.TheVariants.{Plain, Owner}
+use Rattle.natmit.specs.declared.place.Path.{Path}
 use Rattle.natmit.specs.declared.place.NatMitLoc.{NatMitLoc}
 use Rattle.natmit.specs.declared.place.NatMitLoc.TheVariants.{Begin, Down, Put, Flag, Look, CleanRead, Tag, Sibling}
 use Rattle.natmit.specs.declared.place.NatMitLoc.TheVariants.{Swing}
-use Rattle.natmit.specs.Pairs.{AreWordsPaired, AreNodesPaired, AreModesPaired, ArePlacesPaired}
+use Rattle.natmit.specs.Pairs.{AreWordsPaired, AreNodesPaired, AreModesPaired, ArePathsPaired, ArePlacesPaired}
 use Rattle.natmit.specs.Parts.{node_part, held_part, natmit_parts, natmit_code}
 use Rattle.natmit.specs.Parts.{natmit_front_code, natmit_behind_code}
 use Rattle.natmit.specs.Laws.Parts.{nodes_of_parts, held_of_parts}
@@ -40,21 +41,21 @@ modes_equal Plain Plain h = refl
 modes_equal (Owner x) (Owner y) h = ap Owner h
 modes_equal _ _ h = absurd h
 
+paths_equal : (p q : Path) → ArePathsPaired Same p q → p ≡ q
+paths_equal p q h = λ i. record { ancestor = h.0 i; successor = h.1 i; parent = h.2 i }
+
 places_equal : (place twin : NatMitLoc) → ArePlacesPaired Same place twin → place ≡ twin
 places_equal (Begin m) (Begin o) h = ap Begin (modes_equal m o h)
-places_equal (Down a s p l t m) (Down b u q k v o) h =
-    let mode = modes_equal m o h.5 in λ i. Down (h.0 i) (h.1 i) (h.2 i) (h.3 i) (h.4 i) (mode i)
-places_equal (Put a s p l) (Put b u q k) h = λ i. Put (h.0 i) (h.1 i) (h.2 i) (h.3 i)
-places_equal (Flag a s p l) (Flag b u q k) h = λ i. Flag (h.0 i) (h.1 i) (h.2 i) (h.3 i)
-places_equal (Look a s p l) (Look b u q k) h = λ i. Look (h.0 i) (h.1 i) (h.2 i) (h.3 i)
-places_equal (CleanRead a s p m) (CleanRead b u q o) h =
-    let mode = modes_equal m o h.3 in λ i. CleanRead (h.0 i) (h.1 i) (h.2 i) (mode i)
-places_equal (Tag a s p d m) (Tag b u q e o) h =
-    let mode = modes_equal m o h.4 in λ i. Tag (h.0 i) (h.1 i) (h.2 i) (h.3 i) (mode i)
-places_equal (Sibling a s p d m) (Sibling b u q e o) h =
-    let mode = modes_equal m o h.4 in λ i. Sibling (h.0 i) (h.1 i) (h.2 i) (h.3 i) (mode i)
+places_equal (Down p l t m) (Down q k v o) h =
+    λ i. Down (paths_equal p q h.0 i) (h.1 i) (h.2 i) (modes_equal m o h.3 i)
+places_equal (Put p l) (Put q k) h = λ i. Put (paths_equal p q h.0 i) (h.1 i)
+places_equal (Flag p l) (Flag q k) h = λ i. Flag (paths_equal p q h.0 i) (h.1 i)
+places_equal (Look p l) (Look q k) h = λ i. Look (paths_equal p q h.0 i) (h.1 i)
+places_equal (CleanRead p m) (CleanRead q o) h = λ i. CleanRead (paths_equal p q h.0 i) (modes_equal m o h.1 i)
+places_equal (Tag p d m) (Tag q e o) h = λ i. Tag (paths_equal p q h.0 i) (h.1 i) (modes_equal m o h.2 i)
+places_equal (Sibling p d m) (Sibling q e o) h = λ i. Sibling (paths_equal p q h.0 i) (h.1 i) (modes_equal m o h.2 i)
 places_equal (Swing a s f x m) (Swing b u g y o) h =
-    let mode = modes_equal m o h.4 in λ i. Swing (h.0 i) (h.1 i) (h.2 i) (h.3 i) (mode i)
+    λ i. Swing (h.0 i) (h.1 i) (h.2 i) (h.3 i) (modes_equal m o h.4 i)
 places_equal _ _ h = absurd h
 
 held_equal : (place twin : Option NatMitLoc) → AreHeldPaired (ArePlacesPaired Same) place twin → place ≡ twin

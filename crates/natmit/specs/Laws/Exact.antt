@@ -3,18 +3,20 @@ use Rattle.std.specs.Prelude.{◌≡◌, refl}
 use Rattle.std.proofs.Common.{ap}
 use Rattle.sched_program.specs.Exact.{IsExact}
 use Rattle.sched_program.specs.Laws.Exact.{nat_exact, bool_exact, list_exact, both}
-use Rattle.tree_machine.specs.Laws.FieldsExact.{three_fields, four_fields, five_fields}
+use Rattle.tree_machine.specs.Laws.FieldsExact.{two_fields, three_fields, four_fields, five_fields}
 use Rattle.tree_machine.specs.Laws.SideExact.{side_exact}
 use Rattle.natmit.specs.contracts.memory.WordPartialEq.TheImpl.{eq-value as word_eq}
 use Rattle.natmit.specs.contracts.memory.NodePartialEq.TheImpl.{eq-value as node_eq}
 use Rattle.natmit.specs.contracts.memory.NatMitMemPartialEq.TheImpl.{eq-value as memory_eq}
 use Rattle.natmit.specs.contracts.place.ModePartialEq.TheImpl.{eq-value as mode_eq}
+use Rattle.natmit.specs.contracts.place.PathPartialEq.TheImpl.{eq-value as path_eq}
 use Rattle.natmit.specs.contracts.place.NatMitLocPartialEq.TheImpl.{eq-value as place_eq}
 use Rattle.natmit.specs.contracts.machine.NatMitPartialEq.TheImpl.{eq-value as machine_eq}
 use Rattle.natmit.specs.declared.memory.Node.TheVariants.{Leaf, Internal}
 use Rattle.natmit.specs.declared.place.Mode.TheVariants.{Plain, Owner}
 use Rattle.natmit.specs.declared.place.NatMitLoc.TheVariants.{Begin, Down, Put, Flag, Look, CleanRead, Tag, Sibling}
 use Rattle.natmit.specs.declared.place.NatMitLoc.TheVariants.{Swing}
+use Rattle.natmit.specs.Table.{path_of}
 
 pub word_exact : IsExact word_eq.it
 word_exact a b h =
@@ -43,21 +45,20 @@ mode_exact (Owner o) (Owner q) h = ap Owner (nat_exact o q h)
 pub machine_exact : IsExact machine_eq.it
 machine_exact a b h = let tag : a.tag ≡ b.tag = bool_exact a.tag b.tag h in λ i. record { tag = tag i }
 
+path_exact : IsExact path_eq.it
+path_exact a b h =
+    three_fields nat_exact nat_exact nat_exact path_of a.ancestor b.ancestor a.successor b.successor a.parent b.parent h
+
 pub place_exact : IsExact place_eq.it
 place_exact (Begin m) (Begin o) h = ap Begin (mode_exact m o h)
-place_exact (Down a s p l f m) (Down b t q k g o) h =
-    let first = both _ _ h in
-    let access = nat_exact a b first.0 in
-    λ i. five_fields nat_exact nat_exact nat_exact bool_exact mode_exact (Down (access i)) s t p q l k f g m o first.1 i
-place_exact (Put a s p l) (Put b t q m) h = four_fields nat_exact nat_exact nat_exact nat_exact Put a b s t p q l m h
-place_exact (Flag a s p l) (Flag b t q m) h = four_fields nat_exact nat_exact nat_exact nat_exact Flag a b s t p q l m h
-place_exact (Look a s p l) (Look b t q m) h = four_fields nat_exact nat_exact nat_exact nat_exact Look a b s t p q l m h
-place_exact (CleanRead a s p m) (CleanRead b t q o) h =
-    four_fields nat_exact nat_exact nat_exact mode_exact CleanRead a b s t p q m o h
-place_exact (Tag a s p d m) (Tag b t q c o) h =
-    five_fields nat_exact nat_exact nat_exact side_exact mode_exact Tag a b s t p q d c m o h
-place_exact (Sibling a s p d m) (Sibling b t q c o) h =
-    five_fields nat_exact nat_exact nat_exact side_exact mode_exact Sibling a b s t p q d c m o h
+place_exact (Down p l t m) (Down q k v o) h =
+    four_fields path_exact nat_exact bool_exact mode_exact Down p q l k t v m o h
+place_exact (Put p l) (Put q k) h = two_fields path_exact nat_exact Put p q l k h
+place_exact (Flag p l) (Flag q k) h = two_fields path_exact nat_exact Flag p q l k h
+place_exact (Look p l) (Look q k) h = two_fields path_exact nat_exact Look p q l k h
+place_exact (CleanRead p m) (CleanRead q o) h = two_fields path_exact mode_exact CleanRead p q m o h
+place_exact (Tag p d m) (Tag q c o) h = three_fields path_exact side_exact mode_exact Tag p q d c m o h
+place_exact (Sibling p d m) (Sibling q c o) h = three_fields path_exact side_exact mode_exact Sibling p q d c m o h
 place_exact (Swing a s f n m) (Swing b t g k o) h =
     five_fields nat_exact nat_exact bool_exact nat_exact mode_exact Swing a b s t f g n k m o h
 place_exact a b h = cc

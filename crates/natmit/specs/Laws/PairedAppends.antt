@@ -9,9 +9,11 @@ use Rattle.natmit.specs.declared.memory.Node.{Node}
 use Rattle.natmit.specs.declared.memory.Node.TheVariants.{Leaf, Internal}
 use Rattle.natmit.specs.declared.memory.NatMitMem.{NatMitMem}
 use Rattle.natmit.specs.Memory.{plain, node_at, key_at, internal_over, with_internal, new_internal}
-use Rattle.natmit.specs.Pairs.{AreWordsPaired, AreNodesPaired, AreMemoriesPaired, AreModesPaired, ArePlacesPaired}
+use Rattle.natmit.specs.Pairs.{AreWordsPaired, AreNodesPaired, AreMemoriesPaired, AreModesPaired, ArePathsPaired}
+use Rattle.natmit.specs.Pairs.{ArePlacesPaired}
 use Rattle.natmit.specs.declared.place.Mode.{Mode}
 use Rattle.natmit.specs.declared.place.Mode.TheVariants.{Plain, Owner}
+use Rattle.natmit.specs.declared.place.Path.{Path}
 use Rattle.natmit.specs.declared.place.NatMitLoc.{NatMitLoc}
 use Rattle.natmit.specs.declared.place.NatMitLoc.TheVariants.{Begin, Down, Put, Flag, Look, CleanRead, Tag, Sibling}
 use Rattle.natmit.specs.declared.place.NatMitLoc.TheVariants.{Swing}
@@ -36,16 +38,18 @@ module _ (P Q : ℕ → ℕ → Type 0) (f : (x y : ℕ) → P x y → Q x y) wh
   modes_extend (Owner x) (Owner y) h = f x y h
   modes_extend _ _ h = absurd h
 
+  paths_extend : (p q : Path) → ArePathsPaired P p q → ArePathsPaired Q p q
+  paths_extend p q h = (f p.ancestor q.ancestor h.0, f p.successor q.successor h.1, f p.parent q.parent h.2)
+
   pub places_extend : (place twin : NatMitLoc) → ArePlacesPaired P place twin → ArePlacesPaired Q place twin
   places_extend (Begin m) (Begin o) h = modes_extend m o h
-  places_extend (Down a s p l t m) (Down b u q k v o) h =
-      (f a b h.0, f s u h.1, f p q h.2, f l k h.3, h.4, modes_extend m o h.5)
-  places_extend (Put a s p l) (Put b u q k) h = (f a b h.0, f s u h.1, f p q h.2, f l k h.3)
-  places_extend (Flag a s p l) (Flag b u q k) h = (f a b h.0, f s u h.1, f p q h.2, f l k h.3)
-  places_extend (Look a s p l) (Look b u q k) h = (f a b h.0, f s u h.1, f p q h.2, f l k h.3)
-  places_extend (CleanRead a s p m) (CleanRead b u q o) h = (f a b h.0, f s u h.1, f p q h.2, modes_extend m o h.3)
-  places_extend (Tag a s p d m) (Tag b u q e o) h = (f a b h.0, f s u h.1, f p q h.2, h.3, modes_extend m o h.4)
-  places_extend (Sibling a s p d m) (Sibling b u q e o) h = (f a b h.0, f s u h.1, f p q h.2, h.3, modes_extend m o h.4)
+  places_extend (Down p l t m) (Down q k v o) h = (paths_extend p q h.0, f l k h.1, h.2, modes_extend m o h.3)
+  places_extend (Put p l) (Put q k) h = (paths_extend p q h.0, f l k h.1)
+  places_extend (Flag p l) (Flag q k) h = (paths_extend p q h.0, f l k h.1)
+  places_extend (Look p l) (Look q k) h = (paths_extend p q h.0, f l k h.1)
+  places_extend (CleanRead p m) (CleanRead q o) h = (paths_extend p q h.0, modes_extend m o h.1)
+  places_extend (Tag p d m) (Tag q e o) h = (paths_extend p q h.0, h.1, modes_extend m o h.2)
+  places_extend (Sibling p d m) (Sibling q e o) h = (paths_extend p q h.0, h.1, modes_extend m o h.2)
   places_extend (Swing a s g x m) (Swing b u v y o) h = (f a b h.0, f s u h.1, h.2, f x y h.3, modes_extend m o h.4)
   places_extend _ _ h = absurd h
 

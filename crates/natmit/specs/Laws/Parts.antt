@@ -108,17 +108,17 @@ module _ (P R : ℕ → ℕ → Type 0) where
   parts_of_places : (place twin : NatMitLoc) → ArePlacesPaired P place twin
       → ArePartsPaired P R (place_part place) (place_part twin)
   parts_of_places (Begin m) (Begin o) h = paired refl (owned_paired m o h, tt)
-  parts_of_places (Down a s p l t m) (Down b u q k v o) h =
-      paired (ap (λ c. 2 ∷ bit c ∷ []) h.4) (h.0, (h.1, (h.2, (h.3, (owned_paired m o h.5, tt)))))
-  parts_of_places (Put a s p l) (Put b u q k) h = paired refl (h.0, (h.1, (h.2, (h.3, tt))))
-  parts_of_places (Flag a s p l) (Flag b u q k) h = paired refl (h.0, (h.1, (h.2, (h.3, tt))))
-  parts_of_places (Look a s p l) (Look b u q k) h = paired refl (h.0, (h.1, (h.2, (h.3, tt))))
-  parts_of_places (CleanRead a s p m) (CleanRead b u q o) h =
-      paired refl (h.0, (h.1, (h.2, (owned_paired m o h.3, tt))))
-  parts_of_places (Tag a s p d m) (Tag b u q e o) h =
-      paired (ap (λ c. 7 ∷ side_number c ∷ []) h.3) (h.0, (h.1, (h.2, (owned_paired m o h.4, tt))))
-  parts_of_places (Sibling a s p d m) (Sibling b u q e o) h =
-      paired (ap (λ c. 8 ∷ side_number c ∷ []) h.3) (h.0, (h.1, (h.2, (owned_paired m o h.4, tt))))
+  parts_of_places (Down p l t m) (Down q k v o) h =
+      paired (ap (λ c. 2 ∷ bit c ∷ []) h.2) (h.0.0, (h.0.1, (h.0.2, (h.1, (owned_paired m o h.3, tt)))))
+  parts_of_places (Put p l) (Put q k) h = paired refl (h.0.0, (h.0.1, (h.0.2, (h.1, tt))))
+  parts_of_places (Flag p l) (Flag q k) h = paired refl (h.0.0, (h.0.1, (h.0.2, (h.1, tt))))
+  parts_of_places (Look p l) (Look q k) h = paired refl (h.0.0, (h.0.1, (h.0.2, (h.1, tt))))
+  parts_of_places (CleanRead p m) (CleanRead q o) h =
+      paired refl (h.0.0, (h.0.1, (h.0.2, (owned_paired m o h.1, tt))))
+  parts_of_places (Tag p d m) (Tag q e o) h =
+      paired (ap (λ c. 7 ∷ side_number c ∷ []) h.1) (h.0.0, (h.0.1, (h.0.2, (owned_paired m o h.2, tt))))
+  parts_of_places (Sibling p d m) (Sibling q e o) h =
+      paired (ap (λ c. 8 ∷ side_number c ∷ []) h.1) (h.0.0, (h.0.1, (h.0.2, (owned_paired m o h.2, tt))))
   parts_of_places (Swing a s f x m) (Swing b u g y o) h =
       paired (ap (λ c. 9 ∷ bit c ∷ []) h.2) (h.0, (h.1, (h.3, (owned_paired m o h.4, tt))))
   parts_of_places _ _ h = absurd h
@@ -126,18 +126,18 @@ module _ (P R : ℕ → ℕ → Type 0) where
   places_of_parts : (place twin : NatMitLoc) → ArePartsPaired P R (place_part place) (place_part twin)
       → ArePlacesPaired P place twin
   places_of_parts (Begin m) (Begin o) h = modes_paired m o h.nodes.0
-  places_of_parts (Down a s p l t m) (Down b u q k v o) h =
-      let f = h.facts in let n =
-      h.nodes in (n.0, n.1.0, n.1.1.0, n.1.1.1.0, bit_tells t v cc, modes_paired m o n.1.1.1.1.0)
-  places_of_parts (Put a s p l) (Put b u q k) h = let n = h.nodes in (n.0, n.1.0, n.1.1.0, n.1.1.1.0)
-  places_of_parts (Flag a s p l) (Flag b u q k) h = let n = h.nodes in (n.0, n.1.0, n.1.1.0, n.1.1.1.0)
-  places_of_parts (Look a s p l) (Look b u q k) h = let n = h.nodes in (n.0, n.1.0, n.1.1.0, n.1.1.1.0)
-  places_of_parts (CleanRead a s p m) (CleanRead b u q o) h =
-      let n = h.nodes in (n.0, n.1.0, n.1.1.0, modes_paired m o n.1.1.1.0)
-  places_of_parts (Tag a s p d m) (Tag b u q e o) h =
-      let f = h.facts in let n = h.nodes in (n.0, n.1.0, n.1.1.0, side_tells d e cc, modes_paired m o n.1.1.1.0)
-  places_of_parts (Sibling a s p d m) (Sibling b u q e o) h =
-      let f = h.facts in let n = h.nodes in (n.0, n.1.0, n.1.1.0, side_tells d e cc, modes_paired m o n.1.1.1.0)
+  places_of_parts (Down p l t m) (Down q k v o) h =
+      let f = h.facts in
+      let n = h.nodes in ((n.0, n.1.0, n.1.1.0), n.1.1.1.0, bit_tells t v cc, modes_paired m o n.1.1.1.1.0)
+  places_of_parts (Put p l) (Put q k) h = let n = h.nodes in ((n.0, n.1.0, n.1.1.0), n.1.1.1.0)
+  places_of_parts (Flag p l) (Flag q k) h = let n = h.nodes in ((n.0, n.1.0, n.1.1.0), n.1.1.1.0)
+  places_of_parts (Look p l) (Look q k) h = let n = h.nodes in ((n.0, n.1.0, n.1.1.0), n.1.1.1.0)
+  places_of_parts (CleanRead p m) (CleanRead q o) h =
+      let n = h.nodes in ((n.0, n.1.0, n.1.1.0), modes_paired m o n.1.1.1.0)
+  places_of_parts (Tag p d m) (Tag q e o) h =
+      let f = h.facts in let n = h.nodes in ((n.0, n.1.0, n.1.1.0), side_tells d e cc, modes_paired m o n.1.1.1.0)
+  places_of_parts (Sibling p d m) (Sibling q e o) h =
+      let f = h.facts in let n = h.nodes in ((n.0, n.1.0, n.1.1.0), side_tells d e cc, modes_paired m o n.1.1.1.0)
   places_of_parts (Swing a s f x m) (Swing b u g y o) h =
       let e = h.facts in let n = h.nodes in (n.0, n.1.0, bit_tells f g cc, n.1.1.0, modes_paired m o n.1.1.1.0)
   places_of_parts _ _ h = let f = h.facts in cc

@@ -11,11 +11,12 @@ use Rattle.natmit.specs.declared.memory.Node.TheVariants.{Leaf, Internal}
 use Rattle.natmit.specs.declared.memory.NatMitMem.{NatMitMem}
 use Rattle.natmit.specs.declared.place.Mode.{Mode}
 use Rattle.natmit.specs.declared.place.Mode.TheVariants.{Plain, Owner}
+use Rattle.natmit.specs.declared.place.Path.{Path}
 use Rattle.natmit.specs.declared.place.NatMitLoc.{NatMitLoc}
 use Rattle.natmit.specs.declared.place.NatMitLoc.TheVariants.{Begin, Down, Put, Flag, Look, CleanRead, Tag, Sibling}
 use Rattle.natmit.specs.declared.place.NatMitLoc.TheVariants.{Swing}
-use Rattle.natmit.specs.Range.{IsNodeIn, IsModeIn, IsPlaceIn, IsInRange, IsPlaceInRange}
-use Rattle.natmit.specs.Parts.{bit, side_number, owned, part_of, node_part, place_part, held_part, natmit_parts}
+use Rattle.natmit.specs.Range.{IsNodeIn, IsModeIn, IsPathIn, IsPlaceIn, IsInRange, IsPlaceInRange}
+use Rattle.natmit.specs.Parts.{owned, part_of, node_part, path_part, place_part, held_part, natmit_parts}
 
 module _ (n r : ℕ) where
   abbrev IsBelow : Option ℕ → Type 0
@@ -34,27 +35,22 @@ module _ (n r : ℕ) where
   node_below (Leaf k) h = part_below _ [] tt
   node_below (Internal k left right) h = part_below _ (Some left.node ∷ Some right.node ∷ []) (h.0, (h.1, tt))
 
-  four_below : (facts : List ℕ) (a s p l : ℕ) → (a < n) × (s < n) × (p < n) × (l < n)
-      → IsPartBelow n r (part_of facts (Some a ∷ Some s ∷ Some p ∷ Some l ∷ []))
-  four_below facts a s p l h = part_below facts (Some a ∷ Some s ∷ Some p ∷ Some l ∷ []) (h.0, (h.1, (h.2, (h.3, tt))))
-
-  three_below : (facts : List ℕ) (a s p : ℕ) (m : Mode) → (a < n) × (s < n) × (p < n) × IsModeIn n m
-      → IsPartBelow n r (part_of facts (Some a ∷ Some s ∷ Some p ∷ owned m ∷ []))
-  three_below facts a s p m h =
-      part_below facts (Some a ∷ Some s ∷ Some p ∷ owned m ∷ []) (h.0, (h.1, (h.2, (owned_below m h.3, tt))))
+  path_below : (facts : List ℕ) (p : Path) (more : List (Option ℕ)) → IsPathIn n p → AllByRecursion IsBelow more
+      → IsPartBelow n r (path_part facts p more)
+  path_below facts p more h rest =
+      part_below facts (Some p.ancestor ∷ Some p.successor ∷ Some p.parent ∷ more) (h.0, (h.1, (h.2, rest)))
 
   place_below : (place : NatMitLoc) → IsPlaceIn n place → IsPartBelow n r (place_part place)
-  place_below (Begin m) h = part_below (1 ∷ []) (owned m ∷ []) (owned_below m h, tt)
-  place_below (Down a s p l t m) h =
-      part_below (2 ∷ bit t ∷ []) (Some a ∷ Some s ∷ Some p ∷ Some l ∷ owned m ∷ [])
-      (h.0, (h.1, (h.2, (h.3, (owned_below m h.4, tt)))))
-  place_below (Put a s p l) h = four_below (3 ∷ []) a s p l h
-  place_below (Flag a s p l) h = four_below (4 ∷ []) a s p l h
-  place_below (Look a s p l) h = four_below (5 ∷ []) a s p l h
-  place_below (CleanRead a s p m) h = three_below (6 ∷ []) a s p m h
-  place_below (Tag a s p d m) h = three_below (7 ∷ side_number d ∷ []) a s p m h
-  place_below (Sibling a s p d m) h = three_below (8 ∷ side_number d ∷ []) a s p m h
-  place_below (Swing a s f x m) h = three_below (9 ∷ bit f ∷ []) a s x m h
+  place_below (Begin m) h = part_below _ (owned m ∷ []) (owned_below m h, tt)
+  place_below (Down p l t m) h = path_below _ p (Some l ∷ owned m ∷ []) h.0 (h.1, (owned_below m h.2, tt))
+  place_below (Put p l) h = path_below _ p (Some l ∷ []) h.0 (h.1, tt)
+  place_below (Flag p l) h = path_below _ p (Some l ∷ []) h.0 (h.1, tt)
+  place_below (Look p l) h = path_below _ p (Some l ∷ []) h.0 (h.1, tt)
+  place_below (CleanRead p m) h = path_below _ p (owned m ∷ []) h.0 (owned_below m h.1, tt)
+  place_below (Tag p d m) h = path_below _ p (owned m ∷ []) h.0 (owned_below m h.1, tt)
+  place_below (Sibling p d m) h = path_below _ p (owned m ∷ []) h.0 (owned_below m h.1, tt)
+  place_below (Swing a s f x m) h =
+      part_below _ (Some a ∷ Some s ∷ Some x ∷ owned m ∷ []) (h.0, (h.1, (h.2, (owned_below m h.3, tt))))
 
   held_below : (place : Option NatMitLoc) → IfSome place (IsPlaceIn n) → IsPartBelow n r (held_part place)
   held_below None h = part_below [] [] tt
@@ -71,30 +67,26 @@ module _ (n r : ℕ) where
   node_in (Internal k left right) h =
       let each = recursion_from_All IsBelow (Some left.node ∷ Some right.node ∷ []) h.nodes in (each.0, each.1.0)
 
-  four_in : (a s p l : ℕ) → All IsBelow (Some a ∷ Some s ∷ Some p ∷ Some l ∷ [])
-      → (a < n) × (s < n) × (p < n) × (l < n)
-  four_in a s p l h =
-      let each = recursion_from_All IsBelow (Some a ∷ Some s ∷ Some p ∷ Some l ∷ []) h in
-      (each.0, each.1.0, each.1.1.0, each.1.1.1.0)
-
-  three_in : (a s p : ℕ) (m : Mode) → All IsBelow (Some a ∷ Some s ∷ Some p ∷ owned m ∷ [])
-      → (a < n) × (s < n) × (p < n) × IsModeIn n m
-  three_in a s p m h =
-      let each = recursion_from_All IsBelow (Some a ∷ Some s ∷ Some p ∷ owned m ∷ []) h in
-      (each.0, each.1.0, each.1.1.0, mode_in m each.1.1.1.0)
+  path_in : (p : Path) (more : List (Option ℕ))
+      → All IsBelow (Some p.ancestor ∷ Some p.successor ∷ Some p.parent ∷ more)
+      → IsPathIn n p × AllByRecursion IsBelow more
+  path_in p more h =
+      let each = recursion_from_All IsBelow (Some p.ancestor ∷ Some p.successor ∷ Some p.parent ∷ more) h in
+      ((each.0, each.1.0, each.1.1.0), each.1.1.1)
 
   place_in : (place : NatMitLoc) → IsPartBelow n r (place_part place) → IsPlaceIn n place
   place_in (Begin m) h = mode_in m (recursion_from_All IsBelow (owned m ∷ []) h.nodes).0
-  place_in (Down a s p l t m) h =
-      let each = recursion_from_All IsBelow (Some a ∷ Some s ∷ Some p ∷ Some l ∷ owned m ∷ []) h.nodes in
-      (each.0, each.1.0, each.1.1.0, each.1.1.1.0, mode_in m each.1.1.1.1.0)
-  place_in (Put a s p l) h = four_in a s p l h.nodes
-  place_in (Flag a s p l) h = four_in a s p l h.nodes
-  place_in (Look a s p l) h = four_in a s p l h.nodes
-  place_in (CleanRead a s p m) h = three_in a s p m h.nodes
-  place_in (Tag a s p d m) h = three_in a s p m h.nodes
-  place_in (Sibling a s p d m) h = three_in a s p m h.nodes
-  place_in (Swing a s f x m) h = three_in a s x m h.nodes
+  place_in (Down p l t m) h =
+      let each = path_in p (Some l ∷ owned m ∷ []) h.nodes in (each.0, each.1.0, mode_in m each.1.1.0)
+  place_in (Put p l) h = let each = path_in p (Some l ∷ []) h.nodes in (each.0, each.1.0)
+  place_in (Flag p l) h = let each = path_in p (Some l ∷ []) h.nodes in (each.0, each.1.0)
+  place_in (Look p l) h = let each = path_in p (Some l ∷ []) h.nodes in (each.0, each.1.0)
+  place_in (CleanRead p m) h = let each = path_in p (owned m ∷ []) h.nodes in (each.0, mode_in m each.1.0)
+  place_in (Tag p d m) h = let each = path_in p (owned m ∷ []) h.nodes in (each.0, mode_in m each.1.0)
+  place_in (Sibling p d m) h = let each = path_in p (owned m ∷ []) h.nodes in (each.0, mode_in m each.1.0)
+  place_in (Swing a s f x m) h =
+      let each = recursion_from_All IsBelow (Some a ∷ Some s ∷ Some x ∷ owned m ∷ []) h.nodes in
+      (each.0, each.1.0, each.1.1.0, mode_in m each.1.1.1.0)
 
   held_in : (place : Option NatMitLoc) → IsPartBelow n r (held_part place) → IfSome place (IsPlaceIn n)
   held_in None h = tt

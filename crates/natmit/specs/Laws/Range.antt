@@ -18,14 +18,16 @@ use Rattle.natmit.specs.declared.memory.Node.TheVariants.{Leaf, Internal}
 use Rattle.natmit.specs.declared.memory.NatMitMem.{NatMitMem}
 use Rattle.natmit.specs.declared.place.Mode.{Mode}
 use Rattle.natmit.specs.declared.place.Mode.TheVariants.{Plain, Owner}
+use Rattle.natmit.specs.declared.place.Path.{Path}
 use Rattle.natmit.specs.declared.place.NatMitLoc.{NatMitLoc}
 use Rattle.natmit.specs.declared.place.NatMitLoc.TheVariants.{Begin, Down, Put, Flag, Look, CleanRead, Tag, Sibling}
 use Rattle.natmit.specs.declared.place.NatMitLoc.TheVariants.{Swing}
 use Rattle.natmit.specs.declared.machine.NatMit.{NatMit}
 use Rattle.natmit.specs.Memory.{plain, is_plain, word_on, with_word, node_at, key_at, set_node, set_word, internal_over}
 use Rattle.natmit.specs.Memory.{with_internal}
-use Rattle.natmit.specs.Table.{After, found, after_read, after_exchange, after_tag, arrived, tagging, swung}
-use Rattle.natmit.specs.Range.{IsNodeIn, IsModeIn, IsPlaceIn, IsInRange}
+use Rattle.natmit.specs.Table.{After, found, after_read, after_exchange, after_tag, path_below, arrived, tagging}
+use Rattle.natmit.specs.Table.{swung}
+use Rattle.natmit.specs.Range.{IsNodeIn, IsModeIn, IsPathIn, IsPlaceIn, IsInRange}
 
 -- ---- what is in range stays so where there are more nodes
 
@@ -38,26 +40,22 @@ module _ (n more : ℕ) (le : n ≤ more) where
   mode_more Plain h = tt
   mode_more (Owner o) h = omega arith
 
-  three_and_mode : (a s p : ℕ) (mode : Mode) → (a < n) × (s < n) × (p < n) × IsModeIn n mode → (a < more) × (s < more)
-      × (p < more) × IsModeIn more mode
-  three_and_mode a s p mode h = let x = h.0 in let y = h.1 in
-      let z = h.2 in (omega arith, omega arith, omega arith, mode_more mode h.3)
+  less : (x : ℕ) → x < n → x < more
+  less x h = omega arith
 
-  four : (a s p l : ℕ) → (a < n) × (s < n) × (p < n) × (l < n) → (a < more) × (s < more) × (p < more) × (l < more)
-  four a s p l h = let x = h.0 in let y = h.1 in let z = h.2 in
-      let w = h.3 in (omega arith, omega arith, omega arith, omega arith)
+  path_more : (p : Path) → IsPathIn n p → IsPathIn more p
+  path_more p h = (less p.ancestor h.0, less p.successor h.1, less p.parent h.2)
 
   pub place_more : (place : NatMitLoc) → IsPlaceIn n place → IsPlaceIn more place
   place_more (Begin mode) h = mode_more mode h
-  place_more (Down a s p l t mode) h =
-      let nodes = four a s p l (h.0, h.1, h.2, h.3) in (nodes.0, nodes.1, nodes.2, nodes.3, mode_more mode h.4)
-  place_more (Put a s p l) h = four a s p l h
-  place_more (Flag a s p l) h = four a s p l h
-  place_more (Look a s p l) h = four a s p l h
-  place_more (CleanRead a s p mode) h = three_and_mode a s p mode h
-  place_more (Tag a s p d mode) h = three_and_mode a s p mode h
-  place_more (Sibling a s p d mode) h = three_and_mode a s p mode h
-  place_more (Swing a s f x mode) h = three_and_mode a s x mode h
+  place_more (Down p l t mode) h = (path_more p h.0, less l h.1, mode_more mode h.2)
+  place_more (Put p l) h = (path_more p h.0, less l h.1)
+  place_more (Flag p l) h = (path_more p h.0, less l h.1)
+  place_more (Look p l) h = (path_more p h.0, less l h.1)
+  place_more (CleanRead p mode) h = (path_more p h.0, mode_more mode h.1)
+  place_more (Tag p d mode) h = (path_more p h.0, mode_more mode h.1)
+  place_more (Sibling p d mode) h = (path_more p h.0, mode_more mode h.1)
+  place_more (Swing a s f x mode) h = (less a h.0, less s h.1, less x h.2, mode_more mode h.3)
 
 -- ---- outcomes
 
@@ -76,21 +74,23 @@ module _ (n : ℕ) where
   swung_in Plain = tt
   swung_in (Owner o) = tt
 
-  pub arrived_in : (op : Op) (a s p l : ℕ) (t : Bool) (mode : Mode) (node : Node) → a < n → s < n → p < n → l < n
-      → IsModeIn n mode → IsOutcomeIn n (arrived op a s p l t mode node)
-  arrived_in op a s p l t mode (Internal j left right) x y z w h = (x, y, z, w, h)
-  arrived_in (Find k) a s p l t mode (Leaf j) x y z w h = tt
-  arrived_in (Insert k) a s p l t mode (Leaf j) x y z w h =
-      either (nat_eq j k) (Replies false) (Goes (Put a s p l)) tt (x, y, z, w)
-  arrived_in (Delete k) a s p l t Plain (Leaf j) x y z w h =
-      either (nat_eq j k) (Goes (Flag a s p l)) (Replies false) (x, y, z, w) tt
-  arrived_in (Delete k) a s p l t (Owner o) (Leaf j) x y z w h =
-      either (nat_eq l o) (Goes (CleanRead a s p (Owner o))) (Replies true) (x, y, z, h) tt
+  pub below_in : (p : Path) (l : ℕ) (t : Bool) → IsPathIn n p → l < n → IsPathIn n (path_below p l t)
+  below_in p l true h at = (h.0, h.1, at)
+  below_in p l false h at = (h.2, at, at)
 
-  pub tagging_in : (machine : NatMit) (a s p : ℕ) (d : Side) (mode : Mode) → (a < n) × (s < n) × (p < n)
-      × IsModeIn n mode → IsPlaceIn n (tagging machine a s p d mode)
-  tagging_in machine a s p d mode h =
-      elim machine.tag as (λ b. IsPlaceIn n (if b then Tag a s p d mode else Sibling a s p d mode)) [
+  pub arrived_in : (op : Op) (p : Path) (l : ℕ) (t : Bool) (mode : Mode) (node : Node) → IsPathIn n p → l < n
+      → IsModeIn n mode → IsOutcomeIn n (arrived op p l t mode node)
+  arrived_in op p l t mode (Internal j left right) h at m = (h, at, m)
+  arrived_in (Find k) p l t mode (Leaf j) h at m = tt
+  arrived_in (Insert k) p l t mode (Leaf j) h at m = either (nat_eq j k) (Replies false) (Goes (Put p l)) tt (h, at)
+  arrived_in (Delete k) p l t Plain (Leaf j) h at m = either (nat_eq j k) (Goes (Flag p l)) (Replies false) (h, at) tt
+  arrived_in (Delete k) p l t (Owner o) (Leaf j) h at m =
+      either (nat_eq l o) (Goes (CleanRead p (Owner o))) (Replies true) (h, m) tt
+
+  pub tagging_in : (machine : NatMit) (p : Path) (d : Side) (mode : Mode) → IsPathIn n p × IsModeIn n mode
+      → IsPlaceIn n (tagging machine p d mode)
+  tagging_in machine p d mode h =
+      elim machine.tag as (λ b. IsPlaceIn n (if b then Tag p d mode else Sibling p d mode)) [
         | true ↦ h
         | false
             ↦ h

@@ -1,39 +1,26 @@
-//! Numbers and references that are one byte each.
-ghost use Rattle.std.specs.Prelude.{◌≡◌, ◌∷◌, [], Some, IfSome};
+//! References that are one byte each.
+ghost use Rattle.std.specs.Prelude.{◌≡◌, ◌<◌, ◌∷◌, [], Some};
 ghost use Rattle.tree_machine.specs.Flat.{number_code, reference_number};
 
-/// The number that is this byte, if one is.
+/// The node to which this byte is a reference.
 #[inline(always)]
-pub(crate) fn number_of(byte: u8) -> Option<u64>
-    ensures { IfSome result (λ number. number_code number ≡ byte ∷ []) }
+pub(crate) fn name_of(byte: u8) -> u16
+    requires some { 0 < byte }
+    requires small { byte < 255 }
+    ensures { number_code (reference_number (Some result)) ≡ byte ∷ [] }
 {
-    if byte < 255 {
-        Some(u64::from(byte))
-    } else {
-        None
-    }
+    u16::from(byte) - 1
 }
 
-/// The node to which this byte is a reference, if it is one.
+/// The node to which this byte is a reference, or none.
 #[inline(always)]
-pub(crate) fn name_of(byte: u8) -> Option<u16>
-    ensures { IfSome result (λ name. number_code (reference_number (Some name)) ≡ byte ∷ []) }
+pub(crate) fn reference_of(byte: u8) -> Option<u16>
+    requires { byte < 255 }
+    ensures { number_code (reference_number result) ≡ byte ∷ [] }
 {
-    if 0 < byte && byte < 255 {
-        Some(u16::from(byte) - 1)
-    } else {
+    if byte == 0 {
         None
-    }
-}
-
-/// The node to which this byte is a reference, or none, if it is one of these.
-#[inline(always)]
-pub(crate) fn reference_of(byte: u8) -> Option<Option<u16>>
-    ensures { IfSome result (λ reference. number_code (reference_number reference) ≡ byte ∷ []) }
-{
-    match byte {
-        0 => Some(None),
-        255 => None,
-        _ => Some(Some(u16::from(byte) - 1)),
+    } else {
+        Some(name_of(byte))
     }
 }

@@ -2,11 +2,11 @@
 ghost use Rattle.std.specs.Prelude.{◌≡◌, ◌<◌, ◌++◌, ◌∷◌, [], Some, IfSome};
 ghost use Rattle.std.specs.List.{flat_map};
 ghost use Rattle.tree_machine.specs.Alike.{replies_of, notes_of};
-ghost use Rattle.tree_machine.specs.Flat.{cell_code, part_content};
-ghost use Rattle.natmit.specs.Parts.{side_number, owned, part_of, place_part, held_part};
+ghost use Rattle.tree_machine.specs.Flat.{cell_code, number_code, part_content, reference_number};
+ghost use Rattle.natmit.specs.Parts.{side_number, owned, path_part, place_part, held_part};
 
-use crate::place::{Mode, NatMitLoc};
-use crate::reading::bytes::{name_of, number_of, reference_of};
+use crate::place::{Mode, NatMitLoc, Path};
+use crate::reading::bytes::{name_of, reference_of};
 use tree_machine::{Side, Thread, read_byte};
 
 /// The mode of an operation that has flagged this leaf, or none.
@@ -22,11 +22,28 @@ fn mode_of(leaf: Option<u16>) -> Mode
 
 /// The side of this number.
 #[inline(always)]
-fn side_of_number(number: u64) -> Side
+fn side_of_number(number: u8) -> Side
     requires { number < 2 }
     ensures { side_number result ≡ number }
 {
     if number == 0 { Side::Left } else { Side::Right }
+}
+
+/// The path of the nodes to which these bytes are references.
+#[inline(always)]
+fn path_named(ancestor: u8, successor: u8, parent: u8) -> Path
+    requires ancestor { (0 < ancestor) × (ancestor < 255) }
+    requires successor { (0 < successor) × (successor < 255) }
+    requires parent { (0 < parent) × (parent < 255) }
+    ensures ancestor { number_code (reference_number (Some result.ancestor)) ≡ ancestor ∷ [] }
+    ensures successor { number_code (reference_number (Some result.successor)) ≡ successor ∷ [] }
+    ensures parent { number_code (reference_number (Some result.parent)) ≡ parent ∷ [] }
+{
+    Path {
+        ancestor: name_of(ancestor),
+        successor: name_of(successor),
+        parent: name_of(parent),
+    }
 }
 
 /// Reads the place from which a search begins, behind its first byte.
@@ -36,8 +53,8 @@ fn read_begin(bytes: &[u8]) -> Option<(NatMitLoc, &[u8])>
         ≡ cell_code (part_content (place_part place)) ++ rest.now) }
 {
     match bytes {
-        [1, leaf, rest @ ..] => {
-            let mode = mode_of(reference_of(*leaf)?);
+        [1, leaf @ 0..=254, rest @ ..] => {
+            let mode = mode_of(reference_of(*leaf));
             Some((NatMitLoc::Begin { mode }, rest))
         }
         _ => None,
@@ -50,122 +67,87 @@ fn read_down(bytes: &[u8]) -> Option<(NatMitLoc, &[u8])>
     ensures { IfSome result (λ (place, rest). 177 ∷ bytes.now
         ≡ cell_code (part_content (place_part place)) ++ rest.now) }
 {
-    let [2, tag, ancestor, successor, parent, leaf, last, rest @ ..] = bytes else {
+    let [
+        2,
+        tag @ 0..=1,
+        ancestor @ 1..=254,
+        successor @ 1..=254,
+        parent @ 1..=254,
+        leaf @ 1..=254,
+        last @ 0..=254,
+        rest @ ..,
+    ] = bytes
+    else {
         return None;
     };
-    let ancestor = name_of(*ancestor)?;
-    let successor = name_of(*successor)?;
-    let parent = name_of(*parent)?;
-    let leaf = name_of(*leaf)?;
-    let mode = mode_of(reference_of(*last)?);
-    if *tag < 2 {
-        let place = NatMitLoc::Down {
-            ancestor,
-            successor,
-            parent,
-            leaf,
-            tag: *tag == 1,
-            mode,
-        };
-        Some((place, rest))
-    } else {
-        None
-    }
+    let place = NatMitLoc::Down {
+        path: path_named(*ancestor, *successor, *parent),
+        leaf: name_of(*leaf),
+        tag: *tag == 1,
+        mode: mode_of(reference_of(*last)),
+    };
+    Some((place, rest))
 }
 
-/// The place of this kind that holds four references and no other locals, if there is one.
+/// The place of this kind that holds a path, one more reference and no other locals, if there is one.
 #[inline(always)]
-fn place_of_four(
-    kind: u64,
-    ancestor: u16,
-    successor: u16,
-    parent: u16,
-    last: Option<u16>,
-) -> Option<NatMitLoc>
-    ensures { IfSome result (λ place. place_part place
-        ≡ part_of (kind ∷ []) (Some ancestor ∷ Some successor ∷ Some parent ∷ last ∷ [])) }
+fn place_of_path(kind: u8, path: Path, last: Option<u16>) -> Option<NatMitLoc>
+    ensures { IfSome result (λ place. place_part place ≡ path_part (kind ∷ []) path (last ∷ [])) }
 {
     match (kind, last) {
-        (3, Some(leaf)) => Some(NatMitLoc::Put {
-            ancestor,
-            successor,
-            parent,
-            leaf,
-        }),
-        (4, Some(leaf)) => Some(NatMitLoc::Flag {
-            ancestor,
-            successor,
-            parent,
-            leaf,
-        }),
-        (5, Some(leaf)) => Some(NatMitLoc::Look {
-            ancestor,
-            successor,
-            parent,
-            leaf,
-        }),
-        (6, last) => Some(NatMitLoc::CleanRead {
-            ancestor,
-            successor,
-            parent,
-            mode: mode_of(last),
-        }),
+        (3, Some(leaf)) => Some(NatMitLoc::Put { path, leaf }),
+        (4, Some(leaf)) => Some(NatMitLoc::Flag { path, leaf }),
+        (5, Some(leaf)) => Some(NatMitLoc::Look { path, leaf }),
+        (6, last) => {
+            let mode = mode_of(last);
+            Some(NatMitLoc::CleanRead { path, mode })
+        }
         _ => None,
     }
 }
 
-/// Reads a place that holds four references and no other locals, behind its first byte.
+/// Reads a place that holds a path, one more reference and no other locals, behind its first byte.
 #[inline(always)]
-fn read_four(bytes: &[u8]) -> Option<(NatMitLoc, &[u8])>
+fn read_path(bytes: &[u8]) -> Option<(NatMitLoc, &[u8])>
     ensures { IfSome result (λ (place, rest). 141 ∷ bytes.now
         ≡ cell_code (part_content (place_part place)) ++ rest.now) }
 {
-    let [kind, ancestor, successor, parent, last, rest @ ..] = bytes else {
+    let [
+        kind @ 3..=6,
+        ancestor @ 1..=254,
+        successor @ 1..=254,
+        parent @ 1..=254,
+        last @ 0..=254,
+        rest @ ..,
+    ] = bytes
+    else {
         return None;
     };
-    let kind = number_of(*kind)?;
-    let ancestor = name_of(*ancestor)?;
-    let successor = name_of(*successor)?;
-    let parent = name_of(*parent)?;
-    let last = reference_of(*last)?;
-    let place = place_of_four(kind, ancestor, successor, parent, last)?;
+    let path = path_named(*ancestor, *successor, *parent);
+    let place = place_of_path(*kind, path, reference_of(*last))?;
     Some((place, rest))
 }
 
-/// The place of this kind that holds one fact, three nodes and a mode, if there is one.
+/// The place of this kind that holds one fact, the three nodes of a path and a mode, if there is one.
 #[inline(always)]
-fn place_with_fact(
-    kind: u64,
-    fact: u64,
-    ancestor: u16,
-    successor: u16,
-    node: u16,
-    mode: Mode,
-) -> Option<NatMitLoc>
+fn place_with_fact(kind: u8, fact: u8, path: Path, mode: Mode) -> Option<NatMitLoc>
     requires { fact < 2 }
-    ensures { IfSome result (λ place. place_part place
-        ≡ part_of (kind ∷ fact ∷ []) (Some ancestor ∷ Some successor ∷ Some node ∷ owned mode ∷ [])) }
+    ensures { IfSome result (λ place. place_part place ≡ path_part (kind ∷ fact ∷ []) path (owned mode ∷ [])) }
 {
     match kind {
-        7 => Some(NatMitLoc::Tag {
-            ancestor,
-            successor,
-            parent: node,
-            side: side_of_number(fact),
-            mode,
-        }),
-        8 => Some(NatMitLoc::Sibling {
-            ancestor,
-            successor,
-            parent: node,
-            side: side_of_number(fact),
-            mode,
-        }),
+        7 => {
+            let side = side_of_number(fact);
+            Some(NatMitLoc::Tag { path, side, mode })
+        }
+        8 => {
+            let side = side_of_number(fact);
+            Some(NatMitLoc::Sibling { path, side, mode })
+        }
         9 => Some(NatMitLoc::Swing {
-            ancestor,
-            successor,
+            ancestor: path.ancestor,
+            successor: path.successor,
             flag: fact == 1,
-            node,
+            node: path.parent,
             mode,
         }),
         _ => None,
@@ -179,24 +161,20 @@ fn read_with_fact(bytes: &[u8]) -> Option<(NatMitLoc, &[u8])>
         ≡ cell_code (part_content (place_part place)) ++ rest.now) }
 {
     let [
-        kind,
+        kind @ 7..=9,
         fact @ 0..=1,
-        ancestor,
-        successor,
-        node,
-        last,
+        ancestor @ 1..=254,
+        successor @ 1..=254,
+        node @ 1..=254,
+        last @ 0..=254,
         rest @ ..,
     ] = bytes
     else {
         return None;
     };
-    let kind = number_of(*kind)?;
-    let fact = u64::from(*fact);
-    let ancestor = name_of(*ancestor)?;
-    let successor = name_of(*successor)?;
-    let node = name_of(*node)?;
-    let mode = mode_of(reference_of(*last)?);
-    let place = place_with_fact(kind, fact, ancestor, successor, node, mode)?;
+    let path = path_named(*ancestor, *successor, *node);
+    let mode = mode_of(reference_of(*last));
+    let place = place_with_fact(*kind, *fact, path, mode)?;
     Some((place, rest))
 }
 
@@ -208,7 +186,7 @@ fn read_place(head: u8, bytes: &[u8]) -> Option<(NatMitLoc, &[u8])>
 {
     match head {
         36 => read_begin(bytes),
-        141 => read_four(bytes),
+        141 => read_path(bytes),
         142 => read_with_fact(bytes),
         177 => read_down(bytes),
         _ => None,

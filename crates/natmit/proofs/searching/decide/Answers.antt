@@ -8,5 +8,5 @@ returns-in-Delete c =
     let a = c.args in
     λ tag. c.decide_delete.ensures tag
     ∙ ap
-    (λ op. arrived op a.path.ancestor a.path.successor a.path.parent a.leaf tag a.mode (Leaf a.key))
+    (λ op. arrived op a.path a.leaf tag a.mode (Leaf a.key))
     (sym c.in-Delete.is)

@@ -11,18 +11,19 @@ bit_coded zero h = refl
 bit_coded (suc zero) h = refl
 bit_coded (suc (suc tag)) h = absurd (omega arith)
 
-pub returns-then-tag-lt2 : goal.returns-then-tag-lt2
-returns-then-tag-lt2 c =
+pub returns : goal.returns
+returns c =
     let bytes = c.args.bytes.now in
     let kind : get_or bytes 0 0 ≡ 2 = omega arith in
+    let path = c.path_named.ensures in
     ap (λ l. 177 ∷ l) (first_seven bytes (omega arith))
     ∙ rw (
       kind,
-      bit_coded (get_or bytes 1 0) c.if-tag-lt2.true,
-      c.in_ok-ancestor.ensures,
-      c.in_ok-successor.ensures,
-      c.in_ok-parent.ensures,
-      c.in_ok-leaf.ensures,
-      c.mode_of-mode.ensures,
-      c.in_ok-reference_of.ensures,
+      bit_coded (get_or bytes 1 0) (omega arith),
+      path.ancestor,
+      path.successor,
+      path.parent,
+      c.name_of.ensures,
+      c.mode_of.ensures,
+      c.reference_of.ensures,
     ) refl

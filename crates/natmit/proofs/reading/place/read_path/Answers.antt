@@ -1,0 +1,18 @@
+use Rattle.std.proofs.Common.{◌∷◌, get_or, refl, ap, ◌∙◌, arith}
+use Rattle.tree_machine.specs.Laws.FirstBytes.{first_five}
+use Rattle.tree_machine.specs.Laws.SmallCodes.{small_code}
+use Rattle.natmit.proofs.reading.place.read_path.Goals as goal
+
+pub returns : goal.returns
+returns c =
+    let bytes = c.args.bytes.now in
+    let path = c.path_named-path.ensures in
+    ap (λ l. 141 ∷ l) (first_five bytes (omega arith))
+    ∙ rw (
+      c.in_ok-place.ensures,
+      small_code (get_or bytes 0 0) (omega arith),
+      path.ancestor,
+      path.successor,
+      path.parent,
+      c.reference_of.ensures,
+    ) refl
