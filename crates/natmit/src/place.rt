@@ -41,7 +41,9 @@ impl Path {
 #[derive(Clone, Copy, PartialEq, Eq, Hash)]
 pub enum NatMitLoc {
     /// The search reads the word from which it begins.
-    Begin { mode: Mode },
+    Begin {
+        mode: Mode,
+    },
     /// The search goes down, from the word of the parent, whose tag it read.
     Down {
         path: Path,
@@ -50,17 +52,37 @@ pub enum NatMitLoc {
         mode: Mode,
     },
     /// An insert replaces the leaf by a new internal node.
-    Put { path: Path, leaf: u16 },
+    Put {
+        path: Path,
+        leaf: u16,
+    },
     /// A delete flags its leaf.
-    Flag { path: Path, leaf: u16 },
+    Flag {
+        path: Path,
+        leaf: u16,
+    },
     /// An insert or delete whose exchange failed checks whether another delete is in its way.
-    Look { path: Path, leaf: u16 },
+    Look {
+        path: Path,
+        leaf: u16,
+    },
     /// The cleanup reads on which side of the parent the leaf to remove is.
-    CleanRead { path: Path, mode: Mode },
+    CleanRead {
+        path: Path,
+        mode: Mode,
+    },
     /// The cleanup tags the word of the sibling, which stays.
-    Tag { path: Path, side: Side, mode: Mode },
+    Tag {
+        path: Path,
+        side: Side,
+        mode: Mode,
+    },
     /// The cleanup reads the word of the sibling.
-    Sibling { path: Path, side: Side, mode: Mode },
+    Sibling {
+        path: Path,
+        side: Side,
+        mode: Mode,
+    },
     /// The cleanup replaces the successor by the sibling, with its flag.
     Swing {
         ancestor: u16,

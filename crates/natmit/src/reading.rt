@@ -21,7 +21,7 @@ use tree_machine::{CodedPart, Front, Thread, read_values};
 
 /// The child word of a flag and a tag that are one number, and of a node.
 #[inline(always)]
-fn word_of(marks: u8, node: u16) -> Word
+fn word_of(marks: u64, node: u16) -> Word
     requires { marks < 4 }
     ensures marks { mark_number result ≡ marks }
     ensures node { result.node ≡ node }
@@ -33,19 +33,21 @@ fn word_of(marks: u8, node: u16) -> Word
     }
 }
 
-/// The internal node of these bytes behind its first one.
+/// The internal node of these bytes behind its first one, if there is one.
 #[inline(always)]
-fn internal_of(key: u8, marks: u8, left: u8, right: u8) -> Node
-    requires key { key < 255 }
-    requires marks { marks < 16 }
-    requires left { (0 < left) × (left < 255) }
-    requires right { (0 < right) × (right < 255) }
-    ensures { cell_code (part_content (node_part result)) ≡ 72 ∷ key ∷ marks ∷ left ∷ right ∷ [] }
+fn internal_of(key: u8, marks: u8, left: u8, right: u8) -> Option<Node>
+    ensures { IfSome result (λ node. cell_code (part_content (node_part node))
+        ≡ 72 ∷ key ∷ marks ∷ left ∷ right ∷ []) }
 {
-    Node::Internal {
-        key,
-        left: word_of(marks % 4, name_of(left)),
-        right: word_of(marks / 4, name_of(right)),
+    let left = name_of(left)?;
+    let right = name_of(right)?;
+    let marks = u64::from(marks);
+    if key < 255 && marks < 16 {
+        let left = word_of(marks % 4, left);
+        let right = word_of(marks / 4, right);
+        Some(Node::Internal { key, left, right })
+    } else {
+        None
     }
 }
 
@@ -55,15 +57,11 @@ impl CodedPart for Node {
     #[inline(always)]
     fn read(bytes: &[u8]) -> Option<(Node, &[u8])> {
         match bytes {
-            [1, key @ 0..=254, rest @ ..] => Some((Node::Leaf { key: *key }, rest)),
-            [
-                72,
-                key @ 0..=254,
-                marks @ 0..=15,
-                left @ 1..=254,
-                right @ 1..=254,
-                rest @ ..,
-            ] => Some((internal_of(*key, *marks, *left, *right), rest)),
+            [1, key, rest @ ..] if *key < 255 => Some((Node::Leaf { key: *key }, rest)),
+            [72, key, marks, left, right, rest @ ..] => {
+                let node = internal_of(*key, *marks, *left, *right)?;
+                Some((node, rest))
+            }
             _ => None,
         }
     }
@@ -79,12 +77,12 @@ fn read_graph<'a>(
         × (nodes.new.items ≡ nodes.old.items ++ more) × (length more ≡ count)
         × (bytes.now ≡ graph_code (map node_part more) [] ++ rest.now))) }
 {
-    let [count @ 0..=254, 0, rest @ ..] = bytes else {
-        return Ok(None);
-    };
-    match read_values(rest, *count, nodes)? {
-        Some(behind) => Ok(Some((behind, *count))),
-        None => Ok(None),
+    match bytes {
+        [count, 0, rest @ ..] if *count < 255 => match read_values(rest, *count, nodes)? {
+            Some(behind) => Ok(Some((behind, *count))),
+            None => Ok(None),
+        },
+        _ => Ok(None),
     }
 }
 

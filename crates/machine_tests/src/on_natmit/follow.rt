@@ -3,13 +3,41 @@ ghost use Rattle.std.specs.Prelude.{IfOk};
 ghost use Rattle.tree_machine.specs.Step.{Fits};
 ghost use Rattle.natmit.specs.NatMitRules.{natmit_rules};
 
-use natmit::{NatMit, NatMitLoc, Node, Word};
+use natmit::{NatMit, NatMitLoc, Node, Path, Word};
 use sched_program::{OutOfMemory, Program, ProgramFault};
 use std::alloc::Global;
 use tree_machine::{Machine, Side, State, StepFault};
 
 /// The whole machine.
 pub const WHOLE: NatMit = NatMit { tag: true };
+
+/// The path to a child of node 1.
+pub const BELOW_1: Path = Path {
+    ancestor: 0,
+    successor: 1,
+    parent: 1,
+};
+
+/// The path to a child of node 6, which stands below node 1.
+pub const BELOW_6: Path = Path {
+    ancestor: 1,
+    successor: 6,
+    parent: 6,
+};
+
+/// The path to a child of node 8, which stands below node 6.
+pub const BELOW_8: Path = Path {
+    ancestor: 6,
+    successor: 8,
+    parent: 8,
+};
+
+/// The path to a child of node 10, to which a tagged word of node 8 led.
+pub const BELOW_10: Path = Path {
+    ancestor: 6,
+    successor: 8,
+    parent: 10,
+};
 
 /// What is seen of a state.
 #[derive(Clone, Copy)]

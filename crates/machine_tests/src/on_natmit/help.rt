@@ -1,6 +1,8 @@
 //! An insert and a delete that help another delete, and an insert that helps none.
 
-use crate::on_natmit::follow::{Row, Seen, WHOLE, is_followed};
+use crate::on_natmit::follow::{
+    BELOW_1, BELOW_6, BELOW_8, BELOW_10, Row, Seen, WHOLE, is_followed,
+};
 use natmit::{Mode, NatMitLoc};
 use std::test::Fail;
 use tree_machine::Side;
@@ -18,9 +20,7 @@ const INSERT_HELPS_ROWS: [Row; 20] = [
         Seen::At(
             1,
             NatMitLoc::Put {
-                ancestor: 1,
-                successor: 6,
-                parent: 6,
+                path: BELOW_6,
                 leaf: 5,
             },
         ),
@@ -31,9 +31,7 @@ const INSERT_HELPS_ROWS: [Row; 20] = [
         Seen::At(
             1,
             NatMitLoc::Look {
-                ancestor: 1,
-                successor: 6,
-                parent: 6,
+                path: BELOW_6,
                 leaf: 5,
             },
         ),
@@ -45,9 +43,7 @@ const INSERT_HELPS_ROWS: [Row; 20] = [
         Seen::At(
             1,
             NatMitLoc::CleanRead {
-                ancestor: 1,
-                successor: 6,
-                parent: 6,
+                path: BELOW_6,
                 mode: Mode::Plain,
             },
         ),
@@ -58,9 +54,7 @@ const INSERT_HELPS_ROWS: [Row; 20] = [
         Seen::At(
             1,
             NatMitLoc::Tag {
-                ancestor: 1,
-                successor: 6,
-                parent: 6,
+                path: BELOW_6,
                 side: Side::Right,
                 mode: Mode::Plain,
             },
@@ -89,9 +83,7 @@ const INSERT_HELPS_ROWS: [Row; 20] = [
         Seen::At(
             1,
             NatMitLoc::Put {
-                ancestor: 0,
-                successor: 1,
-                parent: 1,
+                path: BELOW_1,
                 leaf: 3,
             },
         ),
@@ -131,9 +123,7 @@ const INSERT_HELPS_ROWS: [Row; 20] = [
         Seen::At(
             0,
             NatMitLoc::Down {
-                ancestor: 0,
-                successor: 1,
-                parent: 1,
+                path: BELOW_1,
                 leaf: 8,
                 tag: false,
                 mode: Mode::Owner(5),
@@ -154,9 +144,7 @@ const DELETE_HELPS_ROWS: [Row; 12] = [
         Seen::At(
             1,
             NatMitLoc::Flag {
-                ancestor: 1,
-                successor: 6,
-                parent: 6,
+                path: BELOW_6,
                 leaf: 5,
             },
         ),
@@ -168,9 +156,7 @@ const DELETE_HELPS_ROWS: [Row; 12] = [
         Seen::At(
             1,
             NatMitLoc::Look {
-                ancestor: 1,
-                successor: 6,
-                parent: 6,
+                path: BELOW_6,
                 leaf: 5,
             },
         ),
@@ -181,9 +167,7 @@ const DELETE_HELPS_ROWS: [Row; 12] = [
         Seen::At(
             1,
             NatMitLoc::CleanRead {
-                ancestor: 1,
-                successor: 6,
-                parent: 6,
+                path: BELOW_6,
                 mode: Mode::Plain,
             },
         ),
@@ -219,9 +203,7 @@ const LOOK_AT_ANOTHER_NODE_ROWS: [Row; 8] = [
         Seen::At(
             1,
             NatMitLoc::Put {
-                ancestor: 6,
-                successor: 8,
-                parent: 8,
+                path: BELOW_8,
                 leaf: 7,
             },
         ),
@@ -234,9 +216,7 @@ const LOOK_AT_ANOTHER_NODE_ROWS: [Row; 8] = [
         Seen::At(
             1,
             NatMitLoc::Look {
-                ancestor: 6,
-                successor: 8,
-                parent: 8,
+                path: BELOW_8,
                 leaf: 7,
             },
         ),
@@ -248,9 +228,7 @@ const LOOK_AT_ANOTHER_NODE_ROWS: [Row; 8] = [
         Seen::At(
             1,
             NatMitLoc::Put {
-                ancestor: 6,
-                successor: 8,
-                parent: 10,
+                path: BELOW_10,
                 leaf: 7,
             },
         ),

@@ -1,37 +1,36 @@
 //! Places at which an access only reads.
 
-use crate::on_natmit::follow::WHOLE;
-use natmit::{Mode, NatMitLoc};
+use crate::on_natmit::follow::{BELOW_1, WHOLE};
+use natmit::{Mode, NatMitLoc, Path};
 use sched_program::Op;
 use std::test::Fail;
 use tree_machine::{Encode, Machine, Side};
 
+/// The path to a child of node 6, to which a tagged word led.
+const PAST_A_TAG: Path = Path {
+    ancestor: 0,
+    successor: 1,
+    parent: 6,
+};
+
 const READS: [NatMitLoc; 5] = [
     NatMitLoc::Begin { mode: Mode::Plain },
     NatMitLoc::Down {
-        ancestor: 0,
-        successor: 1,
-        parent: 1,
+        path: BELOW_1,
         leaf: 6,
         tag: false,
         mode: Mode::Plain,
     },
     NatMitLoc::Look {
-        ancestor: 0,
-        successor: 1,
-        parent: 6,
+        path: PAST_A_TAG,
         leaf: 5,
     },
     NatMitLoc::CleanRead {
-        ancestor: 0,
-        successor: 1,
-        parent: 6,
+        path: PAST_A_TAG,
         mode: Mode::Owner(5),
     },
     NatMitLoc::Sibling {
-        ancestor: 0,
-        successor: 1,
-        parent: 6,
+        path: PAST_A_TAG,
         side: Side::Right,
         mode: Mode::Owner(5),
     },
@@ -47,24 +46,18 @@ fn a_search_only_reads(rt: HostRuntime) -> Result<(), Fail> {
 }
 
 const FLAG: NatMitLoc = NatMitLoc::Flag {
-    ancestor: 0,
-    successor: 1,
-    parent: 6,
+    path: PAST_A_TAG,
     leaf: 5,
 };
 
 const TAG: NatMitLoc = NatMitLoc::Tag {
-    ancestor: 0,
-    successor: 1,
-    parent: 6,
+    path: PAST_A_TAG,
     side: Side::Right,
     mode: Mode::Owner(5),
 };
 
 const PUT: NatMitLoc = NatMitLoc::Put {
-    ancestor: 0,
-    successor: 1,
-    parent: 6,
+    path: PAST_A_TAG,
     leaf: 5,
 };
 

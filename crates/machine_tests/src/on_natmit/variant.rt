@@ -1,6 +1,6 @@
 //! The variant without the tag.
 
-use crate::on_natmit::follow::{Row, Seen, is_followed};
+use crate::on_natmit::follow::{BELOW_8, Row, Seen, is_followed};
 use natmit::{Mode, NatMit, NatMitLoc};
 use std::test::Fail;
 use tree_machine::Side;
@@ -19,9 +19,7 @@ const LOST_INSERT_ROWS: [Row; 9] = [
         Seen::At(
             0,
             NatMitLoc::Sibling {
-                ancestor: 6,
-                successor: 8,
-                parent: 8,
+                path: BELOW_8,
                 side: Side::Right,
                 mode: Mode::Owner(5),
             },

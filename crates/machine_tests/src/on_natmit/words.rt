@@ -1,6 +1,6 @@
 //! Exchanges that meet flagged and tagged words.
 
-use crate::on_natmit::follow::{Row, Seen, WHOLE, is_followed};
+use crate::on_natmit::follow::{BELOW_6, BELOW_8, BELOW_10, Row, Seen, WHOLE, is_followed};
 use natmit::{Mode, NatMitLoc};
 use std::test::Fail;
 use tree_machine::Side;
@@ -18,9 +18,7 @@ const PUT_AT_A_TAG_ROWS: [Row; 13] = [
         Seen::At(
             1,
             NatMitLoc::Put {
-                ancestor: 6,
-                successor: 8,
-                parent: 8,
+                path: BELOW_8,
                 leaf: 7,
             },
         ),
@@ -31,9 +29,7 @@ const PUT_AT_A_TAG_ROWS: [Row; 13] = [
         Seen::At(
             1,
             NatMitLoc::Look {
-                ancestor: 6,
-                successor: 8,
-                parent: 8,
+                path: BELOW_8,
                 leaf: 7,
             },
         ),
@@ -44,9 +40,7 @@ const PUT_AT_A_TAG_ROWS: [Row; 13] = [
         Seen::At(
             1,
             NatMitLoc::CleanRead {
-                ancestor: 6,
-                successor: 8,
-                parent: 8,
+                path: BELOW_8,
                 mode: Mode::Plain,
             },
         ),
@@ -57,9 +51,7 @@ const PUT_AT_A_TAG_ROWS: [Row; 13] = [
         Seen::At(
             1,
             NatMitLoc::Tag {
-                ancestor: 6,
-                successor: 8,
-                parent: 8,
+                path: BELOW_8,
                 side: Side::Right,
                 mode: Mode::Plain,
             },
@@ -86,9 +78,7 @@ const PUT_AT_A_TAG_ROWS: [Row; 13] = [
         Seen::At(
             1,
             NatMitLoc::Put {
-                ancestor: 1,
-                successor: 6,
-                parent: 6,
+                path: BELOW_6,
                 leaf: 7,
             },
         ),
@@ -124,9 +114,7 @@ const FLAG_AT_A_TAG_ROWS: [Row; 10] = [
         Seen::At(
             1,
             NatMitLoc::Flag {
-                ancestor: 6,
-                successor: 8,
-                parent: 8,
+                path: BELOW_8,
                 leaf: 7,
             },
         ),
@@ -138,9 +126,7 @@ const FLAG_AT_A_TAG_ROWS: [Row; 10] = [
         Seen::At(
             1,
             NatMitLoc::Look {
-                ancestor: 6,
-                successor: 8,
-                parent: 8,
+                path: BELOW_8,
                 leaf: 7,
             },
         ),
@@ -152,9 +138,7 @@ const FLAG_AT_A_TAG_ROWS: [Row; 10] = [
         Seen::At(
             1,
             NatMitLoc::CleanRead {
-                ancestor: 6,
-                successor: 8,
-                parent: 8,
+                path: BELOW_8,
                 mode: Mode::Plain,
             },
         ),
@@ -205,9 +189,7 @@ const TAG_AT_A_FLAG_ROWS: [Row; 13] = [
         Seen::At(
             1,
             NatMitLoc::CleanRead {
-                ancestor: 1,
-                successor: 6,
-                parent: 6,
+                path: BELOW_6,
                 mode: Mode::Owner(7),
             },
         ),
@@ -218,9 +200,7 @@ const TAG_AT_A_FLAG_ROWS: [Row; 13] = [
         Seen::At(
             1,
             NatMitLoc::Tag {
-                ancestor: 1,
-                successor: 6,
-                parent: 6,
+                path: BELOW_6,
                 side: Side::Right,
                 mode: Mode::Owner(7),
             },
@@ -269,9 +249,7 @@ const SWING_AT_A_TAG_ROWS: [Row; 11] = [
         Seen::At(
             1,
             NatMitLoc::Down {
-                ancestor: 6,
-                successor: 8,
-                parent: 8,
+                path: BELOW_8,
                 leaf: 10,
                 tag: true,
                 mode: Mode::Owner(9),
@@ -284,9 +262,7 @@ const SWING_AT_A_TAG_ROWS: [Row; 11] = [
         Seen::At(
             1,
             NatMitLoc::CleanRead {
-                ancestor: 6,
-                successor: 8,
-                parent: 10,
+                path: BELOW_10,
                 mode: Mode::Owner(9),
             },
         ),

@@ -1,5 +1,5 @@
 -- Every access keeps the numbers of nodes in range, row by row of the place table.
-use Rattle.std.specs.Prelude.{ℕ, ◌<◌, Bool, true, false, ◌&&◌, ◌||◌, nat_eq, length}
+use Rattle.std.specs.Prelude.{◌<◌, true, false, ◌&&◌, ◌||◌, nat_eq, length}
 use Rattle.std.proofs.Common.{arith}
 use Rattle.sched_program.specs.Program.{key_of}
 use Rattle.sched_program.specs.declared.operation.Op.{Op}

@@ -1,26 +1,27 @@
 //! References that are one byte each.
-ghost use Rattle.std.specs.Prelude.{◌≡◌, ◌<◌, ◌∷◌, [], Some};
+ghost use Rattle.std.specs.Prelude.{◌≡◌, ◌∷◌, [], Some, IfSome};
 ghost use Rattle.tree_machine.specs.Flat.{number_code, reference_number};
 
-/// The node to which this byte is a reference.
+/// The node to which this byte is a reference, if it is one.
 #[inline(always)]
-pub(crate) fn name_of(byte: u8) -> u16
-    requires some { 0 < byte }
-    requires small { byte < 255 }
-    ensures { number_code (reference_number (Some result)) ≡ byte ∷ [] }
+pub(crate) fn name_of(byte: u8) -> Option<u16>
+    ensures { IfSome result (λ name. number_code (reference_number (Some name)) ≡ byte ∷ []) }
 {
-    u16::from(byte) - 1
+    if 0 < byte && byte < 255 {
+        Some(u16::from(byte) - 1)
+    } else {
+        None
+    }
 }
 
-/// The node to which this byte is a reference, or none.
+/// The node to which this byte is a reference, or none, if it is one of these.
 #[inline(always)]
-pub(crate) fn reference_of(byte: u8) -> Option<u16>
-    requires { byte < 255 }
-    ensures { number_code (reference_number result) ≡ byte ∷ [] }
+pub(crate) fn reference_of(byte: u8) -> Option<Option<u16>>
+    ensures { IfSome result (λ reference. number_code (reference_number reference) ≡ byte ∷ []) }
 {
-    if byte == 0 {
-        None
-    } else {
-        Some(name_of(byte))
+    match byte {
+        0 => Some(None),
+        255 => None,
+        _ => Some(Some(u16::from(byte) - 1)),
     }
 }

@@ -29,21 +29,18 @@ fn side_of_number(number: u8) -> Side
     if number == 0 { Side::Left } else { Side::Right }
 }
 
-/// The path of the nodes to which these bytes are references.
+/// The path of the nodes to which these bytes are references, if they are.
 #[inline(always)]
-fn path_named(ancestor: u8, successor: u8, parent: u8) -> Path
-    requires ancestor { (0 < ancestor) × (ancestor < 255) }
-    requires successor { (0 < successor) × (successor < 255) }
-    requires parent { (0 < parent) × (parent < 255) }
-    ensures ancestor { number_code (reference_number (Some result.ancestor)) ≡ ancestor ∷ [] }
-    ensures successor { number_code (reference_number (Some result.successor)) ≡ successor ∷ [] }
-    ensures parent { number_code (reference_number (Some result.parent)) ≡ parent ∷ [] }
+fn path_named(ancestor: u8, successor: u8, parent: u8) -> Option<Path>
+    ensures { IfSome result (λ path. (number_code (reference_number (Some path.ancestor)) ≡ ancestor ∷ [])
+        × (number_code (reference_number (Some path.successor)) ≡ successor ∷ [])
+        × (number_code (reference_number (Some path.parent)) ≡ parent ∷ [])) }
 {
-    Path {
-        ancestor: name_of(ancestor),
-        successor: name_of(successor),
-        parent: name_of(parent),
-    }
+    Some(Path {
+        ancestor: name_of(ancestor)?,
+        successor: name_of(successor)?,
+        parent: name_of(parent)?,
+    })
 }
 
 /// Reads the place from which a search begins, behind its first byte.
@@ -53,8 +50,8 @@ fn read_begin(bytes: &[u8]) -> Option<(NatMitLoc, &[u8])>
         ≡ cell_code (part_content (place_part place)) ++ rest.now) }
 {
     match bytes {
-        [1, leaf @ 0..=254, rest @ ..] => {
-            let mode = mode_of(reference_of(*leaf));
+        [1, leaf, rest @ ..] => {
+            let mode = mode_of(reference_of(*leaf)?);
             Some((NatMitLoc::Begin { mode }, rest))
         }
         _ => None,
@@ -70,21 +67,21 @@ fn read_down(bytes: &[u8]) -> Option<(NatMitLoc, &[u8])>
     let [
         2,
         tag @ 0..=1,
-        ancestor @ 1..=254,
-        successor @ 1..=254,
-        parent @ 1..=254,
-        leaf @ 1..=254,
-        last @ 0..=254,
+        ancestor,
+        successor,
+        parent,
+        leaf,
+        last,
         rest @ ..,
     ] = bytes
     else {
         return None;
     };
     let place = NatMitLoc::Down {
-        path: path_named(*ancestor, *successor, *parent),
-        leaf: name_of(*leaf),
+        path: path_named(*ancestor, *successor, *parent)?,
+        leaf: name_of(*leaf)?,
         tag: *tag == 1,
-        mode: mode_of(reference_of(*last)),
+        mode: mode_of(reference_of(*last)?),
     };
     Some((place, rest))
 }
@@ -112,19 +109,11 @@ fn read_path(bytes: &[u8]) -> Option<(NatMitLoc, &[u8])>
     ensures { IfSome result (λ (place, rest). 141 ∷ bytes.now
         ≡ cell_code (part_content (place_part place)) ++ rest.now) }
 {
-    let [
-        kind @ 3..=6,
-        ancestor @ 1..=254,
-        successor @ 1..=254,
-        parent @ 1..=254,
-        last @ 0..=254,
-        rest @ ..,
-    ] = bytes
-    else {
+    let [kind @ 3..=6, ancestor, successor, parent, last, rest @ ..] = bytes else {
         return None;
     };
-    let path = path_named(*ancestor, *successor, *parent);
-    let place = place_of_path(*kind, path, reference_of(*last))?;
+    let path = path_named(*ancestor, *successor, *parent)?;
+    let place = place_of_path(*kind, path, reference_of(*last)?)?;
     Some((place, rest))
 }
 
@@ -163,17 +152,17 @@ fn read_with_fact(bytes: &[u8]) -> Option<(NatMitLoc, &[u8])>
     let [
         kind @ 7..=9,
         fact @ 0..=1,
-        ancestor @ 1..=254,
-        successor @ 1..=254,
-        node @ 1..=254,
-        last @ 0..=254,
+        ancestor,
+        successor,
+        node,
+        last,
         rest @ ..,
     ] = bytes
     else {
         return None;
     };
-    let path = path_named(*ancestor, *successor, *node);
-    let mode = mode_of(reference_of(*last));
+    let path = path_named(*ancestor, *successor, *node)?;
+    let mode = mode_of(reference_of(*last)?);
     let place = place_with_fact(*kind, *fact, path, mode)?;
     Some((place, rest))
 }

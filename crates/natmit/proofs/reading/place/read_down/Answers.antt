@@ -15,15 +15,15 @@ pub returns : goal.returns
 returns c =
     let bytes = c.args.bytes.now in
     let kind : get_or bytes 0 0 ≡ 2 = omega arith in
-    let path = c.path_named.ensures in
+    let path = c.in_ok-path_named.ensures in
     ap (λ l. 177 ∷ l) (first_seven bytes (omega arith))
     ∙ rw (
       kind,
       bit_coded (get_or bytes 1 0) (omega arith),
-      path.ancestor,
-      path.successor,
-      path.parent,
-      c.name_of.ensures,
+      path.0,
+      path.1,
+      path.2,
+      c.in_ok-name_of.ensures,
       c.mode_of.ensures,
-      c.reference_of.ensures,
+      c.in_ok-reference_of.ensures,
     ) refl

@@ -6,13 +6,13 @@ use Rattle.natmit.proofs.reading.place.read_path.Goals as goal
 pub returns : goal.returns
 returns c =
     let bytes = c.args.bytes.now in
-    let path = c.path_named-path.ensures in
+    let path = c.in_ok-path.ensures in
     ap (λ l. 141 ∷ l) (first_five bytes (omega arith))
     ∙ rw (
       c.in_ok-place.ensures,
       small_code (get_or bytes 0 0) (omega arith),
-      path.ancestor,
-      path.successor,
-      path.parent,
-      c.reference_of.ensures,
+      path.0,
+      path.1,
+      path.2,
+      c.in_ok-reference_of.ensures,
     ) refl

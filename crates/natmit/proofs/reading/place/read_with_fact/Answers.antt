@@ -6,15 +6,15 @@ use Rattle.natmit.proofs.reading.place.read_with_fact.Goals as goal
 pub returns : goal.returns
 returns c =
     let bytes = c.args.bytes.now in
-    let path = c.path_named-path.ensures in
+    let path = c.in_ok-path.ensures in
     ap (λ l. 142 ∷ l) (first_six bytes (omega arith))
     ∙ rw (
       c.in_ok-place.ensures,
       small_code (get_or bytes 0 0) (omega arith),
       small_code (get_or bytes 1 0) (omega arith),
-      path.ancestor,
-      path.successor,
-      path.parent,
+      path.0,
+      path.1,
+      path.2,
       c.mode_of-mode.ensures,
-      c.reference_of.ensures,
+      c.in_ok-reference_of.ensures,
     ) refl
