@@ -1,18 +1,11 @@
--- What was appended is taken back, or found again.
+-- What was appended is found again.
 use Rattle.std.proofs.Common.{◌≡◌, ℕ, suc, ◌+◌, Bool, true, false, cond, List, [], ◌∷◌, ◌++◌, length, refl, sym, ◌∙◌}
-use Rattle.std.proofs.Common.{ap, subst, arith, length-append}
+use Rattle.std.proofs.Common.{ap, subst, arith}
 use Rattle.std.specs.Prelude.{Some, slice_get, unwrap_or, nat_lt}
-use Rattle.std.proofs.lemmas.List.{append_assoc}
 use Rattle.ellen.specs.declared.memory.UpdateWord.TheVariants.{Untouched}
 use Rattle.ellen.specs.declared.memory.Node.TheVariants.{Leaf, Internal}
 use Rattle.ellen.specs.declared.memory.EllenMem.{EllenMem}
 use Rattle.ellen.specs.Memory.{key_in, key_at, internal_over, with_internal, new_internal}
-
-pub three : {A : Type 0} (xs : List A) (a b c : A) → (xs ++ a ∷ b ∷ []) ++ c ∷ [] ≡ xs ++ a ∷ b ∷ c ∷ []
-three xs a b c = append_assoc xs (a ∷ b ∷ []) (c ∷ [])
-
-pub two_more : {A : Type 0} (xs : List A) (a b : A) → length (xs ++ a ∷ b ∷ []) ≡ length xs + 2
-two_more xs a b = length-append xs (a ∷ b ∷ [])
 
 get_third : {A : Type 0} (xs : List A) (a b c : A) → slice_get (xs ++ a ∷ b ∷ c ∷ []) (length xs + 2) ≡ Some c
 get_third [] a b c = refl

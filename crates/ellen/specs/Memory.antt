@@ -6,7 +6,10 @@ use Rattle.ellen.specs.declared.memory.UpdateWord.{UpdateWord}
 use Rattle.ellen.specs.declared.memory.UpdateWord.TheVariants.{Untouched, Clean, InsertFlag, DeleteFlag, Mark}
 use Rattle.ellen.specs.declared.memory.Node.{Node}
 use Rattle.ellen.specs.declared.memory.Node.TheVariants.{Leaf, Internal}
+use Rattle.ellen.specs.declared.memory.InsertRecord.{InsertRecord}
+use Rattle.ellen.specs.declared.memory.DeleteRecord.{DeleteRecord}
 use Rattle.ellen.specs.declared.memory.Record.{Record}
+use Rattle.ellen.specs.declared.memory.Record.TheVariants.{Ins, Del}
 use Rattle.tree_machine.specs.declared.search_order.Side.{Side}
 use Rattle.tree_machine.specs.declared.search_order.Side.TheVariants.{Left, Right}
 use Rattle.tree_machine.specs.declared.search_order.Shape.{Shape}
@@ -69,6 +72,18 @@ node_at memory x = unwrap_or (slice_get memory.nodes x) (Leaf 0)
 -- record r
 abbrev pub record_at : EllenMem → ℕ → Option Record
 record_at memory r = slice_get memory.records r
+
+-- the record of an insert, or none
+abbrev pub insert_of : Option Record → Option InsertRecord
+insert_of None = None
+insert_of (Some (Ins i)) = Some i
+insert_of (Some (Del d)) = None
+
+-- the record of a delete, or none
+abbrev pub delete_of : Option Record → Option DeleteRecord
+delete_of None = None
+delete_of (Some (Ins i)) = None
+delete_of (Some (Del d)) = Some d
 
 -- what a search sees of each node
 abbrev pub shapes : EllenMem → ℕ → Option Shape

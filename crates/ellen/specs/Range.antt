@@ -1,7 +1,6 @@
 -- Each number of a node or record names one of the memory.
 use Rattle.std.specs.Prelude.{ℕ, ◌<◌, length, IfSome, All}
 use Rattle.ellen.specs.declared.memory.UpdateWord.{UpdateWord}
-use Rattle.ellen.specs.declared.memory.UpdateWord.TheVariants as word
 use Rattle.ellen.specs.declared.memory.Node.{Node}
 use Rattle.ellen.specs.declared.memory.Node.TheVariants.{Leaf, Internal}
 use Rattle.ellen.specs.declared.memory.Record.{Record}
@@ -14,16 +13,11 @@ use Rattle.ellen.specs.declared.place.EllenLoc.TheVariants.{Search, Help}
 use Rattle.ellen.specs.declared.place.SearchLoc.{SearchLoc}
 use Rattle.ellen.specs.declared.place.SearchLoc.TheVariants.{Update, Child, IFlag, InsOnly, DFlag}
 use Rattle.ellen.specs.declared.place.HelpLoc.{HelpLoc}
-use Rattle.ellen.specs.declared.place.HelpLoc.TheVariants.{InsChild, InsClean, Mark, Right, Other, Splice, DelClean}
-use Rattle.ellen.specs.declared.place.HelpLoc.TheVariants.{Back}
+use Rattle.ellen.specs.Parts.{word_record, help_record, help_node}
 
--- the number in an update word is below this one
+-- the record that an update word names is below this number, if it names one
 abbrev pub IsWordIn : ℕ → UpdateWord → Type 0
-IsWordIn records word.Untouched = Unit {0}
-IsWordIn records (word.Clean r) = r < records
-IsWordIn records (word.InsertFlag r) = r < records
-IsWordIn records (word.DeleteFlag r) = r < records
-IsWordIn records (word.Mark r) = r < records
+IsWordIn records u = IfSome (word_record u) (λ r. r < records)
 
 abbrev pub IsResumeIn : ℕ → Resume → Type 0
 IsResumeIn records resume = All (λ r. r < records) resume.stack
@@ -48,15 +42,9 @@ IsSearchIn n m (IFlag p u l) = (p < n) × IsWordIn m u × (l < n)
 IsSearchIn n m (InsOnly p l) = (p < n) × (l < n)
 IsSearchIn n m (DFlag above p u l) = IsAboveIn n m above × (p < n) × IsWordIn m u × (l < n)
 
+-- and so are the record of a help place, and the node that it holds beside it, if any
 abbrev pub IsHelpIn : ℕ → ℕ → HelpLoc → Type 0
-IsHelpIn n m (InsChild r) = r < m
-IsHelpIn n m (InsClean r) = r < m
-IsHelpIn n m (Mark r) = r < m
-IsHelpIn n m (Right r) = r < m
-IsHelpIn n m (Other r s) = r < m
-IsHelpIn n m (Splice r o) = (r < m) × (o < n)
-IsHelpIn n m (DelClean r) = r < m
-IsHelpIn n m (Back r) = r < m
+IsHelpIn n m at = (help_record at < m) × IfSome (help_node at) (λ o. o < n)
 
 abbrev pub IsPlaceIn : ℕ → ℕ → EllenLoc → Type 0
 IsPlaceIn n m (Search at) = IsSearchIn n m at

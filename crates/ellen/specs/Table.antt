@@ -10,9 +10,6 @@ use Rattle.ellen.specs.declared.memory.UpdateWord.{UpdateWord}
 use Rattle.ellen.specs.declared.memory.UpdateWord.TheVariants as word
 use Rattle.ellen.specs.declared.memory.Node.{Node}
 use Rattle.ellen.specs.declared.memory.Node.TheVariants.{Leaf, Internal}
-use Rattle.ellen.specs.declared.memory.InsertRecord.{InsertRecord}
-use Rattle.ellen.specs.declared.memory.DeleteRecord.{DeleteRecord}
-use Rattle.ellen.specs.declared.memory.Record.{Record}
 use Rattle.ellen.specs.declared.memory.Record.TheVariants.{Ins, Del}
 use Rattle.tree_machine.specs.declared.search_order.Side.{Side}
 use Rattle.tree_machine.specs.declared.search_order.Side.TheVariants as side
@@ -31,7 +28,7 @@ use Rattle.ellen.specs.declared.place.EllenLoc.{EllenLoc}
 use Rattle.ellen.specs.declared.place.EllenLoc.TheVariants.{Search, Help}
 use Rattle.ellen.specs.declared.machine.Ellen.{Ellen}
 use Rattle.ellen.specs.Memory.{update_of, child_on, is_word, is_clean, node_at, record_at, key_at, set_update}
-use Rattle.ellen.specs.Memory.{set_child, with_internal, new_internal, add_record}
+use Rattle.ellen.specs.Memory.{set_child, with_internal, new_internal, add_record, insert_of, delete_of}
 
 -- the memory after an access, and what comes of it
 abbrev pub After : Type 0
@@ -64,17 +61,6 @@ exchange_child memory x a b appended success failure =
     let s = side_of (key_at appended b) (key_at memory x) in
     found memory (child_on s (node_at memory x))
     (λ c. if nat_eq c a then (set_child appended x s b, success) else (memory, failure))
-
--- a record of the kind that a row wants
-abbrev pub with_insert : EllenMem → Option Record → (InsertRecord → After) → After
-with_insert memory None row = (memory, Astray)
-with_insert memory (Some (Ins r)) row = row r
-with_insert memory (Some (Del r)) row = (memory, Astray)
-
-abbrev pub with_delete : EllenMem → Option Record → (DeleteRecord → After) → After
-with_delete memory None row = (memory, Astray)
-with_delete memory (Some (Ins r)) row = (memory, Astray)
-with_delete memory (Some (Del r)) row = row r
 
 -- ---- where the operation goes, with no access of its own
 
@@ -114,6 +100,10 @@ returned done resume = unwound done resume.base resume.stack
 abbrev pub marking : Ellen → ℕ → HelpLoc
 marking machine r = if machine.mark then Mark r else Right r
 
+-- the side on which leaf l is not, where c is the right child
+abbrev pub side_apart : ℕ → ℕ → Side
+side_apart c l = if nat_eq c l then side.Left else side.Right
+
 -- Help(w)
 abbrev pub help : Ellen → UpdateWord → Resume → Outcome EllenLoc
 help machine (word.InsertFlag r) resume = Goes (Help (InsChild r) resume)
@@ -125,6 +115,11 @@ help machine (word.Clean r) resume = returned true resume
 -- Help(w) in the way of a search, which begins again then
 abbrev pub help_first : Ellen → UpdateWord → Outcome EllenLoc
 help_first machine w = help machine w (with_base base.Again)
+
+-- where Mark(r) finds w: the mark itself, or what is helped first
+abbrev pub unmarked : Ellen → ℕ → Resume → UpdateWord → Outcome EllenLoc
+unmarked machine r resume w =
+    if is_word w (word.Mark r) then Goes (Help (Right r) resume) else help machine w (awaiting r resume)
 
 -- IFlag, or InsOnly in the variant without the flag
 abbrev pub flagging : Ellen → Above → ℕ → SearchLoc
@@ -174,26 +169,25 @@ search_act machine op (DFlag above p u l) m =
 
 -- the flag of a delete that is done, or not, is taken back
 abbrev pub unflagged : Bool → ℕ → Resume → EllenMem → After
-unflagged done r resume m = with_delete m (record_at m r) (λ d.
+unflagged done r resume m = found m (delete_of (record_at m r)) (λ d.
     exchange_update m d.grandparent (word.DeleteFlag r) (word.Clean r) m (returned done resume)
     (λ w. returned done resume))
 
 abbrev pub help_act : Ellen → HelpLoc → Resume → EllenMem → After
-help_act machine (InsChild r) resume m = with_insert m (record_at m r) (λ i.
+help_act machine (InsChild r) resume m = found m (insert_of (record_at m r)) (λ i.
     exchange_child m i.parent i.leaf i.new m (Goes (Help (InsClean r) resume)) (Goes (Help (InsClean r) resume)))
-help_act machine (InsClean r) resume m = with_insert m (record_at m r) (λ i.
+help_act machine (InsClean r) resume m = found m (insert_of (record_at m r)) (λ i.
     exchange_update m i.parent (word.InsertFlag r) (word.Clean r) m (returned true resume) (λ w. returned true resume))
-help_act machine (Mark r) resume m = with_delete m (record_at m r) (λ d.
+help_act machine (Mark r) resume m = found m (delete_of (record_at m r)) (λ d.
     exchange_update m d.parent d.parent_update (word.Mark r) m
     (Goes (Help (Right r) resume))
-    (λ w. if is_word w (word.Mark r) then Goes (Help (Right r) resume) else help machine w (awaiting r resume)))
-help_act machine (Right r) resume m = with_delete m (record_at m r) (λ d.
+    (λ w. unmarked machine r resume w))
+help_act machine (Right r) resume m = found m (delete_of (record_at m r)) (λ d.
     read_child m d.parent side.Right
-    (λ c. if nat_eq c d.leaf then Goes (Help (Other r side.Left) resume) else Goes
-    (Help (Other r side.Right) resume)))
-help_act machine (Other r s) resume m = with_delete m (record_at m r) (λ d.
+    (λ c. Goes (Help (Other r (side_apart c d.leaf)) resume)))
+help_act machine (Other r s) resume m = found m (delete_of (record_at m r)) (λ d.
     read_child m d.parent s (λ o. Goes (Help (Splice r o) resume)))
-help_act machine (Splice r o) resume m = with_delete m (record_at m r) (λ d.
+help_act machine (Splice r o) resume m = found m (delete_of (record_at m r)) (λ d.
     exchange_child m d.grandparent d.parent o m (Goes (Help (DelClean r) resume)) (Goes (Help (DelClean r) resume)))
 help_act machine (DelClean r) resume m = unflagged true r resume m
 help_act machine (Back r) resume m = unflagged false r resume m

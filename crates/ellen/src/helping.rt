@@ -2,14 +2,14 @@
 ghost use Rattle.std.specs.Prelude.{◌≡◌, IfOk, OnErr};
 ghost use Rattle.ellen.specs.declared.place.HelpLoc.TheVariants as place;
 ghost use Rattle.ellen.specs.Table.{help_act, returned, settled, marking, help, unflagged, exchange_update};
-ghost use Rattle.ellen.specs.Table.{help_first, first_place, awaiting, with_base};
+ghost use Rattle.ellen.specs.Table.{exchange_child, side_apart, help_first, first_place, awaiting, unmarked, with_base};
 
 use crate::machine::Ellen;
-use crate::memory::{EllenMem, Record, UpdateWord, child_on, is_word, key_in, update_of};
+use crate::memory::{EllenMem, UpdateWord, child_on, is_word, key_in, update_of};
 use crate::place::{Base, EllenLoc, HelpLoc, Resume, SearchLoc};
 use sched_program::{OutOfMemory, Sequence};
 use std::alloc::Global;
-use tree_machine::{Outcome, Side, side_of};
+use tree_machine::{Outcome, Side, extended, side_of};
 
 /// What comes of an access, unless memory is refused.
 pub(crate) type Access = Result<Outcome<EllenLoc>, OutOfMemory>;
@@ -113,12 +113,28 @@ pub fn help_first(alloc: Global, machine: Ellen, word: UpdateWord) -> Access
 fn awaiting(alloc: Global, number: u16, resume: &Resume) -> Result<Resume, OutOfMemory>
     ensures { IfOk result (λ more. more ≡ awaiting number resume.now) }
 {
-    let mut stack = resume.stack.copy(alloc)?;
-    stack.push(number)?;
     Ok(Resume {
-        stack,
+        stack: extended(alloc, &resume.stack, &[number])?,
         base: resume.base,
     })
+}
+
+/// Where the parent of a delete has another update word than the record says: the mark, or what is to be helped first.
+fn unmarked(
+    alloc: Global,
+    machine: Ellen,
+    number: u16,
+    resume: &Resume,
+    found: UpdateWord,
+) -> Access
+    ensures { IfOk result (λ outcome. outcome ≡ unmarked machine number resume.now found) }
+{
+    if is_word(found, UpdateWord::Mark(number)) {
+        let resume = resume.copy(alloc)?;
+        Ok(Outcome::Goes(EllenLoc::Help(HelpLoc::Right(number), resume)))
+    } else {
+        help(alloc, machine, found, awaiting(alloc, number, resume)?)
+    }
 }
 
 /// Takes back the flag of a record at a node, if it is still there, and ends the helping.
@@ -145,12 +161,51 @@ fn take_flag_back(
     Ok(outcome)
 }
 
+/// The side on which the leaf of a delete is not, where this is the right child.
+fn side_apart(right: u16, leaf: u16) -> Side
+    ensures { result ≡ side_apart right leaf }
+{
+    if right == leaf {
+        Side::Left
+    } else {
+        Side::Right
+    }
+}
+
+/// Exchanges the child of a node, on the side of the new child's key. The operation goes on at one place, whether it
+/// succeeds or not.
+fn exchange_child(
+    alloc: Global,
+    mem: &mut EllenMem,
+    node: u16,
+    old: u16,
+    new: u16,
+    at: HelpLoc,
+    resume: &Resume,
+) -> Access
+    ensures ok { IfOk result (λ outcome. exchange_child mem.old node old new mem.old
+        (Outcome.Goes (EllenLoc.Help at resume.now)) (Outcome.Goes (EllenLoc.Help at resume.now))
+        ≡ (mem.new, outcome)) }
+    ensures err { OnErr result (mem.new ≡ mem.old) }
+{
+    let parent = mem.node(node);
+    let side = side_of(key_in(mem.node(new)), key_in(parent));
+    let Some(child) = child_on(side, parent) else {
+        return Ok(Outcome::Astray);
+    };
+    let goal = EllenLoc::Help(at, resume.copy(alloc)?);
+    if child == old {
+        mem.set_child(node, side, new);
+    }
+    Ok(Outcome::Goes(goal))
+}
+
 /// Takes back the flag of a delete, whether it is done or not.
 fn unflag_row(alloc: Global, mem: &mut EllenMem, number: u16, done: bool, resume: &Resume) -> Access
     ensures ok { IfOk result (λ outcome. unflagged done number resume.now mem.old ≡ (mem.new, outcome)) }
     ensures err { OnErr result (mem.new ≡ mem.old) }
 {
-    let Some(Record::Del(info)) = mem.record(number) else {
+    let Some(info) = mem.delete_record(number) else {
         return Ok(Outcome::Astray);
     };
     let flag = UpdateWord::DeleteFlag(number);
@@ -165,19 +220,11 @@ impl Ellen {
         ensures ok { IfOk result (λ next. help_act self (place.InsChild number) resume.now mem.old ≡ (mem.new, next)) }
         ensures err { OnErr result (mem.new ≡ mem.old) }
     {
-        let Some(Record::Ins(info)) = mem.record(number) else {
+        let Some(info) = mem.insert_record(number) else {
             return Ok(Outcome::Astray);
         };
-        let node = mem.node(info.parent);
-        let side = side_of(key_in(mem.node(info.new)), key_in(node));
-        let Some(child) = child_on(side, node) else {
-            return Ok(Outcome::Astray);
-        };
-        let goal = EllenLoc::Help(HelpLoc::InsClean(number), resume.copy(alloc)?);
-        if child == info.leaf {
-            mem.set_child(info.parent, side, info.new);
-        }
-        Ok(Outcome::Goes(goal))
+        let at = HelpLoc::InsClean(number);
+        exchange_child(alloc, mem, info.parent, info.leaf, info.new, at, resume)
     }
 
     /// Takes the flag of an insert back.
@@ -185,7 +232,7 @@ impl Ellen {
         ensures ok { IfOk result (λ next. help_act self (place.InsClean number) resume.now mem.old ≡ (mem.new, next)) }
         ensures err { OnErr result (mem.new ≡ mem.old) }
     {
-        let Some(Record::Ins(info)) = mem.record(number) else {
+        let Some(info) = mem.insert_record(number) else {
             return Ok(Outcome::Astray);
         };
         let flag = UpdateWord::InsertFlag(number);
@@ -197,49 +244,35 @@ impl Ellen {
         ensures ok { IfOk result (λ next. help_act self (place.Mark number) resume.now mem.old ≡ (mem.new, next)) }
         ensures err { OnErr result (mem.new ≡ mem.old) }
     {
-        let Some(Record::Del(info)) = mem.record(number) else {
+        let Some(info) = mem.delete_record(number) else {
             return Ok(Outcome::Astray);
         };
         let Some(found) = update_of(mem.node(info.parent)) else {
             return Ok(Outcome::Astray);
         };
-        let mark = UpdateWord::Mark(number);
-        if is_word(found, info.parent_update) {
-            let goal = EllenLoc::Help(HelpLoc::Right(number), resume.copy(alloc)?);
-            mem.set_update(info.parent, mark);
-            return Ok(Outcome::Goes(goal));
+        if !is_word(found, info.parent_update) {
+            return unmarked(alloc, self, number, resume, found);
         }
-        if is_word(found, mark) {
-            let goal = EllenLoc::Help(HelpLoc::Right(number), resume.copy(alloc)?);
-            return Ok(Outcome::Goes(goal));
-        }
-        help(alloc, self, found, awaiting(alloc, number, resume)?)
+        let goal = EllenLoc::Help(HelpLoc::Right(number), resume.copy(alloc)?);
+        mem.set_update(info.parent, UpdateWord::Mark(number));
+        Ok(Outcome::Goes(goal))
     }
 
     /// Reads the right child of the parent of a delete.
     fn right_row(self, alloc: Global, mem: &EllenMem, number: u16, resume: &Resume) -> Access
         ensures { IfOk result (λ outcome. help_act self (place.Right number) resume.now mem.now ≡ (mem.now, outcome)) }
     {
-        let Some(Record::Del(info)) = mem.record(number) else {
+        let Some(info) = mem.delete_record(number) else {
             return Ok(Outcome::Astray);
         };
         let Some(child) = child_on(Side::Right, mem.node(info.parent)) else {
             return Ok(Outcome::Astray);
         };
-        let resume = resume.copy(alloc)?;
-        if child == info.leaf {
-            let at = HelpLoc::Other {
-                record: number,
-                side: Side::Left,
-            };
-            Ok(Outcome::Goes(EllenLoc::Help(at, resume)))
-        } else {
-            let at = HelpLoc::Other {
-                record: number,
-                side: Side::Right,
-            };
-            Ok(Outcome::Goes(EllenLoc::Help(at, resume)))
-        }
+        let at = HelpLoc::Other {
+            record: number,
+            side: side_apart(child, info.leaf),
+        };
+        Ok(Outcome::Goes(EllenLoc::Help(at, resume.copy(alloc)?)))
     }
 
     /// Reads the child of that parent on the side where the leaf is not.
@@ -254,7 +287,7 @@ impl Ellen {
         ensures { IfOk result (λ outcome. help_act self (place.Other number side) resume.now mem.now
             ≡ (mem.now, outcome)) }
     {
-        let Some(Record::Del(info)) = mem.record(number) else {
+        let Some(info) = mem.delete_record(number) else {
             return Ok(Outcome::Astray);
         };
         let Some(other) = child_on(side, mem.node(info.parent)) else {
@@ -280,19 +313,11 @@ impl Ellen {
             ≡ (mem.new, outcome)) }
         ensures err { OnErr result (mem.new ≡ mem.old) }
     {
-        let Some(Record::Del(info)) = mem.record(number) else {
+        let Some(info) = mem.delete_record(number) else {
             return Ok(Outcome::Astray);
         };
-        let node = mem.node(info.grandparent);
-        let side = side_of(key_in(mem.node(other)), key_in(node));
-        let Some(child) = child_on(side, node) else {
-            return Ok(Outcome::Astray);
-        };
-        let goal = EllenLoc::Help(HelpLoc::DelClean(number), resume.copy(alloc)?);
-        if child == info.parent {
-            mem.set_child(info.grandparent, side, other);
-        }
-        Ok(Outcome::Goes(goal))
+        let at = HelpLoc::DelClean(number);
+        exchange_child(alloc, mem, info.grandparent, info.parent, other, at, resume)
     }
 }
 

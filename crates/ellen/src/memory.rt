@@ -2,9 +2,9 @@
 ghost use Rattle.std.specs.Prelude.{◌≡◌, ◌+◌, ◌<◌, length, IfOk, OnOk, OnErr, Some};
 ghost use Rattle.ellen.specs.declared.memory.Record.TheVariants.{Ins};
 ghost use Rattle.tree_machine.specs.SearchOrder.{side_of};
-ghost use Rattle.ellen.specs.Memory.{node_at, record_at, key_at, update_of, child_on};
-ghost use Rattle.ellen.specs.Memory.{is_word, key_in, shape_in, shapes, set_update, set_child};
-ghost use Rattle.ellen.specs.Memory.{with_internal, new_internal, internal_over, add_record};
+ghost use Rattle.ellen.specs.Memory.{node_at, record_at, key_at, update_of, child_on, insert_of, delete_of};
+ghost use Rattle.ellen.specs.Memory.{is_word, key_in, shape_in, shapes, with_update, with_child, set_node};
+ghost use Rattle.ellen.specs.Memory.{set_update, set_child, with_internal, new_internal, internal_over, add_record};
 
 use sched_program::{OutOfMemory, Sequence};
 use std::alloc::Global;
@@ -119,6 +119,55 @@ pub fn child_on(side: Side, node: Node) -> Option<u16>
     }
 }
 
+/// The node with this update word; a leaf has none.
+fn with_update(word: UpdateWord, node: Node) -> Node
+    ensures { result ≡ with_update word node }
+{
+    match node {
+        Node::Leaf { .. } => node,
+        Node::Internal {
+            key,
+            left,
+            right,
+            ..
+        } => Node::Internal {
+            key,
+            update: word,
+            left,
+            right,
+        },
+    }
+}
+
+/// The node with this child on a side; a leaf has none.
+fn with_child(side: Side, child: u16, node: Node) -> Node
+    ensures { result ≡ with_child side child node }
+{
+    let Node::Internal {
+        key,
+        update,
+        left,
+        right,
+    } = node
+    else {
+        return node;
+    };
+    match side {
+        Side::Left => Node::Internal {
+            key,
+            update,
+            left: child,
+            right,
+        },
+        Side::Right => Node::Internal {
+            key,
+            update,
+            left,
+            right: child,
+        },
+    }
+}
+
 /// Whether an update word is the one that an exchange expects, its record too.
 pub fn is_word(found: UpdateWord, expected: UpdateWord) -> bool
     ensures { result ≡ is_word found expected }
@@ -155,6 +204,13 @@ fn internal_over(key: u8, other: u8, x: u16, y: u16) -> Node
     }
 }
 
+/// An equal list, copied all at once: `Sequence::copy` goes value by value.
+pub(crate) fn copied<T: Copy>(alloc: Global, list: &Sequence<T>) -> Result<Sequence<T>, OutOfMemory>
+    ensures { IfOk result (λ copy. copy ≡ list.now) }
+{
+    Ok(Sequence::from_vec(Vec::from_slice(alloc, list.as_slice())?))
+}
+
 impl EllenMem {
     /// A node by its number.
     pub(crate) fn node(&self, x: u16) -> Node
@@ -166,95 +222,72 @@ impl EllenMem {
         }
     }
 
-    /// A record by its number.
-    pub(crate) fn record(&self, r: u16) -> Option<Record>
-        ensures { result ≡ record_at self.now r }
+    /// The record of an insert by its number.
+    pub(crate) fn insert_record(&self, r: u16) -> Option<InsertRecord>
+        ensures { result ≡ insert_of (record_at self.now r) }
     {
-        self.records.get(r as usize).copied()
+        match self.records.get(r as usize) {
+            Some(Record::Ins(insert)) => Some(*insert),
+            _ => None,
+        }
+    }
+
+    /// The record of a delete by its number.
+    pub(crate) fn delete_record(&self, r: u16) -> Option<DeleteRecord>
+        ensures { result ≡ delete_of (record_at self.now r) }
+    {
+        match self.records.get(r as usize) {
+            Some(Record::Del(delete)) => Some(*delete),
+            _ => None,
+        }
+    }
+
+    /// Replaces a node, if there is one of this number.
+    #[tactic(auto, using(crate::proofs::Past::node_past))]
+    fn set_node(&mut self, x: u16, node: Node)
+        ensures { self.new ≡ set_node self.old x node }
+    {
+        if usize::from(x) < self.nodes.len() {
+            self.nodes.set(x as usize, node);
+        }
     }
 
     /// Sets the update word of a node, if there is such a node.
-    #[tactic(auto, using(crate::proofs::Past::update_past))]
     pub(crate) fn set_update(&mut self, x: u16, word: UpdateWord)
         ensures { self.new ≡ set_update self.old x word }
     {
-        let node = match self.node(x) {
-            Node::Leaf { key } => Node::Leaf { key },
-            Node::Internal {
-                key,
-                left,
-                right,
-                ..
-            } => Node::Internal {
-                key,
-                update: word,
-                left,
-                right,
-            },
-        };
-        if usize::from(x) < self.nodes.len() {
-            self.nodes.set(x as usize, node);
-        }
+        let node = with_update(word, self.node(x));
+        self.set_node(x, node);
     }
 
     /// Sets a child of a node, if there is such a node.
-    #[tactic(auto, using(crate::proofs::Past::child_past))]
     pub(crate) fn set_child(&mut self, x: u16, side: Side, child: u16)
         ensures { self.new ≡ set_child self.old x side child }
     {
-        let node = match (side, self.node(x)) {
-            (_, Node::Leaf { key }) => Node::Leaf { key },
-            (
-                Side::Left,
-                Node::Internal {
-                    key,
-                    update,
-                    right,
-                    ..
-                },
-            ) => Node::Internal {
-                key,
-                update,
-                left: child,
-                right,
-            },
-            (
-                Side::Right,
-                Node::Internal {
-                    key,
-                    update,
-                    left,
-                    ..
-                },
-            ) => Node::Internal {
-                key,
-                update,
-                left,
-                right: child,
-            },
-        };
-        if usize::from(x) < self.nodes.len() {
-            self.nodes.set(x as usize, node);
-        }
+        let node = with_child(side, child, self.node(x));
+        self.set_node(x, node);
     }
 
-    /// The nodes with a new internal node for a key at a leaf, behind its two new leaves.
-    #[tactic(auto, using(crate::proofs::Appended::three, crate::proofs::Appended::two_more))]
+    /// The nodes with a new internal node for a key at a leaf, behind its two new leaves, and that node's number.
     fn with_internal(
         &self,
         alloc: Global,
         key: u8,
         leaf: u16,
-    ) -> Result<Sequence<Node>, OutOfMemory>
-        ensures nodes { IfOk result (λ nodes. nodes ≡ (with_internal self.now key leaf).nodes) }
-        ensures count { IfOk result (λ nodes. length nodes ≡ length self.now.nodes + 3) }
+    ) -> Result<(Sequence<Node>, u16), OutOfMemory>
+        ensures nodes { IfOk result (λ made. made.0 ≡ (with_internal self.now key leaf).nodes) }
+        ensures number { IfOk result (λ made. made.1 ≡ new_internal self.now) }
     {
+        let count = self.nodes.len();
+        let first = short_number_of(count)?;
+        let new = short_number_of(count + 2)?;
         let other = key_in(self.node(leaf));
-        let leaves = [Node::Leaf { key }, Node::Leaf { key: other }];
-        let mut nodes = extended(alloc, &self.nodes, &leaves)?;
-        let copy = short_number_of(nodes.len() - 1)?;
-        nodes.push(internal_over(key, other, copy - 1, copy))?;
-        Ok(nodes)
+        let more = [
+            Node::Leaf { key },
+            Node::Leaf { key: other },
+            internal_over(key, other, first, new - 1),
+        ];
+        Ok((extended(alloc, &self.nodes, &more)?, new))
     }
 
     /// Appends a new internal node for a key at a leaf, and returns its number. After a refusal nothing is appended.
@@ -268,8 +301,7 @@ impl EllenMem {
         ensures number { IfOk result (λ new. new ≡ new_internal self.old) }
         ensures err { OnErr result (self.new ≡ self.old) }
     {
-        let nodes = self.with_internal(alloc, key, leaf)?;
-        let new = short_number_of(nodes.len() - 1)?;
+        let (nodes, new) = self.with_internal(alloc, key, leaf)?;
         self.nodes = nodes;
         Ok(new)
     }
@@ -313,8 +345,7 @@ impl EllenMem {
             (Ins (record { parent = parent; leaf = leaf; new = new_internal self.old }))) }
         ensures err { OnErr result (self.new ≡ self.old) }
     {
-        let nodes = self.with_internal(alloc, key, leaf)?;
-        let new = short_number_of(nodes.len() - 1)?;
+        let (nodes, new) = self.with_internal(alloc, key, leaf)?;
         self.add_record(Record::Ins(InsertRecord { parent, leaf, new }))?;
         self.nodes = nodes;
         Ok(())
@@ -324,10 +355,10 @@ impl EllenMem {
     pub(crate) fn copy(&self, alloc: Global) -> Result<EllenMem, OutOfMemory>
         ensures { IfOk result (λ copy. copy ≡ self.now) }
     {
-        // All at once: `Sequence::copy` goes value by value.
-        let nodes = Sequence::from_vec(Vec::from_slice(alloc, self.nodes.as_slice())?);
-        let records = Sequence::from_vec(Vec::from_slice(alloc, self.records.as_slice())?);
-        Ok(EllenMem { nodes, records })
+        Ok(EllenMem {
+            nodes: copied(alloc, &self.nodes)?,
+            records: copied(alloc, &self.records)?,
+        })
     }
 
     /// Makes another memory equal to this one. It reuses that one's buffers where they are large enough.

@@ -1,7 +1,7 @@
 //! The place of an operation: its next access to the memory, and the locals that it holds.
 ghost use Rattle.std.specs.Prelude.{◌≡◌, IfOk};
 
-use crate::memory::UpdateWord;
+use crate::memory::{UpdateWord, copied};
 use sched_program::{OutOfMemory, Sequence};
 use std::alloc::Global;
 use tree_machine::Side;
@@ -93,24 +93,13 @@ pub enum EllenLoc {
     Help(HelpLoc, Resume),
 }
 
-impl Above {
-    /// A node with the update word that was read of it.
-    pub(crate) fn new(node: u16, update: UpdateWord) -> Above
-        ensures { result ≡ record { node = node; update = update } }
-    {
-        Above { node, update }
-    }
-}
-
 impl Resume {
     /// An equal value.
     pub(crate) fn copy(&self, alloc: Global) -> Result<Resume, OutOfMemory>
         ensures { IfOk result (λ copy. copy ≡ self.now) }
     {
-        // All at once: `Sequence::copy` goes value by value.
-        let stack = Sequence::from_vec(Vec::from_slice(alloc, self.stack.as_slice())?);
         Ok(Resume {
-            stack,
+            stack: copied(alloc, &self.stack)?,
             base: self.base,
         })
     }

@@ -246,7 +246,13 @@ pub fn search_act(
             above,
             parent,
             update,
-        } => child_row(alloc, machine, op, mem, above, Above::new(parent, update)),
+        } => {
+            let parent = Above {
+                node: parent,
+                update,
+            };
+            child_row(alloc, machine, op, mem, above, parent)
+        }
         SearchLoc::IFlag {
             parent,
             update,
@@ -261,7 +267,10 @@ pub fn search_act(
             update,
             leaf,
         } => {
-            let parent = Above::new(parent, update);
+            let parent = Above {
+                node: parent,
+                update,
+            };
             delete_flag_row(alloc, machine, op, mem, above, parent, leaf)
         }
     }

@@ -8,10 +8,6 @@ use Rattle.tree_machine.specs.declared.search_order.Side.{Side}
 use Rattle.tree_machine.specs.declared.search_order.Side.TheVariants as side
 use Rattle.tree_machine.specs.SearchOrder.{side_of}
 use Rattle.ellen.specs.declared.memory.UpdateWord.{UpdateWord}
-use Rattle.ellen.specs.declared.memory.InsertRecord.{InsertRecord}
-use Rattle.ellen.specs.declared.memory.DeleteRecord.{DeleteRecord}
-use Rattle.ellen.specs.declared.memory.Record.{Record}
-use Rattle.ellen.specs.declared.memory.Record.TheVariants.{Ins, Del}
 use Rattle.ellen.specs.declared.memory.EllenMem.{EllenMem}
 use Rattle.ellen.specs.declared.place.Base.{Base}
 use Rattle.ellen.specs.declared.place.Base.TheVariants as base
@@ -25,9 +21,9 @@ use Rattle.ellen.specs.declared.place.HelpLoc.TheVariants.{InsChild, InsClean, M
 use Rattle.ellen.specs.declared.place.HelpLoc.TheVariants.{Back}
 use Rattle.ellen.specs.declared.machine.Ellen.{Ellen}
 use Rattle.ellen.specs.Memory.{update_of, child_on, is_word, node_at, record_at, key_at, set_update, set_child}
-use Rattle.ellen.specs.Memory.{with_internal, new_internal}
-use Rattle.ellen.specs.Table.{After, found, read_update, read_child, exchange_update, exchange_child, with_insert}
-use Rattle.ellen.specs.Table.{with_delete, first_place, settled, unwound, search_act, help_act, act}
+use Rattle.ellen.specs.Memory.{with_internal, new_internal, insert_of, delete_of}
+use Rattle.ellen.specs.Table.{After, found, read_update, read_child, exchange_update, exchange_child, first_place}
+use Rattle.ellen.specs.Table.{settled, unwound, search_act, help_act, act}
 
 -- where the access went astray, the memory is the one before
 abbrev IsCalm : EllenMem → After → Type 0
@@ -64,18 +60,6 @@ module _ (memory : EllenMem) where
       → IsCalm memory (if b then first else second)
   cond_calm true first second h k = h
   cond_calm false first second h k = k
-
-  with_insert_calm : (o : Option Record) (row : InsertRecord → After) → ((i : InsertRecord) → IsCalm memory (row i))
-      → IsCalm memory (with_insert memory o row)
-  with_insert_calm None row f = λ e. refl
-  with_insert_calm (Some (Ins i)) row f = f i
-  with_insert_calm (Some (Del d)) row f = λ e. refl
-
-  with_delete_calm : (o : Option Record) (row : DeleteRecord → After) → ((d : DeleteRecord) → IsCalm memory (row d))
-      → IsCalm memory (with_delete memory o row)
-  with_delete_calm None row f = λ e. refl
-  with_delete_calm (Some (Ins i)) row f = λ e. refl
-  with_delete_calm (Some (Del d)) row f = f d
 
   read_update_calm : (x : ℕ) (goes : UpdateWord → Outcome EllenLoc) → IsCalm memory (read_update memory x goes)
   read_update_calm x goes = found_calm (update_of (node_at memory x)) (λ u. (memory, goes u)) (λ u e. refl)
@@ -114,28 +98,27 @@ search_calm machine op (DFlag above p u l) memory = exchange_update_calm memory 
 help_calm : (machine : Ellen) (at : HelpLoc) (resume : Resume) (memory : EllenMem)
     → IsCalm memory (help_act machine at resume memory)
 help_calm machine (InsChild r) resume memory =
-    with_insert_calm memory (record_at memory r) _ (λ i. exchange_child_calm memory i.parent i.leaf i.new memory _ _ tt)
+    found_calm memory (insert_of (record_at memory r)) _
+    (λ i. exchange_child_calm memory i.parent i.leaf i.new memory _ _ tt)
 help_calm machine (InsClean r) resume memory =
-    with_insert_calm memory (record_at memory r) _
+    found_calm memory (insert_of (record_at memory r)) _
     (λ i. exchange_update_calm memory i.parent _ _ memory _ _ (returned_sure true resume.base resume.stack))
 help_calm machine (Mark r) resume memory =
-    with_delete_calm memory (record_at memory r) _
+    found_calm memory (delete_of (record_at memory r)) _
     (λ d. exchange_update_calm memory d.parent d.parent_update _ memory _ _ tt)
 help_calm machine (Right r) resume memory =
-    with_delete_calm memory (record_at memory r) _
-    (λ d. read_child_calm memory d.parent side.Right
-    (λ c. if nat_eq c d.leaf then Goes (Help (Other r side.Left) resume) else Goes
-    (Help (Other r side.Right) resume)))
+    found_calm memory (delete_of (record_at memory r)) _
+    (λ d. read_child_calm memory d.parent side.Right _)
 help_calm machine (Other r s) resume memory =
-    with_delete_calm memory (record_at memory r) _ (λ d. read_child_calm memory d.parent s _)
+    found_calm memory (delete_of (record_at memory r)) _ (λ d. read_child_calm memory d.parent s _)
 help_calm machine (Splice r o) resume memory =
-    with_delete_calm memory (record_at memory r) _
+    found_calm memory (delete_of (record_at memory r)) _
     (λ d. exchange_child_calm memory d.grandparent d.parent o memory _ _ tt)
 help_calm machine (DelClean r) resume memory =
-    with_delete_calm memory (record_at memory r) _
+    found_calm memory (delete_of (record_at memory r)) _
     (λ d. exchange_update_calm memory d.grandparent _ _ memory _ _ (returned_sure true resume.base resume.stack))
 help_calm machine (Back r) resume memory =
-    with_delete_calm memory (record_at memory r) _
+    found_calm memory (delete_of (record_at memory r)) _
     (λ d. exchange_update_calm memory d.grandparent _ _ memory _ _ (returned_sure false resume.base resume.stack))
 
 pub astray_unchanged : (machine : Ellen) (op : Op) (place : EllenLoc) (memory : EllenMem)

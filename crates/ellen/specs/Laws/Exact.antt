@@ -1,8 +1,8 @@
 -- Machines, memories and places are one and the same where they compare as equal.
-use Rattle.std.specs.Prelude.{◌≡◌, refl}
+use Rattle.std.specs.Prelude.{refl}
 use Rattle.std.proofs.Common.{ap}
 use Rattle.sched_program.specs.Exact.{IsExact}
-use Rattle.sched_program.specs.Laws.Exact.{nat_exact, bool_exact, list_exact, option_exact, both}
+use Rattle.sched_program.specs.Laws.Exact.{nat_exact, bool_exact, list_exact, option_exact}
 use Rattle.tree_machine.specs.Laws.FieldsExact.{two_fields, three_fields, four_fields}
 use Rattle.tree_machine.specs.Laws.SideExact.{side_exact}
 use Rattle.ellen.specs.contracts.machine.EllenPartialEq.TheImpl.{eq-value as machine_eq}
@@ -29,10 +29,8 @@ use Rattle.ellen.specs.declared.place.HelpLoc.TheVariants.{Back}
 
 pub machine_exact : IsExact machine_eq.it
 machine_exact a b h =
-    let t = both _ _ h in
-    let mark : a.mark ≡ b.mark = bool_exact a.mark b.mark t.0 in
-    let iflag : a.iflag ≡ b.iflag = bool_exact a.iflag b.iflag t.1 in
-    λ i. record { mark = mark i; iflag = iflag i }
+    two_fields bool_exact bool_exact (λ mark iflag. record { mark = mark; iflag = iflag }) a.mark b.mark a.iflag
+    b.iflag h
 
 pub word_exact : IsExact word_eq.it
 word_exact word.Untouched word.Untouched h = refl
@@ -50,23 +48,19 @@ node_exact a b h = cc
 
 pub insert_exact : IsExact insert_eq.it
 insert_exact a b h =
-    let t = both _ _ h in
-    let s = both _ _ t.1 in
-    let parent : a.parent ≡ b.parent = nat_exact a.parent b.parent t.0 in
-    let leaf : a.leaf ≡ b.leaf = nat_exact a.leaf b.leaf s.0 in
-    let new : a.new ≡ b.new = nat_exact a.new b.new s.1 in
-    λ i. record { parent = parent i; leaf = leaf i; new = new i }
+    three_fields nat_exact nat_exact nat_exact (λ parent leaf new. record { parent = parent; leaf = leaf; new = new })
+    a.parent b.parent a.leaf b.leaf a.new b.new h
 
 pub delete_exact : IsExact delete_eq.it
 delete_exact a b h =
-    let t = both _ _ h in
-    let s = both _ _ t.1 in
-    let q = both _ _ s.1 in
-    let grandparent : a.grandparent ≡ b.grandparent = nat_exact a.grandparent b.grandparent t.0 in
-    let parent : a.parent ≡ b.parent = nat_exact a.parent b.parent s.0 in
-    let leaf : a.leaf ≡ b.leaf = nat_exact a.leaf b.leaf q.0 in
-    let update : a.parent_update ≡ b.parent_update = word_exact a.parent_update b.parent_update q.1 in
-    λ i. record { grandparent = grandparent i; parent = parent i; leaf = leaf i; parent_update = update i }
+    four_fields nat_exact nat_exact nat_exact word_exact
+    (λ grandparent parent leaf update. record {
+      grandparent = grandparent;
+      parent = parent;
+      leaf = leaf;
+      parent_update = update;
+    })
+    a.grandparent b.grandparent a.parent b.parent a.leaf b.leaf a.parent_update b.parent_update h
 
 pub record_exact : IsExact record_eq.it
 record_exact (Ins a) (Ins b) h = ap Ins (insert_exact a b h)
@@ -75,17 +69,13 @@ record_exact a b h = cc
 
 pub memory_exact : IsExact memory_eq.it
 memory_exact a b h =
-    let t = both _ _ h in
-    let nodes : a.nodes ≡ b.nodes = list_exact node_exact a.nodes b.nodes t.0 in
-    let records : a.records ≡ b.records = list_exact record_exact a.records b.records t.1 in
-    λ i. record { nodes = nodes i; records = records i }
+    two_fields (list_exact node_exact) (list_exact record_exact)
+    (λ nodes records. record { nodes = nodes; records = records }) a.nodes b.nodes a.records b.records h
 
 pub above_exact : IsExact above_eq.it
 above_exact a b h =
-    let t = both _ _ h in
-    let node : a.node ≡ b.node = nat_exact a.node b.node t.0 in
-    let update : a.update ≡ b.update = word_exact a.update b.update t.1 in
-    λ i. record { node = node i; update = update i }
+    two_fields nat_exact word_exact (λ node update. record { node = node; update = update }) a.node b.node a.update
+    b.update h
 
 pub base_exact : IsExact base_eq.it
 base_exact Again Again h = refl
@@ -95,10 +85,8 @@ base_exact a b h = cc
 
 pub resume_exact : IsExact resume_eq.it
 resume_exact a b h =
-    let t = both _ _ h in
-    let stack : a.stack ≡ b.stack = list_exact nat_exact a.stack b.stack t.0 in
-    let base : a.base ≡ b.base = base_exact a.base b.base t.1 in
-    λ i. record { stack = stack i; base = base i }
+    two_fields (list_exact nat_exact) base_exact (λ stack base. record { stack = stack; base = base }) a.stack b.stack
+    a.base b.base h
 
 pub search_exact : IsExact search_eq.it
 search_exact (Update a p) (Update b q) h = two_fields (option_exact above_exact) nat_exact Update a b p q h

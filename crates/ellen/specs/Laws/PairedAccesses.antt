@@ -1,6 +1,7 @@
 -- Each kind of access keeps a pairing.
-use Rattle.std.specs.Prelude.{◌≡◌, ℕ, nat_eq, List, [], ◌∷◌, ◌++◌, Option, Some, None, unwrap_or, refl}
-use Rattle.std.proofs.Common.{◌∙◌, ap, subst, inr}
+use Rattle.std.specs.Prelude.{◌≡◌, ℕ, Bool, true, false, ◌&&◌, nat_eq, List, [], ◌∷◌, ◌++◌, Option, Some, None, refl}
+use Rattle.std.proofs.Common.{◌∙◌, ap, subst, sym, inr}
+use Rattle.tree_machine.specs.Cells.{IsPairedOrNone}
 use Rattle.tree_machine.specs.Pairing.{IsAmong, IsOneToOne, Pairing, Extends, AreOutcomesPaired, AreStepsPaired}
 use Rattle.tree_machine.proofs.FreshPairs.{choices_paired, same_number, within_set, paired_set}
 use Rattle.tree_machine.specs.SearchOrder.{side_of}
@@ -19,73 +20,52 @@ use Rattle.ellen.specs.declared.memory.Record.TheVariants.{Ins, Del}
 use Rattle.ellen.specs.declared.memory.EllenMem.{EllenMem}
 use Rattle.ellen.specs.declared.place.EllenLoc.{EllenLoc}
 use Rattle.ellen.specs.Memory.{key_in, update_of, child_on, with_update, with_child, is_word, node_at, key_at, set_node}
-use Rattle.ellen.specs.Table.{After, found, read_update, read_child, exchange_update, exchange_child, with_insert}
-use Rattle.ellen.specs.Table.{with_delete}
+use Rattle.ellen.specs.Memory.{insert_of, delete_of}
+use Rattle.ellen.specs.Table.{After, found, read_update, read_child, exchange_update, exchange_child}
 use Rattle.ellen.specs.Pairs.{AreBoth, AreWordsPaired, AreNodesPaired, AreRecordsPaired, AreMemoriesPaired, ellen_pairs}
+use Rattle.ellen.specs.Parts.{word_number, word_record}
+use Rattle.ellen.specs.Laws.Parts.{AreFoundPaired, word_to}
 
 -- ---- equal tests
 
+-- neither is there, or both are and are the same
+abbrev are_same : Option ℕ → Option ℕ → Bool
+are_same None None = true
+are_same (Some r) (Some s) = nat_eq r s
+are_same _ _ = false
+
+-- words are the same exactly if they are of one kind, with the same record or none
+word_is : (u f : UpdateWord)
+    → is_word u f ≡ (nat_eq (word_number u) (word_number f) && are_same (word_record u) (word_record f))
+word_is word.Untouched word.Untouched = refl
+word_is (word.Clean r) (word.Clean s) = refl
+word_is (word.InsertFlag r) (word.InsertFlag s) = refl
+word_is (word.DeleteFlag r) (word.DeleteFlag s) = refl
+word_is (word.Mark r) (word.Mark s) = refl
+word_is _ _ = refl
+
 module _ (R : ℕ → ℕ → Type 0) (one : IsOneToOne R) where
-  untouched_compared : (f g : UpdateWord) → AreWordsPaired R f g → is_word word.Untouched f ≡ is_word word.Untouched g
-  untouched_compared word.Untouched word.Untouched q = refl
-  untouched_compared (word.Clean t) (word.Clean w) q = refl
-  untouched_compared (word.InsertFlag t) (word.InsertFlag w) q = refl
-  untouched_compared (word.DeleteFlag t) (word.DeleteFlag w) q = refl
-  untouched_compared (word.Mark t) (word.Mark w) q = refl
-  untouched_compared _ _ q = absurd q
-
-  clean_compared : (r s : ℕ) (f g : UpdateWord) → R r s → AreWordsPaired R f g
-      → is_word (word.Clean r) f ≡ is_word (word.Clean s) g
-  clean_compared r s word.Untouched word.Untouched p q = refl
-  clean_compared r s (word.Clean t) (word.Clean w) p q = same_number R one r s t w p q
-  clean_compared r s (word.InsertFlag t) (word.InsertFlag w) p q = refl
-  clean_compared r s (word.DeleteFlag t) (word.DeleteFlag w) p q = refl
-  clean_compared r s (word.Mark t) (word.Mark w) p q = refl
-  clean_compared r s _ _ p q = absurd q
-
-  insert_flag_compared : (r s : ℕ) (f g : UpdateWord) → R r s → AreWordsPaired R f g
-      → is_word (word.InsertFlag r) f ≡ is_word (word.InsertFlag s) g
-  insert_flag_compared r s word.Untouched word.Untouched p q = refl
-  insert_flag_compared r s (word.Clean t) (word.Clean w) p q = refl
-  insert_flag_compared r s (word.InsertFlag t) (word.InsertFlag w) p q = same_number R one r s t w p q
-  insert_flag_compared r s (word.DeleteFlag t) (word.DeleteFlag w) p q = refl
-  insert_flag_compared r s (word.Mark t) (word.Mark w) p q = refl
-  insert_flag_compared r s _ _ p q = absurd q
-
-  delete_flag_compared : (r s : ℕ) (f g : UpdateWord) → R r s → AreWordsPaired R f g
-      → is_word (word.DeleteFlag r) f ≡ is_word (word.DeleteFlag s) g
-  delete_flag_compared r s word.Untouched word.Untouched p q = refl
-  delete_flag_compared r s (word.Clean t) (word.Clean w) p q = refl
-  delete_flag_compared r s (word.InsertFlag t) (word.InsertFlag w) p q = refl
-  delete_flag_compared r s (word.DeleteFlag t) (word.DeleteFlag w) p q = same_number R one r s t w p q
-  delete_flag_compared r s (word.Mark t) (word.Mark w) p q = refl
-  delete_flag_compared r s _ _ p q = absurd q
-
-  mark_compared : (r s : ℕ) (f g : UpdateWord) → R r s → AreWordsPaired R f g
-      → is_word (word.Mark r) f ≡ is_word (word.Mark s) g
-  mark_compared r s word.Untouched word.Untouched p q = refl
-  mark_compared r s (word.Clean t) (word.Clean w) p q = refl
-  mark_compared r s (word.InsertFlag t) (word.InsertFlag w) p q = refl
-  mark_compared r s (word.DeleteFlag t) (word.DeleteFlag w) p q = refl
-  mark_compared r s (word.Mark t) (word.Mark w) p q = same_number R one r s t w p q
-  mark_compared r s _ _ p q = absurd q
+  records_compared : (a b c d : Option ℕ) → IsPairedOrNone R a b → IsPairedOrNone R c d → are_same a c ≡ are_same b d
+  records_compared None None None None p q = refl
+  records_compared None None (Some t) (Some w) p q = refl
+  records_compared (Some r) (Some s) None None p q = refl
+  records_compared (Some r) (Some s) (Some t) (Some w) p q = same_number R one r s t w p q
+  records_compared None (Some s) c d p q = absurd p
+  records_compared (Some r) None c d p q = absurd p
+  records_compared _ _ None (Some w) p q = absurd q
+  records_compared _ _ (Some t) None p q = absurd q
 
   -- two exchanges that compare with paired update words succeed together
   pub words_compared : (u v f g : UpdateWord) → AreWordsPaired R u v → AreWordsPaired R f g → is_word u f ≡ is_word v g
-  words_compared word.Untouched word.Untouched f g p q = untouched_compared f g q
-  words_compared (word.Clean r) (word.Clean s) f g p q = clean_compared r s f g p q
-  words_compared (word.InsertFlag r) (word.InsertFlag s) f g p q = insert_flag_compared r s f g p q
-  words_compared (word.DeleteFlag r) (word.DeleteFlag s) f g p q = delete_flag_compared r s f g p q
-  words_compared (word.Mark r) (word.Mark s) f g p q = mark_compared r s f g p q
-  words_compared _ _ f g p q = absurd p
+  words_compared u v f g p q =
+      let a = word_to R R u v p in
+      let b = word_to R R f g q in
+      let same = records_compared (word_record u) (word_record v) (word_record f) (word_record g) a.1 b.1 in
+      word_is u f ∙ ((λ i. nat_eq (a.0 i) (b.0 i) && same i) ∙ sym (word_is v g))
 
 -- ---- paired nodes have paired fields
 
 module _ (P R : ℕ → ℕ → Type 0) where
-  -- nodes that may be there, as they are read
-  abbrev pub AreFoundPaired : Option Node → Option Node → Type 0
-  AreFoundPaired a b = AreNodesPaired P R (unwrap_or a (Leaf 0)) (unwrap_or b (Leaf 0))
-
   pub key_paired : (a b : Node) → AreNodesPaired P R a b → key_in a ≡ key_in b
   key_paired (Leaf k) (Leaf j) h = h
   key_paired (Internal k u l r) (Internal j v m s) h = h.0
@@ -251,18 +231,18 @@ module _ (p : Pairing) (m o : EllenMem) (h : ellen_pairs.memories p m o) where
         (stay k l lost))
 
   -- the record that a row wants is there, of that kind, on both sides, or the row goes astray on both
-  pub with_insert_keeps : (x y : Option Record) (f g : InsertRecord → After) → AreBoth (AreRecordsPaired P R) x y
+  pub insert_keeps : (x y : Option Record) (f g : InsertRecord → After) → AreBoth (AreRecordsPaired P R) x y
       → ((i j : InsertRecord) → AreRecordsPaired P R (Ins i) (Ins j) → Steps (f i) (g j))
-      → Steps (with_insert m x f) (with_insert o y g)
-  with_insert_keeps None None f g t k = stay Astray Astray tt
-  with_insert_keeps (Some (Ins i)) (Some (Ins j)) f g t k = k i j t
-  with_insert_keeps (Some (Del i)) (Some (Del j)) f g t k = stay Astray Astray tt
-  with_insert_keeps _ _ f g t k = absurd t
+      → Steps (found m (insert_of x) f) (found o (insert_of y) g)
+  insert_keeps None None f g t k = stay Astray Astray tt
+  insert_keeps (Some (Ins i)) (Some (Ins j)) f g t k = k i j t
+  insert_keeps (Some (Del i)) (Some (Del j)) f g t k = stay Astray Astray tt
+  insert_keeps _ _ f g t k = absurd t
 
-  pub with_delete_keeps : (x y : Option Record) (f g : DeleteRecord → After) → AreBoth (AreRecordsPaired P R) x y
+  pub delete_keeps : (x y : Option Record) (f g : DeleteRecord → After) → AreBoth (AreRecordsPaired P R) x y
       → ((i j : DeleteRecord) → AreRecordsPaired P R (Del i) (Del j) → Steps (f i) (g j))
-      → Steps (with_delete m x f) (with_delete o y g)
-  with_delete_keeps None None f g t k = stay Astray Astray tt
-  with_delete_keeps (Some (Ins i)) (Some (Ins j)) f g t k = stay Astray Astray tt
-  with_delete_keeps (Some (Del i)) (Some (Del j)) f g t k = k i j t
-  with_delete_keeps _ _ f g t k = absurd t
+      → Steps (found m (delete_of x) f) (found o (delete_of y) g)
+  delete_keeps None None f g t k = stay Astray Astray tt
+  delete_keeps (Some (Ins i)) (Some (Ins j)) f g t k = stay Astray Astray tt
+  delete_keeps (Some (Del i)) (Some (Del j)) f g t k = k i j t
+  delete_keeps _ _ f g t k = absurd t

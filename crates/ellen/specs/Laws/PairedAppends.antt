@@ -1,30 +1,25 @@
 -- More pairs pair what fewer do, and new nodes and records, paired under fresh numbers, keep a pairing.
 use Rattle.std.specs.Prelude.{◌≡◌, ℕ, ◌+◌, Bool, true, false, cond, nat_lt, List, [], ◌∷◌, ◌++◌, length, Option, Some}
 use Rattle.std.specs.Prelude.{None, refl}
-use Rattle.std.specs.List.{AllZip}
 use Rattle.std.proofs.Common.{◌∙◌, ap, subst, inl, inr, arith, length-append}
 use Rattle.std.proofs.lemmas.List.{append_assoc}
+use Rattle.tree_machine.specs.Cells.{IsPairedOrNone}
+use Rattle.tree_machine.specs.Laws.Cells.{AllZip-weaker}
 use Rattle.tree_machine.specs.Pairing.{IsAmong, Pairing}
+use Rattle.tree_machine.specs.Parts.{Part, ArePartsPaired}
 use Rattle.tree_machine.proofs.FreshPairs.{fresh_one, fresh_within, fresh_paired}
-use Rattle.ellen.specs.declared.memory.UpdateWord.{UpdateWord}
 use Rattle.ellen.specs.declared.memory.UpdateWord.TheVariants as word
 use Rattle.ellen.specs.declared.memory.Node.{Node}
 use Rattle.ellen.specs.declared.memory.Node.TheVariants.{Leaf, Internal}
 use Rattle.ellen.specs.declared.memory.Record.{Record}
-use Rattle.ellen.specs.declared.memory.Record.TheVariants.{Ins, Del}
 use Rattle.ellen.specs.declared.memory.EllenMem.{EllenMem}
-use Rattle.ellen.specs.declared.place.Above.{Above}
-use Rattle.ellen.specs.declared.place.SearchLoc.{SearchLoc}
-use Rattle.ellen.specs.declared.place.SearchLoc.TheVariants.{Update, Child, IFlag, InsOnly, DFlag}
-use Rattle.ellen.specs.declared.place.HelpLoc.{HelpLoc}
-use Rattle.ellen.specs.declared.place.HelpLoc.TheVariants.{InsChild, InsClean, Mark, Right, Other, Splice, DelClean}
-use Rattle.ellen.specs.declared.place.HelpLoc.TheVariants.{Back}
 use Rattle.ellen.specs.declared.place.EllenLoc.{EllenLoc}
-use Rattle.ellen.specs.declared.place.EllenLoc.TheVariants.{Search, Help}
 use Rattle.ellen.specs.Memory.{node_at, key_at, internal_over, with_internal, add_record}
-use Rattle.ellen.specs.Pairs.{AreBoth, AreWordsPaired, AreNodesPaired, AreRecordsPaired, AreAbovesPaired}
-use Rattle.ellen.specs.Pairs.{AreSearchesPaired, AreHelpsPaired, ArePlacesPaired, AreMemoriesPaired, ellen_pairs}
-use Rattle.ellen.specs.Laws.PairedAccesses.{AreFoundPaired, key_paired, with_pairs}
+use Rattle.ellen.specs.Pairs.{AreBoth, AreNodesPaired, AreRecordsPaired, ArePlacesPaired, AreMemoriesPaired}
+use Rattle.ellen.specs.Pairs.{ellen_pairs}
+use Rattle.ellen.specs.Parts.{node_part, record_part, place_part}
+use Rattle.ellen.specs.Laws.PairedAccesses.{key_paired, with_pairs}
+use Rattle.ellen.specs.Laws.Parts.{AreFoundPaired, node_to, node_from, record_to, record_from, place_to, place_from}
 
 -- ---- more pairs
 
@@ -34,64 +29,31 @@ both_weaker S T f None None h = tt
 both_weaker S T f (Some a) (Some b) h = f a b h
 both_weaker S T f _ _ h = absurd h
 
+name_weaker : (P Q : ℕ → ℕ → Type 0) → ((x y : ℕ) → P x y → Q x y) → (a b : Option ℕ) → IsPairedOrNone P a b
+    → IsPairedOrNone Q a b
+name_weaker P Q f None None h = tt
+name_weaker P Q f (Some x) (Some y) h = f x y h
+name_weaker P Q f None (Some y) h = absurd h
+name_weaker P Q f (Some x) None h = absurd h
+
 module _ (P Q R S : ℕ → ℕ → Type 0) (f : (x y : ℕ) → P x y → Q x y) (g : (x y : ℕ) → R x y → S x y) where
-  pub words_weaker : (u v : UpdateWord) → AreWordsPaired R u v → AreWordsPaired S u v
-  words_weaker word.Untouched word.Untouched h = tt
-  words_weaker (word.Clean r) (word.Clean s) h = g r s h
-  words_weaker (word.InsertFlag r) (word.InsertFlag s) h = g r s h
-  words_weaker (word.DeleteFlag r) (word.DeleteFlag s) h = g r s h
-  words_weaker (word.Mark r) (word.Mark s) h = g r s h
-  words_weaker _ _ h = absurd h
+  parts_weaker : (a b : Part) → ArePartsPaired P R a b → ArePartsPaired Q S a b
+  parts_weaker a b h =
+      record {
+        facts = h.facts;
+        nodes = AllZip-weaker (IsPairedOrNone P) (IsPairedOrNone Q) (name_weaker P Q f) a.nodes b.nodes h.nodes;
+        records =
+            AllZip-weaker (IsPairedOrNone R) (IsPairedOrNone S) (name_weaker R S g) a.records b.records h.records;
+      }
 
   nodes_weaker : (a b : Node) → AreNodesPaired P R a b → AreNodesPaired Q S a b
-  nodes_weaker (Leaf k) (Leaf j) h = h
-  nodes_weaker (Internal k u l r) (Internal j v m s) h = (h.0, words_weaker u v h.1, f l m h.2, f r s h.3)
-  nodes_weaker _ _ h = absurd h
+  nodes_weaker a b h = node_from Q S a b (parts_weaker (node_part a) (node_part b) (node_to P R a b h))
 
-  records_weaker : (a b : Record) → AreRecordsPaired P R a b → AreRecordsPaired Q S a b
-  records_weaker (Ins i) (Ins j) h = (f i.parent j.parent h.0, f i.leaf j.leaf h.1, f i.new j.new h.2)
-  records_weaker (Del d) (Del e) h = (
-    f d.grandparent e.grandparent h.0,
-    f d.parent e.parent h.1,
-    f d.leaf e.leaf h.2,
-    words_weaker d.parent_update e.parent_update h.3,
-  )
-  records_weaker _ _ h = absurd h
-
-  above_weaker : (a b : Above) → AreAbovesPaired P R a b → AreAbovesPaired Q S a b
-  above_weaker a b h = (f a.node b.node h.0, words_weaker a.update b.update h.1)
-
-  search_weaker : (a b : SearchLoc) → AreSearchesPaired P R a b → AreSearchesPaired Q S a b
-  search_weaker (Update a p) (Update b q) h =
-      (both_weaker (AreAbovesPaired P R) (AreAbovesPaired Q S) above_weaker a b h.0, f p q h.1)
-  search_weaker (Child a p u) (Child b q v) h =
-      (both_weaker (AreAbovesPaired P R) (AreAbovesPaired Q S) above_weaker a b h.0, f p q h.1, words_weaker u v h.2)
-  search_weaker (IFlag p u l) (IFlag q v m) h = (f p q h.0, words_weaker u v h.1, f l m h.2)
-  search_weaker (InsOnly p l) (InsOnly q m) h = (f p q h.0, f l m h.1)
-  search_weaker (DFlag a p u l) (DFlag b q v m) h = (above_weaker a b h.0, f p q h.1, words_weaker u v h.2, f l m h.3)
-  search_weaker _ _ h = absurd h
-
-  help_weaker : (a b : HelpLoc) → AreHelpsPaired P R a b → AreHelpsPaired Q S a b
-  help_weaker (InsChild r) (InsChild s) h = g r s h
-  help_weaker (InsClean r) (InsClean s) h = g r s h
-  help_weaker (Mark r) (Mark s) h = g r s h
-  help_weaker (Right r) (Right s) h = g r s h
-  help_weaker (Other r c) (Other s d) h = (g r s h.0, h.1)
-  help_weaker (Splice r o) (Splice s q) h = (g r s h.0, f o q h.1)
-  help_weaker (DelClean r) (DelClean s) h = g r s h
-  help_weaker (Back r) (Back s) h = g r s h
-  help_weaker _ _ h = absurd h
-
-  stack_weaker : (y z : List ℕ) → AllZip R y z → AllZip S y z
-  stack_weaker [] [] h = tt
-  stack_weaker [] (b ∷ z) h = absurd h
-  stack_weaker (a ∷ y) [] h = absurd h
-  stack_weaker (a ∷ y) (b ∷ z) h = (g a b h.0, stack_weaker y z h.1)
+  pub records_weaker : (a b : Record) → AreRecordsPaired P R a b → AreRecordsPaired Q S a b
+  records_weaker a b h = record_from Q S a b (parts_weaker (record_part a) (record_part b) (record_to P R a b h))
 
   pub places_weaker : (a b : EllenLoc) → ArePlacesPaired P R a b → ArePlacesPaired Q S a b
-  places_weaker (Search a) (Search b) h = search_weaker a b h
-  places_weaker (Help a y) (Help b z) h = (help_weaker a b h.0, (stack_weaker y.stack z.stack h.1.0, h.1.1))
-  places_weaker _ _ h = absurd h
+  places_weaker a b h = place_from Q S a b (parts_weaker (place_part a) (place_part b) (place_to P R a b h))
 
 -- ---- a fresh pair
 

@@ -1,6 +1,6 @@
 -- Accesses of paired places to paired memories keep a pairing, row by row of the place table.
 use Rattle.std.specs.Prelude.{◌≡◌, ℕ, Bool, true, false, cond, nat_eq, List, [], ◌∷◌, ◌++◌, length, Option, Some, None}
-use Rattle.std.specs.Prelude.{refl}
+use Rattle.std.specs.Prelude.{refl, if◌then◌else◌}
 use Rattle.std.specs.List.{AllZip}
 use Rattle.std.proofs.Common.{ap, subst, inl, inr}
 use Rattle.sched_program.specs.Program.{key_of}
@@ -14,6 +14,7 @@ use Rattle.ellen.specs.declared.memory.UpdateWord.{UpdateWord}
 use Rattle.ellen.specs.declared.memory.UpdateWord.TheVariants as word
 use Rattle.ellen.specs.declared.memory.Node.{Node}
 use Rattle.ellen.specs.declared.memory.Node.TheVariants.{Leaf, Internal}
+use Rattle.ellen.specs.declared.memory.Record.{Record}
 use Rattle.ellen.specs.declared.memory.Record.TheVariants.{Ins, Del}
 use Rattle.ellen.specs.declared.memory.EllenMem.{EllenMem}
 use Rattle.ellen.specs.declared.place.Above.{Above}
@@ -36,8 +37,8 @@ use Rattle.ellen.specs.Pairs.{AreHelpsPaired, AreResumesPaired, ellen_pairs}
 use Rattle.tree_machine.proofs.FreshPairs.{choices_paired, same_number}
 use Rattle.ellen.specs.Laws.PairedAccesses.{words_compared, key_paired, with_pairs, read_update_keeps}
 use Rattle.ellen.specs.Laws.PairedAccesses.{read_child_keeps, exchange_update_keeps, exchange_child_keeps}
-use Rattle.ellen.specs.Laws.PairedAccesses.{with_insert_keeps, with_delete_keeps}
-use Rattle.ellen.specs.Laws.PairedAppends.{words_weaker, append_record, append_internal, fresh_nodes}
+use Rattle.ellen.specs.Laws.PairedAccesses.{insert_keeps, delete_keeps}
+use Rattle.ellen.specs.Laws.PairedAppends.{records_weaker, append_record, append_internal, fresh_nodes}
 
 -- ---- where operations go, from paired places
 
@@ -203,13 +204,12 @@ module _ (machine : Ellen) (op : Op) (p : Pairing) (m o : EllenMem) (h : ellen_p
       → AreSearchesPaired Nodes Records (DFlag a x u l) (DFlag b y v n) →
       Steps (search_act machine op (DFlag a x u l) m) (search_act machine op (DFlag b y v n) o)
   delete_flag_keeps a b x y u v l n g =
+      let left : Record = Del (record { grandparent = a.node; parent = x; leaf = l; parent_update = u }) in
+      let right : Record = Del (record { grandparent = b.node; parent = y; leaf = n; parent_update = v }) in
       let more =
-      words_weaker Nodes Nodes Records (IsAmong (fresh_record ++ p.records)) (λ x y k. k) (λ x y k. inr k) u v
-      g.2 in
-      exchange_update_keeps p m o h [] fresh_record _ _
-      (append_record p.nodes p.records m o
-      (Del (record { grandparent = a.node; parent = x; leaf = l; parent_update = u }))
-      (Del (record { grandparent = b.node; parent = y; leaf = n; parent_update = v })) h (g.0.0, g.1, g.3, more))
+      records_weaker Nodes Nodes Records (IsAmong (fresh_record ++ p.records)) (λ x y k. k) (λ x y k. inr k) left right
+      (g.0.0, g.1, g.3, g.2) in
+      exchange_update_keeps p m o h [] fresh_record _ _ (append_record p.nodes p.records m o left right h more)
       a.node b.node a.update b.update _ _ _ _ _ _ g.0.0 g.0.1 (inl (refl, refl)) (
         marking_paired (with_pairs [] fresh_record p) h.root machine (length m.records) (length o.records)
             (inl (refl, refl)),
@@ -230,20 +230,20 @@ module _ (machine : Ellen) (op : Op) (p : Pairing) (m o : EllenMem) (h : ellen_p
     insert_child_keeps : (r s : ℕ) → Records r s
         → Steps (help_act machine (InsChild r) y m) (help_act machine (InsChild s) z o)
     insert_child_keeps r s g =
-        with_insert_keeps p m o h _ _ _ _ (h.records r s g)
+        insert_keeps p m o h _ _ _ _ (h.records r s g)
         (λ i j k. exchange_child_keeps p m o h [] [] m o h i.parent j.parent i.leaf j.leaf i.new j.new _ _ _ _ k.0
         k.1 k.2 (g, rest) (g, rest))
 
     insert_clean_keeps : (r s : ℕ) → Records r s
         → Steps (help_act machine (InsClean r) y m) (help_act machine (InsClean s) z o)
     insert_clean_keeps r s g =
-        with_insert_keeps p m o h _ _ _ _ (h.records r s g)
+        insert_keeps p m o h _ _ _ _ (h.records r s g)
         (λ i j k. exchange_update_keeps p m o h [] [] m o h i.parent j.parent _ _ _ _ _ _ _ _ k.0 g g
         (returned_paired p h.root true y z rest) (λ u v w. returned_paired p h.root true y z rest))
 
     mark_keeps : (r s : ℕ) → Records r s → Steps (help_act machine (Mark r) y m) (help_act machine (Mark s) z o)
     mark_keeps r s g =
-        with_delete_keeps p m o h _ _ _ _ (h.records r s g)
+        delete_keeps p m o h _ _ _ _ (h.records r s g)
         (λ i j k. exchange_update_keeps p m o h [] [] m o h i.parent j.parent _ _ _ _ _ _ _ _ k.1 k.3 g (g, rest)
         (λ u v w. choices_paired (Outcomes p h.root) (is_word u (word.Mark r)) (is_word v (word.Mark s)) _ _ _ _
         (words_compared Records h.records_one_to_one u v (word.Mark r) (word.Mark s) w g) (g, rest)
@@ -251,21 +251,27 @@ module _ (machine : Ellen) (op : Op) (p : Pairing) (m o : EllenMem) (h : ellen_p
 
     right_keeps : (r s : ℕ) → Records r s → Steps (help_act machine (Right r) y m) (help_act machine (Right s) z o)
     right_keeps r s g =
-        with_delete_keeps p m o h _ _ _ _ (h.records r s g)
+        delete_keeps p m o h _ _ _ _ (h.records r s g)
         (λ i j k. read_child_keeps p m o h i.parent j.parent side.Right side.Right _ _ k.1 refl
-        (λ c d w. choices_paired (Outcomes p h.root) (nat_eq c i.leaf) (nat_eq d j.leaf) _ _ _ _
-        (same_number Nodes h.nodes_one_to_one c d i.leaf j.leaf w k.2) ((g, refl), rest) ((g, refl), rest)))
+        (λ c d w. (
+          (
+            g,
+            ap (λ b. if b then side.Left else side.Right)
+                (same_number Nodes h.nodes_one_to_one c d i.leaf j.leaf w k.2),
+          ),
+          rest,
+        )))
 
     splice_keeps : (r s x t : ℕ) → Records r s → Nodes x t
         → Steps (help_act machine (Splice r x) y m) (help_act machine (Splice s t) z o)
     splice_keeps r s x t g n =
-        with_delete_keeps p m o h _ _ _ _ (h.records r s g)
+        delete_keeps p m o h _ _ _ _ (h.records r s g)
         (λ i j k. exchange_child_keeps p m o h [] [] m o h i.grandparent j.grandparent i.parent j.parent x t _ _ _ _
         k.0 k.1 n (g, rest) (g, rest))
 
     unflagged_keeps : (done : Bool) (r s : ℕ) → Records r s → Steps (unflagged done r y m) (unflagged done s z o)
     unflagged_keeps done r s g =
-        with_delete_keeps p m o h _ _ _ _ (h.records r s g)
+        delete_keeps p m o h _ _ _ _ (h.records r s g)
         (λ i j k. exchange_update_keeps p m o h [] [] m o h i.grandparent j.grandparent _ _ _ _ _ _ _ _ k.0 g g
         (returned_paired p h.root done y z rest) (λ u v w. returned_paired p h.root done y z rest))
 
@@ -276,7 +282,7 @@ module _ (machine : Ellen) (op : Op) (p : Pairing) (m o : EllenMem) (h : ellen_p
     help_keeps (Mark r) (Mark s) g = mark_keeps r s g
     help_keeps (Right r) (Right s) g = right_keeps r s g
     help_keeps (Other r c) (Other s d) g =
-        with_delete_keeps p m o h _ _ _ _ (h.records r s g.0)
+        delete_keeps p m o h _ _ _ _ (h.records r s g.0)
         (λ i j k. read_child_keeps p m o h i.parent j.parent c d _ _ k.1 g.1 (λ a b w. ((g.0, w), rest)))
     help_keeps (Splice r x) (Splice s t) g = splice_keeps r s x t g.0 g.1
     help_keeps (DelClean r) (DelClean s) g = unflagged_keeps true r s g

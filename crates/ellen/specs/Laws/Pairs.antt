@@ -13,7 +13,7 @@ use Rattle.ellen.specs.declared.machine.Ellen.{Ellen}
 use Rattle.ellen.specs.Memory.{shape_in, shapes}
 use Rattle.ellen.specs.Table.{first_place, act}
 use Rattle.ellen.specs.Pairs.{AreNodesPaired, AreMemoriesPaired, ellen_pairs}
-use Rattle.ellen.specs.Laws.PairedAccesses.{AreFoundPaired}
+use Rattle.ellen.specs.Laws.Parts.{AreFoundPaired}
 use Rattle.ellen.specs.Laws.PairedAppends.{places_weaker}
 use Rattle.ellen.specs.Laws.PairedSteps.{act_keeps}
 

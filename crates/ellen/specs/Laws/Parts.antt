@@ -1,5 +1,5 @@
 -- Parts are paired exactly where what they are of is paired.
-use Rattle.std.specs.Prelude.{◌≡◌, ◌↔◌, ℕ, suc, ◌<◌, List, [], ◌∷◌, length, Option, Some, None, refl}
+use Rattle.std.specs.Prelude.{◌≡◌, ◌↔◌, ℕ, suc, ◌<◌, List, [], ◌∷◌, length, Option, Some, None, refl, unwrap_or}
 use Rattle.std.specs.List.{AllZip}
 use Rattle.std.proofs.Common.{arith, ap, sym, subst}
 use Rattle.tree_machine.specs.Pairing.{IsAmong, AreHeldPaired, AreAlike}
@@ -30,15 +30,18 @@ use Rattle.ellen.specs.Pairs.{AreSearchesPaired, AreHelpsPaired, ArePlacesPaired
 use Rattle.ellen.specs.Parts.{word_number, word_record, node_part, record_part, above_number, above_node, above_record}
 use Rattle.ellen.specs.Parts.{search_part, help_number, side_number, help_side, help_record, help_node, base_number}
 use Rattle.ellen.specs.Parts.{place_part, held_part, ellen_parts}
-use Rattle.ellen.specs.Laws.PairedAccesses.{AreFoundPaired}
 
 module _ (P R : ℕ → ℕ → Type 0) where
   abbrev Parted : Part → Part → Type 0
   Parted a b = ArePartsPaired P R a b
 
+  -- nodes that may be there, as they are read
+  abbrev pub AreFoundPaired : Option Node → Option Node → Type 0
+  AreFoundPaired a b = AreNodesPaired P R (unwrap_or a (Leaf 0)) (unwrap_or b (Leaf 0))
+
   -- ---- update words
 
-  word_to : (u v : UpdateWord) → AreWordsPaired R u v → (word_number u ≡ word_number v)
+  pub word_to : (u v : UpdateWord) → AreWordsPaired R u v → (word_number u ≡ word_number v)
       × IsPairedOrNone R (word_record u) (word_record v)
   word_to word.Untouched word.Untouched h = (refl, tt)
   word_to (word.Clean r) (word.Clean s) h = (refl, h)
@@ -58,7 +61,7 @@ module _ (P R : ℕ → ℕ → Type 0) where
 
   -- ---- nodes and records
 
-  node_to : (a b : Node) → AreNodesPaired P R a b → Parted (node_part a) (node_part b)
+  pub node_to : (a b : Node) → AreNodesPaired P R a b → Parted (node_part a) (node_part b)
   node_to (Leaf k) (Leaf j) h = record { facts = ap (λ x. x ∷ []) h; nodes = tt; records = tt }
   node_to (Internal k u l r) (Internal j v m s) h = let key = h.0 in let w = word_to u v h.1 in
       let kind = w.0 in record { facts = cc; nodes = (h.2, (h.3, tt)); records = (w.1, tt) }
@@ -70,7 +73,7 @@ module _ (P R : ℕ → ℕ → Type 0) where
       let f = h.facts in ((let e : k ≡ j = cc in e), word_from u v (cc) h.records.0, h.nodes.0, h.nodes.1.0)
   node_from _ _ h = let f = h.facts in cc
 
-  record_to : (a b : Record) → AreRecordsPaired P R a b → Parted (record_part a) (record_part b)
+  pub record_to : (a b : Record) → AreRecordsPaired P R a b → Parted (record_part a) (record_part b)
   record_to (Ins i) (Ins j) h = record { facts = refl; nodes = (h.0, (h.1, (h.2, tt))); records = tt }
   record_to (Del d) (Del e) h = let w = word_to d.parent_update e.parent_update h.3 in
       record { facts = ap (λ x. x ∷ []) w.0; nodes = (h.0, (h.1, (h.2, tt))); records = (w.1, tt) }
@@ -166,7 +169,7 @@ module _ (P R : ℕ → ℕ → Type 0) where
 
   -- ---- what threads hold
 
-  place_to : (a b : EllenLoc) → ArePlacesPaired P R a b → Parted (place_part a) (place_part b)
+  pub place_to : (a b : EllenLoc) → ArePlacesPaired P R a b → Parted (place_part a) (place_part b)
   place_to (Search a) (Search b) h = search_to a b h
   place_to (Help a y) (Help b z) h =
       let t = help_to a b h.0 in let e = t.0 in let f = t.1 in let g = h.1.1 in
@@ -184,7 +187,7 @@ module _ (P R : ℕ → ℕ → Type 0) where
   search_apart (InsOnly p l) x facts e = cc
   search_apart (DFlag a p u l) x facts e = cc
 
-  place_from : (a b : EllenLoc) → Parted (place_part a) (place_part b) → ArePlacesPaired P R a b
+  pub place_from : (a b : EllenLoc) → Parted (place_part a) (place_part b) → ArePlacesPaired P R a b
   place_from (Search a) (Search b) h = search_from a b h
   place_from (Help a y) (Help b z) h = let f = h.facts in (
     help_from a b (cc) (cc) h.nodes.0 h.records.0,

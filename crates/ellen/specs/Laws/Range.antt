@@ -28,72 +28,19 @@ use Rattle.ellen.specs.declared.place.Base.{Base}
 use Rattle.ellen.specs.declared.place.Base.TheVariants as base
 use Rattle.ellen.specs.declared.place.Resume.{Resume}
 use Rattle.ellen.specs.declared.place.EllenLoc.{EllenLoc}
-use Rattle.ellen.specs.declared.place.EllenLoc.TheVariants.{Search, Help}
-use Rattle.ellen.specs.declared.place.SearchLoc.{SearchLoc}
-use Rattle.ellen.specs.declared.place.SearchLoc.TheVariants.{Update, Child, IFlag, InsOnly, DFlag}
-use Rattle.ellen.specs.declared.place.HelpLoc.{HelpLoc}
-use Rattle.ellen.specs.declared.place.HelpLoc.TheVariants.{InsChild, InsClean, Mark, Right, Other, Splice, DelClean}
-use Rattle.ellen.specs.declared.place.HelpLoc.TheVariants.{Back}
+use Rattle.ellen.specs.declared.place.EllenLoc.TheVariants.{Search}
+use Rattle.ellen.specs.declared.place.SearchLoc.TheVariants.{IFlag, InsOnly, DFlag}
+use Rattle.ellen.specs.declared.place.HelpLoc.TheVariants.{Mark, Right}
 use Rattle.ellen.specs.declared.machine.Ellen.{Ellen}
 use Rattle.ellen.specs.Memory.{update_of, child_on, with_update, with_child, is_word, is_clean, node_at, record_at}
 use Rattle.ellen.specs.Memory.{key_at, set_node, set_update, set_child, internal_over, with_internal, add_record}
-use Rattle.ellen.specs.Table.{After, found, read_update, read_child, exchange_update, exchange_child, with_insert}
-use Rattle.ellen.specs.Table.{with_delete, with_base, settled, top_taken, unwound, returned, marking, help, help_first}
-use Rattle.ellen.specs.Table.{flagging, decide, arrived}
+use Rattle.ellen.specs.Memory.{insert_of, delete_of}
+use Rattle.ellen.specs.Table.{After, found, read_update, read_child, exchange_update, exchange_child, with_base}
+use Rattle.ellen.specs.Table.{settled, top_taken, unwound, returned, marking, help, help_first, flagging, decide}
+use Rattle.ellen.specs.Table.{arrived}
 use Rattle.ellen.specs.Range.{IsWordIn, IsResumeIn, IsNodeIn, IsRecordIn, IsAboveIn, IsSearchIn, IsHelpIn, IsPlaceIn}
 use Rattle.ellen.specs.Range.{IsInRange}
-
--- ---- what is in range stays so where there are more nodes and records
-
-pub word_more : (m more : ℕ) → m ≤ more → (u : UpdateWord) → IsWordIn m u → IsWordIn more u
-word_more m more le word.Untouched h = tt
-word_more m more le (word.Clean r) h = omega arith
-word_more m more le (word.InsertFlag r) h = omega arith
-word_more m more le (word.DeleteFlag r) h = omega arith
-word_more m more le (word.Mark r) h = omega arith
-
-stack_more : (m more : ℕ) → m ≤ more → (stack : List ℕ) → All (λ r. r < m) stack → All (λ r. r < more) stack
-stack_more m more le stack h = All-weaker (λ r. r < m) (λ r. r < more) (λ r below. omega arith) stack h
-
-module _ (n m nodes records : ℕ) (len : n ≤ nodes) (lem : m ≤ records) where
-  node_more : (node : Node) → IsNodeIn n m node → IsNodeIn nodes records node
-  node_more (Leaf k) h = tt
-  node_more (Internal k u l r) h = let a = h.1 in
-      let b = h.2 in (word_more m records lem u h.0, omega arith, omega arith)
-
-  record_more : (one : Record) → IsRecordIn n m one → IsRecordIn nodes records one
-  record_more (Ins i) h = let a = h.0 in let b = h.1 in let c = h.2 in (omega arith, omega arith, omega arith)
-  record_more (Del d) h = let a = h.0 in let b = h.1 in
-      let c = h.2 in (omega arith, omega arith, omega arith, word_more m records lem d.parent_update h.3)
-
-  above_more : (above : Above) → IsAboveIn n m above → IsAboveIn nodes records above
-  above_more above h = let a = h.0 in (omega arith, word_more m records lem above.update h.1)
-
-  above_more_if : (above : Option Above) → IfSome above (IsAboveIn n m) → IfSome above (IsAboveIn nodes records)
-  above_more_if None h = tt
-  above_more_if (Some above) h = above_more above h
-
-  search_more : (at : SearchLoc) → IsSearchIn n m at → IsSearchIn nodes records at
-  search_more (Update above p) h = let a = h.1 in (above_more_if above h.0, omega arith)
-  search_more (Child above p u) h = let a = h.1 in (above_more_if above h.0, omega arith, word_more m records lem u h.2)
-  search_more (IFlag p u l) h = let a = h.0 in let b = h.2 in (omega arith, word_more m records lem u h.1, omega arith)
-  search_more (InsOnly p l) h = let a = h.0 in let b = h.1 in (omega arith, omega arith)
-  search_more (DFlag above p u l) h = let a = h.1 in
-      let b = h.3 in (above_more above h.0, omega arith, word_more m records lem u h.2, omega arith)
-
-  help_more : (at : HelpLoc) → IsHelpIn n m at → IsHelpIn nodes records at
-  help_more (InsChild r) h = omega arith
-  help_more (InsClean r) h = omega arith
-  help_more (Mark r) h = omega arith
-  help_more (Right r) h = omega arith
-  help_more (Other r s) h = omega arith
-  help_more (Splice r o) h = let a = h.0 in let b = h.1 in (omega arith, omega arith)
-  help_more (DelClean r) h = omega arith
-  help_more (Back r) h = omega arith
-
-  pub place_more : (place : EllenLoc) → IsPlaceIn n m place → IsPlaceIn nodes records place
-  place_more (Search at) h = search_more at h
-  place_more (Help at resume) h = (help_more at h.0, stack_more m records lem resume.stack h.1)
+use Rattle.ellen.specs.Laws.PartsRange.{node_more, record_more}
 
 -- ---- outcomes
 
@@ -119,22 +66,25 @@ module _ (n m : ℕ) (root : 0 < n) where
   unwound_in : (done : Bool) (b : Base) (stack : List ℕ) → All (λ s. s < m) stack
       → IsOutcomeIn n m (unwound done b stack)
   unwound_in done b [] h = settled_in done b
-  unwound_in done b (r ∷ stack) h = let t = top_in r stack h in (t.1, t.0)
+  unwound_in done b (r ∷ stack) h = let t = top_in r stack h in ((t.1, tt), t.0)
 
   pub returned_in : (done : Bool) (resume : Resume) → IsResumeIn m resume → IsOutcomeIn n m (returned done resume)
   returned_in done resume h = unwound_in done resume.base resume.stack h
 
   pub marking_in : (machine : Ellen) (r : ℕ) → r < m → IsHelpIn n m (marking machine r)
   marking_in machine r below =
-      elim machine.mark as (λ b. IsHelpIn n m (if b then Mark r else Right r)) [ true ↦ below | false ↦ below ]
+      elim machine.mark as (λ b. IsHelpIn n m (if b then Mark r else Right r)) [
+        | true ↦ (below, tt)
+        | false ↦ (below, tt)
+      ]
 
   pub help_in : (machine : Ellen) (u : UpdateWord) (resume : Resume) → IsWordIn m u → IsResumeIn m resume
       → IsOutcomeIn n m (help machine u resume)
   help_in machine word.Untouched resume w h = returned_in true resume h
   help_in machine (word.Clean r) resume w h = returned_in true resume h
-  help_in machine (word.InsertFlag r) resume w h = (w, h)
+  help_in machine (word.InsertFlag r) resume w h = ((w, tt), h)
   help_in machine (word.DeleteFlag r) resume w h = (marking_in machine r w, h)
-  help_in machine (word.Mark r) resume w h = (w, h)
+  help_in machine (word.Mark r) resume w h = ((w, tt), h)
 
   pub help_first_in : (machine : Ellen) (u : UpdateWord) → IsWordIn m u → IsOutcomeIn n m (help_first machine u)
   help_first_in machine u w = help_in machine u (with_base base.Again) w (All-nil (λ r. r < m))
@@ -177,6 +127,11 @@ get_all : {A : Type 0} (P : A → Type 0) (xs : List A) (x : ℕ) (a : A) → Al
 get_all P [] x a h e = cc
 get_all P (b ∷ xs) zero a h e = let same : b ≡ a = cc in subst P same (All-head P b xs h)
 get_all P (b ∷ xs) (suc x) a h e = get_all P xs x a (All-tail P b xs h) e
+
+insert_is : (o : Option Record) (i : InsertRecord) → insert_of o ≡ Some i → o ≡ Some (Ins i)
+insert_is None i e = cc
+insert_is (Some (Ins j)) i e = cc
+insert_is (Some (Del d)) i e = cc
 
 word_in : (n m : ℕ) (node : Node) (u : UpdateWord) → IsNodeIn n m node → update_of node ≡ Some u → IsWordIn m u
 word_in n m (Leaf k) u h e = cc
@@ -261,27 +216,17 @@ module _ (memory : EllenMem) (h : IsInRange memory) where
       (λ c e. stays memory (goes c) h
       (f c (child_in (length memory.nodes) (length memory.records) s (node_at memory x) c (node_in memory x h) e)))
 
-  pub with_insert_kept : (r : ℕ) (row : InsertRecord → After)
-      → ((i : InsertRecord) → IsRecordIn (length memory.nodes) (length memory.records) (Ins i) → IsKept memory (row i))
-      → IsKept memory (with_insert memory (record_at memory r) row)
-  with_insert_kept r row f = go (record_at memory r) refl
-    where
-      go : (o : Option Record) → record_at memory r ≡ o → IsKept memory (with_insert memory o row)
-      go None e = stays memory Astray h tt
-      go (Some (Ins i)) e =
-          f i (get_all (IsRecordIn (length memory.nodes) (length memory.records)) memory.records r (Ins i) h.records e)
-      go (Some (Del d)) e = stays memory Astray h tt
+  pub insert_kept : (r : ℕ) (row : InsertRecord → After)
+      → ((i : InsertRecord) → i.new < length memory.nodes → IsKept memory (row i))
+      → IsKept memory (found memory (insert_of (record_at memory r)) row)
+  insert_kept r row f =
+      found_kept memory (insert_of (record_at memory r)) row h
+      (λ i e. f i (get_all (IsRecordIn (length memory.nodes) (length memory.records)) memory.records r (Ins i) h.records
+      (insert_is (record_at memory r) i e)).2)
 
-  pub with_delete_kept : (r : ℕ) (row : DeleteRecord → After)
-      → ((d : DeleteRecord) → IsRecordIn (length memory.nodes) (length memory.records) (Del d) → IsKept memory (row d))
-      → IsKept memory (with_delete memory (record_at memory r) row)
-  with_delete_kept r row f = go (record_at memory r) refl
-    where
-      go : (o : Option Record) → record_at memory r ≡ o → IsKept memory (with_delete memory o row)
-      go None e = stays memory Astray h tt
-      go (Some (Ins i)) e = stays memory Astray h tt
-      go (Some (Del d)) e =
-          f d (get_all (IsRecordIn (length memory.nodes) (length memory.records)) memory.records r (Del d) h.records e)
+  pub delete_kept : (r : ℕ) (row : DeleteRecord → After) → ((d : DeleteRecord) → IsKept memory (row d))
+      → IsKept memory (found memory (delete_of (record_at memory r)) row)
+  delete_kept r row f = found_kept memory (delete_of (record_at memory r)) row h (λ d e. f d)
 
   module _ (appended : EllenMem) (more_nodes : length memory.nodes ≤ length appended.nodes)
       (more_records : length memory.records ≤ length appended.records) (k : IsInRange appended) where

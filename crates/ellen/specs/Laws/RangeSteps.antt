@@ -1,5 +1,5 @@
 -- Every access keeps the numbers of nodes and records in range, row by row of the place table.
-use Rattle.std.specs.Prelude.{◌≡◌, ℕ, ◌+◌, ◌<◌, Bool, true, false, if◌then◌else◌, nat_eq, length}
+use Rattle.std.specs.Prelude.{◌≡◌, ℕ, ◌+◌, ◌<◌, Bool, true, false, length}
 use Rattle.std.proofs.Common.{arith}
 use Rattle.std.proofs.lemmas.List.Elements.{All-nil, All-push}
 use Rattle.sched_program.specs.Program.{key_of}
@@ -25,10 +25,11 @@ use Rattle.ellen.specs.declared.place.HelpLoc.TheVariants.{Back}
 use Rattle.ellen.specs.declared.machine.Ellen.{Ellen}
 use Rattle.ellen.specs.Memory.{is_word, node_at, with_internal, new_internal, add_record}
 use Rattle.ellen.specs.Table.{exchange_update, exchange_child, first_place, with_base, awaiting, returned, marking}
-use Rattle.ellen.specs.Table.{help, help_first, search_act, help_act, act}
+use Rattle.ellen.specs.Table.{side_apart, help, unmarked, help_first, search_act, help_act, act}
 use Rattle.ellen.specs.Range.{IsWordIn, IsResumeIn, IsSearchIn, IsHelpIn, IsInRange, IsPlaceInRange}
-use Rattle.ellen.specs.Laws.Range.{word_more, IsOutcomeIn, returned_in, marking_in, help_in, help_first_in, either}
-use Rattle.ellen.specs.Laws.Range.{arrived_in, read_update_kept, read_child_kept, with_insert_kept, with_delete_kept}
+use Rattle.ellen.specs.Laws.PartsRange.{record_more}
+use Rattle.ellen.specs.Laws.Range.{IsOutcomeIn, returned_in, marking_in, help_in, help_first_in, either}
+use Rattle.ellen.specs.Laws.Range.{arrived_in, read_update_kept, read_child_kept, insert_kept, delete_kept}
 use Rattle.ellen.specs.Laws.Range.{exchange_update_kept, exchange_child_kept, one_more, add_record_in, IsKept}
 use Rattle.ellen.specs.Laws.Range.{three_more, with_internal_in}
 
@@ -51,7 +52,7 @@ module _ (machine : Ellen) (op : Op) (memory : EllenMem) (h : IsInRange memory) 
       add_record_in nodes new (with_internal_in memory (key_of op) l h) (omega arith, omega arith, omega arith) in
       exchange_update_kept memory h appended (omega arith) (omega arith) in_range p u (word.InsertFlag m)
       (Goes (Help (InsChild m) (with_base base.Insert))) (λ w. help_first machine w)
-      below (below, All-nil (λ r. r < length appended.records)) (λ w k. help_first_in n m h.root machine w k)
+      below ((below, tt), All-nil (λ r. r < length appended.records)) (λ w k. help_first_in n m h.root machine w k)
 
   insert_only_kept : (p l : ℕ) → IsKept memory (search_act machine op (InsOnly p l) memory)
   insert_only_kept p l =
@@ -71,7 +72,8 @@ module _ (machine : Ellen) (op : Op) (memory : EllenMem) (h : IsInRange memory) 
       let one : length appended.records ≡ m + 1 = one_more memory new in
       let below : m < length appended.records = omega arith in
       let in_range : IsInRange appended =
-      add_record_in memory new h (at.0.0, at.1, at.3, word_more m (m + 1) (omega arith) u at.2) in
+      add_record_in memory new h
+      (record_more n m n (m + 1) (omega arith) (omega arith) new (at.0.0, at.1, at.3, at.2)) in
       exchange_update_kept memory h appended (omega arith) (omega arith) in_range above.node above.update
       (word.DeleteFlag m) (Goes (Help (marking machine m) (with_base base.Delete))) (λ w. help_first machine w)
       below (marking_in n (length appended.records) h.root machine m below, All-nil (λ r. r < length appended.records))
@@ -112,51 +114,45 @@ module _ (machine : Ellen) (memory : EllenMem) (h : IsInRange memory) (resume : 
   mark_kept r at =
       let n = length memory.nodes in
       let m = length memory.records in
-      with_delete_kept memory h r _ (λ d in_range.
+      delete_kept memory h r _ (λ d.
       update_kept d.parent d.parent_update (word.Mark r) (Goes (Help (Right r) resume))
-      (λ w. if is_word w (word.Mark r) then Goes (Help (Right r) resume) else help machine w (awaiting r resume))
-      at (at, held)
+      (λ w. unmarked machine r resume w)
+      at ((at, tt), held)
       (λ w k. either n m h.root (is_word w (word.Mark r)) (Goes (Help (Right r) resume))
-      (help machine w (awaiting r resume)) (at, held)
+      (help machine w (awaiting r resume)) ((at, tt), held)
       (help_in n m h.root machine w (awaiting r resume) k (All-push (λ s. s < m) resume.stack r held at))))
-
-  right_kept : (r : ℕ) → r < length memory.records → IsKept memory (help_act machine (Right r) resume memory)
-  right_kept r at =
-      with_delete_kept memory h r _ (λ d in_range.
-      read_child_kept memory h d.parent side.Right
-      (λ c. if nat_eq c d.leaf then Goes (Help (Other r side.Left) resume) else Goes
-      (Help (Other r side.Right) resume))
-      (λ c below. either (length memory.nodes) (length memory.records) h.root (nat_eq c d.leaf)
-      (Goes (Help (Other r side.Left) resume)) (Goes (Help (Other r side.Right) resume)) (at, held) (at, held)))
 
   help_kept : (at : HelpLoc) → IsHelpIn (length memory.nodes) (length memory.records) at
       → IsKept memory (help_act machine at resume memory)
   help_kept (InsChild r) at =
-      with_insert_kept memory h r _
-      (λ i in_range. child_kept i.parent i.leaf i.new (Goes (Help (InsClean r) resume))
-      (Goes (Help (InsClean r) resume)) in_range.2 (at, held) (at, held))
+      insert_kept memory h r _
+      (λ i below. child_kept i.parent i.leaf i.new (Goes (Help (InsClean r) resume))
+      (Goes (Help (InsClean r) resume)) below (at, held) (at, held))
   help_kept (InsClean r) at =
-      with_insert_kept memory h r _
-      (λ i in_range. update_kept i.parent (word.InsertFlag r) (word.Clean r) (returned true resume)
-      (λ w. returned true resume) at (back_in true) (λ w k. back_in true))
-  help_kept (Mark r) at = mark_kept r at
-  help_kept (Right r) at = right_kept r at
+      insert_kept memory h r _
+      (λ i below. update_kept i.parent (word.InsertFlag r) (word.Clean r) (returned true resume)
+      (λ w. returned true resume) at.0 (back_in true) (λ w k. back_in true))
+  help_kept (Mark r) at = mark_kept r at.0
+  help_kept (Right r) at =
+      delete_kept memory h r _
+      (λ d. read_child_kept memory h d.parent side.Right (λ c. Goes (Help (Other r (side_apart c d.leaf)) resume))
+      (λ c below. (at, held)))
   help_kept (Other r s) at =
-      with_delete_kept memory h r _
-      (λ d in_range. read_child_kept memory h d.parent s (λ o. Goes (Help (Splice r o) resume))
-      (λ o below. ((at, below), held)))
+      delete_kept memory h r _
+      (λ d. read_child_kept memory h d.parent s (λ o. Goes (Help (Splice r o) resume))
+      (λ o below. ((at.0, below), held)))
   help_kept (Splice r o) at =
-      with_delete_kept memory h r _
-      (λ d in_range. child_kept d.grandparent d.parent o (Goes (Help (DelClean r) resume))
-      (Goes (Help (DelClean r) resume)) at.1 (at.0, held) (at.0, held))
+      delete_kept memory h r _
+      (λ d. child_kept d.grandparent d.parent o (Goes (Help (DelClean r) resume))
+      (Goes (Help (DelClean r) resume)) at.1 ((at.0, tt), held) ((at.0, tt), held))
   help_kept (DelClean r) at =
-      with_delete_kept memory h r _
-      (λ d in_range. update_kept d.grandparent (word.DeleteFlag r) (word.Clean r) (returned true resume)
-      (λ w. returned true resume) at (back_in true) (λ w k. back_in true))
+      delete_kept memory h r _
+      (λ d. update_kept d.grandparent (word.DeleteFlag r) (word.Clean r) (returned true resume)
+      (λ w. returned true resume) at.0 (back_in true) (λ w k. back_in true))
   help_kept (Back r) at =
-      with_delete_kept memory h r _
-      (λ d in_range. update_kept d.grandparent (word.DeleteFlag r) (word.Clean r) (returned false resume)
-      (λ w. returned false resume) at (back_in false) (λ w k. back_in false))
+      delete_kept memory h r _
+      (λ d. update_kept d.grandparent (word.DeleteFlag r) (word.Clean r) (returned false resume)
+      (λ w. returned false resume) at.0 (back_in false) (λ w k. back_in false))
 
 pub act_kept : (machine : Ellen) (op : Op) (memory : EllenMem) → IsInRange memory → (place : EllenLoc)
     → IsPlaceInRange memory place → IsKept memory (act machine op place memory)

@@ -4,7 +4,7 @@ use Rattle.ellen.specs.declared.machine.Ellen.{Ellen}
 use Rattle.ellen.specs.Laws.Pairs.{ellen_pairs_lawful}
 use Rattle.ellen.specs.Laws.Astray.{astray_unchanged}
 use Rattle.ellen.specs.EllenRules.{ellen_rules}
-use Rattle.ellen.specs.Laws.Range.{place_more}
+use Rattle.ellen.specs.Laws.PartsRange.{place_more}
 use Rattle.ellen.specs.Laws.RangeSteps.{act_kept}
 use Rattle.ellen.specs.Laws.Initial.{initial_in_range, initial_ordered}
 
