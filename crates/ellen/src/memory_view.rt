@@ -1,14 +1,11 @@
 //! A memory with what the threads hold, shown to visitors as parts.
-ghost use Rattle.std.specs.Prelude.{[], ◌≡◌, ◌∷◌, Some, OnOk};
+ghost use Rattle.std.specs.Prelude.{OnOk};
 ghost use Rattle.tree_machine.specs.Alike.{places_of};
 ghost use Rattle.tree_machine.specs.Parts.{IsPartBelow};
-ghost use Rattle.ellen.specs.Parts.{node_part, record_part, above_node, search_part, place_part};
+ghost use Rattle.ellen.specs.Parts.{node_part, record_part, search_part, place_part};
 
 use crate::memory::{EllenMem, Node, Record, UpdateWord};
-use crate::numbers::{
-    above_node, above_number, above_record, base_number, help_node, help_number, help_record,
-    help_side, word_number, word_record,
-};
+use crate::numbers::{above_parts, base_number, help_parts, word_parts};
 use crate::place::{Above, EllenLoc, SearchLoc};
 use sched_program::OutOfMemory;
 use tree_machine::{PartVisitor, Parts, Thread};
@@ -26,12 +23,10 @@ fn visit_node<V: PartVisitor>(node: Node, visitor: &mut V) -> Result<(), OutOfMe
             update,
             left,
             right,
-        } => visitor.visit(
-            &[key, word_number(update)],
-            &[Some(left), Some(right)],
-            &[word_record(update)],
-            &[],
-        ),
+        } => {
+            let (kind, named) = word_parts(update);
+            visitor.visit(&[key, kind], &[Some(left), Some(right)], &[named], &[])
+        }
     }
 }
 
@@ -47,24 +42,16 @@ fn visit_record<V: PartVisitor>(kept: Record, visitor: &mut V) -> Result<(), Out
             &[],
             &[],
         ),
-        Record::Del(delete) => visitor.visit(
-            &[word_number(delete.parent_update)],
-            &[
+        Record::Del(delete) => {
+            let (kind, named) = word_parts(delete.parent_update);
+            let nodes = [
                 Some(delete.grandparent),
                 Some(delete.parent),
                 Some(delete.leaf),
-            ],
-            &[word_record(delete.parent_update)],
-            &[],
-        ),
+            ];
+            visitor.visit(&[kind], &nodes, &[named], &[])
+        }
     }
-}
-
-/// The nodes of the first places of a search: the grandparent, if there is one, and the parent.
-fn search_nodes(above: Option<Above>, parent: u16) -> [Option<u16>; 2]
-    ensures { result ≡ above_node above ∷ Some parent ∷ [] }
-{
-    [above_node(above), Some(parent)]
 }
 
 /// Visits the place at which a delete flags the grandparent.
@@ -79,12 +66,10 @@ fn visit_delete_flag<V: PartVisitor>(
         (search_part (SearchLoc.DFlag above parent update leaf)) }
     ensures { OnOk result (V.visited visitor.old (search_part (SearchLoc.DFlag above parent update leaf)) visitor.new) }
 {
-    visitor.visit(
-        &[4, word_number(above.update), word_number(update)],
-        &[Some(above.node), Some(parent), Some(leaf)],
-        &[word_record(above.update), word_record(update)],
-        &[],
-    )
+    let (kind, named) = word_parts(above.update);
+    let (last, other) = word_parts(update);
+    let nodes = [Some(above.node), Some(parent), Some(leaf)];
+    visitor.visit(&[4, kind, last], &nodes, &[named, other], &[])
 }
 
 /// Visits a place of a search.
@@ -95,27 +80,30 @@ fn visit_search<V: PartVisitor>(at: SearchLoc, visitor: &mut V) -> Result<(), Ou
 {
     match at {
         SearchLoc::Update { above, parent } => {
-            let facts = [0, above_number(above)];
-            let records = [above_record(above)];
-            visitor.visit(&facts, &search_nodes(above, parent), &records, &[])
+            let (kind, node, named) = above_parts(above);
+            visitor.visit(&[0, kind], &[node, Some(parent)], &[named], &[])
         }
         SearchLoc::Child {
             above,
             parent,
             update,
         } => {
-            let facts = [1, above_number(above), word_number(update)];
-            let records = [above_record(above), word_record(update)];
-            visitor.visit(&facts, &search_nodes(above, parent), &records, &[])
+            let (kind, node, named) = above_parts(above);
+            let (last, other) = word_parts(update);
+            visitor.visit(
+                &[1, kind, last],
+                &[node, Some(parent)],
+                &[named, other],
+                &[],
+            )
         }
         SearchLoc::IFlag {
             parent,
             update,
             leaf,
         } => {
-            let facts = [2, word_number(update)];
-            let nodes = [Some(parent), Some(leaf)];
-            visitor.visit(&facts, &nodes, &[word_record(update)], &[])
+            let (kind, named) = word_parts(update);
+            visitor.visit(&[2, kind], &[Some(parent), Some(leaf)], &[named], &[])
         }
         SearchLoc::InsOnly { parent, leaf } => {
             visitor.visit(&[3], &[Some(parent), Some(leaf)], &[], &[])
@@ -138,13 +126,9 @@ fn visit_place<V: PartVisitor>(place: &EllenLoc, visitor: &mut V) -> Result<(), 
     match place {
         EllenLoc::Search(at) => visit_search(*at, visitor),
         EllenLoc::Help(at, resume) => {
-            let base = base_number(resume.base);
-            visitor.visit(
-                &[5, help_number(*at), help_side(*at), base],
-                &[help_node(*at)],
-                &[Some(help_record(*at))],
-                resume.stack.as_slice(),
-            )
+            let (kind, side, other, record) = help_parts(*at);
+            let facts = [5, kind, side, base_number(resume.base)];
+            visitor.visit(&facts, &[other], &[Some(record)], resume.stack.as_slice())
         }
     }
 }

@@ -1,5 +1,5 @@
 //! The numbers of update words, places and bases, and the names in them, as parts have them.
-ghost use Rattle.std.specs.Prelude.{◌≡◌, ◌<◌, Some, IfSome};
+ghost use Rattle.std.specs.Prelude.{◌≡◌, ◌<◌};
 ghost use Rattle.ellen.specs.Parts.{word_number, word_record, above_number, above_node, above_record};
 ghost use Rattle.ellen.specs.Parts.{help_number, help_side, help_record, help_node, base_number};
 
@@ -7,113 +7,54 @@ use crate::memory::UpdateWord;
 use crate::place::{Above, Base, HelpLoc};
 use tree_machine::Side;
 
-/// The number of the kind of an update word.
-pub(crate) fn word_number(word: UpdateWord) -> u8
-    ensures number { result ≡ word_number word }
-    ensures small { result < 5 }
+/// The number of the kind of an update word, and the record that it names.
+pub(crate) fn word_parts(word: UpdateWord) -> (u8, Option<u16>)
+    ensures parts { result ≡ (word_number word, word_record word) }
+    ensures small { result.0 < 5 }
 {
     match word {
-        UpdateWord::Untouched => 0,
-        UpdateWord::Clean(_) => 1,
-        UpdateWord::InsertFlag(_) => 2,
-        UpdateWord::DeleteFlag(_) => 3,
-        UpdateWord::Mark(_) => 4,
+        UpdateWord::Untouched => (0, None),
+        UpdateWord::Clean(number) => (1, Some(number)),
+        UpdateWord::InsertFlag(number) => (2, Some(number)),
+        UpdateWord::DeleteFlag(number) => (3, Some(number)),
+        UpdateWord::Mark(number) => (4, Some(number)),
     }
 }
 
-/// The record that an update word names.
-pub(crate) fn word_record(word: UpdateWord) -> Option<u16>
-    ensures { result ≡ word_record word }
-{
-    match word {
-        UpdateWord::Untouched => None,
-        UpdateWord::Clean(number)
-        | UpdateWord::InsertFlag(number)
-        | UpdateWord::DeleteFlag(number)
-        | UpdateWord::Mark(number) => Some(number),
-    }
-}
-
-/// 0 where there is no grandparent, or one more than the number of its update word's kind.
-pub(crate) fn above_number(above: Option<Above>) -> u8
-    ensures { result ≡ above_number above }
+/// The grandparent, if there is one, behind one more than the number of its update word's kind, and before the record
+/// that this names.
+pub(crate) fn above_parts(above: Option<Above>) -> (u8, Option<u16>, Option<u16>)
+    ensures { result ≡ (above_number above, above_node above, above_record above) }
 {
     match above {
-        None => 0,
-        Some(above) => word_number(above.update) + 1,
+        None => (0, None, None),
+        Some(above) => {
+            let (kind, record) = word_parts(above.update);
+            (kind + 1, Some(above.node), record)
+        }
     }
 }
 
-/// The grandparent, if there is one.
-pub(crate) fn above_node(above: Option<Above>) -> Option<u16>
-    ensures { result ≡ above_node above }
-{
-    Some(above?.node)
-}
-
-/// The record that the update word of the grandparent names.
-pub(crate) fn above_record(above: Option<Above>) -> Option<u16>
-    ensures { result ≡ above_record above }
-{
-    word_record(above?.update)
-}
-
-/// The number of the kind of a help place.
-pub(crate) fn help_number(at: HelpLoc) -> u8
-    ensures { result ≡ help_number at }
+/// The number of the kind of a help place, that of its side, the node that it holds beside its record, and the record.
+pub(crate) fn help_parts(at: HelpLoc) -> (u8, u8, Option<u16>, u16)
+    ensures { result ≡ (help_number at, help_side at, help_node at, help_record at) }
 {
     match at {
-        HelpLoc::InsChild(_) => 0,
-        HelpLoc::InsClean(_) => 1,
-        HelpLoc::Mark(_) => 2,
-        HelpLoc::Right(_) => 3,
-        HelpLoc::Other { .. } => 4,
-        HelpLoc::Splice { .. } => 5,
-        HelpLoc::DelClean(_) => 6,
-        HelpLoc::Back(_) => 7,
-    }
-}
-
-/// The number of the side that a help place holds, or 0 where it holds none.
-pub(crate) fn help_side(at: HelpLoc) -> u8
-    ensures { result ≡ help_side at }
-{
-    match at {
+        HelpLoc::InsChild(record) => (0, 0, None, record),
+        HelpLoc::InsClean(record) => (1, 0, None, record),
+        HelpLoc::Mark(record) => (2, 0, None, record),
+        HelpLoc::Right(record) => (3, 0, None, record),
         HelpLoc::Other {
+            record,
             side: Side::Left,
-            ..
-        } => 1,
+        } => (4, 1, None, record),
         HelpLoc::Other {
+            record,
             side: Side::Right,
-            ..
-        } => 2,
-        _ => 0,
-    }
-}
-
-/// The record that a help place carries out.
-pub(crate) fn help_record(at: HelpLoc) -> u16
-    ensures { result ≡ help_record at }
-{
-    match at {
-        HelpLoc::InsChild(record)
-        | HelpLoc::InsClean(record)
-        | HelpLoc::Mark(record)
-        | HelpLoc::Right(record)
-        | HelpLoc::Other { record, .. }
-        | HelpLoc::Splice { record, .. }
-        | HelpLoc::DelClean(record)
-        | HelpLoc::Back(record) => record,
-    }
-}
-
-/// The node that a help place holds beside its record.
-pub(crate) fn help_node(at: HelpLoc) -> Option<u16>
-    ensures { result ≡ help_node at }
-{
-    match at {
-        HelpLoc::Splice { other, .. } => Some(other),
-        _ => None,
+        } => (4, 2, None, record),
+        HelpLoc::Splice { record, other } => (5, 0, Some(other), record),
+        HelpLoc::DelClean(record) => (6, 0, None, record),
+        HelpLoc::Back(record) => (7, 0, None, record),
     }
 }
 
