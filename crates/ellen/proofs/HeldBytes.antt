@@ -35,25 +35,21 @@ head_is k bounded =
     rw short (ap Some sum)
 
 -- a help place in bytes
-pub help_coded : (at : HelpLoc) (resume : Resume) → help_record at < 254
-    → All (λ number. number < 254) resume.stack → length resume.stack < 6
+pub help_coded : (at : HelpLoc) (resume : Resume) → All (λ number. number < 254) resume.stack
+    → length resume.stack < 6
     → cell_code (part_content (place_part (Help at resume)))
     ≡ ((69 + 30 * length resume.stack) ∷ 5 ∷ (number_code (help_number at) ++ (number_code (help_side at)
     ++ (number_code (base_number resume.base) ++ []))))
     ++ (number_code (reference_number (help_node at))
-    ++ (help_record at + 1) ∷ map (λ number. number + 1) resume.stack)
-help_coded at resume bounded below short =
+    ++ (number_code (suc (help_record at)) ++ map (λ number. number + 1) resume.stack))
+help_coded at resume below short =
     let kept = resume.stack in
-    let own = help_record at in
+    let own = number_code (suc (help_record at)) in
     let facts = 5 ∷ help_number at ∷ help_side at ∷ base_number resume.base ∷ [] in
     let others = flat_map number_code (map reference_number (map Some kept)) in
-    let refs = number_code (reference_number (help_node at)) ++ (number_code (suc own) ++ others) in
+    let refs = number_code (reference_number (help_node at)) ++ (own ++ others) in
     let count : length (map Some kept) ≡ length kept = length-map kept Some in
-    let names : number_code (suc own) ++ others ≡ (own + 1) ∷ map (λ number. number + 1) kept =
-    ap (λ l. l ++ others) (small_code (suc own) (omega arith))
-    ∙ (ap (λ x. x ∷ others) (sym (add-one own))
-    ∙ ap (λ l. (own + 1) ∷ l) (stack_coded kept below)) in
     ap (λ k. facts_code (1 ∷ facts) (suc (suc k)) ++ refs) count
     ∙ (ap (λ h. headed h 1 facts (suc (suc (length kept))) ++ refs) (head_is (length kept) short)
     ∙ ap (λ l. ((69 + 30 * length kept) ∷ flat_map number_code facts)
-    ++ (number_code (reference_number (help_node at)) ++ l)) names)
+    ++ (number_code (reference_number (help_node at)) ++ (own ++ l))) (stack_coded kept below))

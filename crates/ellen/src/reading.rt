@@ -19,6 +19,16 @@ use std::alloc::Global;
 use std::mem::replace;
 use tree_machine::{Front, Thread};
 
+/// Drops all but the first values of a list.
+#[inline(always)]
+fn keep_first<T: Drop>(alloc: Global, list: &mut Sequence<T>, count: usize)
+    ensures { list.new ≡ take count list.old }
+{
+    let mut values = replace(list, Sequence::new(alloc)).into_vec();
+    values.truncate(count);
+    *list = Sequence::from_vec(values);
+}
+
 /// Reads the place that each thread holds, and what is left of the memory behind a front, which stays.
 pub(crate) fn read_behind(
     alloc: Global,
@@ -37,17 +47,14 @@ pub(crate) fn read_behind(
     let Some(rest) = read_each(alloc, bytes, threads)? else {
         return Ok(false);
     };
-    let mut nodes = replace(&mut memory.nodes, Sequence::new(alloc)).into_vec();
-    let mut records = replace(&mut memory.records, Sequence::new(alloc)).into_vec();
-    if nodes.len() < usize::from(front.nodes) || records.len() < usize::from(front.records) {
+    let nodes = usize::from(front.nodes);
+    let records = usize::from(front.records);
+    if memory.nodes.len() < nodes || memory.records.len() < records {
         return Ok(false);
     }
-    nodes.truncate(usize::from(front.nodes));
-    records.truncate(usize::from(front.records));
-    let read = read_left(rest, &mut nodes, &mut records);
-    memory.nodes = Sequence::from_vec(nodes);
-    memory.records = Sequence::from_vec(records);
-    read
+    keep_first(alloc, &mut memory.nodes, nodes);
+    keep_first(alloc, &mut memory.records, records);
+    read_left(alloc, rest, memory)
 }
 
 /// Reads a memory, and the place that each thread holds, into these, and reuses their buffers where they are large
@@ -67,19 +74,10 @@ pub(crate) fn read_all(
     ensures replies { replies_of threads.new ≡ replies_of threads.old }
     ensures notes { notes_of threads.new ≡ notes_of threads.old }
 {
-    let mut nodes = replace(&mut memory.nodes, Sequence::new(alloc)).into_vec();
-    let mut records = replace(&mut memory.records, Sequence::new(alloc)).into_vec();
-    nodes.clear();
-    records.clear();
-    let read = read_graph(bytes, &mut nodes, &mut records);
-    memory.nodes = Sequence::from_vec(nodes);
-    memory.records = Sequence::from_vec(records);
-    let Some((rest, node_count, record_count)) = read? else {
+    keep_first(alloc, &mut memory.nodes, 0);
+    keep_first(alloc, &mut memory.records, 0);
+    let Some((rest, front)) = read_graph(alloc, bytes, memory)? else {
         return Ok(None);
-    };
-    let front = Front {
-        nodes: u16::from(node_count),
-        records: u16::from(record_count),
     };
     if read_behind(alloc, rest, front, memory, threads)? {
         Ok(Some((bytes.len() - rest.len(), front)))

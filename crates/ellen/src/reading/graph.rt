@@ -1,38 +1,47 @@
 //! The nodes and the records of a memory read back from their bytes, where each number is one byte.
-ghost use Rattle.std.specs.Prelude.{◌≡◌, ◌++◌, List, length, map, IsTrue, IfSome, IfOk};
-ghost use Rattle.tree_machine.specs.Flat.{graph_code, left_code};
+ghost use Rattle.std.specs.Prelude.{◌≡◌, ◌++◌, ◌∷◌, [], List, length, map, IsTrue, IfSome, IfOk};
+ghost use Rattle.tree_machine.specs.Flat.{cell_code, graph_code, left_code, part_codes, part_content};
 ghost use Rattle.ellen.specs.Parts.{node_part, record_part};
 ghost use Rattle.ellen.specs.declared.memory.Node.{Node};
 ghost use Rattle.ellen.specs.declared.memory.Record.{Record};
 
-use crate::memory::{DeleteRecord, InsertRecord, Node, Record};
-use crate::reading::words::word_of;
-use sched_program::OutOfMemory;
-use tree_machine::{CodedPart, read_values};
+use crate::memory::{DeleteRecord, EllenMem, InsertRecord, Node, Record};
+use crate::reading::words::{name_of, word_of};
+use sched_program::{OutOfMemory, Sequence};
+use std::alloc::Global;
+use std::mem::replace;
+use tree_machine::{CodedPart, Front, read_values};
+
+/// The internal node of these bytes behind its first one, if there is one.
+#[inline(always)]
+fn internal_of(key: u8, kind: u8, left: u8, right: u8, named: u8) -> Option<Node>
+    ensures { IfSome result (λ node. cell_code (part_content (node_part node))
+        ≡ 102 ∷ key ∷ kind ∷ left ∷ right ∷ named ∷ []) }
+{
+    let update = word_of(kind, named)?;
+    let left = name_of(left)?;
+    let right = name_of(right)?;
+    if key < 255 {
+        Some(Node::Internal {
+            key,
+            update,
+            left,
+            right,
+        })
+    } else {
+        None
+    }
+}
 
 impl CodedPart for Node {
     ghost part = { node_part };
 
-    /// The length is tested once for all bytes of a node.
     #[inline(always)]
     fn read(bytes: &[u8]) -> Option<(Node, &[u8])> {
         match bytes {
-            [1, key @ 0..=254, rest @ ..] => Some((Node::Leaf { key: *key }, rest)),
-            [
-                102,
-                key @ 0..=254,
-                kind,
-                left @ 1..=254,
-                right @ 1..=254,
-                named,
-                rest @ ..,
-            ] => {
-                let node = Node::Internal {
-                    key: *key,
-                    update: word_of(*kind, *named)?,
-                    left: u16::from(*left) - 1,
-                    right: u16::from(*right) - 1,
-                };
+            [1, key, rest @ ..] if *key < 255 => Some((Node::Leaf { key: *key }, rest)),
+            [102, key, kind, left, right, named, rest @ ..] => {
+                let node = internal_of(*key, *kind, *left, *right, *named)?;
                 Some((node, rest))
             }
             _ => None,
@@ -40,70 +49,98 @@ impl CodedPart for Node {
     }
 }
 
+/// The record of an insert, of these bytes behind its first one, if there is one.
+#[inline(always)]
+fn insert_of(parent: u8, leaf: u8, new: u8) -> Option<Record>
+    ensures { IfSome result (λ kept. cell_code (part_content (record_part kept))
+        ≡ 105 ∷ parent ∷ leaf ∷ new ∷ []) }
+{
+    let parent = name_of(parent)?;
+    let leaf = name_of(leaf)?;
+    let new = name_of(new)?;
+    Some(Record::Ins(InsertRecord { parent, leaf, new }))
+}
+
+/// The record of a delete, of these bytes behind its first one, if there is one.
+#[inline(always)]
+fn delete_of(kind: u8, grandparent: u8, parent: u8, leaf: u8, named: u8) -> Option<Record>
+    ensures { IfSome result (λ kept. cell_code (part_content (record_part kept))
+        ≡ 136 ∷ kind ∷ grandparent ∷ parent ∷ leaf ∷ named ∷ []) }
+{
+    let parent_update = word_of(kind, named)?;
+    let grandparent = name_of(grandparent)?;
+    let parent = name_of(parent)?;
+    let leaf = name_of(leaf)?;
+    Some(Record::Del(DeleteRecord {
+        grandparent,
+        parent,
+        leaf,
+        parent_update,
+    }))
+}
+
 impl CodedPart for Record {
     ghost part = { record_part };
 
-    /// The length is tested once for all bytes of a record.
     #[inline(always)]
     fn read(bytes: &[u8]) -> Option<(Record, &[u8])> {
         match bytes {
-            [
-                105,
-                parent @ 1..=254,
-                leaf @ 1..=254,
-                new @ 1..=254,
-                rest @ ..,
-            ] => {
-                let insert = InsertRecord {
-                    parent: u16::from(*parent) - 1,
-                    leaf: u16::from(*leaf) - 1,
-                    new: u16::from(*new) - 1,
-                };
-                Some((Record::Ins(insert), rest))
+            [105, parent, leaf, new, rest @ ..] => {
+                let kept = insert_of(*parent, *leaf, *new)?;
+                Some((kept, rest))
             }
-            [
-                136,
-                kind,
-                grandparent @ 1..=254,
-                parent @ 1..=254,
-                leaf @ 1..=254,
-                named,
-                rest @ ..,
-            ] => {
-                let delete = DeleteRecord {
-                    parent_update: word_of(*kind, *named)?,
-                    grandparent: u16::from(*grandparent) - 1,
-                    parent: u16::from(*parent) - 1,
-                    leaf: u16::from(*leaf) - 1,
-                };
-                Some((Record::Del(delete), rest))
+            [136, kind, grandparent, parent, leaf, named, rest @ ..] => {
+                let kept = delete_of(*kind, *grandparent, *parent, *leaf, *named)?;
+                Some((kept, rest))
             }
             _ => None,
         }
     }
 }
 
-/// Reads how many nodes and records there are, and all of them, which it appends to lists. It returns the bytes behind
-/// them, and the two counts.
-pub(crate) fn read_graph<'a>(
+/// Reads values, appends them to a list, and returns the bytes behind them.
+#[inline(always)]
+fn read_more<'a, V: CodedPart>(
+    alloc: Global,
     bytes: &'a [u8],
-    nodes: &mut Vec<Node>,
-    records: &mut Vec<Record>,
-) -> Result<Option<(&'a [u8], u8, u8)>, OutOfMemory>
-    ensures { IfOk result (λ read. IfSome read (λ (rest, node_count, record_count).
+    count: u8,
+    list: &mut Sequence<V>,
+) -> Result<Option<&'a [u8]>, OutOfMemory>
+    ensures { IfOk result (λ read. IfSome read (λ rest. (more : List V)
+        × (list.new ≡ list.old ++ more) × (length more ≡ count)
+        × (bytes.now ≡ part_codes (map V.part more) ++ rest.now))) }
+{
+    let mut values = replace(list, Sequence::new(alloc)).into_vec();
+    let read = read_values(bytes, count, &mut values);
+    *list = Sequence::from_vec(values);
+    read
+}
+
+/// Reads how many nodes and records there are, and all of them, which it appends to those of a memory. It returns the
+/// bytes behind them, and the two counts.
+pub(crate) fn read_graph<'a>(
+    alloc: Global,
+    bytes: &'a [u8],
+    memory: &mut EllenMem,
+) -> Result<Option<(&'a [u8], Front)>, OutOfMemory>
+    ensures { IfOk result (λ read. IfSome read (λ (rest, front).
         (more : List Node) × (others : List Record)
-        × (nodes.new.items ≡ nodes.old.items ++ more) × (length more ≡ node_count)
-        × (records.new.items ≡ records.old.items ++ others) × (length others ≡ record_count)
+        × (memory.new.nodes ≡ memory.old.nodes ++ more) × (length more ≡ front.nodes)
+        × (memory.new.records ≡ memory.old.records ++ others) × (length others ≡ front.records)
         × (bytes.now ≡ graph_code (map node_part more) (map record_part others) ++ rest.now))) }
 {
     let [node_count @ 0..=254, record_count @ 0..=254, rest @ ..] = bytes else {
         return Ok(None);
     };
-    let Some(behind) = read_values(rest, *node_count, nodes)? else {
+    let front = Front {
+        nodes: u16::from(*node_count),
+        records: u16::from(*record_count),
+    };
+    let Some(behind) = read_more(alloc, rest, *node_count, &mut memory.nodes)? else {
         return Ok(None);
     };
-    match read_values(behind, *record_count, records)? {
-        Some(rest) => Ok(Some((rest, *node_count, *record_count))),
+    match read_more(alloc, behind, *record_count, &mut memory.records)? {
+        Some(rest) => Ok(Some((rest, front))),
         None => Ok(None),
     }
 }
@@ -111,21 +148,19 @@ pub(crate) fn read_graph<'a>(
 /// Reads what is left of the nodes and the records behind what the threads hold, if some are left. It returns whether
 /// all bytes were read.
 pub(crate) fn read_left(
+    alloc: Global,
     bytes: &[u8],
-    nodes: &mut Vec<Node>,
-    records: &mut Vec<Record>,
+    memory: &mut EllenMem,
 ) -> Result<bool, OutOfMemory>
     ensures { IfOk result (λ read. IsTrue read → (more : List Node) × (others : List Record)
-        × (nodes.new.items ≡ nodes.old.items ++ more) × (records.new.items ≡ records.old.items ++ others)
+        × (memory.new.nodes ≡ memory.old.nodes ++ more) × (memory.new.records ≡ memory.old.records ++ others)
         × (bytes.now ≡ left_code (map node_part more) (map record_part others))) }
 {
     if bytes.is_empty() {
         return Ok(true);
     }
-    match read_graph(bytes, nodes, records)? {
-        Some((rest, node_count, record_count)) => {
-            Ok((node_count > 0 || record_count > 0) && rest.is_empty())
-        }
+    match read_graph(alloc, bytes, memory)? {
+        Some((rest, front)) => Ok((front.nodes > 0 || front.records > 0) && rest.is_empty()),
         None => Ok(false),
     }
 }

@@ -28,13 +28,14 @@ fn read_held<'a>(
             Ok(Some(rest))
         }
         [head, 5, rest @ ..] => read_help(alloc, *head, rest, held),
-        _ => match read_search(bytes) {
+        [head, kind, rest @ ..] => match read_search(*head, *kind, rest) {
             Some((at, rest)) => {
                 *held = Some(EllenLoc::Search(at));
                 Ok(Some(rest))
             }
             None => Ok(None),
         },
+        _ => Ok(None),
     }
 }
 

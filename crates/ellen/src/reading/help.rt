@@ -1,14 +1,15 @@
 //! Help places read back from their bytes, where each number is one byte.
-ghost use Rattle.std.specs.Prelude.{◌≡◌, ◌<◌, ◌+◌, ◌*◌, ◌++◌, ◌∷◌, [], map, length, IfSome, IfOk, All};
-ghost use Rattle.tree_machine.specs.Flat.{reference_number, cell_code, part_content};
+ghost use Rattle.std.specs.Prelude.{◌≡◌, ◌<◌, ◌+◌, ◌*◌, ◌++◌, ◌∷◌, [], suc, map, length, IfSome, IfOk, All};
+ghost use Rattle.tree_machine.specs.Flat.{number_code, reference_number, cell_code, part_content};
 ghost use Rattle.ellen.specs.Parts.{held_part, help_number, help_side, help_node, help_record, base_number};
 
 use crate::place::{Base, EllenLoc, HelpLoc, Resume};
-use crate::reading::words::record_of;
+use crate::reading::keep_first;
+use crate::reading::words::name_of;
 use sched_program::{OutOfMemory, Sequence};
 use std::alloc::Global;
 use std::mem::replace;
-use tree_machine::{Side, copy_into};
+use tree_machine::Side;
 
 /// How many delete records are awaited, by the first byte of a help place.
 #[inline(always)]
@@ -30,14 +31,12 @@ fn awaited(head: u8) -> Option<u8>
 /// The help place of a kind, by its side, its other node and its own record.
 #[inline(always)]
 fn help_of(kind: u8, side: u8, other: u8, own: u8) -> Option<HelpLoc>
-    ensures kind { IfSome result (λ at. kind ≡ help_number at) }
-    ensures side { IfSome result (λ at. side ≡ help_side at) }
-    ensures other { IfSome result (λ at. other ≡ reference_number (help_node at)) }
-    ensures small_other { IfSome result (λ _. other < 255) }
-    ensures own { IfSome result (λ at. own ≡ help_record at + 1) }
-    ensures small_own { IfSome result (λ at. help_record at < 254) }
+    ensures kind { IfSome result (λ at. number_code (help_number at) ≡ kind ∷ []) }
+    ensures side { IfSome result (λ at. number_code (help_side at) ≡ side ∷ []) }
+    ensures other { IfSome result (λ at. number_code (reference_number (help_node at)) ≡ other ∷ []) }
+    ensures own { IfSome result (λ at. number_code (suc (help_record at)) ≡ own ∷ []) }
 {
-    let number = record_of(own)?;
+    let number = name_of(own)?;
     match (kind, side, other) {
         (0, 0, 0) => Some(HelpLoc::InsChild(number)),
         (1, 0, 0) => Some(HelpLoc::InsClean(number)),
@@ -51,9 +50,9 @@ fn help_of(kind: u8, side: u8, other: u8, own: u8) -> Option<HelpLoc>
             record: number,
             side: Side::Right,
         }),
-        (5, 0, 1..=254) => Some(HelpLoc::Splice {
+        (5, 0, _) => Some(HelpLoc::Splice {
             record: number,
-            other: u16::from(other) - 1,
+            other: name_of(other)?,
         }),
         (6, 0, 0) => Some(HelpLoc::DelClean(number)),
         (7, 0, 0) => Some(HelpLoc::Back(number)),
@@ -64,7 +63,7 @@ fn help_of(kind: u8, side: u8, other: u8, own: u8) -> Option<HelpLoc>
 /// What is done behind the backtracks.
 #[inline(always)]
 fn base_of(number: u8) -> Option<Base>
-    ensures { IfSome result (λ base. number ≡ base_number base) }
+    ensures { IfSome result (λ base. number_code (base_number base) ≡ number ∷ []) }
 {
     match number {
         0 => Some(Base::Again),
@@ -74,35 +73,39 @@ fn base_of(number: u8) -> Option<Base>
     }
 }
 
-/// The list of the stack that a place holds, or a new one.
+/// An empty list, in the buffer of the stack that a place holds, if it holds one.
 #[inline(always)]
-fn stack_of(alloc: Global, held: Option<EllenLoc>) -> Sequence<u16> {
+fn stack_of(alloc: Global, held: Option<EllenLoc>) -> Sequence<u16>
+    ensures { result ≡ [] }
+{
     match held {
-        Some(EllenLoc::Help(_, resume)) => resume.stack,
+        Some(EllenLoc::Help(_, resume)) => {
+            let mut stack = resume.stack;
+            keep_first(alloc, &mut stack, 0);
+            stack
+        }
         _ => Sequence::new(alloc),
     }
 }
 
-/// Reads `count` records of a stack, into the buffer of the list where that is large enough, and returns the bytes
-/// behind them.
+/// Reads `count` records of a stack into an empty list, and returns the bytes behind them.
 fn read_stack<'a>(
-    alloc: Global,
     bytes: &'a [u8],
     count: u8,
     stack: &mut Sequence<u16>,
 ) -> Result<Option<&'a [u8]>, OutOfMemory>
+    requires { stack.old ≡ [] }
     ensures stack { IfOk result (λ read. IfSome read (λ rest.
         bytes.now ≡ map (λ number. number + 1) stack.new ++ rest.now)) }
     ensures small { IfOk result (λ read. IfSome read (λ _. All (λ number. number < 254) stack.new)) }
     ensures count { IfOk result (λ read. IfSome read (λ _. length stack.new ≡ count)) }
 {
-    copy_into(alloc, &[], stack)?;
     let mut rest = bytes;
     for _i in 0..count {
         let [byte, behind @ ..] = rest else {
             return Ok(None);
         };
-        let Some(number) = record_of(*byte) else {
+        let Some(number) = name_of(*byte) else {
             return Ok(None);
         };
         stack.push(number)?;
@@ -135,7 +138,7 @@ pub(crate) fn read_help<'a>(
         return Ok(None);
     };
     let mut stack = stack_of(alloc, replace(held, None));
-    let Some(behind) = read_stack(alloc, rest, count, &mut stack)? else {
+    let Some(behind) = read_stack(rest, count, &mut stack)? else {
         return Ok(None);
     };
     *held = Some(EllenLoc::Help(at, Resume { stack, base }));

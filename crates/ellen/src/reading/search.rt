@@ -4,18 +4,18 @@ ghost use Rattle.std.specs.Prelude.{◌∷◌, IfSome};
 ghost use Rattle.ellen.specs.Parts.{IsSearchCode};
 
 use crate::place::{Above, SearchLoc};
-use crate::reading::words::{above_of, word_of};
+use crate::reading::words::{above_of, name_of, word_of};
 
 /// Reads the rest of the place at which a search reads an update word, and returns the bytes behind it.
 #[inline(always)]
 fn read_update(bytes: &[u8]) -> Option<(SearchLoc, &[u8])>
     ensures { IfSome result (λ read. IsSearchCode (102 ∷ 0 ∷ bytes.now) read.0 read.1.now) }
 {
-    let [kind, node, parent @ 1..=254, named, rest @ ..] = bytes else {
+    let [kind, node, parent, named, rest @ ..] = bytes else {
         return None;
     };
     let above = above_of(*kind, *node, *named)?;
-    let parent = u16::from(*parent) - 1;
+    let parent = name_of(*parent)?;
     Some((SearchLoc::Update { above, parent }, rest))
 }
 
@@ -24,12 +24,12 @@ fn read_update(bytes: &[u8]) -> Option<(SearchLoc, &[u8])>
 fn read_child(bytes: &[u8]) -> Option<(SearchLoc, &[u8])>
     ensures { IfSome result (λ read. IsSearchCode (133 ∷ 1 ∷ bytes.now) read.0 read.1.now) }
 {
-    let [kind, word, node, parent @ 1..=254, named, last, rest @ ..] = bytes else {
+    let [kind, word, node, parent, named, last, rest @ ..] = bytes else {
         return None;
     };
     let above = above_of(*kind, *node, *named)?;
     let update = word_of(*word, *last)?;
-    let parent = u16::from(*parent) - 1;
+    let parent = name_of(*parent)?;
     let at = SearchLoc::Child {
         above,
         parent,
@@ -43,13 +43,13 @@ fn read_child(bytes: &[u8]) -> Option<(SearchLoc, &[u8])>
 fn read_insert_flag(bytes: &[u8]) -> Option<(SearchLoc, &[u8])>
     ensures { IfSome result (λ read. IsSearchCode (102 ∷ 2 ∷ bytes.now) read.0 read.1.now) }
 {
-    let [word, parent @ 1..=254, leaf @ 1..=254, named, rest @ ..] = bytes else {
+    let [word, parent, leaf, named, rest @ ..] = bytes else {
         return None;
     };
     let at = SearchLoc::IFlag {
-        parent: u16::from(*parent) - 1,
+        parent: name_of(*parent)?,
         update: word_of(*word, *named)?,
-        leaf: u16::from(*leaf) - 1,
+        leaf: name_of(*leaf)?,
     };
     Some((at, rest))
 }
@@ -59,12 +59,12 @@ fn read_insert_flag(bytes: &[u8]) -> Option<(SearchLoc, &[u8])>
 fn read_insert_only(bytes: &[u8]) -> Option<(SearchLoc, &[u8])>
     ensures { IfSome result (λ read. IsSearchCode (71 ∷ 3 ∷ bytes.now) read.0 read.1.now) }
 {
-    let [parent @ 1..=254, leaf @ 1..=254, rest @ ..] = bytes else {
+    let [parent, leaf, rest @ ..] = bytes else {
         return None;
     };
     let at = SearchLoc::InsOnly {
-        parent: u16::from(*parent) - 1,
-        leaf: u16::from(*leaf) - 1,
+        parent: name_of(*parent)?,
+        leaf: name_of(*leaf)?,
     };
     Some((at, rest))
 }
@@ -74,43 +74,33 @@ fn read_insert_only(bytes: &[u8]) -> Option<(SearchLoc, &[u8])>
 fn read_delete_flag(bytes: &[u8]) -> Option<(SearchLoc, &[u8])>
     ensures { IfSome result (λ read. IsSearchCode (168 ∷ 4 ∷ bytes.now) read.0 read.1.now) }
 {
-    let [
-        kind,
-        word,
-        node @ 1..=254,
-        parent @ 1..=254,
-        leaf @ 1..=254,
-        named,
-        last,
-        rest @ ..,
-    ] = bytes
-    else {
+    let [kind, word, node, parent, leaf, named, last, rest @ ..] = bytes else {
         return None;
     };
     let above = Above {
-        node: u16::from(*node) - 1,
+        node: name_of(*node)?,
         update: word_of(*kind, *named)?,
     };
     let at = SearchLoc::DFlag {
         above,
-        parent: u16::from(*parent) - 1,
+        parent: name_of(*parent)?,
         update: word_of(*word, *last)?,
-        leaf: u16::from(*leaf) - 1,
+        leaf: name_of(*leaf)?,
     };
     Some((at, rest))
 }
 
-/// Reads a place of a search, and returns the bytes behind it.
+/// Reads the rest of a place of a search behind its first two bytes, and returns the bytes behind it.
 #[inline(always)]
-pub(crate) fn read_search(bytes: &[u8]) -> Option<(SearchLoc, &[u8])>
-    ensures { IfSome result (λ read. IsSearchCode bytes.now read.0 read.1.now) }
+pub(crate) fn read_search(head: u8, kind: u8, bytes: &[u8]) -> Option<(SearchLoc, &[u8])>
+    ensures { IfSome result (λ read. IsSearchCode (head ∷ kind ∷ bytes.now) read.0 read.1.now) }
 {
-    match bytes {
-        [102, 0, rest @ ..] => read_update(rest),
-        [133, 1, rest @ ..] => read_child(rest),
-        [102, 2, rest @ ..] => read_insert_flag(rest),
-        [71, 3, rest @ ..] => read_insert_only(rest),
-        [168, 4, rest @ ..] => read_delete_flag(rest),
+    match (head, kind) {
+        (102, 0) => read_update(bytes),
+        (133, 1) => read_child(bytes),
+        (102, 2) => read_insert_flag(bytes),
+        (71, 3) => read_insert_only(bytes),
+        (168, 4) => read_delete_flag(bytes),
         _ => None,
     }
 }

@@ -31,5 +31,12 @@ returns-in-Some-2 c =
     let read =
     graph_read (map node_part nodes.0) (map record_part records.0) _ c.in-Some.behind.now c.in-Some-2.rest.now _ _
     (omega arith) (omega arith) (length-map nodes.0 node_part ∙ nodes.2) (length-map records.0 record_part ∙ records.2)
-    nodes.3 records.3 in
-    (nodes.0, records.0, nodes.1, nodes.2, records.1, records.2, first_two bytes (omega arith) ∙ read)
+    nodes.3 records.3 in (
+      nodes.0,
+      records.0,
+      nodes.1,
+      nodes.2 ∙ sym c.from.ensures,
+      records.1,
+      records.2 ∙ sym c.from-2.ensures,
+      first_two bytes (omega arith) ∙ read,
+    )
