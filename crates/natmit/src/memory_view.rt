@@ -56,6 +56,7 @@ fn visit_node<V: PartVisitor>(node: Node, visitor: &mut V) -> Result<(), OutOfMe
 }
 
 /// Lets a visitor visit a place that holds a path and one more reference, with these facts.
+#[inline(always)]
 fn visit_path<V: PartVisitor>(
     facts: &[u8],
     path: Path,
