@@ -42,7 +42,7 @@ IsSearchIn n m (IFlag p u l) = (p < n) × IsWordIn m u × (l < n)
 IsSearchIn n m (InsOnly p l) = (p < n) × (l < n)
 IsSearchIn n m (DFlag above p u l) = IsAboveIn n m above × (p < n) × IsWordIn m u × (l < n)
 
--- and so are the record of a help place, and the node that it holds beside it, if any
+-- the record of a help place is below the one number, and the node that it holds beside it, if any, below the other
 abbrev pub IsHelpIn : ℕ → ℕ → HelpLoc → Type 0
 IsHelpIn n m at = (help_record at < m) × IfSome (help_node at) (λ o. o < n)
 
