@@ -26,9 +26,10 @@ one_stepped rules program state t thread op is next made =
 
 module _ {Machine Memory Place Form : Type 0} where
   -- a step that a ready thread makes in a state equal to this one
-  pub stepped_by : (rules : Rules Memory Place) (program : Program) (state copy next : State Machine Memory Place Form)
-      (t : ℕ) (thread was : Thread Place) (op : Op) → ready program state t ≡ Some (thread, op) → copy ≡ state
-      → slice_get copy.threads t ≡ Some was → next ≡ stepped rules copy t op was → next ≡ stepped rules state t op thread
+  pub stepped_by : (rules : Rules Memory Place) (program : Program)
+      (state copy next : State Machine Memory Place Form) (t : ℕ) (thread was : Thread Place) (op : Op)
+      → ready program state t ≡ Some (thread, op) → copy ≡ state → slice_get copy.threads t ≡ Some was
+      → next ≡ stepped rules copy t op was → next ≡ stepped rules state t op thread
   stepped_by rules program state copy next t thread was op is same there made =
       let at : slice_get copy.threads t ≡ slice_get state.threads t = λ i. slice_get (same i).threads t in
       let whose : was ≡ thread = same_Some _ _ (sym there ∙ at ∙ (ready_pieces program state t thread op is).0) in

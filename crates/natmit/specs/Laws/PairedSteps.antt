@@ -117,7 +117,8 @@ module _ (p : Pairing) (memory twin : NatMitMem) (h : AreMemoriesPaired (IsAmong
       (down_keeps op first first m o (h.root_paired, h.begin_paired, h.begin_paired) g)
   act_keeps machine op (Down q l t m) (Down r k c o) g =
       read_keeps p memory twin h l k (side_at (key_of op) memory l) (side_at (key_of op) twin k)
-      (went_down op (path_below q l t) m memory) (went_down op (path_below r k c) o twin) g.1 (sides (key_of op) l k g.1)
+      (went_down op (path_below q l t) m memory) (went_down op (path_below r k c) o twin) g.1
+      (sides (key_of op) l k g.1)
       (down_keeps op (path_below q l t) (path_below r k c) m o (below_paired P q r l k t c g.0 g.1 g.2) g.3)
   act_keeps machine op (Put q l) (Put r k) g =
       let n = key_of op in
