@@ -49,9 +49,9 @@ impl CodedPart for Node {
     }
 }
 
-/// The record of an insert, of these bytes behind its first one, if there is one.
+/// The record of an insert that these bytes name behind its first one, if they name one.
 #[inline(always)]
-fn insert_of(parent: u8, leaf: u8, new: u8) -> Option<Record>
+fn insert_named(parent: u8, leaf: u8, new: u8) -> Option<Record>
     ensures { IfSome result (λ kept. cell_code (part_content (record_part kept))
         ≡ 105 ∷ parent ∷ leaf ∷ new ∷ []) }
 {
@@ -61,9 +61,9 @@ fn insert_of(parent: u8, leaf: u8, new: u8) -> Option<Record>
     Some(Record::Ins(InsertRecord { parent, leaf, new }))
 }
 
-/// The record of a delete, of these bytes behind its first one, if there is one.
+/// The record of a delete that these bytes name behind its first one, if they name one.
 #[inline(always)]
-fn delete_of(kind: u8, grandparent: u8, parent: u8, leaf: u8, named: u8) -> Option<Record>
+fn delete_named(kind: u8, grandparent: u8, parent: u8, leaf: u8, named: u8) -> Option<Record>
     ensures { IfSome result (λ kept. cell_code (part_content (record_part kept))
         ≡ 136 ∷ kind ∷ grandparent ∷ parent ∷ leaf ∷ named ∷ []) }
 {
@@ -86,11 +86,11 @@ impl CodedPart for Record {
     fn read(bytes: &[u8]) -> Option<(Record, &[u8])> {
         match bytes {
             [105, parent, leaf, new, rest @ ..] => {
-                let kept = insert_of(*parent, *leaf, *new)?;
+                let kept = insert_named(*parent, *leaf, *new)?;
                 Some((kept, rest))
             }
             [136, kind, grandparent, parent, leaf, named, rest @ ..] => {
-                let kept = delete_of(*kind, *grandparent, *parent, *leaf, *named)?;
+                let kept = delete_named(*kind, *grandparent, *parent, *leaf, *named)?;
                 Some((kept, rest))
             }
             _ => None,

@@ -117,7 +117,8 @@ fn read_path(bytes: &[u8]) -> Option<(NatMitLoc, &[u8])>
     Some((place, rest))
 }
 
-/// The place of this kind that holds one fact, the three nodes of a path and a mode, if there is one.
+/// The place of this kind that holds one fact, three nodes and a mode, if there is one. The nodes come as a path: the
+/// third one of a swing is no parent, but stands where a path has its parent.
 #[inline(always)]
 fn place_with_fact(kind: u8, fact: u8, path: Path, mode: Mode) -> Option<NatMitLoc>
     requires { fact < 2 }

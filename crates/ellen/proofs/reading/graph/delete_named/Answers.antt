@@ -1,7 +1,7 @@
 -- Each byte is the code of a field.
 use Rattle.std.proofs.Common.{refl}
 use Rattle.ellen.proofs.ReadBytes.{word_is}
-use Rattle.ellen.proofs.reading.graph.delete_of.Goals as goal
+use Rattle.ellen.proofs.reading.graph.delete_named.Goals as goal
 
 pub returns : goal.returns
 returns c =
