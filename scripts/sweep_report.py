@@ -1,21 +1,25 @@
 #!/usr/bin/env python3
-"""Makes a page of what sweeps came to, from the folders that scripts/sweep.py wrote.
+"""Makes sections of a page of what sweeps came to, one for each family, from the folders that scripts/sweep.py wrote.
 
 usage: scripts/sweep_report.py [--note TEXT].. [--out PAGE] FOLDER[@K/N] ..
 
-Without --out the page is printed. PAGE, as docs/RESULTS.md, is written only when all is well; `>
-docs/RESULTS.md` would empty it before anything is read.
+In PAGE, as docs/RESULTS.md, a section takes the place of the one of the same title, and that of a whole family also
+the place of its part's; a new one comes behind those of other families, which stay as they are. What opens PAGE and
+its last section, `What is not covered`, are written anew. PAGE is made if there is none, and written only when all
+is well. Without --out a page that has the sections of these families alone is printed.
 
 Each FOLDER is one family: the trees, initial keys, keys, numbers of threads and of operations that stand in it;
 FOLDER@K/N is part K of N of one. Each program of it has to have one line, each answer has to have been judged
 anew, and each line has to name the commit by whose sources it was made. Programs with more states than the sweep
-allowed have no answer, and are counted. The notes, a paragraph each, stand at the end. The status is 0 if the
-page was made, 1 if the results are incomplete, and 2 where a folder can't be used.
+allowed have no answer, and are counted. The notes, a paragraph each, stand at the end of each section that is made.
+The status is 0 if the page was made, 1 if the results are incomplete or PAGE has the whole family of a part, and 2
+where a folder can't be used, two families have one title, or PAGE is no page of results.
 """
 from __future__ import annotations
 
 import argparse
 import os
+import re
 import sys
 from collections import Counter
 from collections.abc import Callable
@@ -23,7 +27,7 @@ from dataclasses import dataclass
 from pathlib import Path
 from textwrap import wrap
 
-from common import MOST_STATES, MOST_STEPS, RIGHT, WRONG, Unusable, end, words_of
+from common import MOST_STATES, MOST_STEPS, RIGHT, WRONG, Unusable, end, text_of, words_of
 from programs import TREES, VARIANTS, WORDS, Family, Part, part_of
 from results import FAULTS, Result, digest_of, read_results
 from viewer.clash import Run, clash_words, smallest_clash
@@ -33,6 +37,7 @@ from viewer.text import text_picture
 
 WIDTH = 100
 PICTURE = 80
+PART = ": a part"
 NUMBERS = ["no", "one", "two", "three", "four", "five", "six"]
 
 
@@ -147,14 +152,16 @@ def operations_of(family: Family) -> str:
 
 
 def title_of(swept: Swept) -> str:
-    """A family in few words."""
+    """A family in few words. A page has one section of a title."""
     family = swept.family
     title = f"{NUMBERS[family.threads].capitalize()} threads of {operations_of(family)}"
     if family.waits:
         title += ", and a find that waits"
-    if set(family.trees) <= set(VARIANTS):
+    if len(family.trees) == 1:
+        title += f", on `{family.trees[0]}`"
+    elif set(family.trees) <= set(VARIANTS):
         title += ", on the variants"
-    return f"{title}: a part" if swept.part.all > 1 else title
+    return title + PART if swept.part.all > 1 else title
 
 
 def command_of(swept: Swept) -> str:
@@ -216,9 +223,10 @@ def table(swept: Swept) -> str:
 
 
 def sums(swept: Swept) -> str:
-    """What a family took, and its digest."""
+    """What a family took, by which sources, and its digest."""
     hours = [sum(taken) / 3600 for taken in zip(*((result.seconds_all, result.seconds) for result in swept.results))]
-    words = "It took {:.2g} CPU hours, {:.2g} of them to explore.".format(*hours)
+    commits = listed(sorted({f"`{result.commit}`" for result in swept.results}))
+    words = "It took {:.2g} CPU hours, {:.2g} of them to explore, by the sources of commit {}.".format(*hours, commits)
     return f"{filled(words)}\nDigest: `{digest_of(swept.results)}`\n"
 
 
@@ -251,19 +259,36 @@ def smallest(tree: str, results: list[Result]) -> str:
     return "\n".join([filled(words), picture(shortest[0])])
 
 
-def section(swept: Swept) -> str:
-    """What a family came to."""
+def section(swept: Swept, notes: list[str]) -> str:
+    """What a family came to, and the notes."""
     faulty = [smallest(tree, swept.of(tree)) for tree in swept.family.trees if tree in VARIANTS]
-    command = f"    {command_of(swept)}\n"
-    return "\n".join([f"## {title_of(swept)}\n", filled(in_words(swept)), command, table(swept), sums(swept), *faulty])
+    blocks = [f"## {title_of(swept)}\n", filled(in_words(swept)), f"    {command_of(swept)}\n", table(swept)]
+    return "\n".join([*blocks, sums(swept), *faulty, *map(filled, notes)])
 
 
-def page(sweeps: list[Swept], notes: list[str]) -> str:
-    """The whole page."""
-    commits = sorted({f"`{result.commit}`" for swept in sweeps for result in swept.results})
-    sources = f"The sources are those of commit {listed(commits)}."
-    blocks = [*map(filled, [*HEAD, sources]), *map(section, sweeps), *map(filled, [*LIMITS, *notes])]
-    return "\n".join(blocks)
+def by_heading(sections: list[str]) -> dict[str, str]:
+    """Sections by their headings. A part goes by that of its whole family."""
+    return {text.partition("\n")[0].removesuffix(PART): text for text in sections}
+
+
+def page(old: str, made: list[str]) -> str:
+    """The whole page: the sections of the old one, and those made now in their places or behind them."""
+    kept, new = by_heading(re.split(r"\n(?=## )", old)[1:]), by_heading(made)
+    kept.pop(LIMITS[0], None)
+    if len(new) < len(made):
+        raise Unusable("two of these families have one title")
+    for heading, text in new.items():
+        if text.startswith(heading + PART) and kept.get(heading, "").startswith(f"{heading}\n"):
+            raise Incomplete(f"{heading[3:]}: the page has the whole family, and a part can't take its place")
+    return "\n".join([*map(filled, HEAD), *(kept | new).values(), *map(filled, LIMITS)])
+
+
+def old_page(file: Path | None) -> str:
+    """The page as it stands, if there is one, which this script has to have made."""
+    text = text_of(file) if file and file.exists() else f"{HEAD[0]}\n"
+    if not text.startswith(f"{HEAD[0]}\n"):
+        raise Unusable(f"{file} is no page of results: it does not begin with `{HEAD[0]}`")
+    return text
 
 
 def write_whole(file: Path, text: str) -> None:
@@ -295,7 +320,8 @@ def main() -> int:
     """Makes the page, and answers the status."""
     words = read_words()
     try:
-        text = page([read_sweep(*folder) for folder in words.folders], words.note)
+        old = old_page(words.out)
+        text = page(old, [section(read_sweep(*folder), words.note) for folder in words.folders])
     except Incomplete as fault:
         print(f"sweep_report: {fault}", file=sys.stderr)
         return WRONG

@@ -1,6 +1,7 @@
 """Tests of sweep_report.py, on lines that no program made."""
 from __future__ import annotations
 
+import re
 import tempfile
 import unittest
 from pathlib import Path
@@ -8,6 +9,8 @@ from pathlib import Path
 from script_runs import result_line, run_script
 from programs import Family, Part
 from results import digest_of, file_of, read_results
+
+OLD = "# Results\n\nas it was\n"
 
 
 class Reports(unittest.TestCase):
@@ -18,7 +21,6 @@ class Reports(unittest.TestCase):
         self.addCleanup(folder.cleanup)
         self.folder = Path(folder.name)
         self.page = self.folder / "page.md"
-        self.page.write_text("as it was\n", encoding="utf-8")
 
     def results(self, name: str, family: Family, part: Part = Part(), **changes: object) -> Path:
         """A folder with a line for each program of a part of a family."""
@@ -34,27 +36,94 @@ class Reports(unittest.TestCase):
         self.assertNotIn("Traceback", ended.stderr)
         return ended.returncode, ended.stdout, ended.stderr
 
+    def put(self, *words: object) -> None:
+        """Makes sections of the page, on which others may stand."""
+        self.assertEqual(self.report("--out", self.page, *words), (0, "", ""))
+
+    def text(self) -> str:
+        """What stands on the page."""
+        return self.page.read_bytes().decode()
+
+    def sections(self) -> dict[str, str]:
+        """The sections of the page by their titles, each with all that stands before the next."""
+        return {text.partition("\n")[0][3:]: text for text in re.split(r"(?m)^(?=## )", self.text())[1:]}
+
     def test_a_page_has_each_family_with_its_command_and_its_digest(self) -> None:
-        one = self.results("one", Family(["nm", "nm-no-tag"], ["-", "10"], [5], 2, 1))
+        family = Family(["nm", "nm-no-tag"], ["-", "10"], [5], 2, 1)
+        one = self.results("one", family, Part(1, 2))
+        self.results("one", family, Part(2, 2), commit="beefed")
         two = self.results("two", Family(["nm"], ["-"], [5, 10], 2, 2, True), commit="beefed")
-        self.assertEqual(self.report("--note", "A note.", "--out", self.page, one, two), (0, "", ""))
-        text = self.page.read_text(encoding="utf-8")
+        self.put("--note", "A note.", one, two)
+        text = self.text()
         for part in [
-            "The sources are those of commit `beefed` and `c0ffee`.",
+            "of them to explore, by the sources of commit `beefed` and `c0ffee`.\n",
             "## Two threads of one operation\n",
             "Key 5; initial lists [] and [10]. All 12 programs of each tree were run.",
             "    scripts/sweep.py --out one --trees nm nm-no-tag --initial - 10 --keys 5 --threads 2 --most 1\n",
             "| `nm` | 12 | 12 | 0 | 0 | 2 (`nm:10:d5:d5`) | 1 | 0.50 (`nm:10:d5:d5`) |",
             f"Digest: `{digest_of(read_results(one))}`\n",
             "None of these programs goes wrong on `nm-no-tag`.",
-            "## Two threads of one or two operations, and a find that waits\n",
+            "`nm-no-tag`.\n\nA note.\n\n## Two threads of one or two operations, and a find that waits, on `nm`\n",
             "--threads 2 --most 2 --waits\n",
-            "It took 1.8 CPU hours, 0.91 of them to explore.",
-            "\nA note.\n",
+            "It took 1.8 CPU hours, 0.91 of them to explore, by the sources of commit `beefed`.\n",
+            "`\n\nA note.\n\n## What is not covered\n",
         ]:
             self.assertIn(part, text)
+        self.assertTrue(text.startswith("# Results\n\nWhat the program answered"))
+        self.assertTrue(text.endswith("exclude that fault.\n"))
         prose = [line for line in text.splitlines() if not line.startswith(("|", "    "))]
         self.assertLessEqual(max(map(len, prose)), 100)
+
+    def test_a_family_comes_behind_the_others_which_stay_as_they_are(self) -> None:
+        one = self.results("one", Family(["nm", "nm-no-tag"], ["-"], [5], 2, 1))
+        two = self.results("two", Family(["nm"], ["-"], [5], 2, 1))
+        self.put(one)
+        self.put(two)
+        self.assertEqual(self.text(), self.report(one, two)[1])
+        opening, closing = self.text().split("\n## ")[0], self.sections()["What is not covered"]
+        edited = self.text().replace("It took", "By hand:  it\n\n\n took", 1)
+        edited = edited.replace("What the program", "What a program").replace("Other numbers", "Numbers")
+        self.page.write_text(edited, encoding="utf-8")
+        before = self.sections()
+        self.put(self.results("three", Family(["nm"], ["-"], [5], 3, 1)))
+        after = self.sections()
+        self.assertEqual([*after][2:], ["Three threads of one operation, on `nm`", "What is not covered"])
+        self.assertEqual([*after.items()][:2], [*before.items()][:2])
+        self.assertEqual((self.text().split("\n## ")[0], after["What is not covered"]), (opening, closing))
+
+    def test_a_family_made_again_takes_the_place_of_its_section(self) -> None:
+        family = Family(["nm", "nm-no-tag"], ["-"], [5], 2, 1)
+        one, two = self.results("one", family), self.results("two", Family(["nm"], ["-"], [5], 2, 1))
+        self.put("--note", "A note.", one, two)
+        before = self.sections()
+        self.put(self.results("one", family, commit="beefed"))
+        title = "Two threads of one operation"
+        before[title] = before[title].replace("`c0ffee`", "`beefed`").replace("A note.\n\n", "")
+        self.assertEqual([*self.sections().items()], [*before.items()])
+
+    def test_the_whole_takes_the_place_of_its_part_but_a_part_none_of_a_whole(self) -> None:
+        family, whole = Family(["nm"], ["-"], [5], 2, 2), "Two threads of one or two operations, on `nm`"
+        part, other = self.results("part", family, Part(1, 2)), self.results("part2", family, Part(2, 2))
+        ellen = self.results("ellen", Family(["ellen"], ["-"], [5], 2, 2))
+        self.put(f"{part}@1/2", ellen)
+        self.put(f"{other}@2/2")
+        self.assertEqual([*self.sections()][0], f"{whole}: a part")
+        self.assertIn("--part 2/2\n", self.text())
+        self.put(self.results("whole", family))
+        text, titles = self.text(), [whole, whole.replace("nm", "ellen"), "What is not covered"]
+        self.assertEqual([*self.sections()], titles)
+        cause = f"sweep_report: {whole}: the page has the whole family, and a part can't take its place\n"
+        self.assertEqual(self.report("--out", self.page, f"{part}@1/2"), (1, "", cause))
+        self.assertEqual(self.text(), text)
+
+    def test_a_page_of_something_else_stays(self) -> None:
+        folder = self.results("one", Family(["nm"], ["-"], [5], 2, 1))
+        cause = f"sweep_report: {self.page} is no page of results: it does not begin with `# Results`\n"
+        for text in ["as it was\n", "# Results of others\n", f"\n{OLD}", ""]:
+            with self.subTest(text):
+                self.page.write_text(text, encoding="utf-8")
+                self.assertEqual(self.report("--out", self.page, folder), (2, "", cause))
+                self.assertEqual(self.text(), text)
 
     def test_a_part_is_said_to_be_a_part(self) -> None:
         family = Family(["nm", "ellen"], ["-"], [5, 10], 2, 2)
@@ -97,6 +166,7 @@ class Reports(unittest.TestCase):
     def test_an_incomplete_family_leaves_the_page_as_it_is(self) -> None:
         family = Family(["nm"], ["-"], [5], 2, 1)
         folder = self.results("one", family)
+        self.page.write_text(OLD, encoding="utf-8")
         whole = (folder / "1of1.jsonl").read_text(encoding="utf-8")
         first, rest = whole.split("\n", 1)
         for text, cause, status in [
@@ -113,7 +183,7 @@ class Reports(unittest.TestCase):
                 ended = self.report("--out", self.page, folder)
                 self.assertEqual((ended[0], ended[1], len(ended[2].splitlines())), (status, "", 1), ended[2])
                 self.assertIn(cause, ended[2])
-                self.assertEqual(self.page.read_text(encoding="utf-8"), "as it was\n")
+                self.assertEqual(self.text(), OLD)
 
     def test_faults_of_use_are_one_line(self) -> None:
         folder = self.results("one", Family(["nm"], ["-"], [5], 2, 1))
@@ -123,6 +193,7 @@ class Reports(unittest.TestCase):
             (["empty"], "empty has no results: sweep.py --out writes such a folder"),
             ([f"{folder}@3"], "argument FOLDER: '3' is no part, as 1/8 or 8/8 (--help shows the use)"),
             (["--out", "nodir/page.md", folder], "can't write nodir/page.md: No such file or directory"),
+            ([folder, folder], "two of these families have one title"),
         ]
         for words, cause in faults:
             with self.subTest(cause):
