@@ -136,7 +136,7 @@ impl Encode for Ellen {
 
     fn write_code(
         &self,
-        alloc: Global,
+        _alloc: Global,
         naming: Naming,
         mem: &EllenMem,
         threads: &[Thread<EllenLoc>],
@@ -146,12 +146,12 @@ impl Encode for Ellen {
             memory: mem,
             threads,
         };
-        write_parts(alloc, naming, 1, &view, buffer)
+        write_parts(naming, 1, &view, buffer)
     }
 
     fn write_behind(
         &self,
-        alloc: Global,
+        _alloc: Global,
         naming: Naming,
         front: Front,
         mem: &EllenMem,
@@ -162,7 +162,7 @@ impl Encode for Ellen {
             memory: mem,
             threads,
         };
-        write_parts_behind(alloc, naming, 1, front, &view, buffer)
+        write_parts_behind(naming, 1, front, &view, buffer)
     }
 
     fn read_code(

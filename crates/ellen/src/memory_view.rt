@@ -1,6 +1,7 @@
-//! A memory with what the threads hold, shown to visitors as parts.
-ghost use Rattle.std.specs.Prelude.{OnOk};
+//! A memory with what the threads hold, shown to a coder as parts.
+ghost use Rattle.std.specs.Prelude.{◌≡◌, OnOk};
 ghost use Rattle.tree_machine.specs.Alike.{places_of};
+ghost use Rattle.tree_machine.specs.Coding.{with_part};
 ghost use Rattle.tree_machine.specs.Parts.{IsPartBelow};
 ghost use Rattle.ellen.specs.Parts.{node_part, record_part, search_part, place_part};
 
@@ -8,16 +9,16 @@ use crate::memory::{EllenMem, Node, Record, UpdateWord};
 use crate::numbers::{above_parts, base_number, help_parts, word_parts};
 use crate::place::{Above, EllenLoc, SearchLoc};
 use sched_program::OutOfMemory;
-use tree_machine::{PartVisitor, Parts, Thread};
+use tree_machine::{Coder, Parts, Thread};
 
 /// Visits a node.
 #[inline(always)]
-fn visit_node<V: PartVisitor>(node: Node, visitor: &mut V) -> Result<(), OutOfMemory>
-    requires { IsPartBelow (V.nodes_below visitor.old) (V.records_below visitor.old) (node_part node) }
-    ensures { OnOk result (V.visited visitor.old (node_part node) visitor.new) }
+fn visit_node(node: Node, coder: &mut Coder) -> Result<(), OutOfMemory>
+    requires { IsPartBelow coder.old.nodes_below coder.old.records_below (node_part node) }
+    ensures { OnOk result (coder.new ≡ with_part coder.old (node_part node)) }
 {
     match node {
-        Node::Leaf { key } => visitor.visit(&[key], &[], &[], &[]),
+        Node::Leaf { key } => coder.visit(&[key], &[], &[], &[]),
         Node::Internal {
             key,
             update,
@@ -25,18 +26,18 @@ fn visit_node<V: PartVisitor>(node: Node, visitor: &mut V) -> Result<(), OutOfMe
             right,
         } => {
             let (kind, named) = word_parts(update);
-            visitor.visit(&[key, kind], &[Some(left), Some(right)], &[named], &[])
+            coder.visit(&[key, kind], &[Some(left), Some(right)], &[named], &[])
         }
     }
 }
 
 /// Visits a record.
-fn visit_record<V: PartVisitor>(kept: Record, visitor: &mut V) -> Result<(), OutOfMemory>
-    requires { IsPartBelow (V.nodes_below visitor.old) (V.records_below visitor.old) (record_part kept) }
-    ensures { OnOk result (V.visited visitor.old (record_part kept) visitor.new) }
+fn visit_record(kept: Record, coder: &mut Coder) -> Result<(), OutOfMemory>
+    requires { IsPartBelow coder.old.nodes_below coder.old.records_below (record_part kept) }
+    ensures { OnOk result (coder.new ≡ with_part coder.old (record_part kept)) }
 {
     match kept {
-        Record::Ins(insert) => visitor.visit(
+        Record::Ins(insert) => coder.visit(
             &[],
             &[Some(insert.parent), Some(insert.leaf), Some(insert.new)],
             &[],
@@ -49,39 +50,39 @@ fn visit_record<V: PartVisitor>(kept: Record, visitor: &mut V) -> Result<(), Out
                 Some(delete.parent),
                 Some(delete.leaf),
             ];
-            visitor.visit(&[kind], &nodes, &[named], &[])
+            coder.visit(&[kind], &nodes, &[named], &[])
         }
     }
 }
 
 /// Visits the place at which a delete flags the grandparent.
-fn visit_delete_flag<V: PartVisitor>(
+fn visit_delete_flag(
     above: Above,
     parent: u16,
     update: UpdateWord,
     leaf: u16,
-    visitor: &mut V,
+    coder: &mut Coder,
 ) -> Result<(), OutOfMemory>
-    requires { IsPartBelow (V.nodes_below visitor.old) (V.records_below visitor.old)
+    requires { IsPartBelow coder.old.nodes_below coder.old.records_below
         (search_part (SearchLoc.DFlag above parent update leaf)) }
-    ensures { OnOk result (V.visited visitor.old (search_part (SearchLoc.DFlag above parent update leaf)) visitor.new) }
+    ensures { OnOk result (coder.new ≡ with_part coder.old (search_part (SearchLoc.DFlag above parent update leaf))) }
 {
     let (kind, named) = word_parts(above.update);
     let (last, other) = word_parts(update);
     let nodes = [Some(above.node), Some(parent), Some(leaf)];
-    visitor.visit(&[4, kind, last], &nodes, &[named, other], &[])
+    coder.visit(&[4, kind, last], &nodes, &[named, other], &[])
 }
 
 /// Visits a place of a search.
 #[inline(always)]
-fn visit_search<V: PartVisitor>(at: SearchLoc, visitor: &mut V) -> Result<(), OutOfMemory>
-    requires { IsPartBelow (V.nodes_below visitor.old) (V.records_below visitor.old) (search_part at) }
-    ensures { OnOk result (V.visited visitor.old (search_part at) visitor.new) }
+fn visit_search(at: SearchLoc, coder: &mut Coder) -> Result<(), OutOfMemory>
+    requires { IsPartBelow coder.old.nodes_below coder.old.records_below (search_part at) }
+    ensures { OnOk result (coder.new ≡ with_part coder.old (search_part at)) }
 {
     match at {
         SearchLoc::Update { above, parent } => {
             let (kind, node, named) = above_parts(above);
-            visitor.visit(&[0, kind], &[node, Some(parent)], &[named], &[])
+            coder.visit(&[0, kind], &[node, Some(parent)], &[named], &[])
         }
         SearchLoc::Child {
             above,
@@ -90,7 +91,7 @@ fn visit_search<V: PartVisitor>(at: SearchLoc, visitor: &mut V) -> Result<(), Ou
         } => {
             let (kind, node, named) = above_parts(above);
             let (last, other) = word_parts(update);
-            visitor.visit(
+            coder.visit(
                 &[1, kind, last],
                 &[node, Some(parent)],
                 &[named, other],
@@ -103,37 +104,37 @@ fn visit_search<V: PartVisitor>(at: SearchLoc, visitor: &mut V) -> Result<(), Ou
             leaf,
         } => {
             let (kind, named) = word_parts(update);
-            visitor.visit(&[2, kind], &[Some(parent), Some(leaf)], &[named], &[])
+            coder.visit(&[2, kind], &[Some(parent), Some(leaf)], &[named], &[])
         }
         SearchLoc::InsOnly { parent, leaf } => {
-            visitor.visit(&[3], &[Some(parent), Some(leaf)], &[], &[])
+            coder.visit(&[3], &[Some(parent), Some(leaf)], &[], &[])
         }
         SearchLoc::DFlag {
             above,
             parent,
             update,
             leaf,
-        } => visit_delete_flag(above, parent, update, leaf, visitor),
+        } => visit_delete_flag(above, parent, update, leaf, coder),
     }
 }
 
 /// Visits a place.
 #[inline(always)]
-fn visit_place<V: PartVisitor>(place: &EllenLoc, visitor: &mut V) -> Result<(), OutOfMemory>
-    requires { IsPartBelow (V.nodes_below visitor.old) (V.records_below visitor.old) (place_part place.now) }
-    ensures { OnOk result (V.visited visitor.old (place_part place.now) visitor.new) }
+fn visit_place(place: &EllenLoc, coder: &mut Coder) -> Result<(), OutOfMemory>
+    requires { IsPartBelow coder.old.nodes_below coder.old.records_below (place_part place.now) }
+    ensures { OnOk result (coder.new ≡ with_part coder.old (place_part place.now)) }
 {
     match place {
-        EllenLoc::Search(at) => visit_search(*at, visitor),
+        EllenLoc::Search(at) => visit_search(*at, coder),
         EllenLoc::Help(at, resume) => {
             let (kind, side, other, record) = help_parts(*at);
             let facts = [5, kind, side, base_number(resume.base)];
-            visitor.visit(&facts, &[other], &[Some(record)], resume.stack.as_slice())
+            coder.visit(&facts, &[other], &[Some(record)], resume.stack.as_slice())
         }
     }
 }
 
-/// Shows a memory and what the threads hold to visitors, as parts.
+/// Shows a memory and what the threads hold to a coder, as parts.
 #[derive(Drop)]
 pub(crate) struct MemoryView<'a> {
     pub(crate) memory: &'a EllenMem,
@@ -158,27 +159,23 @@ impl Parts for MemoryView<'_> {
     }
 
     #[inline(always)]
-    fn visit_node<V: PartVisitor>(&self, index: usize, visitor: &mut V) -> Result<(), OutOfMemory> {
-        visit_node(self.memory.nodes.as_slice()[index], visitor)
+    fn visit_node(&self, index: usize, coder: &mut Coder) -> Result<(), OutOfMemory> {
+        visit_node(self.memory.nodes.as_slice()[index], coder)
     }
 
     #[inline(always)]
-    fn visit_record<V: PartVisitor>(
-        &self,
-        index: usize,
-        visitor: &mut V,
-    ) -> Result<(), OutOfMemory> {
+    fn visit_record(&self, index: usize, coder: &mut Coder) -> Result<(), OutOfMemory> {
         match self.memory.records.get(index) {
-            Some(kept) => visit_record(*kept, visitor),
-            None => visitor.visit(&[], &[], &[], &[]),
+            Some(kept) => visit_record(*kept, coder),
+            None => coder.visit(&[], &[], &[], &[]),
         }
     }
 
     #[inline(always)]
-    fn visit_held<V: PartVisitor>(&self, index: usize, visitor: &mut V) -> Result<(), OutOfMemory> {
+    fn visit_held(&self, index: usize, coder: &mut Coder) -> Result<(), OutOfMemory> {
         match &self.threads[index].place {
-            Some(place) => visit_place(place, visitor),
-            None => visitor.visit(&[], &[], &[], &[]),
+            Some(place) => visit_place(place, coder),
+            None => coder.visit(&[], &[], &[], &[]),
         }
     }
 }

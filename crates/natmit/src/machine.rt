@@ -123,32 +123,25 @@ impl Encode for NatMit {
 
     fn write_code(
         &self,
-        alloc: Global,
+        _alloc: Global,
         naming: Naming,
         mem: &NatMitMem,
         threads: &[Thread<NatMitLoc>],
         buffer: &mut EncodeBuffer,
     ) -> Result<(), OutOfMemory> {
-        write_parts(alloc, naming, 2, &MemoryView { mem, threads }, buffer)
+        write_parts(naming, 2, &MemoryView { mem, threads }, buffer)
     }
 
     fn write_behind(
         &self,
-        alloc: Global,
+        _alloc: Global,
         naming: Naming,
         front: Front,
         mem: &NatMitMem,
         threads: &[Thread<NatMitLoc>],
         buffer: &mut EncodeBuffer,
     ) -> Result<(), OutOfMemory> {
-        write_parts_behind(
-            alloc,
-            naming,
-            2,
-            front,
-            &MemoryView { mem, threads },
-            buffer,
-        )
+        write_parts_behind(naming, 2, front, &MemoryView { mem, threads }, buffer)
     }
 
     fn read_code(

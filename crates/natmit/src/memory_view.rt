@@ -1,13 +1,14 @@
-//! Shows a memory, and what the threads hold, to visitors as parts, with the numbers of nodes apart from all else.
+//! Shows a memory, and what the threads hold, to a coder as parts, with the numbers of nodes apart from all else.
 ghost use Rattle.std.specs.Prelude.{◌≡◌, ◌<◌, ◌∷◌, [], Some, OnOk};
 ghost use Rattle.tree_machine.specs.Alike.{places_of};
+ghost use Rattle.tree_machine.specs.Coding.{with_part};
 ghost use Rattle.tree_machine.specs.Parts.{IsPartBelow};
 ghost use Rattle.natmit.specs.Parts.{mark_number, side_number, owned, node_part, path_part, place_part, natmit_parts};
 
 use crate::memory::{NatMitMem, Node, Word};
 use crate::place::{Mode, NatMitLoc, Path};
 use sched_program::OutOfMemory;
-use tree_machine::{PartVisitor, Parts, Side, Thread};
+use tree_machine::{Coder, Parts, Side, Thread};
 
 /// The number of a side.
 fn side_number(side: Side) -> u8
@@ -38,15 +39,15 @@ fn mark_number(word: Word) -> u8
     u8::from(word.flag) + 2 * u8::from(word.tag)
 }
 
-/// Lets a visitor visit a node: its key, and of an internal one its children with their flags and tags.
+/// Lets a coder visit a node: its key, and of an internal one its children with their flags and tags.
 #[inline(always)]
-fn visit_node<V: PartVisitor>(node: Node, visitor: &mut V) -> Result<(), OutOfMemory>
-    requires { IsPartBelow (V.nodes_below visitor.old) (V.records_below visitor.old) (node_part node) }
-    ensures { OnOk result (V.visited visitor.old (node_part node) visitor.new) }
+fn visit_node(node: Node, coder: &mut Coder) -> Result<(), OutOfMemory>
+    requires { IsPartBelow coder.old.nodes_below coder.old.records_below (node_part node) }
+    ensures { OnOk result (coder.new ≡ with_part coder.old (node_part node)) }
 {
     match node {
-        Node::Leaf { key } => visitor.visit(&[key], &[], &[], &[]),
-        Node::Internal { key, left, right } => visitor.visit(
+        Node::Leaf { key } => coder.visit(&[key], &[], &[], &[]),
+        Node::Internal { key, left, right } => coder.visit(
             &[key, mark_number(left) + 4 * mark_number(right)],
             &[Some(left.node), Some(right.node)],
             &[],
@@ -55,17 +56,17 @@ fn visit_node<V: PartVisitor>(node: Node, visitor: &mut V) -> Result<(), OutOfMe
     }
 }
 
-/// Lets a visitor visit a place that holds a path and one more reference, with these facts.
+/// Lets a coder visit a place that holds a path and one more reference, with these facts.
 #[inline(always)]
-fn visit_path<V: PartVisitor>(
+fn visit_path(
     facts: &[u8],
     path: Path,
     last: Option<u16>,
-    visitor: &mut V,
+    coder: &mut Coder,
 ) -> Result<(), OutOfMemory>
-    requires { IsPartBelow (V.nodes_below visitor.old) (V.records_below visitor.old)
+    requires { IsPartBelow coder.old.nodes_below coder.old.records_below
         (path_part facts.now path (last ∷ [])) }
-    ensures { OnOk result (V.visited visitor.old (path_part facts.now path (last ∷ [])) visitor.new) }
+    ensures { OnOk result (coder.new ≡ with_part coder.old (path_part facts.now path (last ∷ []))) }
 {
     let nodes = [
         Some(path.ancestor),
@@ -73,23 +74,23 @@ fn visit_path<V: PartVisitor>(
         Some(path.parent),
         last,
     ];
-    visitor.visit(facts, &nodes, &[], &[])
+    coder.visit(facts, &nodes, &[], &[])
 }
 
-/// Lets a visitor visit a place: which one it is, and its locals.
+/// Lets a coder visit a place: which one it is, and its locals.
 #[inline(always)]
-fn visit_place<V: PartVisitor>(place: NatMitLoc, visitor: &mut V) -> Result<(), OutOfMemory>
-    requires { IsPartBelow (V.nodes_below visitor.old) (V.records_below visitor.old) (place_part place) }
-    ensures { OnOk result (V.visited visitor.old (place_part place) visitor.new) }
+fn visit_place(place: NatMitLoc, coder: &mut Coder) -> Result<(), OutOfMemory>
+    requires { IsPartBelow coder.old.nodes_below coder.old.records_below (place_part place) }
+    ensures { OnOk result (coder.new ≡ with_part coder.old (place_part place)) }
 {
     match place {
-        NatMitLoc::Begin { mode } => visitor.visit(&[1], &[owned(mode)], &[], &[]),
+        NatMitLoc::Begin { mode } => coder.visit(&[1], &[owned(mode)], &[], &[]),
         NatMitLoc::Down {
             path,
             leaf,
             tag,
             mode,
-        } => visitor.visit(
+        } => coder.visit(
             &[2, u8::from(tag)],
             &[
                 Some(path.ancestor),
@@ -101,15 +102,15 @@ fn visit_place<V: PartVisitor>(place: NatMitLoc, visitor: &mut V) -> Result<(), 
             &[],
             &[],
         ),
-        NatMitLoc::Put { path, leaf } => visit_path(&[3], path, Some(leaf), visitor),
-        NatMitLoc::Flag { path, leaf } => visit_path(&[4], path, Some(leaf), visitor),
-        NatMitLoc::Look { path, leaf } => visit_path(&[5], path, Some(leaf), visitor),
-        NatMitLoc::CleanRead { path, mode } => visit_path(&[6], path, owned(mode), visitor),
+        NatMitLoc::Put { path, leaf } => visit_path(&[3], path, Some(leaf), coder),
+        NatMitLoc::Flag { path, leaf } => visit_path(&[4], path, Some(leaf), coder),
+        NatMitLoc::Look { path, leaf } => visit_path(&[5], path, Some(leaf), coder),
+        NatMitLoc::CleanRead { path, mode } => visit_path(&[6], path, owned(mode), coder),
         NatMitLoc::Tag { path, side, mode } => {
-            visit_path(&[7, side_number(side)], path, owned(mode), visitor)
+            visit_path(&[7, side_number(side)], path, owned(mode), coder)
         }
         NatMitLoc::Sibling { path, side, mode } => {
-            visit_path(&[8, side_number(side)], path, owned(mode), visitor)
+            visit_path(&[8, side_number(side)], path, owned(mode), coder)
         }
         NatMitLoc::Swing {
             ancestor: a,
@@ -117,7 +118,7 @@ fn visit_place<V: PartVisitor>(place: NatMitLoc, visitor: &mut V) -> Result<(), 
             flag,
             node,
             mode,
-        } => visitor.visit(
+        } => coder.visit(
             &[9, u8::from(flag)],
             &[Some(a), Some(s), Some(node), owned(mode)],
             &[],
@@ -151,24 +152,20 @@ impl Parts for MemoryView<'_> {
     }
 
     #[inline(always)]
-    fn visit_node<V: PartVisitor>(&self, index: usize, visitor: &mut V) -> Result<(), OutOfMemory> {
-        visit_node(self.mem.nodes.as_slice()[index], visitor)
+    fn visit_node(&self, index: usize, coder: &mut Coder) -> Result<(), OutOfMemory> {
+        visit_node(self.mem.nodes.as_slice()[index], coder)
     }
 
     #[inline(always)]
-    fn visit_record<V: PartVisitor>(
-        &self,
-        _index: usize,
-        visitor: &mut V,
-    ) -> Result<(), OutOfMemory> {
-        visitor.visit(&[], &[], &[], &[])
+    fn visit_record(&self, _index: usize, coder: &mut Coder) -> Result<(), OutOfMemory> {
+        coder.visit(&[], &[], &[], &[])
     }
 
     #[inline(always)]
-    fn visit_held<V: PartVisitor>(&self, index: usize, visitor: &mut V) -> Result<(), OutOfMemory> {
+    fn visit_held(&self, index: usize, coder: &mut Coder) -> Result<(), OutOfMemory> {
         match self.threads[index].place {
-            Some(place) => visit_place(place, visitor),
-            None => visitor.visit(&[], &[], &[], &[]),
+            Some(place) => visit_place(place, coder),
+            None => coder.visit(&[], &[], &[], &[]),
         }
     }
 }

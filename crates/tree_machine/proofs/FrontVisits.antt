@@ -18,7 +18,7 @@ use Rattle.tree_machine.specs.Laws.PartsBy.{AreMet}
 use Rattle.tree_machine.proofs.Queued.{met_old}
 
 -- what is met is not met again
-met_all_old : (refs : List (Option ℕ)) (order : List ℕ) → HasAll order refs → met_all order refs ≡ order
+pub met_all_old : (refs : List (Option ℕ)) (order : List ℕ) → HasAll order refs → met_all order refs ≡ order
 met_all_old [] order h = refl
 met_all_old (None ∷ refs) order h = met_all_old refs order h
 met_all_old (Some x ∷ refs) order h =

@@ -1,6 +1,6 @@
 -- Few cells met, by the numbers that refer to them.
 use Rattle.std.proofs.Common.{◌≡◌, ℕ, zero, suc, ◌+◌, ◌-◌, ◌<◌, List, [], ◌∷◌, ◌++◌, map, length, refl, sym, ◌∙◌}
-use Rattle.std.proofs.Common.{ap, subst, arith, false, true, get_or, not, set, take, length-append}
+use Rattle.std.proofs.Common.{ap, subst, arith, Bool, cond, false, true, get_or, not, set, take, length-append}
 use Rattle.std.specs.Prelude.{slice_get, replicate, Some, None, nat_eq}
 use Rattle.std.specs.List.{All, IsDistinct, list_any}
 use Rattle.std.specs.Option.{option_map}
@@ -83,7 +83,7 @@ resized old new n len e z h =
     h ∙ (ap (λ l. take n l ++ zeros (n - len)) e ∙ (nothing n (zeros (n - len)) ∙ ap zeros all))
 
 -- nothing is met in a list that was rebuilt
-pub made_anew : (order old new : List ℕ) (n len : ℕ) → order ≡ [] → old ≡ [] → len ≡ 0
+made_anew : (order old new : List ℕ) (n len : ℕ) → order ≡ [] → old ≡ [] → len ≡ 0
     → new ≡ take n old ++ replicate (n - len) 0 → HasNumbers order new
 made_anew order old new n len is_none e z h =
     subst (λ o. HasNumbers o new) (sym is_none)
@@ -93,6 +93,12 @@ made_anew order old new n len is_none e z h =
 pub nothing_met : (order numbers : List ℕ) → order ≡ [] → numbers ≡ [] → HasNumbers order numbers
 nothing_met order numbers e f =
     subst (λ o. HasNumbers o numbers) (sym e) (subst (HasNumbers []) (sym f) (none_met 0))
+
+-- nothing is met in a list that was rebuilt, or that is left as it was where its growth was refused
+pub made_or_left : (t : Bool) (order old new : List ℕ) (n len : ℕ) → order ≡ [] → old ≡ [] → len ≡ 0
+    → new ≡ cond t (take n old ++ replicate (n - len) 0) old → HasNumbers order new
+made_or_left true order old new n len is_none e z h = made_anew order old new n len is_none e z h
+made_or_left false order old new n len is_none e z h = nothing_met order new is_none (h ∙ e)
 
 -- the number of a cell that was met is small, as the order is short
 number_small : (order numbers : List ℕ) (x r : ℕ) → HasNumbers order numbers → x < length numbers

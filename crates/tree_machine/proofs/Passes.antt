@@ -18,8 +18,7 @@ use Rattle.tree_machine.specs.Graphs.{numbers_from}
 use Rattle.tree_machine.specs.Laws.Graphs.{numbers_more}
 use Rattle.tree_machine.specs.Laws.CellLists.{numbers_all}
 use Rattle.tree_machine.specs.Flat.{number_code, reference_number, facts_code, cell_code, part_content}
-use Rattle.tree_machine.specs.Walked.{Walked, with_visit}
-use Rattle.tree_machine.specs.Written.{name_code}
+use Rattle.tree_machine.specs.Coding.{name_code}
 
 -- ---- a range of cells
 
@@ -80,10 +79,6 @@ names_coded order refs =
     sym (flat_map-map number_code reference_number (map (option_and_then (place_in order)) refs)
     ∙ flat_map-map (λ r. number_code (reference_number r)) (option_and_then (place_in order)) refs)
 
-stack_coded : (order : List ℕ) (stack : List ℕ)
-    → flat_map (λ x. name_code order (Some x)) stack ≡ flat_map (λ r. name_code order r) (map Some stack)
-stack_coded order stack = sym (flat_map-map (λ r. name_code order r) Some stack)
-
 -- a part, in the pieces in which it is written
 pub part_written : (named : ℕ) (facts : List ℕ) (nodes records : List (Option ℕ))
     (stack node_order record_order b c e f g : List ℕ)
@@ -91,7 +86,7 @@ pub part_written : (named : ℕ) (facts : List ℕ) (nodes records : List (Optio
     → c ≡ b ++ facts_code (length nodes ∷ facts) named
     → e ≡ c ++ flat_map (λ r. name_code node_order r) nodes
     → f ≡ e ++ flat_map (λ r. name_code record_order r) records
-    → g ≡ f ++ flat_map (λ x. name_code record_order (Some x)) stack
+    → g ≡ f ++ flat_map (λ r. name_code record_order r) (map Some stack)
     → g ≡ b ++ cell_code (part_content (renamed_part node_order record_order
     (record { facts = facts; nodes = nodes; records = records ++ map Some stack })))
 part_written named facts nodes records stack node_order record_order b c e f g is_named h1 h2 h3 h4 =
@@ -102,7 +97,7 @@ part_written named facts nodes records stack node_order record_order b c e f g i
     let records_put : f ≡ e ++ places_code record_order records =
     h3 ∙ ap (λ l. e ++ l) (names_coded record_order records) in
     let stack_put : g ≡ f ++ places_code record_order more =
-    h4 ∙ ap (λ l. f ++ l) (stack_coded record_order stack ∙ names_coded record_order more) in
+    h4 ∙ ap (λ l. f ++ l) (names_coded record_order more) in
     let both : g ≡ e ++ places_code record_order (records ++ more) =
     joined e f g (places_code record_order records) (places_code record_order more) records_put stack_put
     ∙ ap (λ l. e ++ l) (sym (places_code_append record_order records more)) in
@@ -128,21 +123,3 @@ part_written named facts nodes records stack node_order record_order b c e f g i
     (flat_map number_code (map reference_number (node_names ++ record_names)))
     (h1 ∙ ap (λ k. b ++ facts_code (length nodes ∷ facts) k) count
     ∙ ap (λ k. b ++ facts_code (k ∷ facts) (length (node_names ++ record_names))) (sym node_count)) all
-
--- three lists are met one after the other
-pub lists_met : (w a b c : Walked) (nodes records : List (Option ℕ)) (facts stack : List ℕ)
-    → a ≡ record w { order = met_all w.order nodes }
-    → b ≡ record a { order = met_all a.order (shifted a.nodes records) }
-    → c ≡ record b { order = met_all b.order (shifted b.nodes (map Some stack)) }
-    → c ≡ with_visit w (record { facts = facts; nodes = nodes; records = records ++ map Some stack })
-lists_met w a b c nodes records facts stack e f g =
-    let n = w.nodes in
-    let more = map Some stack in
-    let first = met_all w.order nodes in
-    g
-    ∙ ap (λ (o : Walked). record o { order = met_all o.order (shifted o.nodes more) })
-    (f ∙ ap (λ (o : Walked). record o { order = met_all o.order (shifted o.nodes records) }) e)
-    ∙ ap (λ o. record w { order = o })
-    (sym (met_all_append first (shifted n records) (shifted n more))
-    ∙ ap (met_all first) (sym (map-append (option_map (λ x. n + x)) records more))
-    ∙ sym (met_all_append w.order nodes (shifted n (records ++ more))))

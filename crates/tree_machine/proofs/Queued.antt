@@ -20,30 +20,7 @@ is_false false h = refl
 pub met_old : (order : List ℕ) (x : ℕ) → Has order x → met order x ≡ order
 met_old order x h = ap (λ t. cond t order (order ++ x ∷ [])) h
 
-met_new : (order : List ℕ) (x : ℕ) → (Has order x → ⊥) → met order x ≡ order ++ x ∷ []
-met_new order x h = ap (λ t. cond t order (order ++ x ∷ [])) (is_false _ h)
-
 module _ (n : ℕ) (queue : List ℕ) where
-  module _ (r : ℕ) where
-    -- a record is met where it is among the records
-    module _ (records : List ℕ) (is : records ≡ records_met n r queue) (y : ℕ) (l : y < r) where
-      pub record_old : list_any (nat_eq y) records ≡ true → met queue (n + y) ≡ queue
-      record_old h = met_old queue (n + y) (record_has n queue r y (subst (λ o. Has o y) is h)).0
-
-      pub record_new : list_any (nat_eq y) records ≡ false → met queue (n + y) ≡ queue ++ (n + y) ∷ []
-      record_new h =
-          met_new queue (n + y) (λ g.
-          let here : Has records y = subst (λ o. Has o y) (sym is) (has_record n queue r y g l) in cc)
-
-  -- a node is met where it is among the nodes
-  module _ (nodes : List ℕ) (is : nodes ≡ nodes_met n queue) (x : ℕ) (l : x < n) where
-    pub node_old : list_any (nat_eq x) nodes ≡ true → met queue x ≡ queue
-    node_old h = met_old queue x (node_has n queue x (subst (λ o. Has o x) is h)).0
-
-    pub node_new : list_any (nat_eq x) nodes ≡ false → met queue x ≡ queue ++ x ∷ []
-    node_new h =
-        met_new queue x (λ g. let here : Has nodes x = subst (λ o. Has o x) (sym is) (has_node n queue x g l) in cc)
-
   -- what threads hold comes behind all of them
   module _ (m k : ℕ) where
     pub nodes_left_by_held : n ≤ m → nodes_met n (queue ++ numbers_from m k) ≡ nodes_met n queue
@@ -78,10 +55,3 @@ module _ (n r : ℕ) (nodes records : List ℕ) (below : All (λ x. x < n) nodes
       ap (records_met n r) (sym (append-nil (as_cells n nodes records)))
       ∙ records_first n r nodes records [] (recursion_from_All _ _ below) (recursion_from_All _ _ h)
       ∙ append-nil records
-
--- the queue with which a walk begins
-pub begun : (n : ℕ) (nodes records none first queue here there : List ℕ) → none ≡ [] → here ≡ nodes
-    → first ≡ none ++ here → there ≡ records → queue ≡ first ++ map (λ x. n + x) there
-    → queue ≡ as_cells n nodes records
-begun n nodes records none first queue here there e f g h k =
-    k ∙ (λ i. (g ∙ (λ j. e j ++ f j)) i ++ map (λ x. n + x) (h i))

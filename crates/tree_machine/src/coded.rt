@@ -4,13 +4,10 @@ ghost use Rattle.tree_machine.specs.Alike.{notes_of, replies_of};
 ghost use Rattle.tree_machine.specs.FormCode.{astray_code, op_log_code, list_code, note_code, replies_code};
 
 use crate::fixed::put_byte;
+use crate::output::{Output, make_room};
 use crate::short_note::ShortNote;
 use crate::state::Thread;
 use sched_program::{OutOfMemory, ShortList};
-
-/// Zeros, one for each byte that what the threads did can take: at most 1 + 4 for the replies, 1 + 4 * 13 for the
-/// notes, and 2 for who went astray.
-static ZEROS: [u8; 60] = [0; 60];
 
 /// Writes the replies of each thread at a place of a slice, and returns the place behind them.
 fn put_all_replies<L>(bytes: &mut [u8], start: usize, threads: &[Thread<L>]) -> usize
@@ -77,6 +74,7 @@ fn put_all_notes<L>(bytes: &mut [u8], start: usize, threads: &[Thread<L>]) -> us
 fn put_astray(bytes: &mut [u8], start: usize, astray: Option<u8>) -> usize
     requires { start + 2 ≤ length bytes.old }
     ensures put { take result bytes.new ≡ take start bytes.old ++ astray_code astray }
+    ensures most { result ≤ start + 2 }
     ensures length { length bytes.new ≡ length bytes.old }
 {
     match astray {
@@ -88,23 +86,20 @@ fn put_astray(bytes: &mut [u8], start: usize, astray: Option<u8>) -> usize
     }
 }
 
-/// Appends what the threads did, and who went astray. The bytes are lengthened once, by the most that this can take,
-/// and then cut to what was written.
+/// Appends what the threads did, and who went astray.
 pub(crate) fn put_op_log<L>(
-    bytes: &mut Vec<u8>,
+    out: &mut Output,
     threads: &[Thread<L>],
     astray: Option<u8>,
 ) -> Result<(), OutOfMemory>
     requires { length threads.now ≤ 4 }
-    ensures { OnOk result (bytes.new.items
-        ≡ bytes.old.items ++ op_log_code (replies_of threads.now) (notes_of threads.now) astray) }
+    ensures { OnOk result (out.new
+        ≡ out.old ++ op_log_code (replies_of threads.now) (notes_of threads.now) astray) }
 {
-    let start = bytes.len();
-    bytes.extend_from_slice(&ZEROS)?;
-    let slice = bytes.as_mut_slice();
-    let at = put_all_replies(slice, start, threads);
+    make_room(&mut out.bytes, out.at)?;
+    let slice = out.bytes.as_mut_slice();
+    let at = put_all_replies(slice, out.at, threads);
     let at = put_all_notes(slice, at, threads);
-    let at = put_astray(slice, at, astray);
-    bytes.truncate(at);
+    out.at = put_astray(slice, at, astray);
     Ok(())
 }

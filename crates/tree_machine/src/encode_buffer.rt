@@ -1,28 +1,29 @@
 //! A buffer in which codes are written, one after the other.
 ghost use Rattle.std.specs.Prelude.{◌≡◌, ◌≤◌, ◌++◌, [], length, OnOk, OnErr};
 ghost use Rattle.tree_machine.specs.Alike.{notes_of, replies_of};
+ghost use Rattle.tree_machine.specs.Coding.{IsOwn};
 ghost use Rattle.tree_machine.specs.Flat.{number_code};
 ghost use Rattle.tree_machine.specs.FormCode.{op_log_code};
 
 use crate::bytes::Bytes;
 use crate::coded::put_op_log;
-use crate::names::Names;
-use crate::number::put_number;
-use crate::numbering::Own;
+use crate::coder::Coder;
+use crate::output::Output;
 use crate::state::Thread;
 use sched_program::OutOfMemory;
 use std::alloc::Global;
 use std::marker::Model;
 
-/// A buffer in which codes are written, with the numberings that they need. It is reused for each code, and allocates
+/// A buffer in which codes are written, with the coders that write them. It is reused for each code, and allocates
 /// only until it is large enough for the largest of them. Contracts see the bytes in it.
 #[derive(Drop)]
 pub struct EncodeBuffer {
-    pub(crate) bytes: Vec<u8>,
-    /// The queue of the last walk, and the canonical numbers.
-    pub(crate) queue: Vec<u8>,
-    pub(crate) names: Names,
-    pub(crate) own: Own,
+    pub(crate) out: Output,
+    pub(crate) canonical: Coder,
+    pub(crate) own: Coder,
+    /// Where records are written while the nodes are not yet all there.
+    pub(crate) records: Output,
+    ghost is_own: { IsOwn 0 0 own },
 }
 
 impl Model for EncodeBuffer {
@@ -30,7 +31,7 @@ impl Model for EncodeBuffer {
 
     ghost Value = { List ℕ };
 
-    ghost view = { λ b. b.bytes.items };
+    ghost view = { λ b. b.out };
 }
 
 impl EncodeBuffer {
@@ -39,10 +40,10 @@ impl EncodeBuffer {
         ensures { result ≡ [] }
     {
         EncodeBuffer {
-            bytes: Vec::new(alloc),
-            queue: Vec::new(alloc),
-            names: Names::none(alloc),
-            own: Own::none(alloc),
+            out: Output::none(alloc),
+            canonical: Coder::none(alloc),
+            own: Coder::none(alloc),
+            records: Output::none(alloc),
         }
     }
 
@@ -50,14 +51,14 @@ impl EncodeBuffer {
     pub(crate) fn clear(&mut self)
         ensures { self.new ≡ [] }
     {
-        self.bytes.clear();
+        self.out.clear();
     }
 
     /// The bytes.
     pub fn as_slice(&self) -> &[u8]
         ensures { result.now ≡ self.now }
     {
-        self.bytes.as_slice()
+        self.out.as_slice()
     }
 
     /// Appends bytes. After a refusal the bytes are unchanged.
@@ -65,15 +66,14 @@ impl EncodeBuffer {
         ensures ok { OnOk result (self.new ≡ self.old ++ bytes.now) }
         ensures err { OnErr result (self.new ≡ self.old) }
     {
-        self.bytes.extend_from_slice(bytes)?;
-        Ok(())
+        self.out.put(bytes)
     }
 
     /// The bytes, in memory of their own.
     pub(crate) fn into_bytes(self) -> Bytes
         ensures { result ≡ self }
     {
-        Bytes::from_vec(self.bytes)
+        Bytes::from_vec(self.out.into_vec())
     }
 
     /// Appends a number.
@@ -81,7 +81,7 @@ impl EncodeBuffer {
     pub(crate) fn put_number(&mut self, number: u64) -> Result<(), OutOfMemory>
         ensures { OnOk result (self.new ≡ self.old ++ number_code number) }
     {
-        put_number(&mut self.bytes, number)
+        self.out.put_number(number)
     }
 
     /// Appends what the threads did, and who went astray.
@@ -94,6 +94,6 @@ impl EncodeBuffer {
         ensures { OnOk result (self.new
             ≡ self.old ++ op_log_code (replies_of threads.now) (notes_of threads.now) astray) }
     {
-        put_op_log(&mut self.bytes, threads, astray)
+        put_op_log(&mut self.out, threads, astray)
     }
 }

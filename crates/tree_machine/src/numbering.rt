@@ -1,6 +1,6 @@
 //! The numbers by which bytes name cells: each cell's own, or its place in the order in which a walk meets cells.
 ghost use Rattle.std.specs.Prelude.{◌≡◌, ◌<◌, ◌≤◌, ◌+◌, ◌++◌, false, [], Some, length, slice_get, vec_capacity};
-ghost use Rattle.std.specs.Prelude.{IfOk, nat_eq};
+ghost use Rattle.std.specs.Prelude.{OnOk, nat_eq};
 ghost use Rattle.std.specs.List.{All, IsDistinct, list_any};
 ghost use Rattle.std.proofs.Props.{props};
 ghost use Rattle.tree_machine.specs.Cells.{met, place_in};
@@ -40,25 +40,28 @@ impl Numbering {
         }
     }
 
-    /// The numbering of `cells` cells, none of which has a number yet. It reuses the buffers where they are large
-    /// enough. More cells than bytes can name are refused with `OutOfMemory`.
+    /// Forgets all cells.
     #[inline(always)]
-    pub(crate) fn restarted(self, cells: usize) -> Result<Numbering, OutOfMemory>
-        ensures nothing { IfOk result (λ n. n.order.items ≡ []) }
-        ensures cells { IfOk result (λ n. length n.numbers.items ≡ cells) }
+    pub(crate) fn clear(&mut self)
+        ensures order { self.new.order.items ≡ [] }
+        ensures cells { self.new.numbers.items ≡ [] }
     {
-        if cells >= CELLS_BELOW {
-            return Err(OutOfMemory);
-        }
-        let Numbering {
-            mut order,
-            mut numbers,
-        } = self;
-        order.clear();
-        order.reserve(cells)?;
-        numbers.clear();
-        numbers.resize(cells, 0)?;
-        Ok(Numbering { order, numbers })
+        self.order.clear();
+        self.numbers.clear();
+    }
+
+    /// Begins anew with `cells` cells, none of which has a number.
+    #[inline(always)]
+    pub(crate) fn restart(&mut self, cells: usize) -> Result<(), OutOfMemory>
+        requires { cells < CELLS_BELOW }
+        ensures nothing { OnOk result (self.new.order.items ≡ []) }
+        ensures cells { OnOk result (length self.new.numbers.items ≡ cells) }
+        ensures most { length self.new.numbers.items ≤ cells }
+    {
+        self.clear();
+        self.order.reserve(cells)?;
+        self.numbers.resize(cells, 0)?;
+        Ok(())
     }
 
     /// Whether a cell has a number.
@@ -109,13 +112,6 @@ impl Numbering {
         }
     }
 
-    /// The cells, in their order.
-    pub(crate) fn as_slice(&self) -> &[u8]
-        ensures { result.now ≡ self.now.order.items }
-    {
-        self.order.as_slice()
-    }
-
     /// How many cells the order has.
     #[inline(always)]
     pub(crate) fn len(&self) -> usize
@@ -124,13 +120,12 @@ impl Numbering {
         self.order.len()
     }
 
-    /// The cell at a place of the order, if it is that long.
+    /// How many cells it may number.
     #[inline(always)]
-    pub(crate) fn cell_at(&self, place: usize) -> Option<usize>
-        ensures { result ≡ slice_get self.now.order.items place }
+    pub(crate) fn cells(&self) -> usize
+        ensures { result ≡ length self.now.numbers.items }
     {
-        let cell = self.order.get(place)?;
-        Some(*cell as usize)
+        self.numbers.len()
     }
 
     /// The number of a cell.
@@ -141,43 +136,5 @@ impl Numbering {
         ensures small { result < 255 }
     {
         self.numbers[cell]
-    }
-}
-
-/// A numbering of all its cells, each by its own number.
-#[derive(Drop)]
-pub(crate) struct Own {
-    numbering: Numbering,
-    ghost own: { numbering.order.items ≡ numbers_from 0 (length numbering.numbers.items) },
-}
-
-impl Own {
-    /// No cells. It allocates nothing.
-    pub(crate) fn none(alloc: Global) -> Own {
-        Own {
-            numbering: Numbering::none(alloc),
-        }
-    }
-
-    /// The numbering, rebuilt for `cells` cells if it has fewer.
-    #[inline(always)]
-    pub(crate) fn of(self, cells: usize) -> Result<Own, OutOfMemory>
-        ensures { IfOk result (λ own. cells ≤ length own.numbering.numbers.items) }
-    {
-        if cells <= self.numbering.len() {
-            return Ok(self);
-        }
-        let mut numbering = self.numbering.restarted(cells)?;
-        numbering.assign_range(0, cells);
-        Ok(Own { numbering })
-    }
-
-    /// The numbering.
-    #[inline(always)]
-    pub(crate) fn numbering(&self) -> &Numbering
-        ensures cells { length result.now.numbers.items ≡ length self.now.numbering.numbers.items }
-        ensures own { result.now.order.items ≡ numbers_from 0 (length result.now.numbers.items) }
-    {
-        &self.numbering
     }
 }

@@ -1,33 +1,26 @@
 //! The code of nodes, records and what threads hold: by their own numbers, or canonical.
-ghost use Rattle.std.specs.Prelude.{◌≡◌, ◌≤◌, ◌<◌, ◌-◌, ◌++◌, ◌↔◌, ◌⊎◌, ℕ, List, length, map, take, drop, IfOk, OnOk};
-ghost use Rattle.std.specs.List.{All};
-ghost use Rattle.tree_machine.specs.Canonical.{canonical_code, canonical_parts, cut_front, parts_by, ArePartsRead};
-ghost use Rattle.tree_machine.specs.Canonical.{IsMetInOrder};
-ghost use Rattle.tree_machine.specs.Flat.{all_front, behind_code, front_code, graph_code, left_code, part_codes};
-ghost use Rattle.tree_machine.specs.Flat.{parts_code};
+ghost use Rattle.std.specs.Prelude.{◌≡◌, ◌≤◌, ◌<◌, ◌-◌, ◌++◌, ◌↔◌, ◌⊎◌, ℕ, List, length, IfOk, OnOk};
+ghost use Rattle.tree_machine.specs.Canonical.{canonical_code, canonical_front, canonical_parts, cut_front};
+ghost use Rattle.tree_machine.specs.Canonical.{front_nodes, front_records, nodes_met, records_met};
+ghost use Rattle.tree_machine.specs.Canonical.{ArePartsRead, IsMetInOrder};
+ghost use Rattle.tree_machine.specs.Cells.{IsRooted};
+ghost use Rattle.tree_machine.specs.Coding.{coded_by, nodes_by, records_by, with_names, with_part, with_parts};
+ghost use Rattle.tree_machine.specs.Coding.{IsOwn, IsWalk};
+ghost use Rattle.tree_machine.specs.Flat.{all_front, behind_code, front_code, graph_code, part_codes, parts_code};
 ghost use Rattle.tree_machine.specs.Naming.{code_by};
-ghost use Rattle.tree_machine.specs.Parts.{Parts as Contents, part_at, ArePartsInRange, CanPartsBePaired};
-ghost use Rattle.tree_machine.specs.Written.{renamed_by, with_bytes};
+ghost use Rattle.tree_machine.specs.Parts.{Parts as Contents, part_at, parts_graph, parts_held};
+ghost use Rattle.tree_machine.specs.Parts.{ArePartsInRange, CanPartsBePaired};
 
 use crate::bytes::Bytes;
+use crate::coder::Coder;
 use crate::encode_buffer::EncodeBuffer;
 use crate::front::Front;
-use crate::names::Names;
 use crate::naming::Naming;
-use crate::numbering::Own;
-use crate::part_walks::{front_names, names_behind};
+use crate::number::sum_of;
+use crate::output::Output;
 use crate::parts::Parts;
-use crate::writer::Writer;
 use sched_program::OutOfMemory;
 use std::alloc::Global;
-use std::mem::replace;
-
-/// The greater of two counts.
-fn most(some: usize, more: usize) -> usize
-    ensures { (some ≤ result) × (more ≤ result) }
-{
-    if some < more { more } else { some }
-}
 
 /// The lesser of two counts.
 fn least(some: usize, more: usize) -> usize
@@ -37,174 +30,207 @@ fn least(some: usize, more: usize) -> usize
     if some < more { some } else { more }
 }
 
-/// Writes the nodes that have the numbers from one place to another.
-fn write_nodes<P: Parts>(
-    parts: &P,
-    start: usize,
-    end: usize,
-    writer: &mut Writer<'_>,
-) -> Result<(), OutOfMemory>
+/// Visits all nodes, in the order of their numbers.
+fn visit_nodes<P: Parts>(parts: &P, coder: &mut Coder) -> Result<(), OutOfMemory>
     requires in_range { (fixed : ℕ) × ArePartsInRange fixed (P.parts parts.now) }
-    requires nodes { writer.old.nodes ≡ length (P.parts parts.now).nodes }
-    requires records { writer.old.records ≡ length (P.parts parts.now).records }
-    requires order { start ≤ end }
-    requires within { end ≤ length writer.old.node_order }
-    requires known { All (λ x. x < length (P.parts parts.now).nodes) (take end writer.old.node_order) }
-    ensures { OnOk result (writer.new ≡ with_bytes writer.old
-        (part_codes (map (λ x. renamed_by writer.old (part_at (P.parts parts.now).nodes x))
-        (take (end - start) (drop start writer.old.node_order))))) }
+    requires nodes { length (P.parts parts.now).nodes ≤ coder.old.nodes_below }
+    requires records { length (P.parts parts.now).records ≤ coder.old.records_below }
+    ensures { OnOk result (coder.new ≡ with_parts coder.old (P.parts parts.now).nodes) }
 {
-    for place in start..end {
-        match writer.node_at(place) {
-            Some(node) => parts.visit_node(node, writer)?,
-            None => break,
-        }
+    for index in 0..parts.node_count() {
+        parts.visit_node(index, coder)?;
     }
     Ok(())
 }
 
-/// Writes the records that have the numbers from one place to another.
-fn write_records<P: Parts>(
-    parts: &P,
-    start: usize,
-    end: usize,
-    writer: &mut Writer<'_>,
-) -> Result<(), OutOfMemory>
+/// Visits all records, in the order of their numbers.
+fn visit_records<P: Parts>(parts: &P, coder: &mut Coder) -> Result<(), OutOfMemory>
     requires in_range { (fixed : ℕ) × ArePartsInRange fixed (P.parts parts.now) }
-    requires nodes { writer.old.nodes ≡ length (P.parts parts.now).nodes }
-    requires records { writer.old.records ≡ length (P.parts parts.now).records }
-    requires order { start ≤ end }
-    requires within { end ≤ length writer.old.record_order }
-    ensures { OnOk result (writer.new ≡ with_bytes writer.old
-        (part_codes (map (λ y. renamed_by writer.old (part_at (P.parts parts.now).records y))
-        (take (end - start) (drop start writer.old.record_order))))) }
+    requires nodes { length (P.parts parts.now).nodes ≤ coder.old.nodes_below }
+    requires records { length (P.parts parts.now).records ≤ coder.old.records_below }
+    ensures { OnOk result (coder.new ≡ with_parts coder.old (P.parts parts.now).records) }
 {
-    for place in start..end {
-        match writer.record_at(place) {
-            Some(record) => parts.visit_record(record, writer)?,
-            None => break,
-        }
+    for index in 0..parts.record_count() {
+        parts.visit_record(index, coder)?;
     }
     Ok(())
 }
 
-/// Writes what each thread holds, in the order of the threads.
-fn write_held<P: Parts>(parts: &P, writer: &mut Writer<'_>) -> Result<(), OutOfMemory>
+/// Visits what each thread holds, in the order of the threads.
+#[inline(always)]
+fn visit_all_held<P: Parts>(parts: &P, coder: &mut Coder) -> Result<(), OutOfMemory>
     requires in_range { (fixed : ℕ) × ArePartsInRange fixed (P.parts parts.now) }
-    requires nodes { writer.old.nodes ≡ length (P.parts parts.now).nodes }
-    requires records { writer.old.records ≡ length (P.parts parts.now).records }
-    ensures { OnOk result (writer.new ≡ with_bytes writer.old
-        (part_codes (map (renamed_by writer.old) (P.parts parts.now).held))) }
+    requires nodes { length (P.parts parts.now).nodes ≤ coder.old.nodes_below }
+    requires records { length (P.parts parts.now).records ≤ coder.old.records_below }
+    ensures { OnOk result (coder.new ≡ with_parts coder.old (P.parts parts.now).held) }
 {
     for index in 0..parts.held_count() {
-        parts.visit_held(index, writer)?;
+        parts.visit_held(index, coder)?;
     }
     Ok(())
 }
 
-/// Places of nodes, and places of records, from one to another.
-#[derive(Clone, Copy)]
-struct Places {
-    nodes: (usize, usize),
-    records: (usize, usize),
-}
-
-/// Writes nodes and records that have the numbers of these places: how many they are, and all of them.
-fn write_graph<P: Parts>(
-    parts: &P,
-    places: Places,
-    writer: &mut Writer<'_>,
-) -> Result<(), OutOfMemory>
-    requires in_range { (fixed : ℕ) × ArePartsInRange fixed (P.parts parts.now) }
-    requires nodes { writer.old.nodes ≡ length (P.parts parts.now).nodes }
-    requires records { writer.old.records ≡ length (P.parts parts.now).records }
-    requires node_order { places.nodes.0 ≤ places.nodes.1 }
-    requires record_order { places.records.0 ≤ places.records.1 }
-    requires nodes_within { places.nodes.1 ≤ length writer.old.node_order }
-    requires records_within { places.records.1 ≤ length writer.old.record_order }
-    requires nodes_bounded { places.nodes.1 < 255 }
-    requires records_bounded { places.records.1 < 255 }
-    requires known { All (λ x. x < length (P.parts parts.now).nodes) (take places.nodes.1 writer.old.node_order) }
-    ensures { OnOk result (writer.new ≡ with_bytes writer.old (graph_code
-        (map (λ x. renamed_by writer.old (part_at (P.parts parts.now).nodes x))
-        (take (places.nodes.1 - places.nodes.0) (drop places.nodes.0 writer.old.node_order)))
-        (map (λ y. renamed_by writer.old (part_at (P.parts parts.now).records y))
-        (take (places.records.1 - places.records.0) (drop places.records.0 writer.old.record_order))))) }
-{
-    let (first_node, end_node) = places.nodes;
-    let (first_record, end_record) = places.records;
-    writer.put_count((end_node - first_node) as u8)?;
-    writer.put_count((end_record - first_record) as u8)?;
-    write_nodes(parts, first_node, end_node, writer)?;
-    write_records(parts, first_record, end_record, writer)
-}
-
-/// Writes what the threads hold, and the nodes and the records that have numbers behind these fronts, if some have.
+/// Visits the node or the record with this number as a cell: records come behind the nodes. A record is written apart.
 #[inline(always)]
-fn write_behind_front<P: Parts>(
+fn visit_cell<P: Parts>(
     parts: &P,
-    front_nodes: usize,
-    front_records: usize,
-    writer: &mut Writer<'_>,
+    cell: usize,
+    coder: &mut Coder,
+    records: &mut Output,
 ) -> Result<(), OutOfMemory>
     requires in_range { (fixed : ℕ) × ArePartsInRange fixed (P.parts parts.now) }
-    requires nodes { writer.old.nodes ≡ length (P.parts parts.now).nodes }
-    requires records { writer.old.records ≡ length (P.parts parts.now).records }
-    requires front_nodes { front_nodes ≤ length writer.old.node_order }
-    requires front_records { front_records ≤ length writer.old.record_order }
-    requires nodes_bounded { length writer.old.node_order < 255 }
-    requires records_bounded { length writer.old.record_order < 255 }
-    requires known { All (λ x. x < length (P.parts parts.now).nodes) writer.old.node_order }
-    ensures { OnOk result (writer.new ≡ with_bytes writer.old
-        (part_codes (parts_by writer.old.node_order writer.old.record_order (P.parts parts.now)).held
-        ++ left_code
-        (drop front_nodes (parts_by writer.old.node_order writer.old.record_order (P.parts parts.now)).nodes)
-        (drop front_records (parts_by writer.old.node_order writer.old.record_order (P.parts parts.now)).records))) }
+    requires nodes { length (P.parts parts.now).nodes ≡ coder.old.nodes_below }
+    requires records { length (P.parts parts.now).records ≡ coder.old.records_below }
+    ensures node { OnOk result (cell < coder.old.nodes_below
+        → (coder.new ≡ with_part coder.old (part_at (P.parts parts.now).nodes cell)) × (records.new ≡ records.old)) }
+    ensures record { OnOk result (coder.old.nodes_below ≤ cell
+        → (coder.new ≡ with_names coder.old (part_at (P.parts parts.now).records (cell - coder.old.nodes_below)))
+        × (records.new ≡ records.old
+        ++ coded_by coder.new (part_at (P.parts parts.now).records (cell - coder.old.nodes_below)))) }
 {
-    write_held(parts, writer)?;
-    let nodes = writer.node_count();
-    let records = writer.record_count();
-    if front_nodes < nodes || front_records < records {
-        let places = Places {
-            nodes: (front_nodes, nodes),
-            records: (front_records, records),
-        };
-        write_graph(parts, places, writer)?;
+    let nodes = parts.node_count();
+    if cell < nodes {
+        return parts.visit_node(cell, coder);
+    }
+    coder.exchange(records);
+    parts.visit_record(cell - nodes, coder)?;
+    coder.exchange(records);
+    Ok(())
+}
+
+/// Visits the cells in the queue, in their order, and those that go into it meanwhile. Records are written apart. The
+/// queue is that of a `walk`: its roots, and the cells that it met and visited before.
+fn visit_queue<P: Parts>(
+    parts: &P,
+    coder: &mut Coder,
+    records: &mut Output,
+) -> Result<(), OutOfMemory>
+    ghost walk: { List ℕ × List ℕ }
+    requires in_range { (fixed : ℕ) × ArePartsInRange fixed (P.parts parts.now) }
+    requires rooted { IsRooted (parts_graph (P.parts parts.now) ++ parts_held (P.parts parts.now)) walk.0 }
+    requires begun { IsWalk (P.parts parts.now) walk.0 walk.1 (length walk.1) coder.old }
+    ensures walked { OnOk result (IsWalk (P.parts parts.now) walk.0 walk.1
+        (length (parts_graph (P.parts parts.now) ++ parts_held (P.parts parts.now))) coder.new) }
+    ensures nodes { OnOk result (coder.new.bytes ≡ coder.old.bytes
+        ++ part_codes (nodes_by coder.new (P.parts parts.now) coder.new.queue)) }
+    ensures records { OnOk result (records.new ≡ records.old
+        ++ part_codes (records_by coder.new (P.parts parts.now) coder.new.queue)) }
+{
+    let graph = sum_of(parts.node_count(), parts.record_count())?;
+    for place in 0..sum_of(graph, parts.held_count())? {
+        match coder.cell_at(place) {
+            Some(cell) => visit_cell(parts, cell, coder, records)?,
+            None => break,
+        }
     }
     Ok(())
 }
 
-/// Appends the code of nodes, records and what the threads hold by their own numbers: all nodes and records come in
+/// How many nodes and how many records have numbers.
+#[derive(Clone, Copy)]
+struct Counts {
+    nodes: usize,
+    records: usize,
+}
+
+/// Writes what the cells in the queue lead to: how many nodes and records they are, and all of them. Those before the
+/// walk are left out of the counts.
+fn visit_graph<P: Parts>(
+    parts: &P,
+    first: Counts,
+    coder: &mut Coder,
+    records: &mut Output,
+) -> Result<(), OutOfMemory>
+    ghost walk: { List ℕ × List ℕ }
+    requires in_range { (fixed : ℕ) × ArePartsInRange fixed (P.parts parts.now) }
+    requires rooted { IsRooted (parts_graph (P.parts parts.now) ++ parts_held (P.parts parts.now)) walk.0 }
+    requires begun { IsWalk (P.parts parts.now) walk.0 walk.1 (length walk.1) coder.old }
+    requires nodes { first.nodes ≡ length (nodes_met coder.old.nodes_below walk.1) }
+    requires records { first.records ≡ length (records_met coder.old.nodes_below coder.old.records_below walk.1) }
+    ensures walked { OnOk result (IsWalk (P.parts parts.now) walk.0 walk.1
+        (length (parts_graph (P.parts parts.now) ++ parts_held (P.parts parts.now))) coder.new) }
+    ensures written { OnOk result (coder.new.bytes ≡ coder.old.bytes
+        ++ graph_code (nodes_by coder.new (P.parts parts.now) coder.new.queue)
+        (records_by coder.new (P.parts parts.now) coder.new.queue)) }
+{
+    let place = coder.put_counts(0, 0)?;
+    records.clear();
+    visit_queue(parts, coder, records)?;
+    let nodes = coder.node_count() - first.nodes;
+    let others = coder.record_count() - first.records;
+    coder.set_counts(place, nodes as u8, others as u8);
+    coder.put_all(records)
+}
+
+/// Writes what comes behind the front: what the threads hold, and what only that leads to, if there is such.
+#[inline(always)]
+fn visit_behind<P: Parts>(
+    parts: &P,
+    fixed: usize,
+    coder: &mut Coder,
+    records: &mut Output,
+) -> Result<(), OutOfMemory>
+    requires in_range { ArePartsInRange fixed (P.parts parts.now) }
+    requires nodes_below { length (P.parts parts.now).nodes ≡ coder.old.nodes_below }
+    requires records_below { length (P.parts parts.now).records ≡ coder.old.records_below }
+    requires nodes { coder.old.nodes ≡ front_nodes fixed (P.parts parts.now) }
+    requires records { coder.old.records ≡ front_records fixed (P.parts parts.now) }
+    ensures { OnOk result (coder.new.bytes ≡ coder.old.bytes
+        ++ behind_code (canonical_front fixed (P.parts parts.now)) (canonical_parts fixed (P.parts parts.now))) }
+{
+    let _ = fixed;
+    let first = Counts {
+        nodes: coder.node_count(),
+        records: coder.record_count(),
+    };
+    coder.clear_queue();
+    visit_all_held(parts, coder)?;
+    if coder.node_count() == first.nodes && coder.record_count() == first.records {
+        return Ok(());
+    }
+    visit_graph(parts, first, coder, records)
+}
+
+/// Writes the code of nodes, records and what the threads hold by their own numbers: all nodes and records come in
 /// front.
+#[inline(always)]
+fn visit_own<P: Parts>(parts: &P, coder: &mut Coder) -> Result<(), OutOfMemory>
+    requires in_range { (fixed : ℕ) × ArePartsInRange fixed (P.parts parts.now) }
+    requires own { IsOwn (length (P.parts parts.now).nodes) (length (P.parts parts.now).records) coder.old }
+    ensures { OnOk result (coder.new ≡ record coder.old {
+      bytes = coder.old.bytes ++ parts_code (all_front (P.parts parts.now)) (P.parts parts.now);
+    }) }
+{
+    let _place = coder.put_counts(parts.node_count(), parts.record_count())?;
+    visit_nodes(parts, coder)?;
+    visit_records(parts, coder)?;
+    visit_all_held(parts, coder)
+}
+
+/// Appends that code.
 ///
 /// # Errors
-/// `OutOfMemory` where a growth was refused, or the nodes or records are more than bytes can name. The bytes in the
+/// `OutOfMemory` where a growth was refused, or the nodes and records are more than bytes can name. The bytes in the
 /// buffer are then unspecified.
 #[inline(always)]
-fn write_own<P: Parts>(
-    alloc: Global,
-    parts: &P,
-    buffer: &mut EncodeBuffer,
-) -> Result<(), OutOfMemory>
+fn write_own<P: Parts>(parts: &P, buffer: &mut EncodeBuffer) -> Result<(), OutOfMemory>
     requires { (fixed : ℕ) × ArePartsInRange fixed (P.parts parts.now) }
     ensures { OnOk result (buffer.new
         ≡ buffer.old ++ parts_code (all_front (P.parts parts.now)) (P.parts parts.now)) }
 {
-    let nodes = parts.node_count();
-    let records = parts.record_count();
-    let own = replace(&mut buffer.own, Own::none(alloc)).of(most(nodes, records))?;
-    let bytes = replace(&mut buffer.bytes, Vec::new(alloc));
-    let names = own.numbering();
-    let mut writer = Writer::behind(names, names, bytes, nodes, records);
-    let places = Places {
-        nodes: (0, nodes),
-        records: (0, records),
-    };
-    write_graph(parts, places, &mut writer)?;
-    write_held(parts, &mut writer)?;
-    buffer.bytes = writer.into_bytes();
-    buffer.own = own;
-    Ok(())
+    let coder = &mut buffer.own;
+    coder.number_all(parts.node_count(), parts.record_count())?;
+    coder.exchange(&mut buffer.out);
+    match visit_own(parts, coder) {
+        Ok(()) => {
+            coder.exchange(&mut buffer.out);
+            Ok(())
+        }
+        Err(refused) => {
+            coder.clear();
+            Err(refused)
+        }
+    }
 }
 
 /// Appends what comes behind the nodes and the records in that code: what the threads hold.
@@ -212,35 +238,33 @@ fn write_own<P: Parts>(
 /// # Errors
 /// `OutOfMemory` as `write_own`.
 #[inline(always)]
-fn write_own_held<P: Parts>(
-    alloc: Global,
-    parts: &P,
-    buffer: &mut EncodeBuffer,
-) -> Result<(), OutOfMemory>
+fn write_own_held<P: Parts>(parts: &P, buffer: &mut EncodeBuffer) -> Result<(), OutOfMemory>
     requires { (fixed : ℕ) × ArePartsInRange fixed (P.parts parts.now) }
     ensures { OnOk result (buffer.new ≡ buffer.old ++ part_codes (P.parts parts.now).held) }
 {
-    let nodes = parts.node_count();
-    let records = parts.record_count();
-    let own = replace(&mut buffer.own, Own::none(alloc)).of(most(nodes, records))?;
-    let bytes = replace(&mut buffer.bytes, Vec::new(alloc));
-    let names = own.numbering();
-    let mut writer = Writer::behind(names, names, bytes, nodes, records);
-    write_held(parts, &mut writer)?;
-    buffer.bytes = writer.into_bytes();
-    buffer.own = own;
-    Ok(())
+    let coder = &mut buffer.own;
+    coder.number_all(parts.node_count(), parts.record_count())?;
+    coder.exchange(&mut buffer.out);
+    match visit_all_held(parts, coder) {
+        Ok(()) => {
+            coder.exchange(&mut buffer.out);
+            Ok(())
+        }
+        Err(refused) => {
+            coder.clear();
+            Err(refused)
+        }
+    }
 }
 
 /// Appends the canonical code of nodes, records and what the threads hold. In front comes what the first `fixed` nodes
 /// reach. Behind what the threads hold comes what only they reach. What neither reach is left out.
 ///
 /// # Errors
-/// `OutOfMemory` where a growth was refused, or the nodes, records and threads are more than bytes can name. The bytes
-/// in the buffer are then unspecified.
+/// `OutOfMemory` where a growth was refused, or the nodes and records are more than bytes can name. The bytes in the
+/// buffer are then unspecified.
 #[inline(always)]
 fn write_canonical<P: Parts>(
-    alloc: Global,
     fixed: usize,
     parts: &P,
     buffer: &mut EncodeBuffer,
@@ -248,33 +272,24 @@ fn write_canonical<P: Parts>(
     requires { ArePartsInRange fixed (P.parts parts.now) }
     ensures { OnOk result (buffer.new ≡ buffer.old ++ canonical_code fixed (P.parts parts.now)) }
 {
-    let queue = replace(&mut buffer.queue, Vec::new(alloc));
-    let names = replace(&mut buffer.names, Names::none(alloc));
-    let (queue, names) = front_names(parts, fixed, queue, names)?;
-    let front_nodes = names.nodes.len();
-    let front_records = names.records.len();
-    let (queue, names) = names_behind(parts, fixed, queue, names)?;
-    let bytes = replace(&mut buffer.bytes, Vec::new(alloc));
-    let nodes = parts.node_count();
-    let records = parts.record_count();
-    let mut writer = Writer::behind(&names.nodes, &names.records, bytes, nodes, records);
-    let places = Places {
-        nodes: (0, front_nodes),
-        records: (0, front_records),
+    let coder = &mut buffer.canonical;
+    coder.restart(fixed, 0, parts.node_count(), parts.record_count())?;
+    coder.exchange(&mut buffer.out);
+    coder.enqueue_first(fixed)?;
+    let none = Counts {
+        nodes: 0,
+        records: 0,
     };
-    write_graph(parts, places, &mut writer)?;
-    write_behind_front(parts, front_nodes, front_records, &mut writer)?;
-    buffer.bytes = writer.into_bytes();
-    buffer.queue = queue;
-    buffer.names = names;
+    visit_graph(parts, none, coder, &mut buffer.records)?;
+    visit_behind(parts, fixed, coder, &mut buffer.records)?;
+    coder.exchange(&mut buffer.out);
     Ok(())
 }
 
 /// Appends what comes behind the front of that code. The front is that of the parts themselves, by their own numbers.
-/// Where all parts come in front, no walk is made.
+/// Where all parts come in front, each is named by its own number.
 #[inline(always)]
 fn write_canonical_behind<P: Parts>(
-    alloc: Global,
     fixed: usize,
     front: Front,
     parts: &P,
@@ -290,18 +305,13 @@ fn write_canonical_behind<P: Parts>(
     let front_nodes = least(usize::from(front.nodes), nodes);
     let front_records = least(usize::from(front.records), records);
     if front_nodes == nodes && front_records == records {
-        return write_own_held(alloc, parts, buffer);
+        return write_own_held(parts, buffer);
     }
-    let queue = replace(&mut buffer.queue, Vec::new(alloc));
-    let names = replace(&mut buffer.names, Names::none(alloc));
-    let names = names.first(front_nodes, front_records, nodes, records)?;
-    let (queue, names) = names_behind(parts, fixed, queue, names)?;
-    let bytes = replace(&mut buffer.bytes, Vec::new(alloc));
-    let mut writer = Writer::behind(&names.nodes, &names.records, bytes, nodes, records);
-    write_behind_front(parts, front_nodes, front_records, &mut writer)?;
-    buffer.bytes = writer.into_bytes();
-    buffer.queue = queue;
-    buffer.names = names;
+    let coder = &mut buffer.canonical;
+    coder.restart(front_nodes, front_records, nodes, records)?;
+    coder.exchange(&mut buffer.out);
+    visit_behind(parts, fixed, coder, &mut buffer.records)?;
+    coder.exchange(&mut buffer.out);
     Ok(())
 }
 
@@ -312,7 +322,6 @@ fn write_canonical_behind<P: Parts>(
 /// `OutOfMemory` where a growth was refused, or the nodes, records and threads are more than bytes can name. The bytes
 /// in the buffer are then unspecified.
 pub fn write_parts<P: Parts>(
-    alloc: Global,
     naming: Naming,
     fixed: usize,
     parts: &P,
@@ -324,8 +333,8 @@ pub fn write_parts<P: Parts>(
         (canonical_code fixed (P.parts parts.now))) }
 {
     match naming {
-        Naming::Own => write_own(alloc, parts, buffer),
-        Naming::Canonical => write_canonical(alloc, fixed, parts, buffer),
+        Naming::Own => write_own(parts, buffer),
+        Naming::Canonical => write_canonical(fixed, parts, buffer),
     }
 }
 
@@ -335,7 +344,6 @@ pub fn write_parts<P: Parts>(
 /// # Errors
 /// `OutOfMemory` as `write_parts`.
 pub fn write_parts_behind<P: Parts>(
-    alloc: Global,
     naming: Naming,
     fixed: usize,
     front: Front,
@@ -349,8 +357,8 @@ pub fn write_parts_behind<P: Parts>(
         (canonical_code fixed (P.parts parts.now))) }
 {
     match naming {
-        Naming::Own => write_own_held(alloc, parts, buffer),
-        Naming::Canonical => write_canonical_behind(alloc, fixed, front, parts, buffer),
+        Naming::Own => write_own_held(parts, buffer),
+        Naming::Canonical => write_canonical_behind(fixed, front, parts, buffer),
     }
 }
 
@@ -367,6 +375,6 @@ pub fn form_parts<P: Parts>(alloc: Global, fixed: usize, parts: &P) -> Result<By
         → (form ≡ canonical_code fixed other) ↔ CanPartsBePaired fixed (P.parts parts.now) other) }
 {
     let mut buffer = EncodeBuffer::new(alloc);
-    write_canonical(alloc, fixed, parts, &mut buffer)?;
+    write_canonical(fixed, parts, &mut buffer)?;
     Ok(buffer.into_bytes())
 }

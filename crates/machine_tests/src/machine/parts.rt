@@ -1,13 +1,14 @@
 //! Nodes and records as bytes.
 ghost use Rattle.std.specs.Prelude.{◌≡◌, ◌<◌, IsTrue, IfSome, OnOk};
 ghost use Rattle.std.specs.List.{All};
+ghost use Rattle.tree_machine.specs.Coding.{with_part};
 ghost use Rattle.tree_machine.specs.Parts.{IsPartBelow, ArePartsInRange};
 
 use crate::machine::ranges::{are_all_below, are_named_below};
 use sched_program::OutOfMemory;
 use std::alloc::Global;
 use std::marker::Model;
-use tree_machine::{Bytes, EncodeBuffer, Naming, PartVisitor, Parts, form_parts, write_parts};
+use tree_machine::{Bytes, Coder, EncodeBuffer, Naming, Parts, form_parts, write_parts};
 
 /// A part that is there already. The records of the stack come behind the other ones.
 #[derive(Drop)]
@@ -46,12 +47,12 @@ pub fn row_of(
 }
 
 impl Row {
-    /// Lets a visitor visit it.
-    fn show<V: PartVisitor>(&self, visitor: &mut V) -> Result<(), OutOfMemory>
-        requires { IsPartBelow (V.nodes_below visitor.old) (V.records_below visitor.old) self.now }
-        ensures { OnOk result (V.visited visitor.old self.now visitor.new) }
+    /// Lets a coder visit it.
+    fn show(&self, coder: &mut Coder) -> Result<(), OutOfMemory>
+        requires { IsPartBelow coder.old.nodes_below coder.old.records_below self.now }
+        ensures { OnOk result (coder.new ≡ with_part coder.old self.now) }
     {
-        visitor.visit(self.facts, self.nodes, self.records, self.stack)
+        coder.visit(self.facts, self.nodes, self.records, self.stack)
     }
 
     /// Whether it names nodes and records below these bounds.
@@ -89,23 +90,19 @@ impl Parts for Tables<'_> {
         self.held.len()
     }
 
-    fn visit_node<V: PartVisitor>(&self, index: usize, visitor: &mut V) -> Result<(), OutOfMemory> {
-        self.nodes[index].show(visitor)
+    fn visit_node(&self, index: usize, coder: &mut Coder) -> Result<(), OutOfMemory> {
+        self.nodes[index].show(coder)
     }
 
-    fn visit_record<V: PartVisitor>(
-        &self,
-        index: usize,
-        visitor: &mut V,
-    ) -> Result<(), OutOfMemory> {
+    fn visit_record(&self, index: usize, coder: &mut Coder) -> Result<(), OutOfMemory> {
         match self.records.get(index) {
-            Some(row) => row.show(visitor),
-            None => visitor.visit(&[], &[], &[], &[]),
+            Some(row) => row.show(coder),
+            None => coder.visit(&[], &[], &[], &[]),
         }
     }
 
-    fn visit_held<V: PartVisitor>(&self, index: usize, visitor: &mut V) -> Result<(), OutOfMemory> {
-        self.held[index].show(visitor)
+    fn visit_held(&self, index: usize, coder: &mut Coder) -> Result<(), OutOfMemory> {
+        self.held[index].show(coder)
     }
 }
 
@@ -147,7 +144,7 @@ fn code_of(alloc: Global, tables: &Tables, naming: Naming) -> Result<Bytes, OutO
         (record { nodes = tables.now.nodes.now; records = tables.now.records.now; held = tables.now.held.now }) }
 {
     let mut buffer = EncodeBuffer::new(alloc);
-    write_parts(alloc, naming, tables.fixed, tables, &mut buffer)?;
+    write_parts(naming, tables.fixed, tables, &mut buffer)?;
     Ok(Bytes::from_vec(Vec::from_slice(alloc, buffer.as_slice())?))
 }
 

@@ -53,14 +53,6 @@ names_met n r order (None ∷ ns) rs l k h = names_met n r order ns rs l.1 k h
 names_met n r order (Some x ∷ ns) rs l k h =
     let rest = names_met n r order ns rs l.1 k h.1 in ((has_node n order x h.0 l.0, rest.0), rest.1)
 
--- distinct numbers below n that begin with n of them are just these
-no_more : (n : ℕ) (xs ys : List ℕ) → IsDistinct nat_eq ys → AllByRecursion (λ x. x < n) ys → Extends xs ys
-    → length xs ≡ n → ys ≡ xs
-no_more n xs ys d b e l =
-    let short = length-le_from_distinct_below ys n d (all_has (λ x. x < n) ys b) in
-    let long = ap length e.is ∙ length-append xs e.rest in
-    e.is ∙ ap (λ r. xs ++ r) (nil_from_length e.rest (omega arith)) ∙ append-nil xs
-
 module _ (fixed : ℕ) (s : Parts) (h : ArePartsInRange fixed s) where
   -- an order that has what its cells name has the nodes and the records that its nodes and records name
   module _ (order : List ℕ) (distinct : IsDistinct nat_eq order)
@@ -292,32 +284,9 @@ module _ (fixed : ℕ) (s : Parts) (h : ArePartsInRange fixed s) where
         length-numbers_from 0 fixed,
       ))
 
-  -- at least as much is met as comes in front
-  pub front_nodes_bounded : length (front_nodes fixed s) ≤ length (met_nodes fixed s)
-  front_nodes_bounded =
-      let e = nodes_extended (front_nodes fixed s) (front_records fixed s) front_met in
-      omega (arith, ap length e.is, length-append (front_nodes fixed s) e.rest)
-
-  pub front_records_bounded : length (front_records fixed s) ≤ length (met_records fixed s)
-  front_records_bounded =
-      let e = records_extended (front_nodes fixed s) (front_records fixed s) front_met in
-      omega (arith, ap length e.is, length-append (front_records fixed s) e.rest)
-
   -- the roots of the second walk
   pub front_roots : IsRooted (parts_graph s ++ parts_held s)
       (as_cells (length s.nodes) (front_nodes fixed s) (front_records fixed s)
       ++ numbers_from (length (parts_graph s)) (length (parts_held s)))
   unfolding roots_behind
   front_roots = rooted_behind (front_nodes fixed s) (front_records fixed s) front_met
-
-  -- where all nodes come in front, no more are met, and so for records
-  pub all_front_nodes : length (front_nodes fixed s) ≡ length s.nodes → met_nodes fixed s ≡ front_nodes fixed s
-  all_front_nodes l =
-      no_more (length s.nodes) (front_nodes fixed s) (met_nodes fixed s) walk_met.nodes_distinct walk_met.nodes_below
-      (nodes_extended (front_nodes fixed s) (front_records fixed s) front_met) l
-
-  pub all_front_records : length (front_records fixed s) ≡ length s.records
-      → met_records fixed s ≡ front_records fixed s
-  all_front_records l =
-      no_more (length s.records) (front_records fixed s) (met_records fixed s) walk_met.records_distinct
-      walk_met.records_below (records_extended (front_nodes fixed s) (front_records fixed s) front_met) l

@@ -3,4 +3,4 @@ use Rattle.std.proofs.Common.{rules}
 use Rattle.ellen.proofs.memory_view.visit_place.Goals as goal
 
 pub returns-in-Search : goal.returns-in-Search
-returns-in-Search g c = search rules
+returns-in-Search c = search rules

@@ -1,12 +1,13 @@
--- The visitor visits the record's part.
-use Rattle.std.proofs.Common.{ℕ, [], ◌∷◌, OnOk, ap, sym, ◌∙◌, subst}
+-- The coder visits the record's part.
+use Rattle.std.proofs.Common.{◌≡◌, ℕ, [], ◌∷◌, OnOk, ap, sym, ◌∙◌, subst}
 use Rattle.std.specs.Prelude.{Option, Some}
+use Rattle.tree_machine.specs.Coding.{with_part}
 use Rattle.tree_machine.specs.Parts.{Part}
 use Rattle.ellen.specs.Parts.{record_part}
 use Rattle.ellen.proofs.memory_view.visit_record.Goals as goal
 
 pub returns-in-Del : goal.returns-in-Del
-returns-in-Del g c =
+returns-in-Del c =
     let d = c.in-Del.delete in
     let part : ℕ × Option ℕ → Part =
     λ word. record {
@@ -14,5 +15,5 @@ returns-in-Del g c =
       nodes = Some d.grandparent ∷ Some d.parent ∷ Some d.leaf ∷ [];
       records = word.1 ∷ [];
     } in
-    subst (λ p. OnOk c.visit-in-Del.result (g.V.PartVisitor.visited c.args.visitor.now p c.visit-in-Del.new.self))
+    subst (λ p. OnOk c.visit-in-Del.result (c.visit-in-Del.new.self ≡ with_part c.args.coder.now p))
     (ap part c.word_parts-kind.ensures.parts ∙ ap record_part (sym c.in-Del.is)) c.visit-in-Del.ensures

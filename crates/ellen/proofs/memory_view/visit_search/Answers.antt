@@ -1,9 +1,10 @@
-use Rattle.std.proofs.Common.{OnOk, subst, sym}
+use Rattle.std.proofs.Common.{◌≡◌, OnOk, subst, sym}
+use Rattle.tree_machine.specs.Coding.{with_part}
 use Rattle.ellen.specs.Parts.{search_part}
 use Rattle.ellen.proofs.memory_view.visit_search.Goals as goal
 
 pub returns-in-DFlag : goal.returns-in-DFlag
-returns-in-DFlag g c =
+returns-in-DFlag c =
     subst (λ at. OnOk c.visit_delete_flag.result
-    (g.V.PartVisitor.visited c.args.visitor.now (search_part at) c.visit_delete_flag.new.visitor))
+    (c.visit_delete_flag.new.coder ≡ with_part c.args.coder.now (search_part at)))
     (sym c.in-DFlag.is) c.visit_delete_flag.ensures

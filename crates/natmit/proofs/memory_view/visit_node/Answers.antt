@@ -1,4 +1,4 @@
--- The visitor visits the node's part.
+-- The coder visits the node's part.
 use Rattle.std.proofs.Common.{rules}
 use Rattle.natmit.proofs.memory_view.visit_node.Goals as goal
 

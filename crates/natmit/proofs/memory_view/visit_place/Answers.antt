@@ -1,4 +1,4 @@
--- The visitor visits what the place says.
+-- The coder visits what the place says.
 use Rattle.std.proofs.Common.{rules}
 use Rattle.natmit.proofs.memory_view.visit_place.Goals as goal
 

@@ -7,4 +7,4 @@ use Rattle.tree_machine.proofs.atomic.put_held.Given as goal
 -- what the threads so far hold is written
 abbrev pub invariant-loop-thread : goal.invariant-loop-thread
 invariant-loop-thread l =
-    l.bytes.items ≡ l.fn.bytes.items ++ flat_map held_code (places_of (take l.thread-index l.threads))
+    l.out ≡ l.fn.out ++ flat_map held_code (places_of (take l.thread-index l.threads))

@@ -1,89 +1,105 @@
-use Rattle.std.proofs.Common.{◌<◌, ◌++◌, ◌∙◌, ap, arith, length, rules, take, subst, sym}
-use Rattle.std.specs.List.{All}
-use Rattle.std.proofs.lemmas.List.Elements.{All-from_recursion, All-take}
-use Rattle.tree_machine.specs.Canonical.{parts_by}
-use Rattle.tree_machine.specs.Flat.{parts_code}
-use Rattle.tree_machine.specs.Written.{Written}
-use Rattle.tree_machine.specs.Laws.Canonical.{front_nodes_bounded, front_records_bounded, walk_met}
-use Rattle.tree_machine.proofs.Numbered.{order_bounded}
-use Rattle.tree_machine.proofs.PartsWritten.{whole_written}
+use Rattle.std.proofs.Common.{◌≡◌, ℕ, ◌++◌, [], List, length, append_assoc, ap, refl, subst, sym, ◌∙◌}
+use Rattle.tree_machine.specs.Canonical.{canonical_front, canonical_parts}
+use Rattle.tree_machine.specs.Cells.{IsRooted}
+use Rattle.tree_machine.specs.Coding.{Coding, IsWalk, nodes_by, records_by}
+use Rattle.tree_machine.specs.Flat.{behind_code, front_code, graph_code}
+use Rattle.tree_machine.specs.Graphs.{numbers_from}
+use Rattle.tree_machine.specs.Parts.{Parts, parts_graph, parts_held}
+use Rattle.tree_machine.specs.Laws.Canonical.{fixed_cells}
+use Rattle.tree_machine.proofs.FrontCodes.{begun_with, front_begun, front_written, nodes_are, records_are}
 use Rattle.tree_machine.proofs.part_code.write_canonical.Goals as goal
 
-pub write_graph-requires : goal.write_graph-requires
-write_graph-requires g c =
-    let s = g.P.Parts.parts c.args.parts.now in
-    let order = ap (λ (w : Written). w.node_order) c.behind-writer.ensures ∙ c.in_ok-queue-2.ensures.nodes in
-    let others = ap (λ (w : Written). w.record_order) c.behind-writer.ensures ∙ c.in_ok-queue-2.ensures.records in
-    let nodes = c.len-front_nodes.ensures ∙ ap length c.in_ok-queue.ensures.nodes in
-    let records = c.len-front_records.ensures ∙ ap length c.in_ok-queue.ensures.records in
-    let bounded = front_nodes_bounded c.args.fixed s c.requires in
-    let less = front_records_bounded c.args.fixed s c.requires in
-    record {
-      in_range = search rules;
-      nodes = search rules;
-      records = search rules;
-      node_order = search rules;
-      record_order = search rules;
-      nodes_within = omega (arith, nodes, ap length order, bounded);
-      records_within = omega (arith, records, ap length others, less);
-      nodes_bounded = omega (
-        arith,
-        nodes,
-        bounded,
-        ap length c.in_ok-queue-2.ensures.nodes,
-        order_bounded c.in_ok-queue-2.names.nodes,
-      );
-      records_bounded = omega (
-        arith,
-        records,
-        less,
-        ap length c.in_ok-queue-2.ensures.records,
-        order_bounded c.in_ok-queue-2.names.records,
-      );
-      known =
-          subst (λ o. All (λ x. x < length s.nodes) (take c.len-front_nodes.result o)) (sym order)
-          (All-take (λ x. x < length s.nodes) c.len-front_nodes.result _
-          (All-from_recursion (λ x. x < length s.nodes) _ (walk_met c.args.fixed s c.requires).nodes_below));
-    }
+-- the coder in which the fixed nodes have numbers and wait to be visited
+begun : (first then last : Coding) (fixed n r : ℕ) (s : Parts) (b bytes : List ℕ) → n ≡ length s.nodes
+    → r ≡ length s.records
+    → first ≡ record {
+      nodes_below = n;
+      records_below = r;
+      nodes = numbers_from 0 fixed;
+      records = [];
+      queue = [];
+      bytes = b;
+    } → then ≡ record first { bytes = bytes } → last ≡ record then { queue = then.queue ++ numbers_from 0 fixed }
+    → last ≡ begun_with fixed s bytes
+begun first then last fixed n r s b bytes en er ef et el =
+    el
+    ∙ ap (λ (k : Coding). record k { queue = k.queue ++ numbers_from 0 fixed })
+    (et ∙ ap (λ (k : Coding). record k { bytes = bytes }) ef)
+    ∙ (λ i. record {
+      nodes_below = en i;
+      records_below = er i;
+      nodes = numbers_from 0 fixed;
+      records = [];
+      queue = numbers_from 0 fixed;
+      bytes = bytes;
+    })
 
-pub write_behind_front-requires : goal.write_behind_front-requires
-write_behind_front-requires g c =
+-- the walk from the queue is that from the fixed nodes
+walked : (fixed v : ℕ) (s : Parts) (bytes : List ℕ) (c d : Coding) → c ≡ begun_with fixed s bytes
+    → IsWalk s c.queue [] v d → IsWalk s (numbers_from 0 fixed) [] v d
+walked fixed v s bytes c d e w = subst (λ (k : Coding). IsWalk s k.queue [] v d) e w
+
+pub visit_graph-requires : goal.visit_graph-requires
+visit_graph-requires g c κs within =
     let s = g.P.Parts.parts c.args.parts.now in
-    let order = ap (λ (w : Written). length w.node_order) c.in_ok-write_graph.ensures
-    ∙ ap (λ (w : Written). length w.node_order) c.behind-writer.ensures in
-    let others = ap (λ (w : Written). length w.record_order) c.in_ok-write_graph.ensures
-    ∙ ap (λ (w : Written). length w.record_order) c.behind-writer.ensures in
-    record {
-      in_range = search rules;
-      nodes = search rules;
-      records = search rules;
-      front_nodes = omega (
-        arith,
-        c.len-front_nodes.ensures ∙ ap length c.in_ok-queue.ensures.nodes,
-        order ∙ ap length c.in_ok-queue-2.ensures.nodes,
-        front_nodes_bounded c.args.fixed s c.requires,
-      );
-      front_records = omega (
-        arith,
-        c.len-front_records.ensures ∙ ap length c.in_ok-queue.ensures.records,
-        others ∙ ap length c.in_ok-queue-2.ensures.records,
-        front_records_bounded c.args.fixed s c.requires,
-      );
-      nodes_bounded = omega (arith, order, order_bounded c.in_ok-queue-2.names.nodes);
-      records_bounded = omega (arith, others, order_bounded c.in_ok-queue-2.names.records);
-      known = search rules;
-    }
+    let fixed = c.args.fixed in
+    let is = begun c.restart.new.self c.exchange.new.self c.enqueue_first.new.self fixed c.node_count.result
+    c.record_count.result s c.buffer.inside.canonical.bytes c.buffer.inside.out c.node_count.ensures
+    c.record_count.ensures c.in_ok-restart.ensures.begun c.exchange.ensures.bytes c.in_ok-enqueue_first.ensures in (
+      within,
+      (
+        (fixed, c.requires),
+        (
+          subst (λ (k : Coding). IsRooted (parts_graph s ++ parts_held s) k.queue) (sym is)
+              (fixed_cells fixed s c.requires),
+          (
+            subst (λ (k : Coding). IsWalk s k.queue [] 0 k) (sym is)
+                (front_begun fixed s c.requires c.buffer.inside.out),
+            (refl, refl),
+          ),
+        ),
+      ),
+    )
+
+pub visit_behind-requires-clause-nodes : goal.visit_behind-requires-clause-nodes
+visit_behind-requires-clause-nodes g c =
+    let s = g.P.Parts.parts c.args.parts.now in
+    let fixed = c.args.fixed in
+    let is = begun c.restart.new.self c.exchange.new.self c.enqueue_first.new.self fixed c.node_count.result
+    c.record_count.result s c.buffer.inside.canonical.bytes c.buffer.inside.out c.node_count.ensures
+    c.record_count.ensures c.in_ok-restart.ensures.begun c.exchange.ensures.bytes c.in_ok-enqueue_first.ensures in
+    nodes_are fixed s c.requires c.visit_graph.new.coder
+    (walked fixed (length (parts_graph s ++ parts_held s)) s c.buffer.inside.out c.enqueue_first.new.self
+    c.visit_graph.new.coder is c.in_ok-visit_graph.ensures.walked)
+
+pub visit_behind-requires-clause-records : goal.visit_behind-requires-clause-records
+visit_behind-requires-clause-records g c =
+    let s = g.P.Parts.parts c.args.parts.now in
+    let fixed = c.args.fixed in
+    let is = begun c.restart.new.self c.exchange.new.self c.enqueue_first.new.self fixed c.node_count.result
+    c.record_count.result s c.buffer.inside.canonical.bytes c.buffer.inside.out c.node_count.ensures
+    c.record_count.ensures c.in_ok-restart.ensures.begun c.exchange.ensures.bytes c.in_ok-enqueue_first.ensures in
+    records_are fixed s c.requires c.visit_graph.new.coder
+    (walked fixed (length (parts_graph s ++ parts_held s)) s c.buffer.inside.out c.enqueue_first.new.self
+    c.visit_graph.new.coder is c.in_ok-visit_graph.ensures.walked)
 
 pub returns : goal.returns
 returns g c =
     let s = g.P.Parts.parts c.args.parts.now in
-    let nodes = c.len-front_nodes.ensures ∙ ap length c.in_ok-queue.ensures.nodes in
-    let records = c.len-front_records.ensures ∙ ap length c.in_ok-queue.ensures.records in
-    whole_written c.node_count-nodes.result c.record_count-records.result c.len-front_nodes.result
-    c.len-front_records.result c.in_ok-queue-2.names.nodes.order.items c.in_ok-queue-2.names.records.order.items
-    c.replace-bytes.result.items c.into_bytes.result.items s c.behind-writer.result c.write_graph.new.writer
-    c.write_behind_front.new.writer c.behind-writer.ensures c.in_ok-write_graph.ensures
-    c.in_ok-write_behind_front.ensures c.into_bytes.ensures
-    ∙ (λ i. (ap (λ v. v.items) c.replace-bytes.ensures.value ∙ c.buffer.view_is) i
-    ++ parts_code (record { nodes = nodes i; records = records i })
-    (parts_by (c.in_ok-queue-2.ensures.nodes i) (c.in_ok-queue-2.ensures.records i) s))
+    let fixed = c.args.fixed in
+    let b = c.buffer.inside.out in
+    let front = front_code (canonical_front fixed s) (canonical_parts fixed s) in
+    let behind = behind_code (canonical_front fixed s) (canonical_parts fixed s) in
+    let is = begun c.restart.new.self c.exchange.new.self c.enqueue_first.new.self fixed c.node_count.result
+    c.record_count.result s c.buffer.inside.canonical.bytes b c.node_count.ensures
+    c.record_count.ensures c.in_ok-restart.ensures.begun c.exchange.ensures.bytes c.in_ok-enqueue_first.ensures in
+    let walk = walked fixed (length (parts_graph s ++ parts_held s)) s b c.enqueue_first.new.self
+    c.visit_graph.new.coder is c.in_ok-visit_graph.ensures.walked in
+    let put = front_written fixed s c.requires c.visit_graph.new.coder walk b
+    (c.in_ok-visit_graph.ensures.written
+    ∙ ap (λ (k : Coding). k.bytes ++ graph_code
+    (nodes_by c.visit_graph.new.coder s c.visit_graph.new.coder.queue)
+    (records_by c.visit_graph.new.coder s c.visit_graph.new.coder.queue)) is) in
+    c.exchange-2.ensures.other ∙ c.in_ok-visit_behind.ensures ∙ ap (λ l. l ++ behind) put
+    ∙ append_assoc b front behind
+    ∙ ap (λ l. l ++ (front ++ behind)) c.buffer.view_is

@@ -1,5 +1,6 @@
 use Rattle.std.proofs.Common.{◌≡◌, ℕ, zero, suc, ◌<◌, List, [], ◌∷◌, length, map, get_or, refl, ap, sym, ◌∙◌, subst}
 use Rattle.std.proofs.Common.{OnOk, arith}
+use Rattle.tree_machine.specs.Coding.{with_part}
 use Rattle.tree_machine.specs.Parts.{IsPartBelow, part_at}
 use Rattle.ellen.specs.declared.memory.Node.{Node}
 use Rattle.ellen.specs.declared.memory.Node.TheVariants.{Leaf}
@@ -17,14 +18,14 @@ part_is nodes seen i e below = ap (λ ns. node_part (get_or ns i (Leaf 0))) e �
     go (n ∷ ns) (suc k) h = go ns k (omega arith)
 
 pub visit_node-requires : goal.visit_node-requires
-visit_node-requires g c =
-    let visitor = c.args.visitor.now in
-    subst (IsPartBelow (g.V.PartVisitor.nodes_below visitor) (g.V.PartVisitor.records_below visitor))
+visit_node-requires c =
+    let coder = c.args.coder.now in
+    subst (IsPartBelow coder.nodes_below coder.records_below)
     (sym (part_is c.args.self.now.memory.now.nodes c.as_slice.result.now c.args.index c.as_slice.ensures
     c.requires.in_range)) c.requires.named
 
 pub returns : goal.returns
-returns g c =
-    subst (λ p. OnOk c.visit_node.result (g.V.PartVisitor.visited c.args.visitor.now p c.visit_node.new.visitor))
+returns c =
+    subst (λ p. OnOk c.visit_node.result (c.visit_node.new.coder ≡ with_part c.args.coder.now p))
     (part_is c.args.self.now.memory.now.nodes c.as_slice.result.now c.args.index c.as_slice.ensures c.requires.in_range)
     c.visit_node.ensures

@@ -2,6 +2,7 @@ use Rattle.std.proofs.Common.{◌≡◌, ℕ, List, map, slice_get, ap, sym, ◌
 use Rattle.std.proofs.lemmas.Option.{slice_get-map}
 use Rattle.std.specs.Prelude.{Option, unwrap_or}
 use Rattle.std.specs.Option.{option_copied, option_map}
+use Rattle.tree_machine.specs.Coding.{with_part}
 use Rattle.tree_machine.specs.Parts.{IsPartBelow, no_part, part_at}
 use Rattle.ellen.specs.declared.memory.Record.{Record}
 use Rattle.ellen.specs.Parts.{record_part}
@@ -13,20 +14,20 @@ part_is records i o e =
     ap (λ r. unwrap_or r no_part) (ap (option_map record_part) e ∙ sym (slice_get-map record_part records i))
 
 pub visit_record-requires : goal.visit_record-requires
-visit_record-requires g c =
-    let visitor = c.args.visitor.now in
-    subst (IsPartBelow (g.V.PartVisitor.nodes_below visitor) (g.V.PartVisitor.records_below visitor))
+visit_record-requires c =
+    let coder = c.args.coder.now in
+    subst (IsPartBelow coder.nodes_below coder.records_below)
     (sym (part_is c.args.self.now.memory.now.records c.args.index _
     (sym (ap option_copied c.in-Some.is) ∙ c.get.ensures))) c.requires
 
 pub returns-in-Some : goal.returns-in-Some
-returns-in-Some g c =
-    subst (λ p. OnOk c.visit_record.result (g.V.PartVisitor.visited c.args.visitor.now p c.visit_record.new.visitor))
+returns-in-Some c =
+    subst (λ p. OnOk c.visit_record.result (c.visit_record.new.coder ≡ with_part c.args.coder.now p))
     (part_is c.args.self.now.memory.now.records c.args.index _ (sym (ap option_copied c.in-Some.is) ∙ c.get.ensures))
     c.visit_record.ensures
 
 pub returns-in-None : goal.returns-in-None
-returns-in-None g c =
-    subst (λ p. OnOk c.visit.result (g.V.PartVisitor.visited c.args.visitor.now p c.visit.new.self))
+returns-in-None c =
+    subst (λ p. OnOk c.visit.result (c.visit.new.self ≡ with_part c.args.coder.now p))
     (part_is c.args.self.now.memory.now.records c.args.index _ (sym (ap option_copied c.in-None.is) ∙ c.get.ensures))
     c.visit.ensures
