@@ -9,8 +9,7 @@ ghost use Rattle.tree_machine.specs.Parts.{IsPartBelow};
 ghost use Rattle.tree_machine.specs.declared.numbering.TheConstants.{CELLS_BELOW};
 
 use crate::fixed::put_byte;
-use crate::number::sum_of;
-use crate::numbering::{CELLS_BELOW, Numbering};
+use crate::numbering::Numbering;
 use crate::output::{Output, put_front};
 use sched_program::OutOfMemory;
 use std::alloc::Global;
@@ -18,7 +17,7 @@ use std::marker::Model;
 use std::mem::swap;
 
 /// The number of what is named, or 0 for none. What has no number gets the next one, and goes into the queue, where its
-/// own number is raised by `first`.
+/// own number is raised by `first`. A cell that the queue can't name is refused with `OutOfMemory`.
 #[inline(always)]
 fn number_of(
     numbering: &mut Numbering,
@@ -27,7 +26,7 @@ fn number_of(
     name: Option<u16>,
 ) -> Result<u8, OutOfMemory>
     requires known { IfSome name (λ x. x < length numbering.old.numbers.items) }
-    requires fits { first + length numbering.old.numbers.items < CELLS_BELOW }
+    requires fits { first < CELLS_BELOW }
     ensures order { OnOk result (numbering.new.order.items ≡ met_all numbering.old.order.items (name ∷ [])) }
     ensures cells { length numbering.new.numbers.items ≡ length numbering.old.numbers.items }
     ensures queue { OnOk result (queue.new.items
@@ -38,7 +37,10 @@ fn number_of(
         Some(cell) => {
             let cell = usize::from(cell);
             if !numbering.has(cell) {
-                queue.push((first + cell) as u8)?;
+                let Ok(queued) = u8::try_from(first + cell) else {
+                    return Err(OutOfMemory);
+                };
+                queue.push(queued)?;
                 numbering.assign(cell);
             }
             Ok(numbering.number(cell))
@@ -58,7 +60,7 @@ fn put_names(
     names: &[Option<u16>],
 ) -> Result<usize, OutOfMemory>
     requires known { All (λ r. IfSome r (λ x. x < length numbering.old.numbers.items)) names.now }
-    requires fits { first + length numbering.old.numbers.items < CELLS_BELOW }
+    requires fits { first < CELLS_BELOW }
     requires room { start + length names.now ≤ length bytes.old }
     ensures order { OnOk result (numbering.new.order.items ≡ met_all numbering.old.order.items names.now) }
     ensures cells { length numbering.new.numbers.items ≡ length numbering.old.numbers.items }
@@ -88,7 +90,7 @@ fn put_stack(
     stack: &[u16],
 ) -> Result<usize, OutOfMemory>
     requires known { All (λ x. x < length numbering.old.numbers.items) stack.now }
-    requires fits { first + length numbering.old.numbers.items < CELLS_BELOW }
+    requires fits { first < CELLS_BELOW }
     requires room { start + length stack.now ≤ length bytes.old }
     ensures order { OnOk result (numbering.new.order.items ≡ met_all numbering.old.order.items (map Some stack.now)) }
     ensures cells { length numbering.new.numbers.items ≡ length numbering.old.numbers.items }
@@ -127,7 +129,6 @@ pub struct Coder {
     records: Numbering,
     queue: Vec<u8>,
     out: Output,
-    ghost bounded: { length nodes.numbers.items + length records.numbers.items < CELLS_BELOW },
 }
 
 impl Model for Coder {
@@ -159,7 +160,7 @@ impl Coder {
         }
     }
 
-    /// Begins anew, with the first nodes and the first records, each by its own number. The bytes stay. More nodes and
+    /// Begins anew, with the first nodes and the first records, each by its own number. The bytes stay. More nodes or
     /// records than bytes can name are refused with `OutOfMemory`.
     #[inline(always)]
     pub(crate) fn restart(
@@ -181,11 +182,7 @@ impl Coder {
         }) }
         ensures bytes { self.new.bytes ≡ self.old.bytes }
     {
-        if sum_of(nodes, records)? >= CELLS_BELOW {
-            return Err(OutOfMemory);
-        }
         self.queue.clear();
-        self.records.clear();
         self.nodes.restart(nodes)?;
         self.nodes.assign_range(0, front_nodes);
         self.records.restart(records)?;

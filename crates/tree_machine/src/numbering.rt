@@ -50,14 +50,16 @@ impl Numbering {
         self.numbers.clear();
     }
 
-    /// Begins anew with `cells` cells, none of which has a number.
+    /// Begins anew with `cells` cells, none of which has a number. More cells than bytes can name are refused with
+    /// `OutOfMemory`.
     #[inline(always)]
     pub(crate) fn restart(&mut self, cells: usize) -> Result<(), OutOfMemory>
-        requires { cells < CELLS_BELOW }
         ensures nothing { OnOk result (self.new.order.items ≡ []) }
         ensures cells { OnOk result (length self.new.numbers.items ≡ cells) }
-        ensures most { length self.new.numbers.items ≤ cells }
     {
+        if cells >= CELLS_BELOW {
+            return Err(OutOfMemory);
+        }
         self.clear();
         self.order.reserve(cells)?;
         self.numbers.resize(cells, 0)?;
@@ -123,7 +125,8 @@ impl Numbering {
     /// How many cells it may number.
     #[inline(always)]
     pub(crate) fn cells(&self) -> usize
-        ensures { result ≡ length self.now.numbers.items }
+        ensures cells { result ≡ length self.now.numbers.items }
+        ensures small { result < CELLS_BELOW }
     {
         self.numbers.len()
     }

@@ -17,6 +17,7 @@ use crate::encode_buffer::EncodeBuffer;
 use crate::front::Front;
 use crate::naming::Naming;
 use crate::number::sum_of;
+use crate::numbering::CELLS_BELOW;
 use crate::output::Output;
 use crate::parts::Parts;
 use sched_program::OutOfMemory;
@@ -99,7 +100,8 @@ fn visit_cell<P: Parts>(
 }
 
 /// Visits the cells in the queue, in their order, and those that go into it meanwhile. Records are written apart. The
-/// queue is that of a `walk`: its roots, and the cells that it met and visited before.
+/// queue is that of a `walk`: its roots, and the cells that it met and visited before. More nodes, records and threads
+/// than bytes can name are refused with `OutOfMemory`.
 fn visit_queue<P: Parts>(
     parts: &P,
     coder: &mut Coder,
@@ -117,7 +119,11 @@ fn visit_queue<P: Parts>(
         ++ part_codes (records_by coder.new (P.parts parts.now) coder.new.queue)) }
 {
     let graph = sum_of(parts.node_count(), parts.record_count())?;
-    for place in 0..sum_of(graph, parts.held_count())? {
+    let cells = sum_of(graph, parts.held_count())?;
+    if cells >= CELLS_BELOW {
+        return Err(OutOfMemory);
+    }
+    for place in 0..cells {
         match coder.cell_at(place) {
             Some(cell) => visit_cell(parts, cell, coder, records)?,
             None => break,
@@ -210,7 +216,7 @@ fn visit_own<P: Parts>(parts: &P, coder: &mut Coder) -> Result<(), OutOfMemory>
 /// Appends that code.
 ///
 /// # Errors
-/// `OutOfMemory` where a growth was refused, or the nodes and records are more than bytes can name. The bytes in the
+/// `OutOfMemory` where a growth was refused, or the nodes or records are more than bytes can name. The bytes in the
 /// buffer are then unspecified.
 #[inline(always)]
 fn write_own<P: Parts>(parts: &P, buffer: &mut EncodeBuffer) -> Result<(), OutOfMemory>
@@ -261,8 +267,8 @@ fn write_own_held<P: Parts>(parts: &P, buffer: &mut EncodeBuffer) -> Result<(), 
 /// reach. Behind what the threads hold comes what only they reach. What neither reach is left out.
 ///
 /// # Errors
-/// `OutOfMemory` where a growth was refused, or the nodes and records are more than bytes can name. The bytes in the
-/// buffer are then unspecified.
+/// `OutOfMemory` where a growth was refused, or the nodes, records and threads are more than bytes can name. The bytes
+/// in the buffer are then unspecified.
 #[inline(always)]
 fn write_canonical<P: Parts>(
     fixed: usize,
