@@ -4,6 +4,7 @@ use Rattle.std.proofs.Common.{refl, sym, ◌∙◌, ap, append_assoc, append-nil
 use Rattle.std.specs.Prelude.{Option, Some, None, nat_eq}
 use Rattle.std.specs.List.{list_any}
 use Rattle.std.specs.Option.{option_and_then, option_map}
+use Rattle.std.proofs.Math.Seq.{drop-append_seam}
 use Rattle.tree_machine.specs.Canonical.{renamed_part}
 use Rattle.tree_machine.specs.Cells.{met_all, place_in}
 use Rattle.tree_machine.specs.Coding.{Coding, coded_by, newly, with_names, with_part, with_parts}
@@ -12,33 +13,21 @@ use Rattle.tree_machine.specs.Parts.{Part}
 use Rattle.tree_machine.specs.Laws.CellOrder.{Extends, Has, HasAll, extends_itself, extends_more}
 use Rattle.tree_machine.specs.Laws.CellOrder.{met_all_extends, met_all_has}
 
--- ---- lists
-
-drop_front : (xs ys : List ℕ) → drop (length xs) (xs ++ ys) ≡ ys
-drop_front [] ys = refl
-drop_front (x ∷ xs) ys = drop_front xs ys
-
 -- what is met is what was met, and what is new
 pub met_newly : (order : List ℕ) (refs : List (Option ℕ)) → met_all order refs ≡ order ++ newly order refs
 met_newly order refs =
     let e = met_all_extends refs order in
-    e.is ∙ ap (λ l. order ++ l) (sym (ap (drop (length order)) e.is ∙ drop_front order e.rest))
-
--- ---- places
+    e.is ∙ ap (λ l. order ++ l) (sym (ap (drop (length order)) e.is ∙ drop-append_seam order e.rest))
 
 -- what is in a list has the same place in a longer one
-pub place_kept : (xs ys : List ℕ) (x : ℕ) → Has xs x → place_in (xs ++ ys) x ≡ place_in xs x
+place_kept : (xs ys : List ℕ) (x : ℕ) → Has xs x → place_in (xs ++ ys) x ≡ place_in xs x
 place_kept [] ys x h = cc
-place_kept (y ∷ xs) ys x h = go (nat_eq x y) refl (λ g. place_kept xs ys x g)
+place_kept (y ∷ xs) ys x h = go (nat_eq x y) h (place_kept xs ys x)
   where
-    go : (t : Bool) → nat_eq x y ≡ t → (Has xs x → place_in (xs ++ ys) x ≡ place_in xs x)
-        → place_in ((y ∷ xs) ++ ys) x ≡ place_in (y ∷ xs) x
-    go true e kept =
-        ap (λ t. cond t (Some 0) (option_map suc (place_in (xs ++ ys) x))) e
-        ∙ sym (ap (λ t. cond t (Some 0) (option_map suc (place_in xs x))) e)
-    go false e kept =
-        let rest : Has xs x = sym (ap (λ t. t || list_any (nat_eq x) xs) e) ∙ h in
-        ap (λ r. cond (nat_eq x y) (Some 0) (option_map suc r)) (kept rest)
+    go : (t : Bool) → (t || list_any (nat_eq x) xs) ≡ true → (Has xs x → place_in (xs ++ ys) x ≡ place_in xs x)
+        → cond t (Some 0) (option_map suc (place_in (xs ++ ys) x)) ≡ cond t (Some 0) (option_map suc (place_in xs x))
+    go true g kept = refl
+    go false g kept = ap (option_map suc) (kept g)
 
 -- names that a list has
 pub names_kept : {xs ys : List ℕ} → Extends xs ys → (refs : List (Option ℕ)) → HasAll xs refs
@@ -46,8 +35,7 @@ pub names_kept : {xs ys : List ℕ} → Extends xs ys → (refs : List (Option �
 names_kept e [] h = refl
 names_kept e (None ∷ refs) h = ap (λ l. None ∷ l) (names_kept e refs h)
 names_kept {xs} e (Some x ∷ refs) h =
-    let here = ap (λ o. place_in o x) e.is ∙ place_kept xs e.rest x h.0 in
-    λ i. here i ∷ names_kept e refs h.1 i
+    rw (e.is, place_kept xs e.rest x h.0) (ap (λ l. place_in xs x ∷ l) (names_kept e refs h.1))
 
 -- a part whose names have numbers is written alike by more numbers
 pub renamed_kept : {nodes records others targets : List ℕ} (p : Part) → Extends nodes others → Extends records targets
@@ -56,8 +44,7 @@ pub renamed_kept : {nodes records others targets : List ℕ} (p : Part) → Exte
 renamed_kept p e f h g =
     λ i. record { facts = p.facts; nodes = names_kept e p.nodes h i; records = names_kept f p.records g i }
 
--- ---- parts, one behind the other
-
+-- numbers stay, whatever is visited
 pub nodes_extend : (c : Coding) (ps : List Part) → Extends c.nodes (with_parts c ps).nodes
 nodes_extend c [] = extends_itself c.nodes
 nodes_extend c (p ∷ ps) = extends_more (met_all_extends p.nodes c.nodes) (nodes_extend (with_part c p) ps)

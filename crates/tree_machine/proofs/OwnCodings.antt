@@ -1,157 +1,111 @@
 -- A coder in which each node and each record has its own number: it writes parts as they are.
-use Rattle.std.proofs.Common.{◌≡◌, ℕ, ◌+◌, ◌<◌, ◌≤◌, List, [], ◌∷◌, ◌++◌, map, length, drop, refl, sym, ◌∙◌, ap, subst}
+use Rattle.std.proofs.Common.{◌≡◌, ℕ, ◌<◌, ◌≤◌, List, [], ◌∷◌, ◌++◌, map, length, refl, sym, ◌∙◌, ap, subst}
 use Rattle.std.proofs.Common.{arith, append-nil, append_assoc, zero-add}
-use Rattle.std.specs.Prelude.{Option, Some, None, IfSome}
-use Rattle.std.specs.List.{All, AllByRecursion}
+use Rattle.std.specs.Prelude.{slice_get, Option, Some, None, nat_eq}
+use Rattle.std.specs.List.{All, IsDistinct}
+use Rattle.std.specs.Option.{option_and_then}
 use Rattle.std.proofs.Math.Seq.{drop-length}
-use Rattle.std.proofs.lemmas.List.Elements.{recursion_from_All}
-use Rattle.tree_machine.specs.Canonical.{renamed_part}
-use Rattle.tree_machine.specs.Cells.{met_all}
-use Rattle.tree_machine.specs.Coding.{Coding, IsOwn, coded_by, newly, with_names, with_part, with_parts}
+use Rattle.std.proofs.lemmas.List.Elements.{All-head, All-tail, recursion_from_All}
+use Rattle.tree_machine.specs.Cells.{met_all, place_in}
+use Rattle.tree_machine.specs.Coding.{Coding, IsOwn, with_part, with_parts}
 use Rattle.tree_machine.specs.Flat.{all_front, cell_code, number_code, part_codes, part_content, parts_code}
 use Rattle.tree_machine.specs.Graphs.{numbers_from}
 use Rattle.tree_machine.specs.Parts.{Part, Parts, IsPartBelow, ArePartsInRange}
-use Rattle.tree_machine.specs.Laws.CellOrder.{HasAll}
-use Rattle.tree_machine.specs.Laws.CellPlaces.{has_at}
+use Rattle.tree_machine.specs.Laws.CellLists.{numbers_distinct}
+use Rattle.tree_machine.specs.Laws.CellOrder.{RefsBelow}
+use Rattle.tree_machine.specs.Laws.CellPlaces.{has_at, place_at}
 use Rattle.tree_machine.specs.Laws.Fronts.{own_parts_code}
 use Rattle.tree_machine.specs.Laws.MetLists.{number_at}
-use Rattle.tree_machine.specs.Laws.OwnParts.{own_numbers}
 use Rattle.tree_machine.specs.Laws.SmallCodes.{small_code}
-use Rattle.tree_machine.proofs.FrontVisits.{met_all_old}
-use Rattle.tree_machine.proofs.PartsLeft.{bytes_below}
+use Rattle.tree_machine.proofs.PartsLeft.{same_below}
 use Rattle.tree_machine.proofs.PartsWritten.{codes_append}
+use Rattle.tree_machine.proofs.Queued.{met_old}
 
--- it has at least none
-own_any : {n r : ℕ} {c : Coding} → IsOwn n r c → IsOwn 0 0 c
-own_any own = record {
-  nodes = own.nodes;
-  records = own.records;
-  nodes_bounded = omega arith;
-  records_bounded = omega arith;
-}
+-- names below n, among the numbers below k: nothing new is met, and each has its own place
+module _ (n k : ℕ) (l : n ≤ k) where
+  abbrev order : List ℕ
+  order = numbers_from 0 k
 
--- it has as many as there are
-pub own_enough : {n m r k : ℕ} (c : Coding) → n ≡ m → r ≡ k → IsOwn n r c → IsOwn m k c
-own_enough {n} {m} {r} c e f own = subst (λ k. IsOwn m k c) f (subst (λ m. IsOwn m r c) e own)
+  distinct : IsDistinct nat_eq order
+  distinct = subst (IsDistinct nat_eq) (append-nil order) (numbers_distinct 0 k k 0 (omega arith))
 
--- names below n are among the first k numbers
-names_had : (n k : ℕ) → n ≤ k → (refs : List (Option ℕ)) → AllByRecursion (λ r. IfSome r (λ x. x < n)) refs
-    → HasAll (numbers_from 0 k) refs
-names_had n k l [] h = tt
-names_had n k l (None ∷ refs) h = names_had n k l refs h.1
-names_had n k l (Some x ∷ refs) h = (
-  has_at (numbers_from 0 k) x x (number_at 0 k x (omega (arith, h.0)) ∙ ap Some (zero-add x)),
-  names_had n k l refs h.1,
-)
+  own_names : (refs : List (Option ℕ)) → RefsBelow n refs
+      → (met_all order refs ≡ order) × (map (option_and_then (place_in order)) refs ≡ refs)
+  own_names [] h = (refl, refl)
+  own_names (None ∷ refs) h = let rest = own_names refs h.1 in (rest.0, ap (λ r. None ∷ r) rest.1)
+  own_names (Some x ∷ refs) h =
+      let rest = own_names refs h.1 in
+      let at : slice_get order x ≡ Some x = number_at 0 k x (omega (arith, h.0)) ∙ ap Some (zero-add x) in (
+        ap (λ o. met_all o refs) (met_old order x (has_at order x x at)) ∙ rest.0,
+        λ i. place_at order distinct x x at i ∷ rest.1 i,
+      )
 
--- names below n, among numbers below k, meet nothing new
-names_old : (n k : ℕ) (order : List ℕ) → order ≡ numbers_from 0 k → n ≤ k → (refs : List (Option ℕ))
-    → All (λ r. IfSome r (λ x. x < n)) refs → met_all order refs ≡ order
-names_old n k order is l refs h =
-    met_all_old refs order
-    (subst (λ o. HasAll o refs) (sym is) (names_had n k l refs (recursion_from_All _ refs h)))
+-- a coder whose bytes alone changed
+module _ (n r : ℕ) (own : Coding) (is : IsOwn n r own) where
+  own_kept : {m k : ℕ} {now : Coding} (b : List ℕ) → m ≤ n → k ≤ r → now ≡ record own { bytes = b } → IsOwn m k now
+  own_kept {m} {k} b l g e = subst (IsOwn m k) (sym e) (record {
+    nodes = is.nodes;
+    records = is.records;
+    nodes_bounded = omega (arith, is.nodes_bounded);
+    records_bounded = omega (arith, is.records_bounded);
+  })
 
-none_newly : (order : List ℕ) (refs : List (Option ℕ)) → met_all order refs ≡ order → newly order refs ≡ []
-none_newly order refs e = ap (drop (length order)) e ∙ drop-length order
-
-module _ (n r : ℕ) where
   -- one part
-  own_part : (c : Coding) → IsOwn n r c → (p : Part) → IsPartBelow n r p
-      → with_part c p ≡ record c { bytes = c.bytes ++ cell_code (part_content p) }
-  own_part c own p h =
-      let nodes = names_old n c.nodes_below c.nodes own.nodes own.nodes_bounded p.nodes h.nodes in
-      let records = names_old r c.records_below c.records own.records own.records_bounded p.records h.records in
-      let queue : (c.queue ++ newly c.nodes p.nodes) ++ map (λ x. c.nodes_below + x) (newly c.records p.records)
-      ≡ c.queue =
-      (λ i. (c.queue ++ none_newly c.nodes p.nodes nodes i)
-      ++ map (λ x. c.nodes_below + x) (none_newly c.records p.records records i))
-      ∙ append-nil (c.queue ++ []) ∙ append-nil c.queue in
-      let code : coded_by (with_names c p) p ≡ cell_code (part_content p) =
-      (λ i. cell_code (part_content (renamed_part ((nodes ∙ own.nodes) i) ((records ∙ own.records) i) p)))
-      ∙ ap (λ q. cell_code (part_content q))
-      (own_numbers n r c.nodes_below c.records_below own.nodes_bounded own.records_bounded p h) in
-      λ i. record {
-        nodes_below = c.nodes_below;
-        records_below = c.records_below;
-        nodes = nodes i;
-        records = records i;
-        queue = queue i;
-        bytes = c.bytes ++ code i;
-      }
+  own_part : (b : List ℕ) (p : Part) → IsPartBelow n r p
+      → with_part (record own { bytes = b }) p ≡ record own { bytes = b ++ cell_code (part_content p) }
+  own_part b p h =
+      let nodes = own_names n own.nodes_below is.nodes_bounded p.nodes (recursion_from_All _ _ h.nodes) in
+      let records = own_names r own.records_below is.records_bounded p.records (recursion_from_All _ _ h.records) in
+      simp (is.nodes, is.records, nodes.0, records.0, nodes.1, records.1, drop-length, append-nil)
 
-  -- parts, one behind the other
-  own_each : (ps : List Part) (c : Coding) → IsOwn n r c → AllByRecursion (IsPartBelow n r) ps
-      → with_parts c ps ≡ record c { bytes = c.bytes ++ part_codes ps }
-  own_each [] c own h = λ i. record c { bytes = sym (append-nil c.bytes) i }
-  own_each (p ∷ ps) c own h =
+  -- it writes parts as they are
+  own_parts : (now next : Coding) (b : List ℕ) (ps : List Part) → All (IsPartBelow n r) ps
+      → now ≡ record own { bytes = b } → next ≡ with_parts now ps → next ≡ record own { bytes = b ++ part_codes ps }
+  own_parts now next b [] h e f = f ∙ e ∙ ap (λ l. record own { bytes = l }) (sym (append-nil b))
+  own_parts now next b (p ∷ ps) h e f =
       let code = cell_code (part_content p) in
-      let then : Coding = record c { bytes = c.bytes ++ code } in
-      let left : IsOwn n r then = record {
-        nodes = own.nodes;
-        records = own.records;
-        nodes_bounded = own.nodes_bounded;
-        records_bounded = own.records_bounded;
-      } in
-      ap (λ d. with_parts d ps) (own_part c own p h.0)
-      ∙ own_each ps then left h.1
-      ∙ ap (λ b. record c { bytes = b }) (append_assoc c.bytes code (part_codes ps))
+      own_parts (with_part now p) next (b ++ code) ps (All-tail (IsPartBelow n r) p ps h)
+      (ap (λ c. with_part c p) e ∙ own_part b p (All-head (IsPartBelow n r) p ps h)) f
+      ∙ ap (λ l. record own { bytes = l }) (append_assoc b code (part_codes ps))
 
-  -- a coder whose bytes alone changed
-  module _ (own : Coding) (is : IsOwn n r own) where
-    pub own_kept : (now : Coding) (b : List ℕ) → now ≡ record own { bytes = b } → IsOwn n r now
-    own_kept now b e = subst (IsOwn n r) (sym e) (record {
-      nodes = is.nodes;
-      records = is.records;
-      nodes_bounded = is.nodes_bounded;
-      records_bounded = is.records_bounded;
-    })
+  -- as many may be numbered once more parts are written
+  pub own_room : {counted middle next : Coding} {b : List ℕ} (ps qs : List Part) → counted ≡ record own { bytes = b }
+      → middle ≡ with_parts counted ps → next ≡ with_parts middle qs → (n ≤ next.nodes_below) × (r ≤ next.records_below)
+  own_room {counted} {middle} ps qs e f h =
+      let first = same_below counted ps in
+      let second = same_below middle qs in
+      let nodes = λ (c : Coding). c.nodes_below in
+      let records = λ (c : Coding). c.records_below in (
+        omega (arith, is.nodes_bounded, first.0, second.0, ap nodes e, ap nodes f, ap nodes h),
+        omega (arith, is.records_bounded, first.1, second.1, ap records e, ap records f, ap records h),
+      )
 
-    -- once its bytes are replaced
-    pub own_left : (now left : Coding) (b bytes : List ℕ) → now ≡ record own { bytes = b }
-        → left ≡ record now { bytes = bytes } → IsOwn 0 0 left
-    own_left now left b bytes e f =
-        own_any (own_kept left bytes (f ∙ ap (λ (d : Coding). record d { bytes = bytes }) e))
-
-    -- it writes parts as they are
-    pub own_parts : (now next : Coding) (b : List ℕ) (ps : List Part) → All (IsPartBelow n r) ps
-        → now ≡ record own { bytes = b } → next ≡ with_parts now ps → next ≡ record own { bytes = b ++ part_codes ps }
-    own_parts now next b ps h e f =
-        let begun : Coding = record own { bytes = b } in
-        f ∙ ap (λ c. with_parts c ps) e ∙ own_each ps begun (own_kept begun b refl) (recursion_from_All _ ps h)
-
--- all parts, behind their counts
-module _ (fixed : ℕ) (s : Parts) (range : ArePartsInRange fixed s) (own : Coding) (n r : ℕ)
-    (is : IsOwn (length s.nodes) (length s.records) own) where
-  -- what is written
-  abbrev all_code : List ℕ
-  all_code = (((own.bytes ++ (n ∷ r ∷ [])) ++ part_codes s.nodes) ++ part_codes s.records) ++ part_codes s.held
-
-  pub own_all : (counted nodes_done records_done done : Coding)
-      → counted ≡ record own { bytes = own.bytes ++ (n ∷ r ∷ []) } → nodes_done ≡ with_parts counted s.nodes
-      → records_done ≡ with_parts nodes_done s.records → done ≡ with_parts records_done s.held
-      → done ≡ record own { bytes = all_code }
-  own_all counted nodes_done records_done done h1 h2 h3 h4 =
+module _ {fixed : ℕ} (s : Parts) (range : ArePartsInRange fixed s) {own : Coding} {n r : ℕ} (en : n ≡ length s.nodes)
+    (er : r ≡ length s.records) where
+  -- all parts, behind their counts, where these are bytes
+  pub own_all : IsOwn (length s.nodes) (length s.records) own → (n < 255) × (r < 255)
+      → {counted nodes_done records_done done : Coding} → counted ≡ record own { bytes = own.bytes ++ (n ∷ r ∷ []) }
+      → nodes_done ≡ with_parts counted s.nodes → records_done ≡ with_parts nodes_done s.records
+      → done ≡ with_parts records_done s.held → done ≡ record own { bytes = own.bytes ++ parts_code (all_front s) s }
+  own_all is small {counted} {nodes_done} {records_done} {done} h1 h2 h3 h4 =
       let put = own_parts (length s.nodes) (length s.records) own is in
-      let counts = own.bytes ++ (n ∷ r ∷ []) in
-      let nodes = counts ++ part_codes s.nodes in
-      put records_done done (nodes ++ part_codes s.records) s.held range.held
-      (put nodes_done records_done nodes s.records range.records
-      (put counted nodes_done counts s.nodes range.nodes h1 h2) h3) h4
+      let nodes_put = put counted nodes_done _ s.nodes range.nodes h1 h2 in
+      let records_put = put nodes_done records_done _ s.records range.records nodes_put h3 in
+      let first = ap number_code (sym en) ∙ small_code n small.0 in
+      let second = ap number_code (sym er) ∙ small_code r small.1 in
+      let code = own_parts_code s
+      ∙ (λ i. (first i ++ (second i ++ codes_append s.nodes s.records i)) ++ part_codes s.held) in
+      put records_done done _ s.held range.held records_put h4
+      ∙ ap (λ l. record own { bytes = l }) ((simp append_assoc) ∙ ap (λ l. own.bytes ++ l) (sym code))
 
-  -- it is the code of the parts, where the counts are bytes
-  pub all_code_is : n ≡ length s.nodes → r ≡ length s.records → (n < 255) × (r < 255)
-      → all_code ≡ own.bytes ++ parts_code (all_front s) s
-  all_code_is en er small =
-      let b = own.bytes in
-      let N = number_code (length s.nodes) in
-      let R = number_code (length s.records) in
-      let P = part_codes s.nodes in
-      let Q = part_codes s.records in
-      let H = part_codes s.held in
-      let first : n ∷ (r ∷ []) ≡ N ++ R =
-      (λ i. sym (small_code n small.0) i ++ sym (small_code r small.1) i)
-      ∙ (λ i. number_code (en i) ++ number_code (er i)) in
-      let regrouped : (((b ++ (N ++ R)) ++ P) ++ Q) ++ H ≡ b ++ ((N ++ (R ++ (P ++ Q))) ++ H) = simp append_assoc in
-      ap (λ l. (((b ++ l) ++ P) ++ Q) ++ H) first ∙ regrouped
-      ∙ ap (λ l. b ++ ((N ++ (R ++ l)) ++ H)) (sym (codes_append s.nodes s.records))
-      ∙ ap (λ l. b ++ l) (sym (own_parts_code s))
+  -- what threads hold alone, written to other bytes, which are then exchanged
+  pub own_held : IsOwn n r own → {begun done left : Coding} {b bytes : List ℕ} → begun ≡ record own { bytes = b }
+      → done ≡ with_parts begun s.held → left ≡ record done { bytes = bytes }
+      → IsOwn 0 0 left × (done.bytes ≡ b ++ part_codes s.held)
+  own_held is {begun} {done} {b = b} {bytes = bytes} e f h =
+      let enough : IsOwn (length s.nodes) (length s.records) own =
+      own_kept n r own is own.bytes (omega arith) (omega arith) refl in
+      let put = own_parts (length s.nodes) (length s.records) own enough begun done b s.held range.held e f in (
+        own_kept n r own is bytes (omega arith) (omega arith) (h ∙ ap (λ (c : Coding). record c { bytes = bytes }) put),
+        ap (λ (c : Coding). c.bytes) put,
+      )

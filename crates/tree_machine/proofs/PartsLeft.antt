@@ -1,46 +1,36 @@
 -- Parts that are visited one behind the other: what is left makes the coding that all of them make.
-use Rattle.std.proofs.Common.{◌≡◌, ℕ, zero, suc, ◌+◌, ◌<◌, ◌≤◌, List, [], ◌∷◌, length, drop, refl, sym, ◌∙◌, ap, arith}
-use Rattle.std.proofs.Common.{add-one}
-use Rattle.std.proofs.lemmas.List.{drop_all}
+use Rattle.std.proofs.Common.{◌≡◌, ℕ, ◌+◌, ◌<◌, ◌≤◌, List, [], ◌∷◌, length, drop, refl, sym, ◌∙◌, ap, arith}
+use Rattle.std.specs.List.{All}
+use Rattle.std.proofs.lemmas.List.{drop_all, drop_more}
+use Rattle.std.proofs.lemmas.Option.{unwrap_or-slice_get}
 use Rattle.tree_machine.specs.Coding.{Coding, with_part, with_parts}
-use Rattle.tree_machine.specs.Parts.{Part, part_at}
-
--- what is left begins with the next part
-left_begins : (parts : List Part) (n : ℕ) → n < length parts → drop n parts ≡ part_at parts n ∷ drop (n + 1) parts
-left_begins parts n l = go parts n l ∙ ap (λ k. part_at parts n ∷ drop k parts) (sym (add-one n))
-  where
-    go : (parts : List Part) (n : ℕ) → n < length parts → drop n parts ≡ part_at parts n ∷ drop (suc n) parts
-    go [] n l = absurd (omega arith)
-    go (p ∷ parts) zero l = refl
-    go (p ∷ parts) (suc n) l = go parts n (omega arith)
-
--- one part more is visited
-pub left_next : (all now next : Coding) (parts : List Part) (n : ℕ) → n < length parts
-    → with_parts now (drop n parts) ≡ all → next ≡ with_part now (part_at parts n)
-    → with_parts next (drop (n + 1) parts) ≡ all
-left_next all now next parts n l h e =
-    ap (λ c. with_parts c (drop (n + 1) parts)) e ∙ sym (ap (with_parts now) (left_begins parts n l)) ∙ h
-
--- none are left
-pub left_none : (all now : Coding) (parts : List Part) (n : ℕ) → length parts ≤ n
-    → with_parts now (drop n parts) ≡ all → now ≡ all
-left_none all now parts n l h = sym (ap (with_parts now) (drop_all n parts l)) ∙ h
+use Rattle.tree_machine.specs.Parts.{Part, IsPartBelow, no_part, part_at}
+use Rattle.tree_machine.proofs.VisitedParts.{part_within}
 
 -- no visit changes how many nodes and records may be numbered
-pub visits_below : (now next : Coding) (ps : List Part) → next ≡ with_parts now ps
-    → (next.nodes_below ≡ now.nodes_below) × (next.records_below ≡ now.records_below)
-visits_below now next ps e =
-    (ap (λ (c : Coding). c.nodes_below) e ∙ nodes now ps, ap (λ (c : Coding). c.records_below) e ∙ records now ps)
-  where
-    nodes : (c : Coding) (ps : List Part) → (with_parts c ps).nodes_below ≡ c.nodes_below
-    nodes c [] = refl
-    nodes c (p ∷ ps) = nodes (with_part c p) ps
+pub same_below : (c : Coding) (ps : List Part)
+    → ((with_parts c ps).nodes_below ≡ c.nodes_below) × ((with_parts c ps).records_below ≡ c.records_below)
+same_below c [] = (refl, refl)
+same_below c (p ∷ ps) = same_below (with_part c p) ps
 
-    records : (c : Coding) (ps : List Part) → (with_parts c ps).records_below ≡ c.records_below
-    records c [] = refl
-    records c (p ∷ ps) = records (with_part c p) ps
+module _ (start now : Coding) (parts : List Part) (k : ℕ)
+    (left : with_parts now (drop k parts) ≡ with_parts start parts) where
+  -- the next part names nodes and records that may be numbered
+  pub next_named : {n r : ℕ} → n ≤ start.nodes_below → r ≤ start.records_below → All (IsPartBelow n r) parts
+      → IsPartBelow now.nodes_below now.records_below (part_at parts k)
+  next_named l m h =
+      let begun = same_below start parts in
+      let behind = same_below now (drop k parts) in
+      part_within parts k (omega (arith, begun.0, behind.0, ap (λ (c : Coding). c.nodes_below) left))
+      (omega (arith, begun.1, behind.1, ap (λ (c : Coding). c.records_below) left)) h
 
--- nor do bytes
-pub bytes_below : (now next : Coding) (b : List ℕ) → next ≡ record now { bytes = b }
-    → (next.nodes_below ≡ now.nodes_below) × (next.records_below ≡ now.records_below)
-bytes_below now next b e = (ap (λ (c : Coding). c.nodes_below) e, ap (λ (c : Coding). c.records_below) e)
+  -- one part more is visited
+  pub left_next : {next : Coding} → k < length parts → next ≡ with_part now (part_at parts k)
+      → with_parts next (drop (k + 1) parts) ≡ with_parts start parts
+  left_next {next} l e =
+      ap (λ c. with_parts c (drop (k + 1) parts)) (e ∙ ap (with_part now) (unwrap_or-slice_get parts k no_part))
+      ∙ sym (ap (with_parts now) (drop_more parts k no_part l)) ∙ left
+
+  -- none are left
+  pub left_none : length parts ≤ k → now ≡ with_parts start parts
+  left_none l = sym (ap (with_parts now) (drop_all k parts l)) ∙ left

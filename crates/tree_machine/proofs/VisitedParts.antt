@@ -1,57 +1,47 @@
 -- Names of parts that are in range.
-use Rattle.std.proofs.Common.{◌≡◌, ℕ, zero, suc, ◌<◌, ◌≤◌, List, [], ◌∷◌, ◌++◌, map, arith}
+use Rattle.std.proofs.Common.{◌≡◌, ℕ, ◌+◌, ◌<◌, ◌≤◌, List, ◌++◌, map, length, get_or, subst, ◌∙◌, arith}
+use Rattle.std.proofs.Common.{length-append}
 use Rattle.std.specs.Prelude.{Option, Some, None, IfSome}
-use Rattle.std.specs.List.{All, AllByRecursion}
-use Rattle.std.proofs.lemmas.List.Elements.{All-nil, All-from_recursion, recursion_from_All}
-use Rattle.tree_machine.specs.Parts.{Part, IsPartBelow, part_at}
+use Rattle.std.specs.List.{All}
+use Rattle.std.proofs.lemmas.List.{get_or_append_left, get_or-append-add, get_or-map, length-map}
+use Rattle.std.proofs.lemmas.List.Elements.{All-nil, All-weaker}
+use Rattle.std.proofs.lemmas.Option.{IfSome_then}
+use Rattle.tree_machine.specs.Parts.{Part, IsPartBelow, no_part, part_at}
+use Rattle.tree_machine.proofs.Lists.{at_all}
 
--- what holds of the names before a stack and of those in it holds of the stack
-pub stack_all : (P Q : ℕ → Type 0) (refs : List (Option ℕ)) (stack : List ℕ) → ((x : ℕ) → P x → Q x)
-    → All (λ r. IfSome r P) (refs ++ map Some stack) → All Q stack
-stack_all P Q refs stack f h =
-    All-from_recursion Q stack (ahead refs (recursion_from_All _ (refs ++ map Some stack) h))
-  where
-    each : (stack : List ℕ) → AllByRecursion (λ r. IfSome r P) (map Some stack) → AllByRecursion Q stack
-    each [] h = tt
-    each (x ∷ stack) h = (f x h.0, each stack h.1)
+module _ (P Q : ℕ → Type 0) (refs : List (Option ℕ)) (stack : List ℕ) (f : (x : ℕ) → P x → Q x)
+    (h : All (λ r. IfSome r P) (refs ++ map Some stack)) where
+  -- what holds of the names before a stack and of those in it holds of the stack
+  pub stack_all : All Q stack
+  stack_all i d l =
+      f (get_or stack i d)
+      (subst (λ r. IfSome r P) (get_or-append-add refs (map Some stack) i None ∙ get_or-map Some stack i d None l)
+      (h (length refs + i) None
+      (omega (arith, length-append refs (map Some stack), length-map stack (λ x. Some x)))))
 
-    ahead : (refs : List (Option ℕ)) → AllByRecursion (λ r. IfSome r P) (refs ++ map Some stack)
-        → AllByRecursion Q stack
-    ahead [] h = each stack h
-    ahead (r ∷ refs) h = ahead refs h.1
-
--- and of those before it
-pub names_all : (P Q : ℕ → Type 0) (refs : List (Option ℕ)) (stack : List ℕ) → ((x : ℕ) → P x → Q x)
-    → All (λ r. IfSome r P) (refs ++ map Some stack) → All (λ r. IfSome r Q) refs
-names_all P Q refs stack f h = All-from_recursion _ refs (go refs (recursion_from_All _ (refs ++ map Some stack) h))
-  where
-    go : (refs : List (Option ℕ)) → AllByRecursion (λ r. IfSome r P) (refs ++ map Some stack)
-        → AllByRecursion (λ r. IfSome r Q) refs
-    go [] h = tt
-    go (None ∷ refs) h = (h.0, go refs h.1)
-    go (Some x ∷ refs) h = (f x h.0, go refs h.1)
+  -- and of those before it
+  pub names_all : All (λ r. IfSome r Q) refs
+  names_all i d l =
+      IfSome_then (get_or refs i d)
+      (subst (λ r. IfSome r P) (get_or_append_left refs (map Some stack) d i l)
+      (h i d (omega (arith, length-append refs (map Some stack))))) f
 
 -- each part names nodes and records that there are, also where there may be more
 pub part_within : {n m i j : ℕ} (parts : List Part) (x : ℕ) → n ≤ i → m ≤ j → All (IsPartBelow n m) parts
     → IsPartBelow i j (part_at parts x)
-part_within {n} {m} {i} {j} parts x l k h = go parts x (recursion_from_All _ parts h)
+part_within {n} {m} {i} {j} parts x l k h =
+    at_all (IsPartBelow i j) parts x no_part
+    (All-weaker (IsPartBelow n m) (IsPartBelow i j)
+    (λ p b. record { nodes = more n i l p.nodes b.nodes; records = more m j k p.records b.records }) parts h)
+    (record { nodes = All-nil _; records = All-nil _ })
   where
     more : (n i : ℕ) → n ≤ i → (refs : List (Option ℕ)) → All (λ r. IfSome r (λ y. y < n)) refs
         → All (λ r. IfSome r (λ y. y < i)) refs
-    more n i l refs h = All-from_recursion _ refs (each refs (recursion_from_All _ refs h))
-      where
-        each : (refs : List (Option ℕ)) → AllByRecursion (λ r. IfSome r (λ y. y < n)) refs
-            → AllByRecursion (λ r. IfSome r (λ y. y < i)) refs
-        each [] h = tt
-        each (None ∷ refs) h = (tt, each refs h.1)
-        each (Some y ∷ refs) h = (omega (arith, h.0), each refs h.1)
+    more n i l refs h =
+        All-weaker (λ r. IfSome r (λ y. y < n)) (λ r. IfSome r (λ y. y < i))
+        (λ r b. IfSome_then r b (λ y g. omega arith)) refs h
 
-    go : (parts : List Part) (x : ℕ) → AllByRecursion (IsPartBelow n m) parts → IsPartBelow i j (part_at parts x)
-    go [] x h = record { nodes = All-nil _; records = All-nil _ }
-    go (p ∷ parts) zero h =
-        record { nodes = more n i l p.nodes h.0.nodes; records = more m j k p.records h.0.records }
-    go (p ∷ parts) (suc x) h = go parts x h.1
-
+-- or just as many
 pub part_below : {n m i j : ℕ} (parts : List Part) (x : ℕ) → i ≡ n → j ≡ m → All (IsPartBelow n m) parts
     → IsPartBelow i j (part_at parts x)
 part_below parts x e f h = part_within parts x (omega arith) (omega arith) h

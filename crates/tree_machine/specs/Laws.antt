@@ -21,7 +21,6 @@ pub mod Fronts
 pub mod Graphs
 pub mod InitialKeys
 pub mod MetLists
-pub mod OwnParts
 pub mod Packed
 pub mod PartCells
 pub mod PartForms

@@ -117,7 +117,8 @@ impl Numbering {
     /// How many cells the order has.
     #[inline(always)]
     pub(crate) fn len(&self) -> usize
-        ensures { result ≡ length self.now.order.items }
+        ensures count { result ≡ length self.now.order.items }
+        ensures small { result < 255 }
     {
         self.order.len()
     }

@@ -5,11 +5,10 @@ use Rattle.std.proofs.Common.{length-append, append-nil}
 use Rattle.std.specs.Prelude.{Option, Some, None, nat_eq}
 use Rattle.std.specs.List.{All, AllByRecursion, list_any, IsDistinct}
 use Rattle.std.specs.Option.{option_map}
-use Rattle.std.proofs.lemmas.List.{length-map, nil_from_length}
+use Rattle.std.proofs.lemmas.List.{length-map}
 use Rattle.std.proofs.lemmas.List.Elements.{recursion_from_All, All-from_recursion, All-append, All-map}
 use Rattle.std.proofs.lemmas.List.Elements.{All-weaker}
 use Rattle.std.proofs.lemmas.List.Folds.{list_any-append}
-use Rattle.std.proofs.lemmas.Map.Steps.{length-le_from_distinct_below}
 use Rattle.std.proofs.Math.Bool.{or-true}
 use Rattle.tree_machine.specs.Cells.{content_at, IsRooted, order_of}
 use Rattle.tree_machine.specs.Pairing.{IsAmong}
@@ -22,7 +21,6 @@ use Rattle.tree_machine.specs.Laws.CellLists.{numbers_all, numbers_distinct, apa
 use Rattle.tree_machine.specs.Laws.CellLists.{distinct_join, raised_distinct, rec_weaker}
 use Rattle.tree_machine.specs.Laws.CellOrder.{Has, HasAll, RefsBelow, Extends, extends_more, has_extends}
 use Rattle.tree_machine.specs.Laws.CellOrder.{met_in_order, met_in_extends, order_closed}
-use Rattle.tree_machine.specs.Laws.CellOrder.{all_has}
 use Rattle.tree_machine.specs.Laws.CellPlaces.{place_from_has, get_place, has_at}
 use Rattle.tree_machine.specs.Laws.CellWalks.{order_front}
 use Rattle.tree_machine.specs.Laws.PartCells.{part_all, length-parts_graph, length-cells, node_at, record_at, held_at}

@@ -1,6 +1,6 @@
 -- What comes in front: canonical parts are met in the order of their numbers, and where parts are, the front is their
 -- own.
-use Rattle.std.proofs.Common.{◌≡◌, ℕ, zero, suc, ◌+◌, ◌<◌, ◌≤◌, ◌⊎◌, inl, inr, List, [], ◌∷◌, ◌++◌, map, length, refl}
+use Rattle.std.proofs.Common.{◌≡◌, ℕ, zero, suc, ◌+◌, ◌<◌, ◌≤◌, List, [], ◌∷◌, ◌++◌, map, length, refl}
 use Rattle.std.proofs.Common.{take, drop, sym, ◌∙◌, ap, subst, arith, zero-add, add-zero, append-nil, length-append}
 use Rattle.std.specs.Prelude.{slice_get, Option, Some, None, nat_eq, IfSome}
 use Rattle.std.specs.List.{AllZip, AllByRecursion, IsDistinct}
@@ -267,12 +267,6 @@ module _ (fixed : ℕ) (front : Front) (t : Parts) (h : ArePartsInRange fixed t)
 
 take_cut : (f : ℕ) (ps : List Part) → take (length (take f ps)) ps ≡ take f ps
 take_cut f ps = ap (λ n. take n ps) (length-take f ps) ∙ take_min f ps
-
--- the lesser of a front's number and how many there are
-pub least_is : (f r : ℕ) (ps : List Part) → r ≤ f → r ≤ length ps → (r ≡ f) ⊎ (r ≡ length ps)
-    → r ≡ length (take f ps)
-least_is f r ps l k (inl e) = omega (arith, length-take f ps)
-least_is f r ps l k (inr e) = omega (arith, length-take f ps)
 
 pub cut_code_is : (front : Front) (s : Parts) → front_code (cut_front front s) s ≡ front_code front s
 cut_code_is front s = λ i. graph_code (take_cut front.nodes s.nodes i) (take_cut front.records s.records i)

@@ -6,8 +6,4 @@ use Rattle.tree_machine.proofs.part_code.visit_nodes.Given as goal
 abbrev pub invariant-loop-index : goal.invariant-loop-index
 invariant-loop-index g l =
     let parts = (g.P.Parts.parts l.parts).nodes in
-    record {
-      coder : with_parts l.coder (drop l.index parts) ≡ with_parts l.fn.coder parts;
-      nodes_below : l.coder.nodes_below ≡ l.fn.coder.nodes_below;
-      records_below : l.coder.records_below ≡ l.fn.coder.records_below;
-    }
+    with_parts l.coder (drop l.index parts) ≡ with_parts l.fn.coder parts
